@@ -1,2 +1,13 @@
 pub mod Held
 pub mod Names
+pub mod Catalogue
+pub mod Order
+pub mod State
+pub mod Target
+pub mod Time
+pub mod Machine
+pub mod Lines
+pub mod Requests
+pub mod Sound
+pub mod Texts
+pub mod Script

@@ -1,14 +1,20 @@
 //! What `bossd` speaks of: points, priorities, leases, commands and answers, and in `specs/` what they mean.
 #![tactic(auto)]
 
+mod answer;
 mod buffer;
+mod command;
 mod items;
 mod memory;
 mod name;
 mod numbers;
+mod point;
 
+pub use answer::{Answer, Basis, Mark, Refusal};
 pub use buffer::Buffer;
+pub use command::{Command, Policy, Setting, Step};
 pub use items::Items;
 pub use memory::NoMemory;
 pub use name::Name;
 pub use numbers::{DriverId, PointId, Priority, ProcId, SessionId, Txn};
+pub use point::Kind;

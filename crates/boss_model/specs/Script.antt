@@ -1,0 +1,87 @@
+use Rattle.std.specs.Prelude.{ℕ, ℤ, Bool, true, false, ◌||◌, if◌then◌else◌, List, [], ◌∷◌, ◌++◌, fold, Option, Some, None}
+use Rattle.boss_model.specs.declared.answer.Answer.{Answer}
+use Rattle.boss_model.specs.declared.answer.Answer.TheVariants as answer
+use Rattle.boss_model.specs.declared.command.Command.TheVariants as command
+use Rattle.boss_model.specs.Catalogue.{Catalogue, actuators}
+use Rattle.boss_model.specs.Lines.{lines, is_blank}
+use Rattle.boss_model.specs.Machine.{step, wanting}
+use Rattle.boss_model.specs.Requests.{Request, request_of}
+use Rattle.boss_model.specs.State.{State}
+use Rattle.boss_model.specs.Texts.{answer_text, device_text, line_of}
+
+-- one call of a device: the point, the value, and whether the device took it
+pub record Call : Type 0 where
+  pub point : ℕ
+  pub value : ℤ
+  pub ok : Bool
+
+-- A script under way: the machine's state, the text so far, the calls of devices so far, and what the devices will
+-- answer to the calls that are still to come. A script is cut short where no more of the devices' answers are known, or
+-- where a line is of a form that is not served.
+pub record Run : Type 0 where
+  pub state : State
+  pub text : List ℕ
+  pub calls : List Call
+  pub results : List Bool
+  pub short : Bool
+
+abbrev pub cut_short : Run → Run
+cut_short run = record run { short = true }
+
+-- the device of the point was written, and took the value or not: one more line of text
+abbrev pub written : Catalogue → ℕ → ℤ → Bool → Run → Run
+written catalogue point value ok run = record run {
+  text = run.text ++ line_of (device_text catalogue point value ok);
+  calls = run.calls ++ record { point = point; value = value; ok = ok } ∷ [];
+}
+
+abbrev pub reported : Catalogue → ℕ → ℕ → ℕ → Bool → Run → Run
+reported catalogue moment point version ok run =
+    record run { state = (step (actuators catalogue) 0 (command.Report point version ok) moment run.state).state }
+
+-- what follows a driver's answer to Next: the write that it asks for, and the report of it
+abbrev pub carry_out : Catalogue → ℕ → Answer → Bool → Run → Run
+carry_out catalogue moment (answer.Want point version value) ok run =
+    reported catalogue moment point version ok (written catalogue point value ok run)
+carry_out catalogue moment (answer.Accepted txn until) ok run = cut_short run
+carry_out catalogue moment answer.Nothing ok run = cut_short run
+carry_out catalogue moment (answer.Noted current) ok run = cut_short run
+carry_out catalogue moment (answer.Reading point value basis mark) ok run = cut_short run
+carry_out catalogue moment (answer.Refused refusal) ok run = cut_short run
+
+-- one want of this driver is served: it is asked, its device is written, and the result is reported, all at one moment
+abbrev pub serve : Catalogue → ℕ → Bool → ℕ → Run → Run
+serve catalogue moment ok driver run =
+    let asked = step (actuators catalogue) 0 (command.Next driver) moment run.state in
+    carry_out catalogue moment asked.answer ok (record run { state = asked.state })
+
+abbrev pub if_wanting : Option ℕ → (ℕ → Run) → Run → Run
+if_wanting None go run = run
+if_wanting (Some driver) go run = go driver
+
+-- until there is no want left, the least driver that has one is served
+unfoldable pub drain : Catalogue → ℕ → List Bool → Run → Run
+drain catalogue moment [] run = if_wanting (wanting (actuators catalogue) run.state)
+    (λ driver. cut_short (record run { results = [] })) (record run { results = [] })
+drain catalogue moment (ok ∷ results) run = if_wanting (wanting (actuators catalogue) run.state)
+    (λ driver. drain catalogue moment results (serve catalogue moment ok driver run)) (record run { results = ok ∷ results })
+
+-- the answer to a command, and then the wants that it leaves
+abbrev pub answered : Catalogue → Request → Run → Run
+answered catalogue request run =
+    let done = step (actuators catalogue) 1 request.command request.at run.state in
+    drain catalogue request.at run.results (record run { state = done.state; text = run.text ++ line_of (answer_text catalogue done.answer) })
+
+abbrev pub asked_for : Catalogue → Option Request → Run → Run
+asked_for catalogue None run = cut_short run
+asked_for catalogue (Some request) run = answered catalogue request run
+
+abbrev pub line_read : Catalogue → Run → List ℕ → Run
+line_read catalogue run line = if run.short || is_blank line then run else asked_for catalogue (request_of catalogue line) run
+
+abbrev pub begun : State → List Bool → Run
+begun s results = record { state = s; text = []; calls = []; results = results; short = false }
+
+-- a script from state s: the wants that are there are served, and then the lines one after another
+unfoldable pub script : Catalogue → State → List ℕ → List Bool → Run
+script catalogue s bytes results = fold (line_read catalogue) (drain catalogue 0 results (begun s results)) (lines bytes)
