@@ -3,12 +3,8 @@ use Rattle.std.specs.Option.{option_map_or}
 use Rattle.std.specs.Cmp.Lexicographic.{pointwise}
 use Rattle.boss_model.specs.declared.point.Kind.{Kind}
 use Rattle.boss_model.specs.declared.point.Kind.TheVariants.{Analog, Binary, Multi}
-
 -- what the machine knows of a point: which values it takes, its Relinquish_Default, and the driver of its device
-pub record Actuator : Type 0 where
-  pub kind : Kind
-  pub default : ℤ
-  pub driver : ℕ
+pub use Rattle.boss_model.specs.declared.state.Actuator.{Actuator}
 
 -- a point of the catalogue has a name beside that
 pub record Point : Type 0 where

@@ -3,14 +3,10 @@ use Rattle.std.specs.List.{range_with_len}
 use Rattle.boss_model.specs.declared.answer.Mark.{Mark}
 use Rattle.boss_model.specs.declared.answer.Mark.TheVariants.{Pending}
 use Rattle.boss_model.specs.Catalogue.{Actuator}
-
 -- a lease: transaction `txn` holds the slot (point, priority) at this value as long as the moment is before `until`
-pub record Lease : Type 0 where
-  pub txn : ℕ
-  pub point : ℕ
-  pub priority : ℕ
-  pub value : ℤ
-  pub until : ℕ
+pub use Rattle.boss_model.specs.declared.state.Lease.{Lease}
+-- where a point's device stands: the version of its commanded value, that value, and how far the device has come
+pub use Rattle.boss_model.specs.declared.state.Proxy.{Proxy}
 
 -- a slot of a priority array, in the order of points and then of priorities
 abbrev pub slot : Lease → List ℕ
@@ -21,12 +17,6 @@ pub record Durable : Type 0 where
   pub now : ℕ
   pub next : ℕ
   pub leases : List Lease
-
--- where a point's device stands: the version of its commanded value, that value, and how far the device has come
-pub record Proxy : Type 0 where
-  pub version : ℕ
-  pub commanded : ℤ
-  pub mark : Mark
 
 -- the whole state: beside the durable part one proxy a point, and the points that want their device to be written, in
 -- order of arrival

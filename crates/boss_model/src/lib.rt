@@ -9,6 +9,7 @@ mod memory;
 mod name;
 mod numbers;
 mod point;
+mod state;
 
 pub use answer::{Answer, Basis, Mark, Refusal};
 pub use buffer::Buffer;
@@ -18,3 +19,4 @@ pub use memory::NoMemory;
 pub use name::Name;
 pub use numbers::{DriverId, PointId, Priority, ProcId, SessionId, Txn};
 pub use point::Kind;
+pub use state::{Actuator, Lease, Proxy};
