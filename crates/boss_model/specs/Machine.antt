@@ -23,6 +23,10 @@ pub record Step : Type 0 where
 abbrev pub member : ℕ → List ℕ → Bool
 member point points = list_any (λ other. other == point) points
 
+-- the list without a point
+abbrev pub without : ℕ → List ℕ → List ℕ
+without point points = filter (λ other. not (other == point)) points
+
 -- ---- settling: what has to be told to the devices
 
 -- the point's target is no longer the value that its device was last told
@@ -102,7 +106,7 @@ abbrev pub hand_out : Option ℕ → State → Step
 hand_out None s = record { answer = answer.Nothing; state = s }
 hand_out (Some point) s = record {
   answer = answer.Want point (proxy_of s.proxies point).version (proxy_of s.proxies point).commanded;
-  state = record s { wants = filter (λ want. not (want == point)) s.wants };
+  state = record s { wants = without point s.wants };
 }
 
 abbrev pub next : List Actuator → ℕ → State → Step

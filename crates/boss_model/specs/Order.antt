@@ -16,11 +16,17 @@ abbrev pub in_order : {X : Type 0} → (X → List ℕ) → List X → List X
 in_order rank [] = []
 in_order rank (x ∷ xs) = put rank x (in_order rank xs)
 
--- an item of the least key, and of several the first
+-- of an item and one that may come later the first, but the later where its key is less
 abbrev pub lesser : {X : Type 0} → (X → ℕ) → X → Option X → X
 lesser key x None = x
 lesser key x (Some y) = if nat_lt (key y) (key x) then y else x
 
+-- the same where the first of the two may be missing
+abbrev pub kept : {X : Type 0} → (X → ℕ) → Option X → X → X
+kept key None x = x
+kept key (Some first) x = lesser key first (Some x)
+
+-- an item of the least key, and of several the first
 abbrev pub least : {X : Type 0} → (X → ℕ) → List X → Option X
 least key [] = None
 least key (x ∷ xs) = Some (lesser key x (least key xs))

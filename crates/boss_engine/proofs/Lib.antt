@@ -1,0 +1,4 @@
+pub mod Found
+pub mod Leases
+pub mod SettlingLemmas
+pub mod Steps

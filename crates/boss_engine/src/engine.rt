@@ -1,0 +1,53 @@
+ghost use Rattle.std.specs.Prelude.{◌≡◌, ◌<◌, ◌≤◌, ◌+◌, ◌^◌, [], ◌∷◌, length, max, IfOk, OnErr, vec_len, vec_capacity};
+ghost use Rattle.boss_model.specs.Machine.{act, moment_of, pass_time, step, wanting};
+ghost use Rattle.boss_model.specs.Sound.{IsAllowed, IsSound};
+
+use crate::machine::Machine;
+use boss_model::{Actuator, Answer, Command, DriverId, NoMemory, SessionId};
+use std::marker::Model;
+
+/// The transaction manager of a plant: who holds which slot of which point, and what the devices have to be told.
+///
+/// A contract sees it as the plant and the state of the machine, which is sound.
+#[derive(Debug, Drop)]
+pub struct Engine {
+    plant: Vec<Actuator>,
+    machine: Machine,
+}
+
+impl Model for Engine {
+    ghost use Rattle.boss_engine.specs.Running.{Running};
+
+    ghost Value = { Running };
+
+    ghost use Rattle.boss_engine.specs.Inside.{running, IsReady};
+
+    ghost view = { running };
+
+    ghost invariant = { IsReady };
+}
+
+impl Engine {
+    /// Carries a session's command out: time passes up to `moment`, in milliseconds, or to the engine's last moment
+    /// where that is later; then the points settle, the command acts, and the points settle again.
+    ///
+    /// A submit may find no memory, and then nothing has changed.
+    pub fn step(
+        &mut self,
+        session: SessionId,
+        command: &Command,
+        moment: u64,
+    ) -> Result<Answer, NoMemory>
+        requires moment { moment ≤ 2 ^ 60 }
+        requires allowed { IsAllowed self.old.plant command.now }
+
+        ensures answer { IfOk result (λ answer. answer ≡ (step self.old.plant session command.now moment self.old.state).answer) }
+        ensures state { IfOk result (λ _. self.new.state ≡ (step self.old.plant session command.now moment self.old.state).state) }
+        ensures sound { IsSound self.new.plant self.new.state }
+        ensures plant { self.new.plant ≡ self.old.plant }
+        ensures err { OnErr result (self.new ≡ self.old) }
+    {
+        self.machine.make_room(command)?;
+        Ok(self.machine.step(&self.plant, session, command, moment))
+    }
+}
