@@ -1,9 +1,11 @@
 ghost use Rattle.std.specs.Prelude.{◌≡◌, ◌<◌, ◌≤◌, ◌+◌, ◌^◌, [], ◌∷◌, length, max, IfOk, OnErr, vec_len, vec_capacity};
 ghost use Rattle.boss_model.specs.Machine.{act, moment_of, pass_time, step, wanting};
 ghost use Rattle.boss_model.specs.Sound.{IsAllowed, IsSound};
+ghost use Rattle.boss_model.specs.State.{first_state};
 
 use crate::machine::Machine;
 use boss_model::{Actuator, Answer, Command, DriverId, NoMemory, SessionId};
+use std::alloc::Global;
 use std::marker::Model;
 
 /// The transaction manager of a plant: who holds which slot of which point, and what the devices have to be told.
@@ -28,6 +30,22 @@ impl Model for Engine {
 }
 
 impl Engine {
+    /// The engine of a plant before anything was done: no lease, and every point wants its default.
+    pub fn for_plant(alloc: Global, plant: Vec<Actuator>) -> Result<Engine, NoMemory>
+        requires { vec_len plant ≤ 2 ^ 32 }
+        ensures { IfOk result (λ engine. engine ≡ record { plant = plant.items; state = first_state plant.items }) }
+    {
+        let machine = Machine::first(alloc, &plant)?;
+        Ok(Engine { plant, machine })
+    }
+
+    /// The least driver that has a want.
+    pub fn wanting(&self) -> Option<DriverId>
+        ensures { result ≡ wanting self.now.plant self.now.state }
+    {
+        self.machine.wanting(&self.plant)
+    }
+
     /// Carries a session's command out: time passes up to `moment`, in milliseconds, or to the engine's last moment
     /// where that is later; then the points settle, the command acts, and the points settle again.
     ///

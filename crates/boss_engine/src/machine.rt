@@ -1,10 +1,11 @@
-ghost use Rattle.std.specs.Prelude.{OnOk, ◌≡◌, ◌<◌, ◌≤◌, ◌+◌, ◌^◌, [], ◌∷◌, length, slice_set, ◌==◌, vec_len, vec_capacity};
-ghost use Rattle.std.specs.List.{AllByRecursion, find};
+ghost use Rattle.std.specs.Prelude.{IfOk, OnOk, map, ◌≡◌, ◌<◌, ◌≤◌, ◌+◌, ◌^◌, [], ◌∷◌, length, slice_set, ◌==◌, vec_len, vec_capacity};
+ghost use Rattle.std.specs.List.{AllByRecursion, find, range_with_len};
 ghost use Rattle.boss_model.specs.Catalogue.{driver_of};
-ghost use Rattle.boss_model.specs.Machine.{act, is_current, marked, next, proxy_of, read, report, settle, step, submit};
+ghost use Rattle.boss_model.specs.Machine.{act, is_current, marked, next, proxy_of, read, report, settle, step, submit, wanting};
+ghost use Rattle.boss_model.specs.Order.{kept};
 ghost use Rattle.boss_model.specs.Requests.{is_write};
 ghost use Rattle.boss_model.specs.Sound.{Distinct, IsAllowed, IsSound, Rising};
-ghost use Rattle.boss_model.specs.State.{slot};
+ghost use Rattle.boss_model.specs.State.{first_state, fresh, slot};
 ghost use Rattle.boss_model.specs.Time.{tick};
 ghost use Rattle.boss_engine.specs.Machine.{CanAct, HasRoom, state_of};
 ghost use Rattle.boss_engine.specs.Writes.{AreInRange};
@@ -13,6 +14,7 @@ use crate::settling::{self, drop_want};
 use crate::slots::take_slot;
 use crate::target::{basis, driver_at, target_of};
 use crate::time::{drop_ended, latest_end};
+use std::alloc::Global;
 use boss_model::{
     Actuator, Answer, Command, DriverId, Lease, Mark, NoMemory, PointId, Priority, Proxy, Refusal, SessionId, Setting, Txn,
 };
@@ -31,6 +33,32 @@ pub struct Machine {
 }
 
 impl Machine {
+    /// The first state of a plant, with room for a want of each point.
+    pub fn first(alloc: Global, plant: &[Actuator]) -> Result<Machine, NoMemory>
+        requires { length plant.now ≤ 2 ^ 32 }
+        ensures state { IfOk result (λ machine. state_of machine ≡ first_state plant.now) }
+        ensures room { IfOk result (λ machine. length plant.now ≤ vec_capacity machine.wants) }
+    {
+        Ok(Machine {
+            moment: 0,
+            next_txn: 1,
+            leases: Vec::new(alloc),
+            proxies: fresh_proxies(alloc, plant)?,
+            wants: all_points(alloc, plant.len())?,
+        })
+    }
+
+    /// The least driver that has a want.
+    pub fn wanting(&self, plant: &[Actuator]) -> Option<DriverId>
+        ensures { result ≡ wanting plant.now (state_of self.now) }
+    {
+        let mut found = None;
+        for point in &self.wants {
+            found = Some(lesser(found, driver_at(plant, *point)));
+        }
+        found
+    }
+
     /// Lets time pass up to `n`.
     pub fn tick(&mut self, n: u64)
         ensures state { state_of self.new ≡ record (state_of self.old) { durable = tick n (state_of self.old).durable } }
@@ -225,4 +253,45 @@ fn first_want(plant: &[Actuator], wants: &[PointId], driver: DriverId) -> Option
         .iter()
         .copied()
         .find(|point| driver_at(plant, *point) == driver)
+}
+
+/// One proxy a point, whose device has not been told anything yet.
+fn fresh_proxies(alloc: Global, plant: &[Actuator]) -> Result<Vec<Proxy>, NoMemory>
+    ensures { IfOk result (λ proxies. proxies.items ≡ map (λ actuator. fresh actuator.default) plant.now) }
+{
+    let proxies = plant.iter().map(|actuator| fresh(actuator.default)).collect(alloc)?;
+    Ok(proxies)
+}
+
+fn fresh(value: i64) -> Proxy
+    ensures { result ≡ fresh value }
+{
+    Proxy {
+        version: 1,
+        commanded: value,
+        mark: Mark::Pending,
+    }
+}
+
+/// The points of a plant of this size, rising, in a list that has room for them.
+fn all_points(alloc: Global, count: usize) -> Result<Vec<PointId>, NoMemory>
+    requires { count ≤ 2 ^ 32 }
+    ensures points { IfOk result (λ points. points.items ≡ range_with_len 0 count) }
+    ensures room { IfOk result (λ points. count ≤ vec_capacity points) }
+{
+    let mut points = Vec::with_capacity(alloc, count)?;
+    for place in 0..count {
+        points.push_reserved(PointId(place as u32));
+    }
+    Ok(points)
+}
+
+/// The lesser of two drivers, where there are two.
+fn lesser(found: Option<DriverId>, driver: DriverId) -> DriverId
+    ensures { result ≡ kept (λ x. x) found driver }
+{
+    match found {
+        Some(found) if found <= driver => found,
+        _ => driver,
+    }
 }

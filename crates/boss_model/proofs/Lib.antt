@@ -1,4 +1,5 @@
 pub mod FirstRows
+pub mod FirstSound
 pub mod OrderLemmas
 pub mod SettleSound
 pub mod Soundness

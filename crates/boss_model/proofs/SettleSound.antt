@@ -23,7 +23,7 @@ each-under-map : {X Y : Type 0} (Q : Y → Type 0) (f : X → Y) (xs : List X) �
 each-under-map Q f [] all = tt
 each-under-map Q f (x ∷ xs) all = (all.0, each-under-map Q f xs all.1)
 
-member-above : (n : ℕ) (xs : List ℕ) → AllByRecursion (λ x. n < x) xs → member n xs ≡ false
+pub member-above : (n : ℕ) (xs : List ℕ) → AllByRecursion (λ x. n < x) xs → member n xs ≡ false
 member-above n [] above = refl
 member-above n (x ∷ xs) above = grind (arith, nat_tests, above.0, member-above n xs above.1)
 
