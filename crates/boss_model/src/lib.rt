@@ -7,6 +7,7 @@ mod command;
 mod items;
 mod memory;
 mod name;
+mod notice;
 mod numbers;
 mod point;
 
@@ -16,5 +17,6 @@ pub use command::{Command, Policy, Setting, Step};
 pub use items::Items;
 pub use memory::NoMemory;
 pub use name::Name;
+pub use notice::{Cause, Notice, Stage, What};
 pub use numbers::{DriverId, PointId, Priority, ProcId, SessionId, Txn};
 pub use point::Kind;
