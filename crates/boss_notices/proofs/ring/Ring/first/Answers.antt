@@ -1,6 +1,5 @@
 use Rattle.std.proofs.Common.{◌≡◌, ◌+◌, ◌-◌, length, refl, arith}
 use Rattle.boss_notices.proofs.Numbering.{first_number}
-use Rattle.boss_notices.specs.Rings.{first_kept}
 use Rattle.boss_notices.proofs.ring.Ring.first.Goals as goal
 
 pub returns-clause-first : goal.returns-clause-first

@@ -1,4 +1,4 @@
-use Rattle.std.proofs.Common.{◌≡◌, ◌+◌, ◌-◌, ◌≤◌, min, length, take, drop, length-drop, ap, refl, arith}
+use Rattle.std.proofs.Common.{◌≡◌, ◌-◌, ◌≤◌, min, length, take, drop, length-drop, ap, refl, arith}
 use Rattle.std.proofs.lemmas.List.{take_min}
 use Rattle.boss_notices.specs.Rings.{start, numbered_from}
 use Rattle.boss_notices.proofs.Numbering.{numbered_from-places}
