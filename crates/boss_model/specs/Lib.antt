@@ -3,6 +3,7 @@ pub mod Names
 pub mod Catalogue
 pub mod Order
 pub mod State
+pub mod Records
 pub mod Target
 pub mod Time
 pub mod Machine

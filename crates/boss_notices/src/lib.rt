@@ -1,0 +1,7 @@
+//! What processes are told: for each process the last 1,024 of its notices, by number.
+#![tactic(auto)]
+
+mod ring;
+mod rings;
+
+pub use rings::Rings;

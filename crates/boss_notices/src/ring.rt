@@ -1,0 +1,99 @@
+ghost use Rattle.std.specs.Prelude.{◌≡◌, ◌+◌, ◌-◌, ◌^◌, ◌≤◌, ◌<◌, length, take, drop, vec_capacity, IfOk};
+ghost use Rattle.boss_notices.specs.Rings.{no_notices, posted, first_kept, start, notices_from, NumberedFrom};
+
+use boss_model::{NoMemory, Notice, Txn, What};
+use circular_buffer::HeapCircularBuffer;
+use std::alloc::Global;
+use std::marker::Model;
+
+/// How many notices of a process are kept.
+pub const NOTICES_KEPT: usize = 1024;
+
+/// The number after which a process is told no more.
+pub const LAST_NUMBER: u64 = 1 << 62;
+
+/// The notices of one process.
+#[derive(Drop)]
+pub struct Ring {
+    count: u64,
+    kept: HeapCircularBuffer<Notice>,
+}
+
+impl Model for Ring {
+    ghost use Rattle.std.specs.Prelude.{◌≡◌, ◌+◌, ◌-◌, ◌≤◌, ◌^◌, length};
+    ghost use Rattle.boss_notices.specs.Rings.{Ring as Kept, NumberedFrom};
+
+    ghost Value = { Kept };
+
+    ghost view = { λ r. record { count = r.count; kept = r.kept.items } };
+
+    ghost invariant = { λ r. (r.kept.capacity ≡ 1024) × (length r.kept.items ≤ r.count) × (r.count ≤ 2 ^ 62) × NumberedFrom (r.count - length r.kept.items + 1) r.kept.items };
+}
+
+impl Ring {
+    /// No notice so far.
+    pub fn new(alloc: Global) -> Result<Ring, NoMemory>
+        ensures { IfOk result (λ ring. ring ≡ no_notices) }
+    {
+        let kept = HeapCircularBuffer::with_capacity(alloc, NOTICES_KEPT)?;
+        Ok(Ring { count: 0, kept })
+    }
+
+    /// One notice more. It takes no memory.
+    pub fn post(&mut self, at: u64, txn: Txn, what: What)
+        ensures { self.new ≡ posted at txn what self.old }
+    {
+        if self.count == LAST_NUMBER {
+            return;
+        }
+        self.count += 1;
+        self.kept.push_back(Notice {
+            number: self.count,
+            at,
+            txn,
+            what,
+        });
+    }
+
+    /// The kept notices from this number on, at most `most` of them, are left in `into`, which is emptied first. The
+    /// answer is the least number that is kept, and the number to ask for next. It takes no memory.
+    pub fn from(&self, number: u64, most: u64, into: &mut Vec<Notice>) -> (u64, u64)
+        requires { most ≤ vec_capacity into.old }
+        ensures first { result.0 ≡ first_kept self.now }
+        ensures next { result.1 ≡ start self.now number + length into.new.items }
+        ensures list { into.new.items ≡ notices_from self.now number most }
+        ensures room { vec_capacity into.new ≡ vec_capacity into.old }
+    {
+        let first = self.first();
+        let start = number.max(first).min(self.count + 1);
+        let wanted = most.min(self.count + 1 - start);
+        self.copy((start - first) as usize, wanted as usize, into);
+        (first, start + wanted)
+    }
+
+    /// The least number that is kept, or the next one where none is.
+    fn first(&self) -> u64
+        ensures first { result ≡ first_kept self.now }
+        ensures place { result + length self.now.kept ≡ self.now.count + 1 }
+        ensures count { self.now.count ≤ 2 ^ 62 }
+        ensures numbered { NumberedFrom result self.now.kept }
+    {
+        self.count - self.kept.len() as u64 + 1
+    }
+
+    /// Leaves in `into` this many of the kept notices, from this place among them on.
+    fn copy(&self, place: usize, count: usize, into: &mut Vec<Notice>)
+        requires place { place + count ≤ length self.now.kept }
+        requires room { count ≤ vec_capacity into.old }
+        ensures list { into.new.items ≡ take count (drop place self.now.kept) }
+        ensures room { vec_capacity into.new ≡ vec_capacity into.old }
+    {
+        let _kept = self.kept.len();
+        into.clear();
+        for index in place..place + count {
+            if let Some(notice) = self.kept.get(index) {
+                into.push_reserved(*notice);
+            }
+        }
+    }
+}
