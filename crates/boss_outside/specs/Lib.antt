@@ -1,0 +1,4 @@
+pub mod Call
+pub mod Counts
+pub mod Files
+pub mod Streams
