@@ -1,4 +1,4 @@
-use Rattle.std.specs.Prelude.{◌≡◌, ℕ, ◌<◌, ◌≤◌, List, length, Option, Some, Result, Ok, Err}
+use Rattle.std.specs.Prelude.{◌≡◌, ℕ, ◌<◌, ◌≤◌, Bool, true, false, List, length, Option, Some, Result, Ok, Err}
 use Rattle.boss_outside.specs.declared.files.FileBytes.{FileBytes}
 use Rattle.boss_outside.specs.declared.files.FileBytes.TheVariants.{Whole, Longer}
 use Rattle.boss_outside.specs.declared.files.FileFault.{FileFault}
@@ -20,3 +20,9 @@ abbrev pub FileCause : {T : Type 0} → ℕ → ℕ → Result T FileFault → T
 FileCause before now (Ok _) = now ≡ before
 FileCause before now (Err Failed) = Rose before now
 FileCause before now (Err NoMemory) = now ≡ before
+
+-- whether the call failed, and not for want of memory
+abbrev pub is_failed : {T : Type 0} → Result T FileFault → Bool
+is_failed (Ok _) = false
+is_failed (Err Failed) = true
+is_failed (Err NoMemory) = false

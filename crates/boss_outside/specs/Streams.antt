@@ -1,4 +1,4 @@
-use Rattle.std.specs.Prelude.{◌≡◌, ℕ, ◌≤◌, List, [], ◌++◌, take, Result, Ok, Err}
+use Rattle.std.specs.Prelude.{◌≡◌, ℕ, ◌≤◌, List, [], ◌++◌, min, take, Result, Ok, Err}
 use Rattle.boss_outside.specs.declared.source.Got.{Got}
 use Rattle.boss_outside.specs.declared.source.Got.TheVariants.{Bytes, Finish, Failed}
 use Rattle.boss_outside.specs.Counts.{Rose}
@@ -8,6 +8,12 @@ abbrev pub FitsRoom : ℕ → Got → Type 0
 FitsRoom room (Bytes count) = (1 ≤ count) × (count ≤ room)
 FitsRoom room Finish = Unit {0}
 FitsRoom room Failed = Unit {0}
+
+-- a read that gives as many of the bytes that were left as there is room for
+abbrev pub FillsRoom : ℕ → ℕ → Got → Type 0
+FillsRoom room left (Bytes count) = count ≡ min room left
+FillsRoom room left Finish = Unit {0}
+FillsRoom room left Failed = Unit {0}
 
 -- what a read does to the bytes that were left: those that it gives stand at the front of `into` and are left no more,
 -- none is left where it finds the end, and where it fails all are left

@@ -8,11 +8,12 @@
 mod actuators;
 mod failed;
 mod files;
+mod plan;
 mod sink;
 mod source;
 
-pub use actuators::Actuators;
+pub use actuators::{Actuators, DeviceCall, IdleActuators, SimActuators};
 pub use failed::Failed;
-pub use files::{FileBytes, FileFault, Files};
-pub use sink::Sink;
-pub use source::{Got, Source};
+pub use files::{FileBytes, FileFault, Files, MemoryFiles};
+pub use sink::{BytesSink, Sink};
+pub use source::{BytesSource, Got, Source};
