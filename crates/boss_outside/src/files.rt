@@ -1,8 +1,7 @@
-ghost use Rattle.std.specs.Prelude.{◌≡◌, ℕ, ◌||◌, List, Option, IfOk, map, is_none, option_copied, bytes_eq};
-ghost use Rattle.std.specs.List.{IsDistinct};
+ghost use Rattle.std.specs.Prelude.{◌≡◌, ℕ, ◌||◌, List, Option, IfOk, IsTrue, is_none, option_copied};
 ghost use Rattle.boss_outside.specs.Files.{KeepsLimit, ReadsFile, FileCause, is_failed};
 ghost use Rattle.boss_outside.specs.Plan.{new_plan, fails_next, after_call};
-ghost use Rattle.boss_outside.specs.Stores.{bytes_under};
+ghost use Rattle.boss_outside.specs.Stores.{bytes_under, have_distinct_names};
 
 use crate::Failed;
 use crate::plan::FaultPlan;
@@ -89,7 +88,7 @@ impl MemoryFiles {
         contents: Items<(Items<u8>, Items<u8>)>,
         fails: Items<u64>,
     ) -> Result<MemoryFiles, NoMemory>
-        requires { IsDistinct bytes_eq (map (λ file. file.0) contents) }
+        requires { IsTrue (have_distinct_names contents) }
         ensures { IfOk result (λ files. files ≡ record { files = contents; plan = new_plan fails }) }
     {
         Ok(MemoryFiles {

@@ -11,6 +11,8 @@ mod files;
 mod plan;
 mod sink;
 mod source;
+#[cfg(test)]
+mod tests;
 
 pub use actuators::{Actuators, DeviceCall, IdleActuators, SimActuators};
 pub use failed::Failed;
