@@ -3,6 +3,12 @@ use Rattle.boss_outside.specs.declared.source.Got.{Got}
 use Rattle.boss_outside.specs.declared.source.Got.TheVariants.{Bytes, Finish, Failed}
 use Rattle.boss_outside.specs.Counts.{Rose}
 
+-- how many bytes a read gave
+abbrev pub count_of : Got → ℕ
+count_of (Bytes count) = count
+count_of Finish = 0
+count_of Failed = 0
+
 -- a read that gives bytes gives one at least, and no more than there is room for
 abbrev pub FitsRoom : ℕ → Got → Type 0
 FitsRoom room (Bytes count) = (1 ≤ count) × (count ≤ room)

@@ -1,7 +1,7 @@
 ghost use Rattle.std.specs.Prelude.{◌≡◌, ◌↔◌, ℕ, ◌+◌, ◌^◌, ◌<◌, List, length, IfOk, IsTrue};
 ghost use Rattle.boss_outside.specs.Plan.{new_plan, fails_next, after_call};
 ghost use Rattle.boss_outside.specs.Stores.{bytes_left};
-ghost use Rattle.boss_outside.specs.Streams.{FitsRoom, FillsRoom, Reads, ReadCause, IsSuffixOf};
+ghost use Rattle.boss_outside.specs.Streams.{count_of, FitsRoom, FillsRoom, Reads, ReadCause, IsSuffixOf};
 
 use crate::plan::FaultPlan;
 use boss_model::{Items, NoMemory};
@@ -17,6 +17,18 @@ pub enum Got {
     Finish,
     /// Nothing: the read failed, and the source's count of faults rose.
     Failed,
+}
+
+impl Got {
+    /// How many bytes the read gave.
+    pub fn count(self) -> usize
+        ensures { result ≡ count_of self }
+    {
+        match self {
+            Got::Bytes(count) => count,
+            Got::Finish | Got::Failed => 0,
+        }
+    }
 }
 
 /// Something that bytes are read from.
