@@ -1,0 +1,3 @@
+pub mod LineEndLemmas
+pub mod LinesLemmas
+pub mod WindowLemmas

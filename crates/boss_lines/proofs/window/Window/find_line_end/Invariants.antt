@@ -1,0 +1,15 @@
+use Rattle.std.proofs.Common.{◌≡◌, ◌-◌, ◌≤◌, ◌++◌, length}
+use Rattle.boss_lines.specs.Window.{NoLineEnd}
+use Rattle.boss_lines.proofs.window.Window.find_line_end.Given as goal
+
+abbrev pub invariant-loop-place : goal.invariant-loop-place
+invariant-loop-place g l = record {
+  within : l.sought ≤ length l.self;
+  passed : NoLineEnd l.sought l.self;
+  bytes : g.S.Source.tells → l.self ++ g.S.Source.left l.source ≡ l.initial.self ++ g.S.Source.left l.initial.source;
+  stays : g.S.Source.tells → g.S.Source.held l.source ≡ g.S.Source.held l.initial.source;
+  faults : g.S.Source.faults l.source ≡ g.S.Source.faults l.initial.source;
+}
+
+abbrev pub decreases-loop-place : goal.decreases-loop-place
+decreases-loop-place g l = 65536 - length l.self

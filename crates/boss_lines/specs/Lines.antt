@@ -1,0 +1,37 @@
+use Rattle.std.specs.Prelude.{◌≡◌, ℕ, ◌<◌, ◌≤◌, List, [], ◌∷◌, length, Option, Some, None, IfSome}
+use Rattle.boss_model.specs.Lines.{lines}
+use Rattle.boss_outside.specs.Counts.{Rose}
+use Rattle.boss_lines.specs.declared.reader.Next.{Next}
+use Rattle.boss_lines.specs.declared.reader.Next.TheVariants.{Line, Finish, TooLong, ReadFault}
+use Rattle.boss_lines.specs.Window.{IsTooLong}
+
+-- a reader of lines: the line that it gave last, the bytes behind it that were read ahead, and the answer that it stopped at
+pub record Progress : Type 0 where
+  pub line : List ℕ
+  pub ahead : List ℕ
+  pub stopped : Option Next
+
+-- the first line of these bytes is longer than a line may be
+abbrev pub BeginsTooLong : List (List ℕ) → Type 0
+BeginsTooLong all = (line : List ℕ) × (more : List (List ℕ)) × (all ≡ line ∷ more) × (65535 < length line)
+
+-- what an answer says of the bytes that were ahead of it, of those that are ahead now, and of the line
+abbrev pub Answers : List ℕ → List ℕ → List ℕ → Next → Type 0
+Answers old new line Line = (lines old ≡ line ∷ lines new) × ¬ IsTooLong old
+Answers old new line Finish = (old ≡ []) × (new ≡ [])
+Answers old new line TooLong = (new ≡ old) × IsTooLong old × BeginsTooLong (lines old)
+Answers old new line ReadFault = new ≡ old
+
+-- the answer is a read fault exactly where the source's count rose
+abbrev pub NextCause : ℕ → ℕ → Next → Type 0
+NextCause before now Line = now ≡ before
+NextCause before now Finish = now ≡ before
+NextCause before now TooLong = now ≡ before
+NextCause before now ReadFault = Rose before now
+
+-- the answer that a reader stops at, if it stops at this one
+abbrev pub stop_at : Next → Option Next
+stop_at Line = None
+stop_at Finish = None
+stop_at TooLong = Some TooLong
+stop_at ReadFault = Some ReadFault

@@ -1,0 +1,114 @@
+ghost use Rattle.std.specs.Prelude.{◌≡◌, ◌≤◌, ℕ, [], ◌++◌, length, None, IfOk, IfSome};
+ghost use Rattle.boss_lines.specs.Lines.{Answers, NextCause, stop_at};
+ghost use Rattle.boss_lines.specs.Window.{IsTooLong};
+
+use crate::window::{Found, Window};
+use boss_model::NoMemory;
+use boss_outside::Source;
+use std::alloc::Global;
+use std::marker::Model;
+
+/// What a reader of lines came to.
+#[derive(Clone, Copy, Debug, PartialEq, Eq)]
+pub enum Next {
+    /// A line, which `Lines::line` gives.
+    Line,
+    /// The end: a read gave nothing, and no byte is left over.
+    Finish,
+    /// 65,536 bytes in a row without a line end.
+    TooLong,
+    /// A read that failed.
+    ReadFault,
+}
+
+/// Reads the lines of a source. A line ends at byte 10, which is no part of it, and has at most 65,535 bytes. What stands
+/// behind the last line end is a line where it is not empty.
+#[derive(Debug, Drop)]
+pub struct Lines {
+    window: Window,
+    /// How many bytes at the front of the window are the last line.
+    line: usize,
+    /// The same with its line end, if it has one.
+    used: usize,
+    stopped: Option<Next>,
+}
+
+impl Model for Lines {
+    ghost use Rattle.std.specs.Prelude.{take, drop};
+    ghost use Rattle.boss_lines.specs.Lines.{Progress};
+    ghost use Rattle.boss_lines.specs.Inside.{IsSound};
+
+    ghost Value = { Progress };
+
+    ghost view = { λ l. record { line = take l.line l.window; ahead = drop l.used l.window; stopped = l.stopped } };
+
+    ghost invariant = { λ l. IsSound l.window l.line l.used l.stopped };
+}
+
+impl Lines {
+    /// A reader that has not read yet. Its room is the only memory that it takes.
+    pub fn new(alloc: Global) -> Result<Lines, NoMemory>
+        ensures { IfOk result (λ reader. reader ≡ record { line = []; ahead = []; stopped = None }) }
+    {
+        Ok(Lines {
+            window: Window::new(alloc)?,
+            line: 0,
+            used: 0,
+            stopped: None,
+        })
+    }
+
+    /// The line that the last call of `next` came to, and nothing where it came to none.
+    pub fn line(&self) -> &[u8]
+        ensures value { result.now ≡ self.now.line }
+        ensures within { length self.now.line ≤ 65535 }
+    {
+        &self.window.bytes()[..self.line]
+    }
+
+    /// Goes on to the next line. It takes no memory. Once it came to a line that is too long or to a read that failed, it
+    /// stays there and reads no more.
+    pub fn next<S: Source>(&mut self, source: &mut S) -> Next
+        // Of a source that tells its bytes: those that are ahead are those that were read ahead and those that are left.
+        ensures bytes { S.tells → Answers (self.old.ahead ++ S.left source.old)
+            (self.new.ahead ++ S.left source.new) self.new.line result }
+        ensures held { S.tells → S.held source.new ≡ S.held source.old }
+
+        // Of every source.
+        ensures too_long { result ≡ Next.TooLong → IsTooLong self.new.ahead }
+        ensures cause { self.old.stopped ≡ None → NextCause (S.faults source.old) (S.faults source.new) result }
+        ensures stops { self.new.stopped ≡ stop_at result }
+        ensures stays { IfSome self.old.stopped
+            (λ answer. (result ≡ answer) × (self.new ≡ self.old) × (source.new ≡ source.old)) }
+    {
+        if let Some(answer) = self.stopped {
+            return answer;
+        }
+        self.window.consume(self.used);
+        self.line = 0;
+        self.used = 0;
+        match self.window.find_line_end(source) {
+            Found::LineEnd(place) => {
+                self.line = place;
+                self.used = place + 1;
+                Next::Line
+            }
+            Found::SourceEnd => match self.window.bytes().len() {
+                0 => Next::Finish,
+                rest => {
+                    self.line = rest;
+                    self.used = rest;
+                    Next::Line
+                }
+            },
+            Found::TooFar => {
+                self.stopped = Some(Next::TooLong);
+                Next::TooLong
+            }
+            Found::Fault => {
+                self.stopped = Some(Next::ReadFault);
+                Next::ReadFault
+            }
+        }
+    }
+}

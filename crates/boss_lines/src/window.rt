@@ -1,0 +1,165 @@
+ghost use Rattle.std.specs.Prelude.{◌≡◌, ℕ, ◌+◌, ◌-◌, ◌<◌, ◌≤◌, List, [], ◌++◌, length, take, drop, slice_index, IfOk, IfSome, IfNone};
+ghost use Rattle.boss_outside.specs.Streams.{FitsRoom, Reads, ReadCause};
+ghost use Rattle.boss_lines.specs.Window.{Adds, NoLineEnd, Shows, IsAtEnd, FoundCause};
+
+use boss_model::NoMemory;
+use boss_outside::{Got, Source};
+use memchr::memchr;
+use std::alloc::Global;
+use std::marker::Model;
+
+/// The most bytes that a line may have before its end.
+const LONGEST: usize = 65_535;
+
+/// Twice the bytes that may come before a line end: so the bytes of a line that reaches the end of the room fit in front
+/// of their own place.
+const ROOM: usize = 131_072;
+
+/// Where the first line ends.
+pub enum Found {
+    /// At this place among the bytes that are held.
+    LineEnd(usize),
+    /// Nowhere: the source has come to its end.
+    SourceEnd,
+    /// Nowhere within the bytes that a line may have.
+    TooFar,
+    /// Not known: a read failed.
+    Fault,
+}
+
+/// The bytes that were read and not yet used, in a room that is taken once.
+///
+/// Each byte is moved once at most: the bytes at the end of the room are moved to its front before a read, and by the
+/// time that the room is full again the line that they began is used.
+#[derive(Debug, Drop)]
+pub struct Window {
+    bytes: Vec<u8>,
+    start: usize,
+    count: usize,
+}
+
+impl Model for Window {
+    ghost use Rattle.std.specs.Prelude.{◌≡◌, ◌≤◌, ◌+◌, ℕ, List, length, take, drop};
+
+    ghost Value = { List ℕ };
+
+    ghost view = { λ w. take w.count (drop w.start w.bytes.items) };
+
+    ghost invariant = { λ w. (w.start + w.count ≤ length w.bytes.items) × (length w.bytes.items ≡ 131072) };
+}
+
+impl Window {
+    /// A window that holds nothing.
+    pub fn new(alloc: Global) -> Result<Window, NoMemory>
+        ensures { IfOk result (λ window. window ≡ []) }
+    {
+        Ok(Window {
+            bytes: vec![in alloc; 0; ROOM]?,
+            start: 0,
+            count: 0,
+        })
+    }
+
+    /// The bytes that are held.
+    pub fn bytes(&self) -> &[u8]
+        ensures { result.now ≡ self.now }
+    {
+        &self.bytes[self.start..self.start + self.count]
+    }
+
+    /// Lets the first bytes go, this many.
+    pub fn consume(&mut self, count: usize)
+        requires { count ≤ length self.old }
+        ensures { self.new ≡ drop count self.old }
+    {
+        self.start += count;
+        self.count -= count;
+    }
+
+    /// Reads some bytes behind those that are held.
+    fn fill<S: Source>(&mut self, source: &mut S) -> Got
+        requires { length self.old ≤ 65535 }
+        ensures adds { Adds self.old self.new result }
+        ensures bytes { S.tells → self.new ++ S.left source.new ≡ self.old ++ S.left source.old }
+        ensures finish { S.tells → result ≡ Got.Finish → S.left source.new ≡ [] }
+        ensures stays { S.tells → S.held source.new ≡ S.held source.old }
+        ensures cause { ReadCause (S.faults source.old) (S.faults source.new) result }
+    {
+        let bytes = self.bytes.as_mut_slice();
+        self.start = make_room(bytes, self.start, self.count);
+        let got = read_behind(source, bytes, self.start + self.count);
+        self.count += got.count();
+        got
+    }
+
+    /// Seeks the first line end, and reads on until it has come.
+    pub fn find_line_end<S: Source>(&mut self, source: &mut S) -> Found
+        ensures shows { Shows self.new result }
+        ensures bytes { S.tells → self.new ++ S.left source.new ≡ self.old ++ S.left source.old }
+        ensures finish { S.tells → IsAtEnd (S.left source.new) result }
+        ensures stays { S.tells → S.held source.new ≡ S.held source.old }
+        ensures cause { FoundCause (S.faults source.old) (S.faults source.new) result }
+    {
+        let mut sought = 0;
+        loop {
+            let held = self.bytes();
+            if let Some(place) = line_end_from(held, sought) {
+                return if place <= LONGEST {
+                    Found::LineEnd(place)
+                } else {
+                    Found::TooFar
+                };
+            }
+            sought = held.len();
+            if sought > LONGEST {
+                return Found::TooFar;
+            }
+            match self.fill(source) {
+                Got::Bytes(_) => {}
+                Got::Finish => return Found::SourceEnd,
+                Got::Failed => return Found::Fault,
+            }
+        }
+    }
+}
+
+/// The first place where a line ends. The bytes before `from` are passed over: no line ends there.
+fn line_end_from(bytes: &[u8], from: usize) -> Option<usize>
+    requires within { from ≤ length bytes.now }
+    requires passed { NoLineEnd from bytes.now }
+    ensures found { IfSome result (λ place. NoLineEnd place bytes.now × (place < length bytes.now)
+        × (slice_index bytes.now place ≡ 10)) }
+    ensures none { IfNone result (NoLineEnd (length bytes.now) bytes.now) }
+{
+    let place = memchr(b'\n', &bytes[from..])?;
+    Some(from + place)
+}
+
+/// Moves these bytes to the front where there is no room behind them, and says where they start then. Where there are
+/// none they start at the front.
+fn make_room(bytes: &mut [u8], start: usize, count: usize) -> usize
+    requires within { start + count ≤ length bytes.old }
+    requires few { count ≤ 65535 }
+    requires room { length bytes.old ≡ 131072 }
+    ensures kept { take count (drop result bytes.new) ≡ take count (drop start bytes.old) }
+    ensures room { result + count < length bytes.new }
+{
+    if 0 < count && start + count < bytes.len() {
+        return start;
+    }
+    let (front, back) = bytes.split_at_mut(start);
+    front[..count].copy_from_slice(&back[..count]);
+    0
+}
+
+/// Reads behind the first bytes, this many, which stay as they are.
+fn read_behind<S: Source>(source: &mut S, bytes: &mut [u8], place: usize) -> Got
+    requires { place < length bytes.old }
+    ensures before { take place bytes.new ≡ take place bytes.old }
+    ensures count { FitsRoom (length bytes.old - place) result }
+    ensures bytes { S.tells → Reads (S.left source.old) (S.left source.new) (drop place bytes.new) result }
+    ensures stays { S.tells → S.held source.new ≡ S.held source.old }
+    ensures cause { ReadCause (S.faults source.old) (S.faults source.new) result }
+{
+    source.read(&mut bytes[place..])
+}

@@ -1,0 +1,28 @@
+use Rattle.std.specs.Prelude.{◌≡◌, ℕ, ◌<◌, ◌≤◌, Bool, true, false, List, length, Option, Some, Result, Ok, Err}
+use Rattle.boss_outside.specs.declared.files.FileBytes.{FileBytes}
+use Rattle.boss_outside.specs.declared.files.FileBytes.TheVariants.{Whole, Longer}
+use Rattle.boss_outside.specs.declared.files.FileFault.{FileFault}
+use Rattle.boss_outside.specs.declared.files.FileFault.TheVariants.{Failed, NoMemory}
+use Rattle.boss_outside.specs.Counts.{Rose}
+
+-- the bytes come only where they are within the limit, and the length only where it is above
+abbrev pub KeepsLimit : ℕ → FileBytes → Type 0
+KeepsLimit limit (Whole bytes) = length bytes ≤ limit
+KeepsLimit limit (Longer size) = limit < size
+
+-- what is read of a file that holds this, if there is one
+abbrev pub ReadsFile : Option (List ℕ) → FileBytes → Type 0
+ReadsFile held (Whole bytes) = held ≡ Some bytes
+ReadsFile held (Longer size) = (bytes : List ℕ) × (held ≡ Some bytes) × (length bytes ≡ size)
+
+-- the call failed exactly where the count rose in it; want of memory leaves the count
+abbrev pub FileCause : {T : Type 0} → ℕ → ℕ → Result T FileFault → Type 0
+FileCause before now (Ok _) = now ≡ before
+FileCause before now (Err Failed) = Rose before now
+FileCause before now (Err NoMemory) = now ≡ before
+
+-- whether the call failed, and not for want of memory
+abbrev pub is_failed : {T : Type 0} → Result T FileFault → Bool
+is_failed (Ok _) = false
+is_failed (Err Failed) = true
+is_failed (Err NoMemory) = false

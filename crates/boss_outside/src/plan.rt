@@ -1,0 +1,57 @@
+ghost use Rattle.std.specs.Prelude.{◌≡◌, is_err};
+ghost use Rattle.boss_outside.specs.Counts.{one_more};
+ghost use Rattle.boss_outside.specs.Plan.{new_plan, fails_next, after_call};
+
+use crate::Failed;
+use boss_model::Items;
+use std::marker::Model;
+
+/// Which calls of an object in memory fail, by their numbers from 1, and how many calls and faults there were. Both
+/// counts stand still at `2 ^ 64 - 1`.
+#[derive(Debug, Drop)]
+pub struct FaultPlan {
+    fails: Items<u64>,
+    calls: u64,
+    faults: u64,
+}
+
+impl Model for FaultPlan {
+    ghost use Rattle.boss_outside.specs.Plan.{Plan};
+
+    ghost Value = { Plan };
+
+    ghost view = { λ p. record { fails = p.fails; calls = p.calls; faults = p.faults } };
+}
+
+impl FaultPlan {
+    /// The plan in which the calls of these numbers fail, before the first call.
+    pub fn new(fails: Items<u64>) -> FaultPlan
+        ensures { result ≡ new_plan fails }
+    {
+        FaultPlan {
+            fails,
+            calls: 0,
+            faults: 0,
+        }
+    }
+
+    /// Counts a call, and a fault where the call is one that fails.
+    pub fn call(&mut self) -> Result<(), Failed>
+        ensures planned { is_err result ≡ fails_next self.old }
+        ensures counted { self.new ≡ after_call self.old (is_err result) }
+    {
+        self.calls = self.calls.saturating_add(1);
+        if self.fails.slice().contains(&self.calls) {
+            return Err(self.fault());
+        }
+        Ok(())
+    }
+
+    /// Counts a fault of the call that was counted last.
+    pub fn fault(&mut self) -> Failed
+        ensures { self.new ≡ record self.old { faults = one_more self.old.faults } }
+    {
+        self.faults = self.faults.saturating_add(1);
+        Failed
+    }
+}
