@@ -9,3 +9,19 @@ pub enum Kind {
     /// The states from 1 up to and with `states`, which is 2 to 255.
     Multi { states: i64 },
 }
+
+impl Kind {
+    ghost use Rattle.std.specs.Prelude.{◌≡◌};
+    ghost use Rattle.boss_model.specs.Catalogue.{fits};
+
+    /// Whether a point of this kind takes the value.
+    pub fn fits(self, value: i64) -> bool
+        ensures { result ≡ fits self value }
+    {
+        match self {
+            Kind::Analog { min, max } => min <= value && value <= max,
+            Kind::Binary => 0 <= value && value <= 1,
+            Kind::Multi { states } => 1 <= value && value <= states,
+        }
+    }
+}

@@ -1,0 +1,104 @@
+ghost use Rattle.std.specs.Prelude.{◌≡◌, ◌≤◌, ◌<◌, length, option_copied, position, IfSome};
+ghost use Rattle.std.specs.Str.{bytes_eq};
+ghost use Rattle.toml.specs.View.{view};
+ghost use Rattle.boss_points.specs.Keys.{name_spelled, name_of, kind_of, analog, analog_of, multi_of, default_of, driver_of, whole_at, text_at};
+
+use boss_model::{DriverId, Kind, Name};
+use toml::Value;
+
+/// The least and the greatest limit that an analog point may have, in thousandths of its unit.
+const LEAST_LIMIT: i64 = -1_000_000_000_000_000;
+const GREATEST_LIMIT: i64 = 1_000_000_000_000_000;
+
+/// The name that a value spells.
+pub(crate) fn name_spelled(value: &Value) -> Option<Name>
+    ensures { result ≡ name_spelled (view value.now) }
+{
+    let text = value.as_str()?;
+    Name::new(text.as_bytes())
+}
+
+/// The name of a point.
+pub(crate) fn name_of(point: &Value) -> Option<Name>
+    ensures { result ≡ name_of (view point.now) }
+{
+    name_spelled(point.get("name")?)
+}
+
+/// The kind of a point, with the bounds that belong to it.
+pub(crate) fn kind_of(point: &Value) -> Option<Kind>
+    ensures { result ≡ kind_of (view point.now) }
+{
+    match text_at(point, "kind")? {
+        "analog" => analog_of(point),
+        "binary" => Some(Kind::Binary),
+        "multi" => multi_of(point),
+        _ => None,
+    }
+}
+
+fn analog_of(point: &Value) -> Option<Kind>
+    ensures { result ≡ analog_of (view point.now) }
+{
+    let min = whole_at(point, "min")?;
+    let max = whole_at(point, "max")?;
+    if LEAST_LIMIT <= min && min <= max && max <= GREATEST_LIMIT {
+        Some(Kind::Analog { min, max })
+    } else {
+        None
+    }
+}
+
+fn multi_of(point: &Value) -> Option<Kind>
+    ensures { result ≡ multi_of (view point.now) }
+{
+    let states = whole_at(point, "states")?;
+    if 2 <= states && states <= 255 {
+        Some(Kind::Multi { states })
+    } else {
+        None
+    }
+}
+
+/// The default of a point, if it fits the point's kind.
+pub(crate) fn default_of(point: &Value) -> Option<i64>
+    ensures { result ≡ default_of (view point.now) }
+{
+    let kind = kind_of(point)?;
+    let default = whole_at(point, "default")?;
+    if kind.fits(default) {
+        Some(default)
+    } else {
+        None
+    }
+}
+
+/// The driver of a point, by its place among the drivers.
+pub(crate) fn driver_of(drivers: &[Name], point: &Value) -> Option<DriverId>
+    requires { length drivers.now ≤ 16 }
+    ensures { result ≡ driver_of drivers.now (view point.now) }
+{
+    let name = text_at(point, "driver")?;
+    let place = place_among(drivers, name.as_bytes())?;
+    Some(DriverId(place as u16))
+}
+
+/// Where the name stands among these.
+fn place_among(names: &[Name], name: &[u8]) -> Option<usize>
+    ensures place { result ≡ position (λ n. bytes_eq n name.now) names.now }
+    ensures within { IfSome result (λ place. place < length names.now) }
+{
+    names.iter().position(|n| n.bytes() == name)
+}
+
+fn text_at<'a>(point: &'a Value, key: &str) -> Option<&'a str>
+    ensures { option_copied result ≡ text_at key.now (view point.now) }
+{
+    point.get(key)?.as_str()
+}
+
+fn whole_at(point: &Value, key: &str) -> Option<i64>
+    ensures { result ≡ whole_at key.now (view point.now) }
+{
+    point.get(key)?.as_integer()
+}

@@ -1,0 +1,14 @@
+use boss_model::{DriverId, Kind, Name};
+
+/// A point of the catalogue: one commandable property of one device (ASHRAE 135, clause 19.2).
+#[derive(Debug, Drop)]
+pub struct Point {
+    /// What requests call it. No two points of a catalogue have one name.
+    pub name: Name,
+    /// Which values it takes.
+    pub kind: Kind,
+    /// Relinquish_Default: the value in force while no slot of the priority array holds one. It fits the kind.
+    pub default: i64,
+    /// The driver of its device.
+    pub driver: DriverId,
+}

@@ -1,0 +1,84 @@
+ghost use Rattle.boss_points.specs.declared.refusal.CatalogueRefusal.TheVariants.{NoMemory};
+ghost use Rattle.std.specs.Prelude.{◌≡◌};
+
+use std::alloc::{AllocError, AllocFailed};
+
+/// Why a file was refused as a catalogue. The first test that fails decides, and in it the least place; places count
+/// from 0.
+#[derive(Clone, Copy, Debug, PartialEq, Eq)]
+pub enum CatalogueRefusal {
+    /// The file has more than 1,048,576 bytes.
+    TooLong {
+        /// How many it has.
+        length: u64,
+    },
+    /// The bytes are no TOML.
+    NotToml,
+    /// There is no array under this key.
+    Missing {
+        /// The key.
+        key: Key,
+    },
+    /// There are more than 16 drivers, or else more than 1,024 points.
+    TooMany {
+        /// How many there are.
+        count: u64,
+    },
+    /// The driver at this place is no text, no name, or has the name of an earlier one.
+    BadDriver {
+        /// Its place among the drivers.
+        place: u64,
+    },
+    /// The point at this place is no table, or its `name` is no text or no name.
+    BadName {
+        /// Its place among the points.
+        place: u64,
+    },
+    /// The point at this place has the name of an earlier one.
+    SameName {
+        /// Its place among the points.
+        place: u64,
+    },
+    /// The point at this place has no kind, or one without the bounds that belong to it.
+    BadKind {
+        /// Its place among the points.
+        place: u64,
+    },
+    /// The `default` of the point at this place is no whole number, or does not fit its kind.
+    BadDefault {
+        /// Its place among the points.
+        place: u64,
+    },
+    /// The `driver` of the point at this place is no text, or none of the drivers.
+    UnknownDriver {
+        /// Its place among the points.
+        place: u64,
+    },
+    /// No memory was to be had. This says nothing of the file.
+    NoMemory,
+}
+
+/// A key of the file that has to have an array.
+#[derive(Clone, Copy, Debug, PartialEq, Eq)]
+pub enum Key {
+    /// `drivers`, the names of the drivers.
+    Drivers,
+    /// `point`, the tables of the points.
+    Point,
+}
+
+impl From<AllocError> for CatalogueRefusal {
+    ghost from_gives = { λ _ refusal. refusal ≡ NoMemory };
+
+    fn from(_error: AllocError) -> Self {
+        CatalogueRefusal::NoMemory
+    }
+}
+
+impl<T: Drop> From<AllocFailed<T>> for CatalogueRefusal {
+    ghost from_gives = { λ _ refusal. refusal ≡ NoMemory };
+
+    fn from(_failed: AllocFailed<T>) -> Self {
+        CatalogueRefusal::NoMemory
+    }
+}

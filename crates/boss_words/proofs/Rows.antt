@@ -1,0 +1,17 @@
+-- Words whose first is the first of no row.
+use Rattle.std.proofs.Common.{◌≡◌, ℕ, ◌<◌, Bool, true, false, List, [], ◌∷◌, length, get_or, Option, None, String, string_bytes, codes, Global, refl, rules}
+use Rattle.std.proofs.lemmas.Bool.{cases_Bool}
+use Rattle.std.proofs.lemmas.Slice.Eq.{bytes_eq-Decides}
+use Rattle.std.specs.Str.{bytes_eq}
+use Rattle.boss_words.specs.Words.{texts, job_of}
+use Rattle.std.proofs.Common.{inl, inr}
+
+bytes_eq-other : (xs ys : List ℕ) → ¬ (xs ≡ ys) → bytes_eq xs ys ≡ false
+bytes_eq-other xs ys other = elim (cases_Bool (bytes_eq xs ys)) [ inl same ↦ absurd (other ((bytes_eq-Decides xs ys).0 same)) | inr differ ↦ differ ]
+
+pub job_of-unknown : (words : List (String Global)) (job : String Global) → job ≡ get_or words 0 job
+    → ¬ (string_bytes job ≡ codes "script") → ¬ (string_bytes job ≡ codes "serve") → ¬ (string_bytes job ≡ codes "check") → ¬ (string_bytes job ≡ codes "load")
+    → job_of (texts words) ≡ None
+job_of-unknown [] job is script serve check load = refl
+job_of-unknown (word ∷ words) job is script serve check load =
+    rw (← is, bytes_eq-other _ _ script, bytes_eq-other _ _ serve, bytes_eq-other _ _ check, bytes_eq-other _ _ load)

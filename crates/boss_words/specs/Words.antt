@@ -1,0 +1,75 @@
+-- The table of words. No word is an option, and the number of words is exactly the row's.
+use Rattle.std.specs.Prelude.{ℕ, Bool, nat_le, ◌&&◌, if◌then◌else◌, List, [], ◌∷◌, length, map, codes, Option, Some, None, String, string_bytes}
+use Rattle.std.specs.Option.{option_and_then}
+use Rattle.std.specs.Char.{is_ascii_digit}
+use Rattle.std.specs.List.{list_all}
+use Rattle.std.specs.Str.{bytes_eq}
+use Rattle.std.specs.Str.Parse.{digits_value}
+use Rattle.std.specs.declared.alloc.Global.{Global}
+use Rattle.boss_words.specs.declared.job.Job.{Job}
+use Rattle.boss_words.specs.declared.job.Job.TheVariants.{Script, Serve, Check, Load}
+
+abbrev pub texts : List (String Global) → List (List ℕ)
+texts words = map (λ word. string_bytes word) words
+
+infixl 10 ◌>>=◌
+abbrev pub ◌>>=◌ : {A B : Type 0} → Option A → (A → Option B) → Option B
+found >>= rest = option_and_then rest found
+
+-- a name of a file or an address: any text but the empty one
+abbrev pub word_of : List ℕ → Option (List ℕ)
+word_of [] = None
+word_of (byte ∷ bytes) = Some (byte ∷ bytes)
+
+-- 1 to 10 decimal digits, without a sign
+abbrev pub is_number : List ℕ → Bool
+is_number text = nat_le 1 (length text) && nat_le (length text) 10 && list_all is_ascii_digit text
+
+-- the number that they spell, within these bounds
+abbrev pub number_of : ℕ → ℕ → List ℕ → Option ℕ
+number_of least most text =
+    if is_number text && nat_le least (digits_value 10 text) && nat_le (digits_value 10 text) most then Some (digits_value 10 text) else None
+
+-- script CATALOGUE JOURNAL
+abbrev pub script_of : List (List ℕ) → Option Job
+script_of (catalogue ∷ journal ∷ []) = do
+  catalogue ← word_of catalogue
+  journal ← word_of journal
+  Some (Script catalogue journal)
+script_of _ = None
+
+-- serve CATALOGUE JOURNAL ADDRESS WORKERS CONNECTIONS
+abbrev pub serve_of : List (List ℕ) → Option Job
+serve_of (catalogue ∷ journal ∷ address ∷ workers ∷ connections ∷ []) = do
+  catalogue ← word_of catalogue
+  journal ← word_of journal
+  address ← word_of address
+  workers ← number_of 1 32 workers
+  connections ← number_of 1 4294967295 connections
+  Some (Serve catalogue journal address workers connections)
+serve_of _ = None
+
+-- check CATALOGUE JOURNAL
+abbrev pub check_of : List (List ℕ) → Option Job
+check_of (catalogue ∷ journal ∷ []) = do
+  catalogue ← word_of catalogue
+  journal ← word_of journal
+  Some (Check catalogue journal)
+check_of _ = None
+
+-- load COUNT SEED
+abbrev pub load_of : List (List ℕ) → Option Job
+load_of (count ∷ seed ∷ []) = do
+  count ← number_of 1 10000 count
+  seed ← number_of 0 4294967295 seed
+  Some (Load count seed)
+load_of _ = None
+
+-- what the words ask for, or nothing where they are in no row
+abbrev pub job_of : List (List ℕ) → Option Job
+job_of [] = None
+job_of (job ∷ arguments) =
+    if bytes_eq job (codes "script") then script_of arguments else
+    (if bytes_eq job (codes "serve") then serve_of arguments else
+    (if bytes_eq job (codes "check") then check_of arguments else
+    (if bytes_eq job (codes "load") then load_of arguments else None)))

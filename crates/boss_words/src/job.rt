@@ -1,0 +1,40 @@
+use crate::Word;
+
+/// What `bossd` is to do.
+#[derive(Debug, Drop)]
+pub enum Job {
+    /// Run a script: commands come line by line on the standard input.
+    Script {
+        /// The catalogue's file.
+        catalogue: Word,
+        /// The journal's file, or `-` for a journal in memory alone.
+        journal: Word,
+    },
+    /// Serve control processes over a network.
+    Serve {
+        /// The catalogue's file.
+        catalogue: Word,
+        /// The journal's file, or `-` for a journal in memory alone.
+        journal: Word,
+        /// Where connections are taken.
+        address: Word,
+        /// How many connections are served at once: 1 to 32.
+        workers: u32,
+        /// How many connections are taken in all, at least 1.
+        connections: u32,
+    },
+    /// Tell what a journal stands for, without writing to it.
+    Check {
+        /// The catalogue's file.
+        catalogue: Word,
+        /// The journal's file.
+        journal: Word,
+    },
+    /// Run a generated script.
+    Load {
+        /// How many transactions it submits: 1 to 10,000.
+        count: u32,
+        /// What the values that it sets are drawn from.
+        seed: u32,
+    },
+}

@@ -1,0 +1,35 @@
+ghost use Rattle.std.specs.Prelude.{◌≡◌, ◌≤◌};
+ghost use Rattle.std.specs.Char.{is_ascii_digit};
+ghost use Rattle.std.specs.List.{list_all};
+ghost use Rattle.boss_words.specs.Words.{is_number, number_of};
+
+/// The number that 1 to 10 decimal digits spell, if it lies within these bounds. A sign is no digit.
+pub(crate) fn number(text: &str, least: u32, most: u32) -> Option<u32>
+    ensures { result ≡ number_of least most text.now }
+{
+    if !is_number(text) {
+        return None;
+    }
+    match text.parse::<u32>() {
+        Ok(number) if least <= number && number <= most => Some(number),
+        Ok(_) => None,
+        Err(_) => None,
+    }
+}
+
+/// Whether the text is 1 to 10 decimal digits.
+fn is_number(text: &str) -> bool
+    ensures { result ≡ is_number text.now }
+{
+    match text.len() {
+        1..=10 => all_digits(text),
+        _ => false,
+    }
+}
+
+/// Whether the text is decimal digits alone.
+fn all_digits(text: &str) -> bool
+    ensures { result ≡ list_all is_ascii_digit text.now }
+{
+    text.as_bytes().iter().all(|byte| byte.is_ascii_digit())
+}

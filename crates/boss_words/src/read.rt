@@ -1,0 +1,92 @@
+ghost use Rattle.boss_words.specs.Words.{texts, job_of, script_of, serve_of, check_of, load_of};
+ghost use Rattle.boss_words.specs.Given.{Gives};
+ghost use Rattle.boss_words.specs.declared.read.WordsRefusal.TheVariants.{NoMemory};
+ghost use Rattle.std.specs.Prelude.{◌≡◌};
+
+use crate::number::number;
+use crate::{Job, Word};
+use std::alloc::{AllocError, Global};
+
+/// Why the words gave no job.
+#[derive(Clone, Copy, Debug, PartialEq, Eq)]
+pub enum WordsRefusal {
+    /// They are in no row of the table of words.
+    Usage,
+    /// No memory was to be had. This says nothing of the words.
+    NoMemory,
+}
+
+impl From<AllocError> for WordsRefusal {
+    ghost from_gives = { λ _ refusal. refusal ≡ NoMemory };
+
+    fn from(_error: AllocError) -> Self {
+        WordsRefusal::NoMemory
+    }
+}
+
+/// The job that the words ask for; they do not include the program's own name. No word is an option.
+pub fn read_words(alloc: Global, words: &Vec<String>) -> Result<Job, WordsRefusal>
+    ensures { Gives result (job_of (texts words.now.items)) }
+{
+    let [job, arguments @ ..] = words.as_slice() else {
+        return Err(WordsRefusal::Usage);
+    };
+    match job.as_str() {
+        "script" => script(alloc, arguments),
+        "serve" => serve(alloc, arguments),
+        "check" => check(alloc, arguments),
+        "load" => load(arguments),
+        _ => Err(WordsRefusal::Usage),
+    }
+}
+
+/// `script CATALOGUE JOURNAL`
+fn script(alloc: Global, arguments: &[String]) -> Result<Job, WordsRefusal>
+    ensures { Gives result (script_of (texts arguments.now)) }
+{
+    let [catalogue, journal] = arguments else {
+        return Err(WordsRefusal::Usage);
+    };
+    let catalogue = Word::new(alloc, catalogue.as_str())?;
+    let journal = Word::new(alloc, journal.as_str())?;
+    Ok(Job::Script { catalogue, journal })
+}
+
+/// `serve CATALOGUE JOURNAL ADDRESS WORKERS CONNECTIONS`
+fn serve(alloc: Global, arguments: &[String]) -> Result<Job, WordsRefusal>
+    ensures { Gives result (serve_of (texts arguments.now)) }
+{
+    let [catalogue, journal, address, workers, connections] = arguments else {
+        return Err(WordsRefusal::Usage);
+    };
+    let catalogue = Word::new(alloc, catalogue.as_str())?;
+    let journal = Word::new(alloc, journal.as_str())?;
+    let address = Word::new(alloc, address.as_str())?;
+    let workers = number(workers.as_str(), 1, 32).ok_or(WordsRefusal::Usage)?;
+    let connections = number(connections.as_str(), 1, u32::MAX).ok_or(WordsRefusal::Usage)?;
+    Ok(Job::Serve { catalogue, journal, address, workers, connections })
+}
+
+/// `check CATALOGUE JOURNAL`
+fn check(alloc: Global, arguments: &[String]) -> Result<Job, WordsRefusal>
+    ensures { Gives result (check_of (texts arguments.now)) }
+{
+    let [catalogue, journal] = arguments else {
+        return Err(WordsRefusal::Usage);
+    };
+    let catalogue = Word::new(alloc, catalogue.as_str())?;
+    let journal = Word::new(alloc, journal.as_str())?;
+    Ok(Job::Check { catalogue, journal })
+}
+
+/// `load COUNT SEED`
+fn load(arguments: &[String]) -> Result<Job, WordsRefusal>
+    ensures { Gives result (load_of (texts arguments.now)) }
+{
+    let [count, seed] = arguments else {
+        return Err(WordsRefusal::Usage);
+    };
+    let count = number(count.as_str(), 1, 10_000).ok_or(WordsRefusal::Usage)?;
+    let seed = number(seed.as_str(), 0, u32::MAX).ok_or(WordsRefusal::Usage)?;
+    Ok(Job::Load { count, seed })
+}
