@@ -1,0 +1,1 @@
+-- What contracts see of a lock and of a seat.
