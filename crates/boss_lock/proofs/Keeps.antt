@@ -6,7 +6,7 @@ use mathlib.Core.Logic.{dite}
 use mathlib.Core.List.{IsPrefix}
 use native.Mathlib.Decide.{ℕ_discrete}
 use lib.ListN.{get_elem?}
-use Rattle.atomic_table.specs.Table.{State, Me, Act, step, keeps, takes, gives, put_back, stepped, Allows, Splits, Joins}
+use Rattle.atomic_table.specs.Table.{State, Me, Act, step, keeps, takes, gives, put_back, rest, stepped, Allows, Splits, Joins}
 use Rattle.atomic_table.proofs.Lists.{at_set, at_snoc, set_else, one_turn}
 use Rattle.boss_lock.specs.Places.{same, below, times, numbers_from, AllBelow, Rises, woven, longer, total}
 use Rattle.boss_lock.specs.Rule.{in_line, ticketed, away, due, Knows, spent_view, placed, Fits, slot_of, present, StandsAtHome, IsKept}
@@ -521,3 +521,13 @@ module _ {V T E : Type 0} (means : V → T → List E → Type 0) (start : T) (s
             omega arith;
         each_seat = others_fit r.low r.log views other spent_view fits_spent (λ j x _. others_fit r.low r.log s.views id w fits_own (λ i y _. r.each_seat i y) j x);
       }
+
+  -- the same once the value lies in the slot that the seat holds
+  pub gives_back : (slots id : ℕ) (me now : Me (Option V) (View T E)) (told made : List E) (y : V) → now ≡ (me.0, (0, Some y) ∷ rest me.1)
+      → me.0.stage ≡ Holding (ticket_of me.0.stage) (list_of me.0.stage) → me.1 ≡ (0, None) ∷ [] → 0 < me.0.parts → told ≡ made
+      → ((x : T) → me.0.start ≡ Some x → means y x (list_of me.0.stage ++ made))
+      → Allows Rule slots id now 1 (λ n. n) (given told (step slots 1 0 0 slot.none) now)
+  gives_back slots id me now told made y is holding carried some_part same_made asked =
+      subst (λ (m : Me (Option V) (View T E)). Allows Rule slots id m 1 (λ n. n) (given told (step slots 1 0 0 slot.none) m)) (sym is)
+          (gives_value slots id (me.0, (0, Some y) ∷ rest me.1) (ticket_of me.0.stage) (list_of me.0.stage) told y holding (ap (λ (c : List (ℕ × Option V)). (0, Some y) ∷ rest c) carried) some_part
+          (λ x known. subst (λ (m : List E). means y x (list_of me.0.stage ++ m)) (sym same_made) (asked x known)))

@@ -2,3 +2,4 @@ pub mod Places
 pub mod Rule
 pub mod Seats
 pub mod Steps
+pub mod Tokens

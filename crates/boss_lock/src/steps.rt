@@ -1,0 +1,109 @@
+// The steps of a turn. Between two of them a seat is not at rest, so they work on its token.
+ghost use Rattle.std.specs.Prelude.{◌≡◌, ℕ, ◌%◌, ◌^◌, ◌<◌, List, [], ◌∷◌, ◌++◌, length, Some, None};
+ghost use mathlib.Core.List.{IsPrefix};
+ghost use Rattle.boss_lock.specs.Places.{Rises, AllBelow};
+ghost use Rattle.boss_lock.specs.Steps.{ticket_of, list_of, made_of, staged, after_pass, after_compare};
+ghost use Rattle.boss_lock.specs.Tokens.{IsBoard, IsSameToken};
+ghost use Rattle.boss_lock.specs.declared.view.Stage.TheVariants.{Idle, Waiting, Turn, Holding, Given};
+
+use crate::plays::{Compare, Draw, GiveBack, Look, PassOn, Take, Telling};
+use crate::view::{Board, Made, Stands, Token};
+use std::marker::Brand;
+use std::sync::Wait;
+
+// The word that has the next ticket to be drawn.
+const TICKET: usize = 0;
+
+// The word that has the ticket that is served.
+const SERVING: usize = 1;
+
+// The only slot, where the value lies while no seat has the turn.
+const VALUE: usize = 0;
+
+// How often a seat looks before it sleeps.
+const LOOKS: u32 = 64;
+
+// Draws the next ticket, and returns it modulo 2^64.
+pub fn draw<V: Stands>(board: &Board<V>, token: &mut Token<V>) -> u64
+    requires own { IsBoard board.now.table_id token.old.table_id }
+    requires idle { (token.old.me.0.stage ≡ Idle) × (0 < token.old.me.0.parts) }
+    ensures same { IsSameToken token.old token.new }
+    ensures ticket { (t : ℕ) × (result ≡ t % 2 ^ 64) × (token.new.me ≡ (staged token.old.me.0 (Waiting t), token.old.me.1)) }
+{
+    board.fetch_add::<Draw>(token, TICKET, 1)
+}
+
+// Looks until the ticket is served.
+pub fn wait<V: Stands, R: Wait>(board: &Board<V>, rt: &R, token: &mut Token<V>, ticket: u64)
+    requires own { IsBoard board.now.table_id token.old.table_id }
+    requires waiting { token.old.me.0.stage ≡ Waiting (ticket_of token.old.me.0.stage) }
+    requires ticket { ticket ≡ ticket_of token.old.me.0.stage % 2 ^ 64 }
+    ensures same { IsSameToken token.old token.new }
+    ensures turn { IsPrefix token.old.me.0.seen (list_of token.new.me.0.stage) × (token.new.me ≡ (staged token.old.me.0 (Turn (ticket_of token.old.me.0.stage) (list_of token.new.me.0.stage)), token.old.me.1)) }
+{
+    let mut looks = 0;
+    for _ in rt.forever() {
+        let serving = board.load::<Look>(token, SERVING);
+        if serving == ticket {
+            return;
+        }
+        if looks < LOOKS {
+            looks += 1;
+            std::hint::spin_loop();
+        } else {
+            board.park(rt, SERVING, (serving & 0xffff_ffff) as u32);
+        }
+    }
+    unreachable!()
+}
+
+// Takes the value out of its slot.
+pub fn take<V: Stands>(board: &Board<V>, token: &mut Token<V>) -> V
+    requires own { IsBoard board.now.table_id token.old.table_id }
+    requires turn { token.old.me.0.stage ≡ Turn (ticket_of token.old.me.0.stage) (list_of token.old.me.0.stage) }
+    requires start { (0 < token.old.me.0.parts) × (token.old.me.1 ≡ []) }
+    ensures same { IsSameToken token.old token.new }
+    ensures holding { token.new.me ≡ (staged token.old.me.0 (Holding (ticket_of token.old.me.0.stage) (list_of token.old.me.0.stage)), (VALUE, None) ∷ []) }
+    ensures value { (start : V.Start) → token.old.me.0.start ≡ Some start → V.stands result start (list_of token.old.me.0.stage) }
+{
+    board.load::<Take>(token, SERVING);
+    let slot = board.exchange(token, VALUE, None);
+    let Some(value) = slot else { unreachable!() };
+    value
+}
+
+// Puts a value back for which a list stands that has the entries of `made` at its end.
+pub fn give_back<V: Stands, M: Made<V>, J: Telling<V::Entry>>(
+    board: &Board<V>,
+    token: &mut Token<V>,
+    value: V,
+    made: &M,
+)
+    requires own { IsBoard board.now.table_id token.old.table_id }
+    requires holding { token.old.me.0.stage ≡ Holding (ticket_of token.old.me.0.stage) (list_of token.old.me.0.stage) }
+    requires slot { (0 < token.old.me.0.parts) × (token.old.me.1 ≡ (VALUE, None) ∷ []) }
+    requires told { J.told ≡ M.entries made.now }
+    requires value { (start : V.Start) → token.old.me.0.start ≡ Some start → V.stands value start (list_of token.old.me.0.stage ++ M.entries made.now) }
+    ensures same { IsSameToken token.old token.new }
+    ensures given { token.new.me ≡ (staged token.old.me.0 (Given (ticket_of token.old.me.0.stage) (list_of token.old.me.0.stage) (M.entries made.now)), []) }
+{
+    let _ = made;
+    let empty = board.exchange(token, VALUE, Some(value));
+    let None = empty else { unreachable!() };
+    board.load::<GiveBack<J>>(token, SERVING);
+}
+
+// Serves the next ticket, and wakes whoever sleeps if a seat waits.
+pub fn pass_on<V: Stands>(board: &Board<V>, token: &mut Token<V>)
+    requires own { IsBoard board.now.table_id token.old.table_id }
+    requires given { token.old.me.0.stage ≡ Given (ticket_of token.old.me.0.stage) (list_of token.old.me.0.stage) (made_of token.old.me.0.stage) }
+    requires part { 0 < token.old.me.0.parts }
+    ensures same { IsSameToken token.old token.new }
+    ensures idle { token.new.me ≡ (after_pass token.old.me.0, token.old.me.1) }
+    ensures places { Rises (after_pass token.old.me.0).places × AllBelow (length (after_pass token.old.me.0).seen) (after_pass token.old.me.0).places }
+{
+    let served = board.fetch_add::<PassOn>(token, SERVING, 1);
+    if board.peek(TICKET) != served.wrapping_add(1) {
+        board.wake_all(SERVING);
+    }
+}
