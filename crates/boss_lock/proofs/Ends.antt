@@ -4,15 +4,19 @@ use Rattle.std.proofs.lemmas.Bool.{cases_lt}
 use mathlib.Core.Option as slot
 use mathlib.Core.List.{IsPrefix}
 use lib.ListN.{get_elem?}
-use Rattle.atomic_table.specs.Table.{State, opening}
+use Rattle.atomic_table.specs.Seated.{TableId}
+use Rattle.atomic_table.specs.Table.{State, opening, Final, Seen}
 use Rattle.boss_lock.specs.Places.{same, below, times, numbers_from, AllBelow, Rises, total}
 use Rattle.boss_lock.specs.Rule.{in_line, ticketed, away, due, Knows, first_view, placed, Fits, slot_of, present, StandsAtHome, IsKept}
+use Rattle.boss_lock.specs.Seats.{Lock, Standing, standing, IsAtRest}
+use Rattle.boss_lock.specs.Steps.{Knower}
 use Rattle.boss_lock.specs.declared.view.View.{View}
 use Rattle.boss_lock.specs.declared.view.Stage.{Stage}
 use Rattle.boss_lock.specs.declared.view.Stage.TheVariants.{Idle, Waiting, Turn, Holding, Given}
 use Rattle.boss_lock.proofs.Counting.{below_yes, times_none, rising_all}
 use Rattle.boss_lock.proofs.Histories.{prefix_whole}
 use Rattle.boss_lock.proofs.Keeps.{value_of}
+use Rattle.boss_lock.proofs.Resting.{idle_at_rest}
 use Rattle.boss_lock.proofs.Sums.{total_only}
 
 module _ {V T E : Type 0} (means : V → T → List E → Type 0) (start : T) (seats : ℕ) where
@@ -99,3 +103,20 @@ module _ {V T E : Type 0} (means : V → T → List E → Type 0) (start : T) (s
           let f = below_yes (length v.seen) (length r.log) less in
           let g = times_none (length v.seen) v.places inside in
           absurd (omega arith)
+
+module _ {V T E : Type 0} (means : V → T → List E → Type 0) (held lock : Lock T) where
+  -- the same of what is left of the table once it is closed, where r was taken out of the slot
+  pub closes : (table : TableId) (id : ℕ) (me : Knower V T E) (seat : Standing T E) (words : List ℕ) (slots : List (Option V)) (r : Option V)
+      → held ≡ lock → standing table me.0 ≡ seat → IsAtRest me → seat.turn ≡ None → seat.parts ≡ lock.seats
+      → Final (Seen (IsKept means held.start held.seats) id me.0) words slots → get_elem? slots 0 ≡ slot.some r
+      → (value : V) × (r ≡ Some value) × means value lock.start seat.seen × (seat.places ≡ numbers_from 0 (length seat.seen))
+  closes table id me seat words slots r lock_is seat_is rest none every final taken =
+      let idle = idle_at_rest table me seat seat_is rest none in
+      let all : me.0.parts ≡ held.seats = ap (λ (s : Standing T E). s.parts) seat_is ∙ (every ∙ sym (ap (λ (l : Lock T). l.seats) lock_is)) in
+      let end = settles means held.start held.seats final.0 final.1.0 id me.0 final.1.1 all idle.0 rest.compared rest.places_seen in
+      let there : get_elem? slots 0 ≡ slot.some (Some end.value) = final.4 0 (Some end.value) (ap (λ (hs : List (slot.Option (Option V))). get_elem? hs 0) end.home) in (
+        end.value,
+        slot.some-injective _ _ (sym taken ∙ there),
+        subst (λ (p : T × List E). means end.value p.0 p.1) (λ i. ((lock_is i).start, (seat_is i).seen)) end.stands,
+        subst (λ (s : Standing T E). s.places ≡ numbers_from 0 (length s.seen)) seat_is end.places,
+      )

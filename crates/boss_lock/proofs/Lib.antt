@@ -2,4 +2,5 @@ pub mod Counting
 pub mod Ends
 pub mod Histories
 pub mod Keeps
+pub mod Resting
 pub mod Sums

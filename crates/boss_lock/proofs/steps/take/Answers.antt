@@ -1,4 +1,4 @@
-use Rattle.std.proofs.Common.{◌≡◌, ℕ, List, ◌∷◌, Option, Some, refl, sym, subst, ◌∙◌, arith}
+use Rattle.std.proofs.Common.{◌≡◌, ℕ, List, ◌∷◌, Option, Some, refl, sym, subst, ◌∙◌, rules, arith}
 use Rattle.atomic_table.specs.Table.{rest}
 use Rattle.boss_lock.specs.Steps.{Knower}
 use Rattle.boss_lock.proofs.Keeps.{takes_value}
@@ -12,4 +12,4 @@ exchange-slot-requires g c =
     let own = c.requires.own in
     let taken = c.load.ensures in
     let y = taken.2.0 in
-    (taken.0 ∙ own.0, (Some y, subst (λ (m : Knower g.row.V.Denot g.row.V-Start.Denot g.row.V-Entry.Denot). m.1 ≡ (0, Some y) ∷ rest m.1) (sym taken.2.2) refl))
+    (search rules, (Some y, subst (λ (m : Knower g.row.V.Denot g.row.V-Start.Denot g.row.V-Entry.Denot). m.1 ≡ (0, Some y) ∷ rest m.1) (sym taken.2.2) refl))
