@@ -1,7 +1,7 @@
 -- Lemmas on lists that begin one another.
-use Rattle.std.proofs.Common.{◌≡◌, ℕ, zero, suc, ◌≤◌, List, [], ◌∷◌, ◌++◌, length, refl, sym, ap, ◌∙◌, arith, append_assoc, append-nil, length-append}
+use Rattle.std.proofs.Common.{◌≡◌, ◌⊎◌, inl, inr, ⊎_elim, ℕ, zero, suc, ◌≤◌, List, [], ◌∷◌, ◌++◌, length, refl, sym, ap, ◌∙◌, arith, append_assoc, append-nil, length-append}
 use mathlib.Core.List.{IsPrefix}
-use Rattle.boss_lock.specs.Places.{longer}
+use Rattle.boss_lock.specs.Places.{longer, IsLonger}
 
 module _ {E : Type 0} where
   pub prefix_self : (xs : List E) → IsPrefix xs xs
@@ -61,3 +61,16 @@ module _ {E : Type 0} where
   length_longer_right [] ys = omega arith
   length_longer_right (x ∷ xs) [] = omega arith
   length_longer_right (x ∷ xs) (y ∷ ys) = let h = length_longer_right xs ys in omega arith
+
+  -- if ys begins a list that xs begins too, and is as long, it is the whole of it
+  longer_one : (xs ys : List E) → IsPrefix ys (longer xs ys) → (longer xs ys ≡ xs) ⊎ (longer xs ys ≡ ys)
+  longer_one [] ys q = inr refl
+  longer_one (x ∷ xs) [] q = inl refl
+  longer_one (x ∷ xs) (y ∷ ys) q =
+      let e = q.1 in
+      let heads : y ≡ x = cc in
+      ⊎_elim (λ (h : longer xs ys ≡ xs). inl (ap (λ ws. x ∷ ws) h)) (λ (h : longer xs ys ≡ ys). inr (cc)) (longer_one xs ys (q.0, cc))
+
+  -- of two beginnings of one list
+  pub longer_is : (xs ys zs : List E) → IsPrefix xs zs → IsPrefix ys zs → IsLonger xs ys (longer xs ys)
+  longer_is xs ys zs p q = let right = longer_right xs ys zs p q in (longer_one xs ys right, longer_left xs ys, right)

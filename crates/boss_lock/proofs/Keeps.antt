@@ -15,7 +15,7 @@ use Rattle.boss_lock.specs.declared.view.View.{View}
 use Rattle.boss_lock.specs.declared.view.Stage.{Stage}
 use Rattle.boss_lock.specs.declared.view.Stage.TheVariants.{Idle, Waiting, Turn, Holding, Given}
 use Rattle.boss_lock.proofs.Counting.{same_self, same_is, same_le, below_no, below_yes, below_is, below_le, times_append, times_numbers, times_woven, all_below_more, all_below_append, all_below_numbers, all_below_from, all_below_woven, rises_then, rises_woven}
-use Rattle.boss_lock.proofs.Histories.{prefix_self, prefix_more, prefix_long, longer_nil, longer_left, longer_right, longer_before, length_longer_left, length_longer_right}
+use Rattle.boss_lock.proofs.Histories.{prefix_self, prefix_more, prefix_long, longer_nil, longer_before, longer_is, length_longer_left, length_longer_right}
 use Rattle.boss_lock.proofs.Sums.{total_set, total_snoc, total_at, total_two, total_le, total_le_but}
 
 -- the two words once a step has read or raised one of them
@@ -408,7 +408,7 @@ module _ {V T E : Type 0} (means : V → T → List E → Type 0) (start : T) (s
             (omega arith)
             (λ t. omega arith)
             (λ k. refl),
-        (refl, longer_left v.seen v.other, longer_right v.seen v.other r.log was.seen_before was.other_before, was.rising, was.places_seen),
+        (refl, longer_is v.seen v.other r.log was.seen_before was.other_before, was.rising, was.places_seen),
       )
 
   -- A seat with two parts or more gives one of them to a new seat

@@ -1,5 +1,6 @@
 -- Words that count, and lists of places in a history. Each count is a number, so that what is said of many seats is a sum.
-use Rattle.std.specs.Prelude.{ℕ, zero, suc, ◌+◌, ◌<◌, List, [], ◌∷◌, if◌then◌else◌, nat_lt}
+use Rattle.std.specs.Prelude.{◌≡◌, ◌⊎◌, ℕ, zero, suc, ◌+◌, ◌<◌, List, [], ◌∷◌, if◌then◌else◌, nat_lt}
+use mathlib.Core.List.{IsPrefix}
 
 -- 1 where the two numbers are equal, else 0
 abbrev pub same : ℕ → ℕ → ℕ
@@ -53,6 +54,10 @@ abbrev pub longer : {E : Type 0} → List E → List E → List E
 longer [] ys = ys
 longer (x ∷ xs) [] = x ∷ xs
 longer (x ∷ xs) (y ∷ ys) = x ∷ longer xs ys
+
+-- zs is one of the two lists, and both begin it
+abbrev pub IsLonger : {E : Type 0} → List E → List E → List E → Type 0
+IsLonger xs ys zs = ((zs ≡ xs) ⊎ (zs ≡ ys)) × IsPrefix xs zs × IsPrefix ys zs
 
 -- the sum of f over a list
 abbrev pub total : {A : Type 0} → (A → ℕ) → List A → ℕ

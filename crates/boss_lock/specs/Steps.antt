@@ -2,7 +2,7 @@
 use Rattle.std.specs.Prelude.{◌≡◌, ◌≢◌, ℕ, ◌+◌, ◌-◌, ◌%◌, ◌^◌, List, [], ◌∷◌, ◌++◌, length, Option, Some, None}
 use mathlib.Core.List.{IsPrefix}
 use Rattle.atomic_table.specs.Table.{Step, Me, rest}
-use Rattle.boss_lock.specs.Places.{numbers_from, AllBelow, Rises, woven, longer}
+use Rattle.boss_lock.specs.Places.{numbers_from, AllBelow, Rises, woven, longer, IsLonger}
 use Rattle.boss_lock.specs.declared.view.View.{View}
 use Rattle.boss_lock.specs.declared.view.Stage.{Stage}
 use Rattle.boss_lock.specs.declared.view.Stage.TheVariants.{Idle, Waiting, Turn, Holding, Given}
@@ -93,5 +93,5 @@ module _ {V T E : Type 0} where
   abbrev pub compared : Step (Option V) → Knower V T E → ℕ → Knower V T E → Type 0
   compared step me found after =
       (after ≡ (after_compare me.0, me.1))
-      × IsPrefix me.0.seen (longer me.0.seen me.0.other) × IsPrefix me.0.other (longer me.0.seen me.0.other)
+      × IsLonger me.0.seen me.0.other (longer me.0.seen me.0.other)
       × Rises me.0.places × AllBelow (length (longer me.0.seen me.0.other)) me.0.places

@@ -1,12 +1,11 @@
 // The lock and its calls.
 ghost use Rattle.std.specs.Prelude.{◌≡◌, ℕ, ◌+◌, ◌<◌, ◌≤◌, ◌⊎◌, List, [], ◌∷◌, ◌++◌, length, Some, None, IsSome, IfOk, IfErr};
 ghost use mathlib.Core.List.{IsPrefix};
-ghost use Rattle.boss_lock.specs.Places.{numbers_from, AllBelow, Rises};
+ghost use Rattle.boss_lock.specs.Places.{numbers_from, AllBelow, IsLonger, Rises};
 ghost use Rattle.boss_lock.specs.Seats.{IsSeatOf, found, first_seat, with_turn, after_turn, one_part_less, one_part_of, both_seats};
 
-use crate::plays::{AllParts, Compare, OnePart};
 use crate::seat::Seat;
-use crate::steps::{draw, give_back, pass_on, take, wait};
+use crate::steps::{compare, divide, draw, give_back, pass_on, take, take_in, wait};
 use crate::view::{Known, Made, OneHistory, Stands, Terms};
 use atomic_table::{Closed, Refused, Table};
 use std::alloc::{AllocFailed, Global};
@@ -124,7 +123,7 @@ impl<V: Stands> Ruled<V> {
         ensures left { seat.new ≡ one_part_less seat.old }
         ensures right { result ≡ one_part_of seat.old }
     {
-        let token = self.table.shared.split_seat::<OnePart>(&mut seat.token);
+        let token = divide(&self.table.shared, &mut seat.token);
         Seat { token }
     }
 
@@ -132,13 +131,13 @@ impl<V: Stands> Ruled<V> {
         requires own { IsSeatOf self.now seat.old × IsSeatOf self.now other }
         requires no_turn { (seat.old.turn ≡ None) × (other.turn ≡ None) }
         ensures seat { seat.new ≡ both_seats seat.old other }
-        ensures history { IsPrefix seat.old.seen seat.new.seen × IsPrefix other.seen seat.new.seen }
+        ensures history { IsLonger seat.old.seen other.seen seat.new.seen }
         ensures places { Rises seat.new.places × AllBelow (length seat.new.seen) seat.new.places }
     {
         let board = &self.table.shared;
         let Seat { token } = other;
-        board.join_seat::<AllParts>(&mut seat.token, token);
-        board.load::<Compare>(&mut seat.token, 0);
+        take_in(board, &mut seat.token, token);
+        compare(board, &mut seat.token);
     }
 
     pub fn close(self, seat: Seat<V>) -> V

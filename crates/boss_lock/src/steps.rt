@@ -1,14 +1,13 @@
 // The steps of a turn. Between two of them a seat is not at rest, so they work on its token.
-ghost use Rattle.std.specs.Prelude.{◌≡◌, ℕ, ◌%◌, ◌^◌, ◌<◌, List, [], ◌∷◌, ◌++◌, length, Some, None};
+ghost use Rattle.std.specs.Prelude.{◌≡◌, ℕ, ◌%◌, ◌^◌, ◌<◌, ◌≤◌, List, [], ◌∷◌, ◌++◌, length, Some, None};
 ghost use mathlib.Core.List.{IsPrefix};
-ghost use Rattle.boss_lock.specs.Places.{Rises, AllBelow};
-ghost use Rattle.boss_lock.specs.Steps.{ticket_of, list_of, made_of, staged, after_pass, after_compare};
+ghost use Rattle.boss_lock.specs.Places.{Rises, AllBelow, IsLonger};
+ghost use Rattle.boss_lock.specs.Steps.{ticket_of, list_of, made_of, staged, after_pass, after_compare, left_part, right_part, both_parts};
 ghost use Rattle.boss_lock.specs.Tokens.{IsBoard, IsSameToken};
 ghost use Rattle.boss_lock.specs.declared.view.Stage.TheVariants.{Idle, Waiting, Turn, Holding, Given};
 
-use crate::plays::{Compare, Draw, GiveBack, Look, PassOn, Take, Telling};
+use crate::plays::{AllParts, Compare, Draw, GiveBack, Look, OnePart, PassOn, Take, Telling};
 use crate::view::{Board, Made, Stands, Token};
-use std::marker::Brand;
 use std::sync::Wait;
 
 // The word that has the next ticket to be drawn.
@@ -24,7 +23,7 @@ const VALUE: usize = 0;
 const LOOKS: u32 = 64;
 
 // Draws the next ticket, and returns it modulo 2^64.
-pub fn draw<V: Stands>(board: &Board<V>, token: &mut Token<V>) -> u64
+pub(crate) fn draw<V: Stands>(board: &Board<V>, token: &mut Token<V>) -> u64
     requires own { IsBoard board.now.table_id token.old.table_id }
     requires idle { (token.old.me.0.stage ≡ Idle) × (0 < token.old.me.0.parts) }
     ensures same { IsSameToken token.old token.new }
@@ -34,7 +33,7 @@ pub fn draw<V: Stands>(board: &Board<V>, token: &mut Token<V>) -> u64
 }
 
 // Looks until the ticket is served.
-pub fn wait<V: Stands, R: Wait>(board: &Board<V>, rt: &R, token: &mut Token<V>, ticket: u64)
+pub(crate) fn wait<V: Stands, R: Wait>(board: &Board<V>, rt: &R, token: &mut Token<V>, ticket: u64)
     requires own { IsBoard board.now.table_id token.old.table_id }
     requires waiting { token.old.me.0.stage ≡ Waiting (ticket_of token.old.me.0.stage) }
     requires ticket { ticket ≡ ticket_of token.old.me.0.stage % 2 ^ 64 }
@@ -58,7 +57,7 @@ pub fn wait<V: Stands, R: Wait>(board: &Board<V>, rt: &R, token: &mut Token<V>, 
 }
 
 // Takes the value out of its slot.
-pub fn take<V: Stands>(board: &Board<V>, token: &mut Token<V>) -> V
+pub(crate) fn take<V: Stands>(board: &Board<V>, token: &mut Token<V>) -> V
     requires own { IsBoard board.now.table_id token.old.table_id }
     requires turn { token.old.me.0.stage ≡ Turn (ticket_of token.old.me.0.stage) (list_of token.old.me.0.stage) }
     requires start { (0 < token.old.me.0.parts) × (token.old.me.1 ≡ []) }
@@ -73,7 +72,7 @@ pub fn take<V: Stands>(board: &Board<V>, token: &mut Token<V>) -> V
 }
 
 // Puts a value back for which a list stands that has the entries of `made` at its end.
-pub fn give_back<V: Stands, M: Made<V>, J: Telling<V::Entry>>(
+pub(crate) fn give_back<V: Stands, M: Made<V>, J: Telling<V::Entry>>(
     board: &Board<V>,
     token: &mut Token<V>,
     value: V,
@@ -94,7 +93,7 @@ pub fn give_back<V: Stands, M: Made<V>, J: Telling<V::Entry>>(
 }
 
 // Serves the next ticket, and wakes whoever sleeps if a seat waits.
-pub fn pass_on<V: Stands>(board: &Board<V>, token: &mut Token<V>)
+pub(crate) fn pass_on<V: Stands>(board: &Board<V>, token: &mut Token<V>)
     requires own { IsBoard board.now.table_id token.old.table_id }
     requires given { token.old.me.0.stage ≡ Given (ticket_of token.old.me.0.stage) (list_of token.old.me.0.stage) (made_of token.old.me.0.stage) }
     requires part { 0 < token.old.me.0.parts }
@@ -106,4 +105,39 @@ pub fn pass_on<V: Stands>(board: &Board<V>, token: &mut Token<V>)
     if board.peek(TICKET) != served.wrapping_add(1) {
         board.wake_all(SERVING);
     }
+}
+
+// Gives one part to a new seat.
+pub(crate) fn divide<V: Stands>(board: &Board<V>, token: &mut Token<V>) -> Token<V>
+    requires own { IsBoard board.now.table_id token.old.table_id }
+    requires idle { token.old.me.0.stage ≡ Idle }
+    requires two_parts { 2 ≤ token.old.me.0.parts }
+    ensures same { IsSameToken token.old token.new }
+    ensures left { token.new.me ≡ (left_part token.old.me.0, token.old.me.1) }
+    ensures right { (result.table_id ≡ token.old.table_id) × (result.me ≡ (right_part token.old.me.0, [])) }
+{
+    board.split_seat::<OnePart>(token)
+}
+
+// Takes in the parts and the places of another seat, and what it had seen.
+pub(crate) fn take_in<V: Stands>(board: &Board<V>, token: &mut Token<V>, other: Token<V>)
+    requires own { IsBoard board.now.table_id token.old.table_id × IsBoard board.now.table_id other.table_id }
+    requires idle { (token.old.me.0.stage ≡ Idle) × (other.me.0.stage ≡ Idle) × (other.me.1 ≡ []) }
+    requires compared { (token.old.me.0.other ≡ []) × (other.me.0.other ≡ []) }
+    requires part { 0 < token.old.me.0.parts }
+    ensures same { IsSameToken token.old token.new }
+    ensures both { token.new.me ≡ (both_parts token.old.me.0 other.me.0, token.old.me.1) }
+{
+    board.join_seat::<AllParts>(token, other);
+}
+
+// Learns which of the two lists that the seat knows begins the other.
+pub(crate) fn compare<V: Stands>(board: &Board<V>, token: &mut Token<V>)
+    requires own { IsBoard board.now.table_id token.old.table_id }
+    ensures same { IsSameToken token.old token.new }
+    ensures longer { token.new.me ≡ (after_compare token.old.me.0, token.old.me.1) }
+    ensures histories { IsLonger token.old.me.0.seen token.old.me.0.other token.new.me.0.seen }
+    ensures places { Rises token.new.me.0.places × AllBelow (length token.new.me.0.seen) token.new.me.0.places }
+{
+    board.load::<Compare>(token, TICKET);
 }
