@@ -61,6 +61,21 @@ pub times_numbers : (k a n : ℕ) → times k (numbers_from a n) + below k a ≡
 times_numbers k a zero = let e : below k (a + 0) ≡ below k a = ap (below k) (add-zero a) in omega arith
 times_numbers k a (suc n) = let h = times_numbers k (suc a) n in let e : below k (a + suc n) ≡ below k (suc a + n) = ap (below k) (omega arith) in omega arith
 
+pub length_numbers_from : (a n : ℕ) → length (numbers_from a n) ≡ n
+length_numbers_from a zero = refl
+length_numbers_from a (suc n) = ap suc (length_numbers_from (suc a) n)
+
+length_put_in : (p : ℕ) (ys : List ℕ) → length (put_in p ys) ≡ suc (length ys)
+length_put_in p [] = refl
+length_put_in p (q ∷ qs) = elim (nat_lt p q) as (λ b. length (if b then p ∷ q ∷ qs else q ∷ put_in p qs) ≡ suc (suc (length qs))) [
+  true ↦ refl
+  | false ↦ ap suc (length_put_in p qs)
+]
+
+pub length_woven : (xs ys : List ℕ) → length (woven xs ys) ≡ length xs + length ys
+length_woven [] ys = omega arith
+length_woven (x ∷ xs) ys = let h = length_woven xs ys in let e = length_put_in x (woven xs ys) in omega arith
+
 times_put_in : (k p : ℕ) (ys : List ℕ) → times k (put_in p ys) ≡ same k p + times k ys
 times_put_in k p [] = refl
 times_put_in k p (q ∷ qs) = elim (nat_lt p q) as (λ b. times k (if b then p ∷ q ∷ qs else q ∷ put_in p qs) ≡ same k p + (same k q + times k qs)) [

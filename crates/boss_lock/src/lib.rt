@@ -9,6 +9,8 @@ mod lock;
 mod plays;
 mod seat;
 mod steps;
+#[cfg(test)]
+mod tests;
 mod view;
 
 pub use lock::{NoMemory, Ruled};

@@ -13,11 +13,18 @@ use std::marker::{Brand, Model};
 use std::snapshot::Snapshot;
 use std::sync::Wait;
 
-/// There was no memory.
+/// There was no memory. The call that answers it has changed nothing.
 #[derive(Clone, Copy, Debug, PartialEq, Eq)]
 pub struct NoMemory;
 
-/// A lock.
+/// A lock that keeps a value, which stands for a list of entries: the history. It counts from the start that the first value told.
+///
+/// Seats take turns in the order of the tickets that they draw. Whoever has the turn has the value, and may add entries to the
+/// end of the history. The history exists in proofs alone: no call stores any of it, and only `new` takes memory.
+///
+/// To a contract a lock is a `Lock`: its table, the start, and how many parts its seats have together.
+///
+/// Not promised: that a seat which waits gets its turn, how long that takes, or that a lock which is dropped was free.
 #[derive(Drop)]
 pub struct Ruled<V: Stands> {
     table: Table<Option<V>, Known<V>, Terms<V>, OneHistory, Global>,
@@ -34,7 +41,7 @@ impl<V: Stands> Model for Ruled<V> {
     ghost invariant = { λ l. (l.table.shared.table_id.words ≡ 2) × (l.table.shared.table_id.slots ≡ 1) };
 }
 
-// A row of one slot, which has the value.
+// A row of one slot, with the value in it.
 fn one_slot<V>(alloc: Global, value: V) -> Result<Vec<Option<V>>, V>
     ensures ok { IfOk result (λ slots. slots.items ≡ Some value ∷ []) }
     ensures err { IfErr result (λ refused. refused ≡ value) }
@@ -51,6 +58,7 @@ fn one_slot<V>(alloc: Global, value: V) -> Result<Vec<Option<V>>, V>
     }
 }
 
+// The value of such a row.
 fn only_value<V>(mut slots: Vec<Option<V>>) -> V
     requires { (value : V) × (slots.items ≡ Some value ∷ []) }
     ensures { slots.items ≡ Some result ∷ [] }
@@ -63,6 +71,10 @@ fn only_value<V>(mut slots: Vec<Option<V>>) -> V
 }
 
 impl<V: Stands> Ruled<V> {
+    /// A new lock, and its only seat, which has all `seats` parts. The history is empty.
+    ///
+    /// There has to be a part or more, and the value has to stand for the empty list from the start that it tells. Without
+    /// memory the value comes back as it was.
     pub fn new(
         alloc: Global,
         value: V,
@@ -91,6 +103,11 @@ impl<V: Stands> Ruled<V> {
         }
     }
 
+    /// Waits for the seat's turn, and takes the value out.
+    ///
+    /// The seat has to be one of this lock, and not have the turn. The value stands for a history that begins with all that the
+    /// seat has seen, and which stays as it is until the seat leaves. The call takes no memory. That it returns is not promised:
+    /// it does not while another seat keeps the turn.
     pub fn enter<R: Wait>(&self, rt: &R, seat: &mut Seat<V>) -> V
         requires own { IsSeatOf self.now seat.old }
         requires no_turn { seat.old.turn ≡ None }
@@ -104,6 +121,11 @@ impl<V: Stands> Ruled<V> {
         take(board, &mut seat.token)
     }
 
+    /// Gives a value back, and passes the turn on.
+    ///
+    /// The seat has to be one of this lock, and have the turn. The value has to stand for the history that `enter` found and then
+    /// the entries that `made` tells. The seat has then seen just that, and the new entries' places are its own. `made` is not
+    /// read. The call takes no memory, does not wait, and wakes whoever sleeps until the turn comes.
     pub fn leave<M: Made<V>>(&self, seat: &mut Seat<V>, value: V, made: &M)
         requires own { IsSeatOf self.now seat.old }
         requires turn { IsSome seat.old.turn }
@@ -116,6 +138,9 @@ impl<V: Stands> Ruled<V> {
         pass_on(board, &mut seat.token);
     }
 
+    /// Moves one part to a new seat, which has seen the same and has no places.
+    ///
+    /// The seat has to be one of this lock, not have the turn, and have two parts or more. The call takes no memory.
     pub fn split(&self, seat: &mut Seat<V>) -> Seat<V>
         requires own { IsSeatOf self.now seat.old }
         requires no_turn { seat.old.turn ≡ None }
@@ -127,6 +152,10 @@ impl<V: Stands> Ruled<V> {
         Seat { token }
     }
 
+    /// Takes in the parts and the places of another seat, and what it had seen: of the two beginnings of the history, the
+    /// seat has then seen the longer.
+    ///
+    /// Both have to be seats of this lock, and have no turn. The call takes no memory.
     pub fn join(&self, seat: &mut Seat<V>, other: Seat<V>)
         requires own { IsSeatOf self.now seat.old × IsSeatOf self.now other }
         requires no_turn { (seat.old.turn ≡ None) × (other.turn ≡ None) }
@@ -140,6 +169,11 @@ impl<V: Stands> Ruled<V> {
         compare(board, &mut seat.token);
     }
 
+    /// Gives the value up. It stands for all that the seat has seen, and every place of that is the seat's: so it is the whole
+    /// history, and each of its entries was made by a seat whose places this one has.
+    ///
+    /// The seat has to be one of this lock, not have the turn, and have all parts. The call takes no memory, and gives back what
+    /// the lock took.
     pub fn close(self, seat: Seat<V>) -> V
         requires own { IsSeatOf self seat }
         requires no_turn { seat.turn ≡ None }
