@@ -1,5 +1,6 @@
 pub mod Counting
 pub mod Ends
+pub mod Entries
 pub mod Histories
 pub mod Keeps
 pub mod Resting

@@ -1,5 +1,5 @@
 -- Words that count, and lists of places in a history. Each count is a number, so that what is said of many seats is a sum.
-use Rattle.std.specs.Prelude.{◌≡◌, ◌⊎◌, ℕ, zero, suc, ◌+◌, ◌<◌, List, [], ◌∷◌, if◌then◌else◌, nat_lt}
+use Rattle.std.specs.Prelude.{◌≡◌, ◌⊎◌, ℕ, zero, suc, ◌+◌, ◌<◌, List, [], ◌∷◌, ◌++◌, if◌then◌else◌, nat_lt}
 use mathlib.Core.List.{IsPrefix}
 
 -- 1 where the two numbers are equal, else 0
@@ -48,6 +48,17 @@ put_in p (q ∷ qs) = if nat_lt p q then p ∷ q ∷ qs else q ∷ put_in p qs
 abbrev pub woven : List ℕ → List ℕ → List ℕ
 woven [] ys = ys
 woven (x ∷ xs) ys = put_in x (woven xs ys)
+
+-- the entry at a place, if there is one
+abbrev pub entry_at : {E : Type 0} → List E → ℕ → List E
+entry_at [] k = []
+entry_at (x ∷ xs) zero = x ∷ []
+entry_at (x ∷ xs) (suc k) = entry_at xs k
+
+-- the entries at these places of a history
+abbrev pub entries_at : {E : Type 0} → List E → List ℕ → List E
+entries_at xs [] = []
+entries_at xs (k ∷ ks) = entry_at xs k ++ entries_at xs ks
 
 -- the longer of two lists of which one begins the other
 abbrev pub longer : {E : Type 0} → List E → List E → List E

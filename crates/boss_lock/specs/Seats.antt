@@ -2,7 +2,7 @@
 use Rattle.std.specs.Prelude.{◌≡◌, ℕ, ◌+◌, ◌-◌, ◌<◌, List, [], ◌∷◌, ◌++◌, length, Option, Some, None, unwrap_or}
 use Rattle.atomic_table.specs.Seated.{TableId}
 use Rattle.atomic_table.specs.Table.{Me}
-use Rattle.boss_lock.specs.Places.{numbers_from, AllBelow, Rises, woven, longer}
+use Rattle.boss_lock.specs.Places.{numbers_from, AllBelow, Rises, woven, entries_at, longer}
 use Rattle.boss_lock.specs.Steps.{Knower}
 use Rattle.boss_lock.specs.declared.view.View.{View}
 use Rattle.boss_lock.specs.declared.view.Stage.{Stage}
@@ -61,6 +61,10 @@ module _ {T E : Type 0} where
   -- the history as a seat with the turn found it
   abbrev pub found : Standing T E → List E
   found seat = unwrap_or seat.turn []
+
+  -- the entries that the seat made, in order
+  abbrev pub own_entries : Standing T E → List E
+  own_entries seat = entries_at seat.seen seat.places
 
   -- the only seat of a new lock
   abbrev pub first_seat : Lock T → Standing T E
