@@ -1,7 +1,7 @@
 -- Lemmas on the entries at a seat's places, for those who keep account of what a seat made.
 use Rattle.std.proofs.Common.{◌≡◌, ℕ, zero, suc, ◌+◌, ◌<◌, ◌≤◌, List, [], ◌∷◌, ◌++◌, length, nat_lt, if◌then◌else◌, Bool, true, false, refl, sym, ap, ◌∙◌, subst, arith, append_assoc, append-nil, length-append, add-zero}
 use mathlib.Core.List.{IsPrefix}
-use Rattle.boss_lock.specs.Places.{numbers_from, AllBelow, put_in, woven, entry_at, entries_at, total}
+use Rattle.boss_lock.specs.Places.{numbers_from, AllBelow, put_in, woven, entry_at, entries_at, IsLonger, total}
 
 module _ {E : Type 0} where
   entry_at_front : (xs ys : List E) (k : ℕ) → k < length xs → entry_at (xs ++ ys) k ≡ entry_at xs k
@@ -68,3 +68,9 @@ module _ {E : Type 0} where
       let p = total_put_in f xs k (woven ks js) in
       let a = total_append f (entry_at xs k) (entries_at xs ks) in
       omega arith
+
+  -- the same where each has seen another beginning of the history
+  pub total_joined : (f : E → ℕ) (xs ys zs : List E) (ks js : List ℕ) → IsLonger xs ys zs → AllBelow (length xs) ks → AllBelow (length ys) js
+      → total f (entries_at zs (woven ks js)) ≡ total f (entries_at xs ks) + total f (entries_at ys js)
+  total_joined f xs ys zs ks js longer inside inside_too =
+      total_woven f zs ks js ∙ (λ i. total f (entries_at_more xs zs ks longer.1 inside i) + total f (entries_at_more ys zs js longer.2 inside_too i))

@@ -1,5 +1,6 @@
 -- What contracts see of a lock and of a seat.
 use Rattle.std.specs.Prelude.{◌≡◌, ℕ, ◌+◌, ◌-◌, ◌<◌, List, [], ◌∷◌, ◌++◌, length, Option, Some, None, unwrap_or}
+use mathlib.Core.List.{IsPrefix}
 use Rattle.atomic_table.specs.Seated.{TableId}
 use Rattle.atomic_table.specs.Table.{Me}
 use Rattle.boss_lock.specs.Places.{numbers_from, AllBelow, Rises, woven, entries_at, longer}
@@ -33,13 +34,13 @@ module _ {E : Type 0} where
   turn_of (Given t list made) = None
 
 module _ {V E : Type 0} where
-  -- between two calls a seat is idle, or has the value's slot with nothing in it
-  abbrev pub Carries : Stage E → List (ℕ × Option V) → Type 0
-  Carries Idle slots = slots ≡ []
-  Carries (Waiting t) slots = ⊥
-  Carries (Turn t list) slots = ⊥
-  Carries (Holding t list) slots = slots ≡ (0, None) ∷ []
-  Carries (Given t list made) slots = ⊥
+  -- Between two calls a seat is idle, or has the value's slot with nothing in it, and found a history that begins with all that it has seen
+  abbrev pub Carries : List E → Stage E → List (ℕ × Option V) → Type 0
+  Carries seen Idle slots = slots ≡ []
+  Carries seen (Waiting t) slots = ⊥
+  Carries seen (Turn t list) slots = ⊥
+  Carries seen (Holding t list) slots = (slots ≡ (0, None) ∷ []) × IsPrefix seen list
+  Carries seen (Given t list made) slots = ⊥
 
 module _ {T E : Type 0} where
   abbrev pub standing : TableId → View T E → Standing T E
@@ -51,7 +52,7 @@ pub record IsAtRest {V T E : Type 0} (me : Knower V T E) : Type 0 where
   pub compared : me.0.other ≡ []
   pub rising : Rises me.0.places
   pub places_seen : AllBelow (length me.0.seen) me.0.places
-  pub carries : Carries me.0.stage me.1
+  pub carries : Carries me.0.seen me.0.stage me.1
 
 module _ {T E : Type 0} where
   -- it is a seat of this lock

@@ -1,8 +1,8 @@
 // The lock and its calls.
 ghost use Rattle.std.specs.Prelude.{◌≡◌, ℕ, ◌+◌, ◌<◌, ◌≤◌, ◌⊎◌, List, [], ◌∷◌, ◌++◌, length, Some, None, IsSome, IfOk, IfErr};
 ghost use mathlib.Core.List.{IsPrefix};
-ghost use Rattle.boss_lock.specs.Places.{numbers_from, AllBelow, IsLonger, Rises};
-ghost use Rattle.boss_lock.specs.Seats.{IsSeatOf, found, first_seat, with_turn, after_turn, one_part_less, one_part_of, both_seats};
+ghost use Rattle.boss_lock.specs.Places.{numbers_from, AllBelow, IsLonger, Rises, total};
+ghost use Rattle.boss_lock.specs.Seats.{IsSeatOf, found, own_entries, first_seat, with_turn, after_turn, one_part_less, one_part_of, both_seats};
 
 use crate::seat::Seat;
 use crate::steps::{compare, divide, draw, give_back, pass_on, take, take_in, wait};
@@ -131,6 +131,7 @@ impl<V: Stands> Ruled<V> {
         requires turn { IsSome seat.old.turn }
         requires value { V.stands value self.now.start (found seat.old ++ M.entries made.now) }
         ensures seat { seat.new ≡ after_turn seat.old (M.entries made.now) }
+        ensures own_entries { own_entries seat.new ≡ own_entries seat.old ++ M.entries made.now }
         ensures places { Rises seat.new.places × AllBelow (length seat.new.seen) seat.new.places }
     {
         let board = &self.table.shared;
@@ -161,6 +162,7 @@ impl<V: Stands> Ruled<V> {
         requires no_turn { (seat.old.turn ≡ None) × (other.turn ≡ None) }
         ensures seat { seat.new ≡ both_seats seat.old other }
         ensures history { IsLonger seat.old.seen other.seen seat.new.seen }
+        ensures own_entries { (weight : V.Entry → ℕ) → total weight (own_entries seat.new) ≡ total weight (own_entries seat.old) + total weight (own_entries other) }
         ensures places { Rises seat.new.places × AllBelow (length seat.new.seen) seat.new.places }
     {
         let board = &self.table.shared;
