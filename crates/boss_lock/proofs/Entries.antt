@@ -46,7 +46,7 @@ module _ {E : Type 0} where
   pub entries_at_all : (xs : List E) → entries_at xs (numbers_from 0 (length xs)) ≡ xs
   entries_at_all xs = entries_at_end [] xs
 
-  total_append : (f : E → ℕ) (xs ys : List E) → total f (xs ++ ys) ≡ total f xs + total f ys
+  pub total_append : (f : E → ℕ) (xs ys : List E) → total f (xs ++ ys) ≡ total f xs + total f ys
   total_append f [] ys = omega arith
   total_append f (x ∷ xs) ys = let h = total_append f xs ys in omega arith
 

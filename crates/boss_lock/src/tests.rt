@@ -1,6 +1,7 @@
 // Two threads over a count whose entries are what was added to it.
-ghost use Rattle.std.specs.Prelude.{◌≡◌, ◌+◌, ◌^◌, ◌<◌, ◌≤◌, ℕ, List, [], None, length, sum, option_to_list, IfSome, MatchBool};
-ghost use Rattle.boss_lock.specs.Seats.{IsSeatOf};
+ghost use Rattle.std.specs.Prelude.{◌≡◌, ◌+◌, ◌*◌, ◌^◌, ◌<◌, ◌≤◌, [], ◌∷◌, ◌++◌, None, option_to_list, IfSome, IsTrue, MatchBool};
+ghost use Rattle.boss_lock.specs.Places.{total};
+ghost use Rattle.boss_lock.specs.Seats.{IsSeatOf, own_entries};
 
 use crate::{Made, Ruled, Seat, Stands};
 use std::alloc::Global;
@@ -19,7 +20,7 @@ impl Stands for Count {
 
     ghost start = { λ count. count.value };
 
-    ghost stands = { λ count start added. count.value ≡ start + sum added };
+    ghost stands = { λ count start added. count.value ≡ start + total (λ n. n) added };
 }
 
 // What one turn added: nothing where the count would run over.
@@ -32,12 +33,13 @@ impl Made<Count> for Added {
     ghost entries = { λ added. option_to_list added.by };
 }
 
-// Adds once, if there is room.
+// Adds once if there is room, and says whether it did.
+#[tactic(auto, using(crate::proofs::Entries::total_append))]
 fn add<R: Wait>(lock: &Ruled<Count>, rt: &R, seat: &mut Seat<Count>, by: u64) -> bool
     requires own { IsSeatOf lock.now seat.old }
     requires no_turn { seat.old.turn ≡ None }
     ensures same { seat.new ≡ record seat.old { seen = seat.new.seen; places = seat.new.places } }
-    ensures made { MatchBool result (length seat.new.places ≡ length seat.old.places + 1) (seat.new.places ≡ seat.old.places) }
+    ensures made { MatchBool result (own_entries seat.new ≡ own_entries seat.old ++ by ∷ []) (own_entries seat.new ≡ own_entries seat.old) }
 {
     let count = lock.enter(rt, seat);
     match count.value.checked_add(by) {
@@ -52,39 +54,36 @@ fn add<R: Wait>(lock: &Ruled<Count>, rt: &R, seat: &mut Seat<Count>, by: u64) ->
     }
 }
 
-// Adds so many times, and says how often it did.
+// Adds so many times, and says whether there was room each time.
 fn add_all<R: Wait>(
     lock: &Ruled<Count>,
     rt: &R,
     mut seat: Seat<Count>,
     by: u64,
     turns: u64,
-) -> (Seat<Count>, u64)
+) -> (Seat<Count>, bool)
     requires own { IsSeatOf lock.now seat }
     requires no_turn { seat.turn ≡ None }
     ensures same { result.0 ≡ record seat { seen = result.0.seen; places = result.0.places } }
-    ensures made { length result.0.places ≡ length seat.places + result.1 }
-    ensures few { result.1 ≤ turns }
+    ensures made { IsTrue result.1 → total (λ n. n) (own_entries result.0) ≡ total (λ n. n) (own_entries seat) + turns * by }
 {
-    let mut made = 0;
     for _ in 0..turns {
-        if add(lock, rt, &mut seat, by) {
-            made += 1;
+        if !add(lock, rt, &mut seat, by) {
+            return (seat, false);
         }
     }
-    (seat, made)
+    (seat, true)
 }
 
-// Two threads add to a count. In the end one seat has every place, and the count is the start and all that was added.
+// Two threads add to a count. Where each had room each time, it is in the end the start and all that both added.
 fn add_in_two_threads<R: Threads + Wait + Sync>(
     rt: &R,
     alloc: Global,
     start: u64,
     by: (u64, u64),
     turns: u64,
-) -> Option<(u64, u64)>
-    requires { turns < 2 ^ 32 }
-    ensures { IfSome result (λ r. (added : List ℕ) × (r.0 ≡ start + sum added) × (r.1 ≡ length added)) }
+) -> Option<u64>
+    ensures { IfSome result (λ count. count ≡ start + (turns * by.0 + turns * by.1)) }
 {
     let Ok((lock, mut seat)) = Ruled::new(alloc, Count { value: start }, 2) else {
         return None;
@@ -93,23 +92,26 @@ fn add_in_two_threads<R: Threads + Wait + Sync>(
     let shared = &lock;
     let ((mut seat, here), (other, there)) = join(
         rt,
-        move || -> (Seat<Count>, u64)
+        move || -> (Seat<Count>, bool)
             requires { IsSeatOf shared.now seat × (seat.turn ≡ None) × (seat.parts ≡ 1) × (seat.places ≡ []) }
-            ensures { IsSeatOf shared.entry.now result.0 × (result.0.turn ≡ None) × (result.0.parts ≡ 1) × (length result.0.places ≡ result.1) × (result.1 ≤ turns) }
+            ensures { IsSeatOf shared.entry.now result.0 × (result.0.turn ≡ None) × (result.0.parts ≡ 1) × (IsTrue result.1 → total (λ n. n) (own_entries result.0) ≡ turns * by.0) }
         { add_all(shared, rt, seat, by.0, turns) },
-        move || -> (Seat<Count>, u64)
+        move || -> (Seat<Count>, bool)
             requires { IsSeatOf shared.now other × (other.turn ≡ None) × (other.parts ≡ 1) × (other.places ≡ []) }
-            ensures { IsSeatOf shared.entry.now result.0 × (result.0.turn ≡ None) × (result.0.parts ≡ 1) × (length result.0.places ≡ result.1) × (result.1 ≤ turns) }
+            ensures { IsSeatOf shared.entry.now result.0 × (result.0.turn ≡ None) × (result.0.parts ≡ 1) × (IsTrue result.1 → total (λ n. n) (own_entries result.0) ≡ turns * by.1) }
         { add_all(shared, rt, other, by.1, turns) },
     );
+    if !here || !there {
+        return None;
+    }
     lock.join(&mut seat, other);
     let count = lock.close(seat);
-    Some((count.value, here + there))
+    Some(count.value)
 }
 
 #[test]
 fn every_entry_is_in_one_history(rt: HostRuntime) -> Result<(), Fail> {
-    let ended = add_in_two_threads(&rt, rt.alloc(), 7, (1, 3), 10_000);
-    assert_eq!(rt; ended, Some((40_007, 20_000)));
+    let count = add_in_two_threads(&rt, rt.alloc(), 7, (1, 3), 10_000);
+    assert_eq!(rt; count, Some(40_007));
     Ok(())
 }
