@@ -19,9 +19,6 @@ const SERVING: usize = 1;
 // The only slot, where the value lies while no seat has the turn.
 const VALUE: usize = 0;
 
-// How often a seat looks before it sleeps.
-const LOOKS: u32 = 64;
-
 // Draws the next ticket, and returns it modulo 2^64.
 pub(crate) fn draw<V: Stands>(board: &Board<V>, token: &mut Token<V>) -> u64
     requires own { IsBoard board.now.table_id token.old.table_id }
@@ -32,7 +29,14 @@ pub(crate) fn draw<V: Stands>(board: &Board<V>, token: &mut Token<V>) -> u64
     board.fetch_add::<Draw>(token, TICKET, 1)
 }
 
-// Looks until the ticket is served.
+// A word sleeps by its low half. Fewer than 2^32 tickets are ever out, so that half changes before the seat's turn has passed.
+fn low_half(word: u64) -> u32
+    ensures { result ≡ word % 2 ^ 32 }
+{
+    (word & 0xffff_ffff) as u32
+}
+
+// Looks until the ticket is served, and sleeps between two looks until the next turn is passed on.
 pub(crate) fn wait<V: Stands, R: Wait>(board: &Board<V>, rt: &R, token: &mut Token<V>, ticket: u64)
     requires own { IsBoard board.now.table_id token.old.table_id }
     requires waiting { token.old.me.0.stage ≡ Waiting (ticket_of token.old.me.0.stage) }
@@ -40,18 +44,12 @@ pub(crate) fn wait<V: Stands, R: Wait>(board: &Board<V>, rt: &R, token: &mut Tok
     ensures same { IsSameToken token.old token.new }
     ensures turn { IsPrefix token.old.me.0.seen (list_of token.new.me.0.stage) × (token.new.me ≡ (staged token.old.me.0 (Turn (ticket_of token.old.me.0.stage) (list_of token.new.me.0.stage)), token.old.me.1)) }
 {
-    let mut looks = 0;
     for _ in rt.forever() {
         let serving = board.load::<Look>(token, SERVING);
         if serving == ticket {
             return;
         }
-        if looks < LOOKS {
-            looks += 1;
-            std::hint::spin_loop();
-        } else {
-            board.park(rt, SERVING, (serving & 0xffff_ffff) as u32);
-        }
+        board.park(rt, SERVING, low_half(serving));
     }
     unreachable!()
 }
@@ -92,7 +90,7 @@ pub(crate) fn give_back<V: Stands, M: Made<V>, J: Telling<V::Entry>>(
     board.load::<GiveBack<J>>(token, SERVING);
 }
 
-// Serves the next ticket, and wakes whoever sleeps if a seat waits.
+// Serves the next ticket. Whoever sleeps is woken where a seat has drawn that ticket; one that draws it later finds it served.
 pub(crate) fn pass_on<V: Stands>(board: &Board<V>, token: &mut Token<V>)
     requires own { IsBoard board.now.table_id token.old.table_id }
     requires given { token.old.me.0.stage ≡ Given (ticket_of token.old.me.0.stage) (list_of token.old.me.0.stage) (made_of token.old.me.0.stage) }
