@@ -3,10 +3,10 @@ use Rattle.std.proofs.Common.{◌≡◌, ℕ, List, [], ◌∷◌, Option, Some,
 use Rattle.atomic_table.specs.Seated.{TableId}
 use mathlib.Core.List.{IsPrefix}
 use Rattle.atomic_table.specs.Table.{rest}
-use Rattle.boss_lock.specs.Places.{woven, entries_at, IsLonger, total}
+use Rattle.boss_lock.specs.Places.{entries_at, IsLonger, total}
 use Rattle.boss_lock.specs.declared.view.View.{View}
 use Rattle.boss_lock.specs.Seats.{Standing, standing, turn_of, Carries, IsAtRest, own_entries}
-use Rattle.boss_lock.specs.Steps.{Knower, ticket_of, list_of, staged, after_pass, after_compare, both_parts}
+use Rattle.boss_lock.specs.Steps.{Knower, list_of, after_turn_of, after_compare, both_parts}
 use Rattle.boss_lock.proofs.Entries.{entries_after_turn, total_joined}
 use Rattle.boss_lock.specs.declared.view.Stage.{Stage}
 use Rattle.boss_lock.specs.declared.view.Stage.TheVariants.{Idle, Waiting, Turn, Holding, Given}
@@ -36,24 +36,21 @@ module _ {V T E : Type 0} where
   idle_at_rest table me seat is rest none = idle_with_nothing me.0.seen me.0.stage me.1 rest.carries (ap (λ (s : Standing T E). s.turn) is ∙ none)
 
   -- A seat's own entries after a turn: those before, and those that were made
-  pub own_after_turn : (table : TableId) (me gave left : Knower V T E) (seat : Standing T E) (made : List E) → standing table me.0 ≡ seat → IsAtRest me → IsSome seat.turn
-      → gave ≡ (staged me.0 (Given (ticket_of me.0.stage) (list_of me.0.stage) made), []) → left ≡ (after_pass gave.0, gave.1)
-      → entries_at left.0.seen left.0.places ≡ own_entries seat ++ made
-  own_after_turn table me gave left seat made is rest turn given passed =
+  pub own_after_turn : (table : TableId) (me now : Knower V T E) (seat : Standing T E) (made : List E) → standing table me.0 ≡ seat → IsAtRest me → IsSome seat.turn
+      → now ≡ (after_turn_of me.0 made, []) → entries_at now.0.seen now.0.places ≡ own_entries seat ++ made
+  own_after_turn table me now seat made is rest turn passed =
       let v = me.0 in
       let found = found_more v.seen v.stage me.1 rest.carries (subst (λ (s : Standing T E). IsSome s.turn) (sym is) turn) in
-      ap (λ (m : Knower V T E). entries_at m.0.seen m.0.places) (passed ∙ ap (λ (m : Knower V T E). (after_pass m.0, m.1)) given)
+      ap (λ (m : Knower V T E). entries_at m.0.seen m.0.places) passed
       ∙ (entries_after_turn v.seen (list_of v.stage) made v.places found rest.places_seen ∙ ap (λ (s : Standing T E). own_entries s ++ made) is)
 
   -- A seat's own entries once it has taken in another weigh as much as those of both
-  pub own_of_both : (table their_table : TableId) (me them took compared : Knower V T E) (seat other : Standing T E) → standing table me.0 ≡ seat → standing their_table them.0 ≡ other → IsAtRest me → IsAtRest them
-      → took ≡ (both_parts me.0 them.0, me.1) → compared ≡ (after_compare took.0, took.1) → IsLonger took.0.seen took.0.other compared.0.seen
-      → (weight : E → ℕ) → total weight (entries_at compared.0.seen compared.0.places) ≡ total weight (own_entries seat) + total weight (own_entries other)
-  own_of_both table their_table me them took compared seat other is are rest rest_too both longer histories weight =
+  pub own_of_both : (table their_table : TableId) (me them now : Knower V T E) (seat other : Standing T E) → standing table me.0 ≡ seat → standing their_table them.0 ≡ other → IsAtRest me → IsAtRest them
+      → now ≡ (after_compare (both_parts me.0 them.0), me.1) → IsLonger me.0.seen them.0.seen now.0.seen
+      → (weight : E → ℕ) → total weight (entries_at now.0.seen now.0.places) ≡ total weight (own_entries seat) + total weight (own_entries other)
+  own_of_both table their_table me them now seat other is are rest rest_too both seen weight =
       let v = me.0 in
       let u = them.0 in
-      let seen : IsLonger v.seen u.seen compared.0.seen = subst (λ (m : Knower V T E). IsLonger m.0.seen m.0.other compared.0.seen) both histories in
-      let places : compared.0.places ≡ woven v.places u.places = ap (λ (m : Knower V T E). m.0.places) (longer ∙ ap (λ (m : Knower V T E). (after_compare m.0, m.1)) both) in
-      ap (λ ks. total weight (entries_at compared.0.seen ks)) places
-      ∙ (total_joined weight v.seen u.seen compared.0.seen v.places u.places seen rest.places_seen rest_too.places_seen
+      ap (λ (m : Knower V T E). total weight (entries_at now.0.seen m.0.places)) both
+      ∙ (total_joined weight v.seen u.seen now.0.seen v.places u.places seen rest.places_seen rest_too.places_seen
       ∙ (λ i. total weight (own_entries (is i)) + total weight (own_entries (are i))))

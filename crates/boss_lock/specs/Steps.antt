@@ -47,6 +47,10 @@ module _ {T E : Type 0} where
     stage = Idle;
   }
 
+  -- the view after a turn in which these entries were made
+  abbrev pub after_turn_of : View T E → List E → View T E
+  after_turn_of v made = after_pass (staged v (Given (ticket_of v.stage) (list_of v.stage) made))
+
   -- the view once its two lists are compared
   abbrev pub after_compare : View T E → View T E
   after_compare v = record v { seen = longer v.seen v.other; other = [] }

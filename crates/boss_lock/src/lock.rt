@@ -5,11 +5,11 @@ ghost use Rattle.boss_lock.specs.Places.{numbers_from, AllBelow, IsLonger, Rises
 ghost use Rattle.boss_lock.specs.Seats.{IsSeatOf, found, own_entries, first_seat, with_turn, after_turn, one_part_less, one_part_of, both_seats};
 
 use crate::seat::Seat;
-use crate::steps::{compare, divide, draw, give_back, pass_on, take, take_in, wait};
+use crate::steps::{begin_turn, divide, end_turn, take_in};
 use crate::view::{Known, Made, OneHistory, Stands, Terms};
 use atomic_table::{Closed, Refused, Table};
 use std::alloc::{AllocFailed, Global};
-use std::marker::{Brand, Model};
+use std::marker::Model;
 use std::snapshot::Snapshot;
 use std::sync::Wait;
 
@@ -115,10 +115,7 @@ impl<V: Stands> Ruled<V> {
         ensures history { IsPrefix seat.old.seen (found seat.new) }
         ensures value { V.stands result self.now.start (found seat.new) }
     {
-        let board = &self.table.shared;
-        let ticket = draw(board, &mut seat.token);
-        wait(board, rt, &mut seat.token, ticket);
-        take(board, &mut seat.token)
+        begin_turn(&self.table.shared, rt, &mut seat.token)
     }
 
     /// Gives a value back, and passes the turn on.
@@ -134,9 +131,7 @@ impl<V: Stands> Ruled<V> {
         ensures own_entries { own_entries seat.new ≡ own_entries seat.old ++ M.entries made.now }
         ensures places { Rises seat.new.places × AllBelow (length seat.new.seen) seat.new.places }
     {
-        let board = &self.table.shared;
-        give_back::<V, M, Brand>(board, &mut seat.token, value, made);
-        pass_on(board, &mut seat.token);
+        end_turn(&self.table.shared, &mut seat.token, value, made);
     }
 
     /// Moves one part to a new seat, which has seen the same and has no places.
@@ -165,10 +160,8 @@ impl<V: Stands> Ruled<V> {
         ensures own_entries { (weight : V.Entry → ℕ) → total weight (own_entries seat.new) ≡ total weight (own_entries seat.old) + total weight (own_entries other) }
         ensures places { Rises seat.new.places × AllBelow (length seat.new.seen) seat.new.places }
     {
-        let board = &self.table.shared;
         let Seat { token } = other;
-        take_in(board, &mut seat.token, token);
-        compare(board, &mut seat.token);
+        take_in(&self.table.shared, &mut seat.token, token);
     }
 
     /// Gives the value up. It stands for all that the seat has seen, and every place of that is the seat's: so it is the whole

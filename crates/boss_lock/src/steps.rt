@@ -2,12 +2,13 @@
 ghost use Rattle.std.specs.Prelude.{◌≡◌, ℕ, ◌%◌, ◌^◌, ◌<◌, ◌≤◌, List, [], ◌∷◌, ◌++◌, length, Some, None};
 ghost use mathlib.Core.List.{IsPrefix};
 ghost use Rattle.boss_lock.specs.Places.{Rises, AllBelow, IsLonger};
-ghost use Rattle.boss_lock.specs.Steps.{ticket_of, list_of, made_of, staged, after_pass, after_compare, left_part, right_part, both_parts};
+ghost use Rattle.boss_lock.specs.Steps.{ticket_of, list_of, made_of, staged, after_pass, after_turn_of, after_compare, left_part, right_part, both_parts};
 ghost use Rattle.boss_lock.specs.Tokens.{IsBoard, IsSameToken};
 ghost use Rattle.boss_lock.specs.declared.view.Stage.TheVariants.{Idle, Waiting, Turn, Holding, Given};
 
 use crate::plays::{AllParts, Compare, Draw, GiveBack, Look, OnePart, PassOn, Take, Telling};
 use crate::view::{Board, Made, Stands, Token};
+use std::marker::Brand;
 use std::sync::Wait;
 
 // The word that has the next ticket to be drawn.
@@ -20,7 +21,7 @@ const SERVING: usize = 1;
 const VALUE: usize = 0;
 
 // Draws the next ticket, and returns it modulo 2^64.
-pub(crate) fn draw<V: Stands>(board: &Board<V>, token: &mut Token<V>) -> u64
+fn draw<V: Stands>(board: &Board<V>, token: &mut Token<V>) -> u64
     requires own { IsBoard board.now.table_id token.old.table_id }
     requires idle { (token.old.me.0.stage ≡ Idle) × (0 < token.old.me.0.parts) }
     ensures same { IsSameToken token.old token.new }
@@ -37,7 +38,7 @@ fn low_half(word: u64) -> u32
 }
 
 // Looks until the ticket is served, and sleeps between two looks until the next turn is passed on.
-pub(crate) fn wait<V: Stands, R: Wait>(board: &Board<V>, rt: &R, token: &mut Token<V>, ticket: u64)
+fn wait<V: Stands, R: Wait>(board: &Board<V>, rt: &R, token: &mut Token<V>, ticket: u64)
     requires own { IsBoard board.now.table_id token.old.table_id }
     requires waiting { token.old.me.0.stage ≡ Waiting (ticket_of token.old.me.0.stage) }
     requires ticket { ticket ≡ ticket_of token.old.me.0.stage % 2 ^ 64 }
@@ -55,7 +56,7 @@ pub(crate) fn wait<V: Stands, R: Wait>(board: &Board<V>, rt: &R, token: &mut Tok
 }
 
 // Takes the value out of its slot.
-pub(crate) fn take<V: Stands>(board: &Board<V>, token: &mut Token<V>) -> V
+fn take<V: Stands>(board: &Board<V>, token: &mut Token<V>) -> V
     requires own { IsBoard board.now.table_id token.old.table_id }
     requires turn { token.old.me.0.stage ≡ Turn (ticket_of token.old.me.0.stage) (list_of token.old.me.0.stage) }
     requires start { (0 < token.old.me.0.parts) × (token.old.me.1 ≡ []) }
@@ -69,8 +70,23 @@ pub(crate) fn take<V: Stands>(board: &Board<V>, token: &mut Token<V>) -> V
     value
 }
 
+// Waits for the turn, and takes the value out.
+pub(crate) fn begin_turn<V: Stands, R: Wait>(board: &Board<V>, rt: &R, token: &mut Token<V>) -> V
+    requires own { IsBoard board.now.table_id token.old.table_id }
+    requires idle { (token.old.me.0.stage ≡ Idle) × (token.old.me.1 ≡ []) }
+    requires part { 0 < token.old.me.0.parts }
+    ensures same { IsSameToken token.old token.new }
+    ensures history { IsPrefix token.old.me.0.seen (list_of token.new.me.0.stage) }
+    ensures holding { token.new.me ≡ (staged token.old.me.0 (Holding (ticket_of token.new.me.0.stage) (list_of token.new.me.0.stage)), (VALUE, None) ∷ []) }
+    ensures value { (start : V.Start) → token.old.me.0.start ≡ Some start → V.stands result start (list_of token.new.me.0.stage) }
+{
+    let ticket = draw(board, token);
+    wait(board, rt, token, ticket);
+    take(board, token)
+}
+
 // Puts a value back for which a list stands that has the entries of `made` at its end.
-pub(crate) fn give_back<V: Stands, M: Made<V>, J: Telling<V::Entry>>(
+fn give_back<V: Stands, M: Made<V>, J: Telling<V::Entry>>(
     board: &Board<V>,
     token: &mut Token<V>,
     value: V,
@@ -91,7 +107,7 @@ pub(crate) fn give_back<V: Stands, M: Made<V>, J: Telling<V::Entry>>(
 }
 
 // Serves the next ticket. Whoever sleeps is woken where a seat has drawn that ticket; one that draws it later finds it served.
-pub(crate) fn pass_on<V: Stands>(board: &Board<V>, token: &mut Token<V>)
+fn pass_on<V: Stands>(board: &Board<V>, token: &mut Token<V>)
     requires own { IsBoard board.now.table_id token.old.table_id }
     requires given { token.old.me.0.stage ≡ Given (ticket_of token.old.me.0.stage) (list_of token.old.me.0.stage) (made_of token.old.me.0.stage) }
     requires part { 0 < token.old.me.0.parts }
@@ -103,6 +119,25 @@ pub(crate) fn pass_on<V: Stands>(board: &Board<V>, token: &mut Token<V>)
     if board.peek(TICKET) != served.wrapping_add(1) {
         board.wake_all(SERVING);
     }
+}
+
+// Puts a value back, and passes the turn on.
+pub(crate) fn end_turn<V: Stands, M: Made<V>>(
+    board: &Board<V>,
+    token: &mut Token<V>,
+    value: V,
+    made: &M,
+)
+    requires own { IsBoard board.now.table_id token.old.table_id }
+    requires holding { token.old.me.0.stage ≡ Holding (ticket_of token.old.me.0.stage) (list_of token.old.me.0.stage) }
+    requires slot { (0 < token.old.me.0.parts) × (token.old.me.1 ≡ (VALUE, None) ∷ []) }
+    requires value { (start : V.Start) → token.old.me.0.start ≡ Some start → V.stands value start (list_of token.old.me.0.stage ++ M.entries made.now) }
+    ensures same { IsSameToken token.old token.new }
+    ensures passed { token.new.me ≡ (after_turn_of token.old.me.0 (M.entries made.now), []) }
+    ensures places { Rises token.new.me.0.places × AllBelow (length token.new.me.0.seen) token.new.me.0.places }
+{
+    give_back::<V, M, Brand>(board, token, value, made);
+    pass_on(board, token);
 }
 
 // Gives one part to a new seat.
@@ -117,8 +152,8 @@ pub(crate) fn divide<V: Stands>(board: &Board<V>, token: &mut Token<V>) -> Token
     board.split_seat::<OnePart>(token)
 }
 
-// Takes in the parts and the places of another seat, and what it had seen.
-pub(crate) fn take_in<V: Stands>(board: &Board<V>, token: &mut Token<V>, other: Token<V>)
+// Takes in the parts and the places of another seat, and what it had seen, to be compared.
+fn merge<V: Stands>(board: &Board<V>, token: &mut Token<V>, other: Token<V>)
     requires own { IsBoard board.now.table_id token.old.table_id × IsBoard board.now.table_id other.table_id }
     requires idle { (token.old.me.0.stage ≡ Idle) × (other.me.0.stage ≡ Idle) × (other.me.1 ≡ []) }
     requires compared { (token.old.me.0.other ≡ []) × (other.me.0.other ≡ []) }
@@ -130,7 +165,7 @@ pub(crate) fn take_in<V: Stands>(board: &Board<V>, token: &mut Token<V>, other: 
 }
 
 // Learns which of the two lists that the seat knows begins the other.
-pub(crate) fn compare<V: Stands>(board: &Board<V>, token: &mut Token<V>)
+fn compare<V: Stands>(board: &Board<V>, token: &mut Token<V>)
     requires own { IsBoard board.now.table_id token.old.table_id }
     ensures same { IsSameToken token.old token.new }
     ensures longer { token.new.me ≡ (after_compare token.old.me.0, token.old.me.1) }
@@ -138,4 +173,19 @@ pub(crate) fn compare<V: Stands>(board: &Board<V>, token: &mut Token<V>)
     ensures places { Rises token.new.me.0.places × AllBelow (length token.new.me.0.seen) token.new.me.0.places }
 {
     board.load::<Compare>(token, TICKET);
+}
+
+// Takes in another seat: its parts, its places, and the longer of the two beginnings of the history.
+pub(crate) fn take_in<V: Stands>(board: &Board<V>, token: &mut Token<V>, other: Token<V>)
+    requires own { IsBoard board.now.table_id token.old.table_id × IsBoard board.now.table_id other.table_id }
+    requires idle { (token.old.me.0.stage ≡ Idle) × (other.me.0.stage ≡ Idle) × (other.me.1 ≡ []) }
+    requires compared { (token.old.me.0.other ≡ []) × (other.me.0.other ≡ []) }
+    requires part { 0 < token.old.me.0.parts }
+    ensures same { IsSameToken token.old token.new }
+    ensures both { token.new.me ≡ (after_compare (both_parts token.old.me.0 other.me.0), token.old.me.1) }
+    ensures histories { IsLonger token.old.me.0.seen other.me.0.seen token.new.me.0.seen }
+    ensures places { Rises token.new.me.0.places × AllBelow (length token.new.me.0.seen) token.new.me.0.places }
+{
+    merge(board, token, other);
+    compare(board, token);
 }

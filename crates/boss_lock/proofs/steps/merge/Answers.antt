@@ -1,6 +1,6 @@
 use Rattle.std.proofs.Common.{rules, arith}
 use Rattle.boss_lock.proofs.Keeps.{joins}
-use Rattle.boss_lock.proofs.steps.take_in.Goals as goal
+use Rattle.boss_lock.proofs.steps.merge.Goals as goal
 
 pub join_seat-requires : goal.join_seat-requires
 join_seat-requires g c =
