@@ -1,5 +1,5 @@
 -- Lemmas on counts and on lists of places.
-use Rattle.std.proofs.Common.{◌≡◌, ◌≢◌, ◌⊎◌, ℕ, zero, suc, ◌+◌, ◌<◌, ◌≤◌, List, [], ◌∷◌, ◌++◌, length, Bool, true, false, nat_lt, if◌then◌else◌, inl, inr, refl, sym, ap, ◌∙◌, subst, arith, ltb-true, ltb-false, length-append, eq-or-lt_of_le, add-zero, add-suc}
+use Rattle.std.proofs.Common.{◌≡◌, ◌≢◌, ◌⊎◌, ℕ, zero, suc, ◌+◌, ◌<◌, ◌≤◌, List, [], ◌∷◌, ◌++◌, length, Bool, true, false, nat_lt, if◌then◌else◌, inl, inr, refl, ap, subst, arith, ltb-true, ltb-false, eq-or-lt_of_le, add-zero}
 use Rattle.std.proofs.lemmas.Bool.{cases_lt}
 use Rattle.boss_lock.specs.Places.{same, below, times, numbers_from, AllBelow, AllAbove, Rises, put_in, woven}
 
@@ -68,7 +68,7 @@ length_numbers_from a (suc n) = ap suc (length_numbers_from (suc a) n)
 length_put_in : (p : ℕ) (ys : List ℕ) → length (put_in p ys) ≡ suc (length ys)
 length_put_in p [] = refl
 length_put_in p (q ∷ qs) = elim (nat_lt p q) as (λ b. length (if b then p ∷ q ∷ qs else q ∷ put_in p qs) ≡ suc (suc (length qs))) [
-  true ↦ refl
+  | true ↦ refl
   | false ↦ ap suc (length_put_in p qs)
 ]
 
@@ -79,7 +79,7 @@ length_woven (x ∷ xs) ys = let h = length_woven xs ys in let e = length_put_in
 times_put_in : (k p : ℕ) (ys : List ℕ) → times k (put_in p ys) ≡ same k p + times k ys
 times_put_in k p [] = refl
 times_put_in k p (q ∷ qs) = elim (nat_lt p q) as (λ b. times k (if b then p ∷ q ∷ qs else q ∷ put_in p qs) ≡ same k p + (same k q + times k qs)) [
-  true ↦ refl
+  | true ↦ refl
   | false ↦ let h = times_put_in k p qs in omega arith
 ]
 
@@ -133,7 +133,7 @@ rises_then n count (x ∷ xs) r b = (all_above_append x xs (numbers_from n count
 all_above_put_in : (m p : ℕ) (ys : List ℕ) → m < p → AllAbove m ys → AllAbove m (put_in p ys)
 all_above_put_in m p [] l h = (l, tt)
 all_above_put_in m p (q ∷ qs) l h = elim (nat_lt p q) as (λ b. AllAbove m (if b then p ∷ q ∷ qs else q ∷ put_in p qs)) [
-  true ↦ (l, h)
+  | true ↦ (l, h)
   | false ↦ (h.0, all_above_put_in m p qs l h.1)
 ]
 
@@ -159,7 +159,7 @@ rises_woven (x ∷ xs) ys r s once =
 all_below_put_in : (n p : ℕ) (ys : List ℕ) → p < n → AllBelow n ys → AllBelow n (put_in p ys)
 all_below_put_in n p [] l h = (l, tt)
 all_below_put_in n p (q ∷ qs) l h = elim (nat_lt p q) as (λ b. AllBelow n (if b then p ∷ q ∷ qs else q ∷ put_in p qs)) [
-  true ↦ (l, h)
+  | true ↦ (l, h)
   | false ↦ (h.0, all_below_put_in n p qs l h.1)
 ]
 

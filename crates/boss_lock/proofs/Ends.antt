@@ -1,13 +1,12 @@
 -- The rule at the start, and what it gives whoever closes the lock.
-use Rattle.std.proofs.Common.{◌≡◌, ◌⊎◌, ℕ, zero, suc, ◌+◌, ◌<◌, ◌≤◌, ◌^◌, List, [], ◌∷◌, ◌++◌, length, map, Option, Some, None, inl, inr, refl, sym, ap, ◌∙◌, subst, arith}
+use Rattle.std.proofs.Common.{◌≡◌, ◌⊎◌, ℕ, zero, suc, ◌<◌, ◌≤◌, ◌^◌, List, [], ◌∷◌, length, Option, Some, None, inl, inr, refl, sym, ap, ◌∙◌, subst, arith}
 use Rattle.std.proofs.lemmas.Bool.{cases_lt}
 use mathlib.Core.Option as slot
-use mathlib.Core.List.{IsPrefix}
 use lib.ListN.{get_elem?}
 use Rattle.atomic_table.specs.Seated.{TableId}
 use Rattle.atomic_table.specs.Table.{State, opening, Final, Seen}
-use Rattle.boss_lock.specs.Places.{same, below, times, numbers_from, AllBelow, Rises, total}
-use Rattle.boss_lock.specs.Rule.{in_line, ticketed, away, due, Knows, first_view, placed, Fits, slot_of, present, StandsAtHome, IsKept}
+use Rattle.boss_lock.specs.Places.{below, times, numbers_from, AllBelow, total}
+use Rattle.boss_lock.specs.Rule.{in_line, away, due, first_view, placed, Fits, slot_of, StandsAtHome, IsKept}
 use Rattle.boss_lock.specs.Seats.{Lock, Standing, standing, IsAtRest}
 use Rattle.boss_lock.specs.Steps.{Knower}
 use Rattle.boss_lock.specs.declared.view.View.{View}
@@ -80,11 +79,11 @@ module _ {V T E : Type 0} (means : V → T → List E → Type 0) (start : T) (s
       let alone : total (λ (u : View T E). u.parts) s.views ≡ v.parts = parts ∙ sym every in
       let no_line = λ (j : ℕ) (u : View T E) (there : get_elem? s.views j ≡ slot.some u) (none : u.parts ≡ 0). let o = (r.each_seat j u there).one_ticket in let z : in_line u.stage ≡ 0 = omega arith in z in
       let all_placed : (k : ℕ) → times k v.places ≡ below k (length r.log) = λ k.
-          let only = total_only (λ (u : View T E). u.parts) (placed k) s.views id v
-              (λ j u there none. let p : times k u.places ≡ 0 = ap (times k) ((r.each_seat j u there).spent none) in let d = idle_due k u.stage (no_line j u there none) in omega arith) at alone in
-          let q = r.one_place k in
-          let d : due k v.stage ≡ 0 = ap (due k) idle in
-          omega arith in
+      let only = total_only (λ (u : View T E). u.parts) (placed k) s.views id v
+      (λ j u there none. let p : times k u.places ≡ 0 = ap (times k) ((r.each_seat j u there).spent none) in let d = idle_due k u.stage (no_line j u there none) in omega arith) at alone in
+      let q = r.one_place k in
+      let d : due k v.stage ≡ 0 = ap (due k) idle in
+      omega arith in
       let whole : v.seen ≡ r.log = prefix_whole v.seen r.log (r.each_seat id v at).seen_before (seen_all (cases_lt (length v.seen) (length r.log)) all_placed) in
       let only_away = total_only (λ (u : View T E). u.parts) (λ (u : View T E). away u.stage) s.views id v (λ j u there none. idle_home u.stage (no_line j u there none)) at alone in
       let not_away : away v.stage ≡ 0 = ap away idle in

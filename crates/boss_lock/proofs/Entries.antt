@@ -1,5 +1,5 @@
 -- Lemmas on the entries at a seat's places, for those who keep account of what a seat made.
-use Rattle.std.proofs.Common.{◌≡◌, ℕ, zero, suc, ◌+◌, ◌<◌, ◌≤◌, List, [], ◌∷◌, ◌++◌, length, nat_lt, if◌then◌else◌, Bool, true, false, refl, sym, ap, ◌∙◌, subst, arith, append_assoc, append-nil, length-append, add-zero}
+use Rattle.std.proofs.Common.{◌≡◌, ℕ, zero, suc, ◌+◌, ◌<◌, List, [], ◌∷◌, ◌++◌, length, nat_lt, if◌then◌else◌, true, false, refl, sym, ap, ◌∙◌, subst, arith, append_assoc, length-append}
 use mathlib.Core.List.{IsPrefix}
 use Rattle.boss_lock.specs.Places.{numbers_from, AllBelow, put_in, woven, entry_at, entries_at, IsLonger, total}
 
@@ -32,7 +32,7 @@ module _ {E : Type 0} where
       let longer : (xs ++ y ∷ []) ++ ys ≡ xs ++ y ∷ ys = append_assoc xs (y ∷ []) ys in
       let count : length (xs ++ y ∷ []) ≡ suc (length xs) = omega (arith, length-append xs (y ∷ [])) in
       let rest : entries_at (xs ++ y ∷ ys) (numbers_from (suc (length xs)) (length ys)) ≡ ys =
-          subst (λ (p : List E × ℕ). entries_at p.0 (numbers_from p.1 (length ys)) ≡ ys) (λ i. (longer i, count i)) (entries_at_end (xs ++ y ∷ []) ys) in
+      subst (λ (p : List E × ℕ). entries_at p.0 (numbers_from p.1 (length ys)) ≡ ys) (λ i. (longer i, count i)) (entries_at_end (xs ++ y ∷ []) ys) in
       λ i. entry_at_end xs y ys i ++ rest i
 
   -- A seat's own entries after a turn: those before, and those that were made
@@ -53,7 +53,7 @@ module _ {E : Type 0} where
   total_put_in : (f : E → ℕ) (xs : List E) (k : ℕ) (js : List ℕ) → total f (entries_at xs (put_in k js)) ≡ total f (entry_at xs k) + total f (entries_at xs js)
   total_put_in f xs k [] = let h = total_append f (entry_at xs k) [] in omega arith
   total_put_in f xs k (j ∷ js) = elim (nat_lt k j) as (λ b. total f (entries_at xs (if b then k ∷ j ∷ js else j ∷ put_in k js)) ≡ total f (entry_at xs k) + total f (entry_at xs j ++ entries_at xs js)) [
-    true ↦ total_append f (entry_at xs k) (entry_at xs j ++ entries_at xs js)
+    | true ↦ total_append f (entry_at xs k) (entry_at xs j ++ entries_at xs js)
     | false ↦ let h = total_put_in f xs k js in
         let a = total_append f (entry_at xs j) (entries_at xs (put_in k js)) in
         let b = total_append f (entry_at xs j) (entries_at xs js) in

@@ -1,21 +1,20 @@
 -- Each kind of step keeps the rule.
-use Rattle.std.proofs.Common.{◌≡◌, ◌≢◌, ◌⊎◌, ℕ, zero, suc, ◌+◌, ◌-◌, ◌%◌, ◌^◌, ◌<◌, ◌≤◌, List, [], ◌∷◌, ◌++◌, length, get_or, set, Option, Some, None, inl, inr, ⊎_elim, refl, sym, ap, ◌∙◌, subst, arith, length-append, append-nil}
+use Rattle.std.proofs.Common.{◌≡◌, ◌≢◌, ◌⊎◌, ℕ, suc, ◌+◌, ◌%◌, ◌^◌, ◌<◌, ◌≤◌, List, [], ◌∷◌, ◌++◌, length, get_or, set, Option, Some, None, inl, inr, ⊎_elim, refl, sym, ap, ◌∙◌, subst, arith, length-append, append-nil}
 use Rattle.std.proofs.lemmas.Bool.{cases_lt}
 use mathlib.Core.Option as slot
 use mathlib.Core.Logic.{dite}
-use mathlib.Core.List.{IsPrefix}
 use native.Mathlib.Decide.{ℕ_discrete}
 use lib.ListN.{get_elem?}
-use Rattle.atomic_table.specs.Table.{State, Me, Act, step, keeps, takes, gives, put_back, rest, stepped, Allows, Splits, Joins}
+use Rattle.atomic_table.specs.Table.{State, Me, step, keeps, takes, gives, put_back, rest, Allows, Splits, Joins}
 use Rattle.atomic_table.proofs.Lists.{at_set, at_snoc, set_else, one_turn}
-use Rattle.boss_lock.specs.Places.{same, below, times, numbers_from, AllBelow, Rises, woven, longer, total}
+use Rattle.boss_lock.specs.Places.{same, below, times, numbers_from, AllBelow, longer}
 use Rattle.boss_lock.specs.Rule.{in_line, ticketed, away, due, Knows, spent_view, placed, Fits, slot_of, present, StandsAtHome, IsKept}
 use Rattle.boss_lock.specs.Steps.{ticket_of, list_of, made_of, staged, after_pass, after_compare, left_part, right_part, both_parts, drawn, looked, taken, given, passed, compared}
 use Rattle.boss_lock.specs.declared.view.View.{View}
 use Rattle.boss_lock.specs.declared.view.Stage.{Stage}
 use Rattle.boss_lock.specs.declared.view.Stage.TheVariants.{Idle, Waiting, Turn, Holding, Given}
-use Rattle.boss_lock.proofs.Counting.{same_self, same_is, same_le, below_no, below_yes, below_is, below_le, times_append, times_numbers, times_woven, all_below_more, all_below_append, all_below_numbers, all_below_from, all_below_woven, rises_then, rises_woven}
-use Rattle.boss_lock.proofs.Histories.{prefix_self, prefix_more, prefix_long, longer_nil, longer_before, longer_is, length_longer_left, length_longer_right}
+use Rattle.boss_lock.proofs.Counting.{same_self, same_le, below_no, below_yes, below_is, below_le, times_append, times_numbers, times_woven, all_below_more, all_below_append, all_below_numbers, all_below_from, all_below_woven, rises_then, rises_woven}
+use Rattle.boss_lock.proofs.Histories.{prefix_more, longer_nil, longer_before, longer_is, length_longer_left, length_longer_right}
 use Rattle.boss_lock.proofs.Sums.{total_set, total_snoc, total_at, total_two, total_le, total_le_but}
 
 -- the two words once a step has read or raised one of them
@@ -207,24 +206,24 @@ module _ {V T E : Type 0} (means : V → T → List E → Type 0) (start : T) (s
       let was = r.each_seat id v at in
       let found = second_word s.words _ _ r.words in
       dite (ℕ_discrete (get_or s.words 1 0) (own % 2 ^ 64))
-          (λ hit.
-            let range = ticket_range s r id v own at mine in
-            let few = few_tickets s r in
-            let is : r.low ≡ own = one_turn r.low own (2 ^ 64) range.0 (let up = range.1 in omega arith) (sym found ∙ hit) in
-            let w = staged v (Turn own r.log) in (
-              w,
-              keeps,
-              tt,
-              moves s r id v w at refl r.low r.high r.log r.home _ _ (load_second s.words _ _ r.words) r.slots r.stands
-                  (record { same_start = was.same_start; one_ticket = (let o = was.one_ticket in let l : in_line v.stage ≡ 1 = ap in_line waits in omega arith); spent = was.spent; rising = was.rising; seen_before = was.seen_before; other_before = was.other_before; places_seen = was.places_seen; knows = (sym is, refl) })
-                  (λ j u _ _ fits. fits)
-                  (let e : away v.stage ≡ 0 = ap away waits in omega arith)
-                  (let e : in_line v.stage ≡ 1 = ap in_line waits in omega arith)
-                  (λ k. let e : ticketed k v.stage ≡ same k own = (ap (ticketed k) waits ∙ ap (same k) (sym (ap ticket_of waits))) in omega arith)
-                  (λ k. let e : due k v.stage ≡ 0 = ap (due k) waits in omega arith),
-              ((λ _. (r.log, was.seen_before, refl)), (λ miss. absurd (miss hit))),
-            ))
-          (λ miss. (v, keeps, tt, stays s r id v at _ (load_second s.words _ _ r.words), ((λ hit. absurd (miss hit)), (λ _. refl))))
+      (λ hit.
+      let range = ticket_range s r id v own at mine in
+      let few = few_tickets s r in
+      let is : r.low ≡ own = one_turn r.low own (2 ^ 64) range.0 (let up = range.1 in omega arith) (sym found ∙ hit) in
+      let w = staged v (Turn own r.log) in (
+        w,
+        keeps,
+        tt,
+        moves s r id v w at refl r.low r.high r.log r.home _ _ (load_second s.words _ _ r.words) r.slots r.stands
+            (record { same_start = was.same_start; one_ticket = (let o = was.one_ticket in let l : in_line v.stage ≡ 1 = ap in_line waits in omega arith); spent = was.spent; rising = was.rising; seen_before = was.seen_before; other_before = was.other_before; places_seen = was.places_seen; knows = (sym is, refl) })
+            (λ j u _ _ fits. fits)
+            (let e : away v.stage ≡ 0 = ap away waits in omega arith)
+            (let e : in_line v.stage ≡ 1 = ap in_line waits in omega arith)
+            (λ k. let e : ticketed k v.stage ≡ same k own = (ap (ticketed k) waits ∙ ap (same k) (sym (ap ticket_of waits))) in omega arith)
+            (λ k. let e : due k v.stage ≡ 0 = ap (due k) waits in omega arith),
+        ((λ _. (r.log, was.seen_before, refl)), (λ miss. absurd (miss hit))),
+      ))
+      (λ miss. (v, keeps, tt, stays s r id v at _ (load_second s.words _ _ r.words), ((λ hit. absurd (miss hit)), (λ _. refl))))
 
   -- the value is home while no seat but this one may hold it
   is_home : (s : Table) (r : Rule s) (id : ℕ) (v : View T E) → get_elem? s.views id ≡ slot.some v → ticketed r.low v.stage ≡ 1 → away v.stage ≡ 0 → present r.home ≡ 1
@@ -312,12 +311,12 @@ module _ {V T E : Type 0} (means : V → T → List E → Type 0) (start : T) (s
             (let e : in_line v.stage ≡ 1 = ap in_line holding in omega arith)
             (λ k. let e : ticketed k v.stage ≡ same k own = ap (ticketed k) holding ∙ ap (same k) (sym is_own) in omega arith)
             (λ k.
-              let none : due k v.stage ≡ 0 = ap (due k) holding in
-              let long : length (list_of v.stage) ≡ length r.log = ap length (is_list ∙ known.1) in
-              let counted = times_numbers k (length (list_of v.stage)) (length told) in
-              let e : below k (length (list_of v.stage)) ≡ below k (length r.log) = ap (below k) long in
-              let f : below k (length (list_of v.stage) + length told) ≡ below k (length log) = ap (below k) (omega (arith, length-append r.log told)) in
-              omega arith),
+            let none : due k v.stage ≡ 0 = ap (due k) holding in
+            let long : length (list_of v.stage) ≡ length r.log = ap length (is_list ∙ known.1) in
+            let counted = times_numbers k (length (list_of v.stage)) (length told) in
+            let e : below k (length (list_of v.stage)) ≡ below k (length r.log) = ap (below k) long in
+            let f : below k (length (list_of v.stage) + length told) ≡ below k (length log) = ap (below k) (omega (arith, length-append r.log told)) in
+            omega arith),
         refl,
       )
 
@@ -357,8 +356,8 @@ module _ {V T E : Type 0} (means : V → T → List E → Type 0) (start : T) (s
       let rising = rises_then n m v.places was.rising before in
       let seen_long : length w.seen ≡ n + m = length-append (list_of v.stage) (made_of v.stage) in
       let inside : AllBelow (length w.seen) w.places = all_below_append (length w.seen) v.places (numbers_from n m)
-          (all_below_more n (length w.seen) v.places (omega arith) before)
-          (all_below_more (n + m) (length w.seen) (numbers_from n m) (omega arith) (all_below_numbers n m)) in
+      (all_below_more n (length w.seen) v.places (omega arith) before)
+      (all_below_more (n + m) (length w.seen) (numbers_from n m) (omega arith) (all_below_numbers n m)) in
       let same_log : r.log ++ [] ≡ r.log = append-nil r.log in (
         w,
         keeps,
@@ -472,10 +471,10 @@ module _ {V T E : Type 0} (means : V → T → List E → Type 0) (start : T) (s
       let nor_other : in_line u.stage ≡ 0 = ap in_line idle_too in
       let not_away : away u.stage ≡ 0 = ap away idle_too in
       let once : (k : ℕ) → times k v.places + times k u.places ≤ 1 = λ k.
-          let m = total_two (placed k) s.views id other v u (λ e. apart (sym e)) at (sym (set_else s.views id other w apart) ∙ there) in
-          let q = r.one_place k in
-          let b = below_le k (length r.log) in
-          omega arith in
+      let m = total_two (placed k) s.views id other v u (λ e. apart (sym e)) at (sym (set_else s.views id other w apart) ∙ there) in
+      let q = r.one_place k in
+      let b = below_le k (length r.log) in
+      omega arith in
       let seen : AllBelow (length v.seen) v.places = subst (λ (l : List E). AllBelow (length l) v.places) ((λ i. longer v.seen (compared_once i)) ∙ longer_nil v.seen) was.places_seen in
       let seen_too : AllBelow (length u.seen) u.places = subst (λ (l : List E). AllBelow (length l) u.places) ((λ i. longer u.seen (compared_too i)) ∙ longer_nil u.seen) theirs.places_seen in
       let fits_own : Fits r.low r.log start w = record {
@@ -529,5 +528,5 @@ module _ {V T E : Type 0} (means : V → T → List E → Type 0) (start : T) (s
       → Allows Rule slots id now 1 (λ n. n) (given told (step slots 1 0 0 slot.none) now)
   gives_back slots id me now told made y is holding carried some_part same_made asked =
       subst (λ (m : Me (Option V) (View T E)). Allows Rule slots id m 1 (λ n. n) (given told (step slots 1 0 0 slot.none) m)) (sym is)
-          (gives_value slots id (me.0, (0, Some y) ∷ rest me.1) (ticket_of me.0.stage) (list_of me.0.stage) told y holding (ap (λ (c : List (ℕ × Option V)). (0, Some y) ∷ rest c) carried) some_part
-          (λ x known. subst (λ (m : List E). means y x (list_of me.0.stage ++ m)) (sym same_made) (asked x known)))
+      (gives_value slots id (me.0, (0, Some y) ∷ rest me.1) (ticket_of me.0.stage) (list_of me.0.stage) told y holding (ap (λ (c : List (ℕ × Option V)). (0, Some y) ∷ rest c) carried) some_part
+      (λ x known. subst (λ (m : List E). means y x (list_of me.0.stage ++ m)) (sym same_made) (asked x known)))

@@ -1,5 +1,5 @@
 -- What each kind of step tells the seat that makes it: the step, the seat before, the number found in the word, the seat after.
-use Rattle.std.specs.Prelude.{◌≡◌, ◌≢◌, ℕ, ◌+◌, ◌-◌, ◌%◌, ◌^◌, List, [], ◌∷◌, ◌++◌, length, Option, Some, None}
+use Rattle.std.specs.Prelude.{◌≡◌, ◌≢◌, ℕ, ◌+◌, ◌-◌, ◌%◌, ◌^◌, List, [], ◌∷◌, ◌++◌, length, Option, Some}
 use mathlib.Core.List.{IsPrefix}
 use Rattle.atomic_table.specs.Table.{Step, Me, rest}
 use Rattle.boss_lock.specs.Places.{numbers_from, AllBelow, Rises, woven, longer, IsLonger}

@@ -1,8 +1,7 @@
 -- What the steps of a turn say of a seat's token.
-use Rattle.std.specs.Prelude.{◌≡◌, ℕ, ◌<◌, Option}
+use Rattle.std.specs.Prelude.{◌≡◌}
 use Rattle.atomic_table.specs.Seated.{TableId}
 use Rattle.atomic_table.specs.declared.shared.Seat.{Seat}
-use Rattle.boss_lock.specs.declared.view.View.{View}
 
 -- the table is a lock's, and the token is one of it
 abbrev pub IsBoard : TableId → TableId → Type 0

@@ -75,11 +75,7 @@ impl<V: Stands> Ruled<V> {
     ///
     /// There has to be a part or more, and the value has to stand for the empty list from the start that it tells. Without
     /// memory the value comes back as it was.
-    pub fn new(
-        alloc: Global,
-        value: V,
-        seats: u32,
-    ) -> Result<(Ruled<V>, Seat<V>), (V, NoMemory)>
+    pub fn new(alloc: Global, value: V, seats: u32) -> Result<(Ruled<V>, Seat<V>), (V, NoMemory)>
         requires seats { 0 < seats }
         requires value { V.stands value (V.start value) [] }
         ensures lock { IfOk result (λ made. (made.0.start ≡ V.start value) × (made.0.seats ≡ seats)) }

@@ -16,6 +16,7 @@ struct Count {
 
 impl Stands for Count {
     type Start = u64;
+
     type Entry = u64;
 
     ghost start = { λ count. count.value };

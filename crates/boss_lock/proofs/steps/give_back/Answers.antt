@@ -7,5 +7,5 @@ load-requires g c =
     let put = c.exchange-empty.ensures in (
       search rules,
       (let own = c.requires.own in omega arith),
-      gives_back _ _ _ _ _ _ _ _ _ c.args.value put.3 c.requires.holding c.requires.slot.1 c.requires.slot.0 c.requires.told c.requires.value,
+      gives_back _ _ _ _ _ _ c.exchange-empty.new.seat.me _ _ c.args.value put.3 c.requires.holding c.requires.slot.1 c.requires.slot.0 c.requires.told c.requires.value,
     )

@@ -1,5 +1,4 @@
-use Rattle.std.proofs.Common.{Some, ap, rules, arith}
-use Rattle.boss_lock.specs.Steps.{Knower}
+use Rattle.std.proofs.Common.{Some, rules, arith}
 use Rattle.boss_lock.proofs.Keeps.{takes_value}
 use Rattle.boss_lock.proofs.Resting.{held_first}
 use Rattle.boss_lock.proofs.steps.take.Goals as goal

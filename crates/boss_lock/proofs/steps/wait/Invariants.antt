@@ -1,4 +1,4 @@
-use Rattle.std.proofs.Common.{◌≡◌, ◌≤◌}
+use Rattle.std.proofs.Common.{◌≡◌}
 use Rattle.boss_lock.specs.Tokens.{IsSameToken}
 use Rattle.boss_lock.proofs.steps.wait.Given as goal
 

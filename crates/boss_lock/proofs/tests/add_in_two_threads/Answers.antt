@@ -1,4 +1,4 @@
-use Rattle.std.proofs.Common.{◌≡◌, ◌+◌, ◌*◌, ℕ, IsTrue, ap, ◌∙◌, rules, arith}
+use Rattle.std.proofs.Common.{◌≡◌, ◌*◌, ap, ◌∙◌, rules, arith}
 use Rattle.boss_lock.specs.Places.{entries_at, total}
 use Rattle.boss_lock.specs.Seats.{own_entries}
 use Rattle.boss_lock.proofs.Entries.{entries_at_all}

@@ -1,4 +1,4 @@
-use Rattle.std.proofs.Common.{Some, subst}
+use Rattle.std.proofs.Common.{subst}
 use Rattle.boss_lock.proofs.Ends.{closes}
 use Rattle.boss_lock.proofs.lock.Ruled.close.Goals as goal
 
