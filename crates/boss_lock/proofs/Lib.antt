@@ -1,0 +1,7 @@
+pub mod Counting
+pub mod Ends
+pub mod Entries
+pub mod Histories
+pub mod Keeps
+pub mod Resting
+pub mod Sums

@@ -1,0 +1,183 @@
+// The lock and its calls.
+ghost use Rattle.std.specs.Prelude.{◌≡◌, ℕ, ◌+◌, ◌<◌, ◌≤◌, ◌⊎◌, List, [], ◌∷◌, ◌++◌, length, Some, None, IsSome, IfOk, IfErr};
+ghost use mathlib.Core.List.{IsPrefix};
+ghost use Rattle.boss_lock.specs.Places.{numbers_from, AllBelow, IsLonger, Rises, total};
+ghost use Rattle.boss_lock.specs.Seats.{IsSeatOf, found, own_entries, first_seat, with_turn, after_turn, one_part_less, one_part_of, both_seats};
+
+use crate::seat::Seat;
+use crate::steps::{begin_turn, divide, end_turn, take_in};
+use crate::view::{Known, Made, OneHistory, Stands, Terms};
+use atomic_table::{Closed, Refused, Table};
+use std::alloc::{AllocFailed, Global};
+use std::marker::Model;
+use std::snapshot::Snapshot;
+use std::sync::Wait;
+
+/// There was no memory. The call that answers it has changed nothing.
+#[derive(Clone, Copy, Debug, PartialEq, Eq)]
+pub struct NoMemory;
+
+/// A lock that keeps a value, which stands for a list of entries: the history. It counts from the start that the first value told.
+///
+/// Seats take turns in the order of the tickets that they draw. Whoever has the turn has the value, and may add entries to the
+/// end of the history. The history exists in proofs alone: no call stores any of it, and only `new` takes memory.
+///
+/// To a contract a lock is a `Lock`: its table, the start, and how many parts its seats have together.
+///
+/// Not promised: that a seat which waits gets its turn, how long that takes, or that a lock which is dropped was free.
+#[derive(Drop)]
+pub struct Ruled<V: Stands> {
+    table: Table<Option<V>, Known<V>, Terms<V>, OneHistory, Global>,
+}
+
+impl<V: Stands> Model for Ruled<V> {
+    ghost use Rattle.std.specs.Prelude.{◌≡◌};
+    ghost use Rattle.boss_lock.specs.Seats.{Lock};
+
+    ghost Value = { Lock V.Start };
+
+    ghost view = { λ l. record { table = l.table.shared.table_id; start = V.start l.table.shared.key.value.value; seats = l.table.shared.key.seats } };
+
+    ghost invariant = { λ l. (l.table.shared.table_id.words ≡ 2) × (l.table.shared.table_id.slots ≡ 1) };
+}
+
+// A row of one slot, with the value in it.
+fn one_slot<V>(alloc: Global, value: V) -> Result<Vec<Option<V>>, V>
+    ensures ok { IfOk result (λ slots. slots.items ≡ Some value ∷ []) }
+    ensures err { IfErr result (λ refused. refused ≡ value) }
+{
+    let mut slots = Vec::new(alloc);
+    match slots.push(Some(value)) {
+        Ok(()) => Ok(slots),
+        Err(failed) => {
+            slots.destroy_empty();
+            let AllocFailed { value } = failed;
+            let Some(value) = value else { unreachable!() };
+            Err(value)
+        }
+    }
+}
+
+// The value of such a row.
+fn only_value<V>(mut slots: Vec<Option<V>>) -> V
+    requires { (value : V) × (slots.items ≡ Some value ∷ []) }
+    ensures { slots.items ≡ Some result ∷ [] }
+{
+    let last = slots.pop();
+    slots.destroy_empty();
+    let Some(slot) = last else { unreachable!() };
+    let Some(value) = slot else { unreachable!() };
+    value
+}
+
+impl<V: Stands> Ruled<V> {
+    /// A new lock, and its only seat, which has all `seats` parts. The history is empty.
+    ///
+    /// There has to be a part or more, and the value has to stand for the empty list from the start that it tells. Without
+    /// memory the value comes back as it was.
+    pub fn new(alloc: Global, value: V, seats: u32) -> Result<(Ruled<V>, Seat<V>), (V, NoMemory)>
+        requires seats { 0 < seats }
+        requires value { V.stands value (V.start value) [] }
+        ensures lock { IfOk result (λ made. (made.0.start ≡ V.start value) × (made.0.seats ≡ seats)) }
+        ensures seat { IfOk result (λ made. made.1 ≡ first_seat made.0) }
+        ensures err { IfErr result (λ refused. refused.0 ≡ value) }
+    {
+        let terms = Terms {
+            seats,
+            value: Snapshot::of(&value),
+        };
+        let slots = match one_slot(alloc, value) {
+            Ok(slots) => slots,
+            Err(value) => return Err((value, NoMemory)),
+        };
+        match Table::new(alloc, &[0, 0], slots, &terms) {
+            Ok((table, token)) => Ok((Ruled { table }, Seat { token })),
+            Err(refused) => {
+                let Refused { slots } = refused;
+                Err((only_value(slots), NoMemory))
+            }
+        }
+    }
+
+    /// Waits for the seat's turn, and takes the value out.
+    ///
+    /// The seat has to be one of this lock, and not have the turn. The value stands for a history that begins with all that the
+    /// seat has seen, and which stays as it is until the seat leaves. The call takes no memory. That it returns is not promised:
+    /// it does not while another seat keeps the turn.
+    pub fn enter<R: Wait>(&self, rt: &R, seat: &mut Seat<V>) -> V
+        requires own { IsSeatOf self.now seat.old }
+        requires no_turn { seat.old.turn ≡ None }
+        ensures seat { seat.new ≡ with_turn seat.old (found seat.new) }
+        ensures history { IsPrefix seat.old.seen (found seat.new) }
+        ensures value { V.stands result self.now.start (found seat.new) }
+    {
+        begin_turn(&self.table.shared, rt, &mut seat.token)
+    }
+
+    /// Gives a value back, and passes the turn on.
+    ///
+    /// The seat has to be one of this lock, and have the turn. The value has to stand for the history that `enter` found and then
+    /// the entries that `made` tells. The seat has then seen just that, and the new entries' places are its own. `made` is not
+    /// read. The call takes no memory, does not wait, and wakes whoever sleeps until the turn comes.
+    pub fn leave<M: Made<V>>(&self, seat: &mut Seat<V>, value: V, made: &M)
+        requires own { IsSeatOf self.now seat.old }
+        requires turn { IsSome seat.old.turn }
+        requires value { V.stands value self.now.start (found seat.old ++ M.entries made.now) }
+        ensures seat { seat.new ≡ after_turn seat.old (M.entries made.now) }
+        ensures own_entries { own_entries seat.new ≡ own_entries seat.old ++ M.entries made.now }
+        ensures places { Rises seat.new.places × AllBelow (length seat.new.seen) seat.new.places }
+    {
+        end_turn(&self.table.shared, &mut seat.token, value, made);
+    }
+
+    /// Moves one part to a new seat, which has seen the same and has no places.
+    ///
+    /// The seat has to be one of this lock, not have the turn, and have two parts or more. The call takes no memory.
+    pub fn split(&self, seat: &mut Seat<V>) -> Seat<V>
+        requires own { IsSeatOf self.now seat.old }
+        requires no_turn { seat.old.turn ≡ None }
+        requires two_parts { 2 ≤ seat.old.parts }
+        ensures left { seat.new ≡ one_part_less seat.old }
+        ensures right { result ≡ one_part_of seat.old }
+    {
+        let token = divide(&self.table.shared, &mut seat.token);
+        Seat { token }
+    }
+
+    /// Takes in the parts and the places of another seat, and what it had seen: of the two beginnings of the history, the
+    /// seat has then seen the longer.
+    ///
+    /// Both have to be seats of this lock, and have no turn. The call takes no memory.
+    pub fn join(&self, seat: &mut Seat<V>, other: Seat<V>)
+        requires own { IsSeatOf self.now seat.old × IsSeatOf self.now other }
+        requires no_turn { (seat.old.turn ≡ None) × (other.turn ≡ None) }
+        ensures seat { seat.new ≡ both_seats seat.old other }
+        ensures history { IsLonger seat.old.seen other.seen seat.new.seen }
+        ensures own_entries { (weight : V.Entry → ℕ) → total weight (own_entries seat.new) ≡ total weight (own_entries seat.old) + total weight (own_entries other) }
+        ensures places { Rises seat.new.places × AllBelow (length seat.new.seen) seat.new.places }
+    {
+        let Seat { token } = other;
+        take_in(&self.table.shared, &mut seat.token, token);
+    }
+
+    /// Gives the value up. It stands for all that the seat has seen, and every place of that is the seat's: so it is the whole
+    /// history, and each of its entries was made by a seat whose places this one has.
+    ///
+    /// The seat has to be one of this lock, not have the turn, and have all parts. The call takes no memory, and gives back what
+    /// the lock took.
+    pub fn close(self, seat: Seat<V>) -> V
+        requires own { IsSeatOf self seat }
+        requires no_turn { seat.turn ≡ None }
+        requires all_parts { seat.parts ≡ self.seats }
+        ensures value { V.stands result self.start seat.seen }
+        ensures places { seat.places ≡ numbers_from 0 (length seat.seen) }
+    {
+        let Ruled { table } = self;
+        let Seat { token } = seat;
+        let mut closed = table.close_with(token);
+        let slot = closed.take(0);
+        closed.free();
+        let Some(value) = slot else { unreachable!() };
+        value
+    }
+}
