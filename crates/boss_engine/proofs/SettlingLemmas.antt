@@ -1,6 +1,6 @@
 -- Settling point by point comes to the same as settling all points at once.
-use Rattle.std.proofs.Common.{◌≡◌, ℕ, zero, suc, ◌+◌, ◌<◌, ◌≤◌, ◌==◌, List, [], ◌∷◌, ◌++◌, length, take, drop, get_or, set, map, Bool, true, false, not, ◌||◌, cond, refl, ap, sym, ◌∙◌, arith, if◌then◌else◌, pos, add-one, zero-add, append_assoc, append-nil}
-use Rattle.std.specs.List.{filter, enumerate_from, AllByRecursion, list_any}
+use Rattle.std.proofs.Common.{◌≡◌, ℕ, zero, suc, ◌+◌, ◌<◌, ◌==◌, List, [], ◌∷◌, ◌++◌, length, take, get_or, set, map, Bool, true, false, not, cond, refl, ap, sym, ◌∙◌, arith, if◌then◌else◌, pos, add-one, zero-add, append_assoc, append-nil}
+use Rattle.std.specs.List.{filter, enumerate_from, AllByRecursion}
 use Rattle.std.proofs.lemmas.Grind.{common_steps}
 use Rattle.std.proofs.lemmas.Bool.{cond_both}
 use Rattle.std.proofs.lemmas.Bool.Decides.{nat_tests}
@@ -9,11 +9,10 @@ use Rattle.std.proofs.lemmas.List.Elements.{filter-append}
 use Rattle.boss_model.specs.declared.Actuator.{Actuator}
 use Rattle.boss_model.specs.declared.Lease.{Lease}
 use Rattle.boss_model.specs.declared.Proxy.{Proxy}
-use Rattle.boss_model.specs.Machine.{member, is_moved, moved, settled_proxy, wanted_anew, without, proxy_of}
-use Rattle.boss_model.specs.Target.{target}
+use Rattle.boss_model.specs.Machine.{member, is_moved, moved, wanted_anew, without, proxy_of}
 use Rattle.boss_model.specs.State.{fresh}
 use Rattle.boss_model.proofs.OrderLemmas.{each-filter, each-snoc}
-use Rattle.boss_model.proofs.WantsLemmas.{without-absent, member-append, member-below, member-without, Distinct-filter, Distinct-snoc}
+use Rattle.boss_model.proofs.WantsLemmas.{without-absent, member-append, member-without, Distinct-filter, Distinct-snoc}
 use Rattle.boss_model.specs.Sound.{Distinct}
 use Rattle.boss_engine.specs.Wants.{wanted_if}
 
@@ -122,8 +121,8 @@ pub wanted-more : (b : Bool) (k : ℕ) (ms wants : List ℕ) → member k ms ≡
     wanted_if b k (wanted_anew ms wants) ≡ wanted_anew (ms ++ (if b then k ∷ [] else [])) wants
 wanted-more true k ms wants away =
     ap (λ ys. ys ++ k ∷ []) (filter-append (λ other. not (other == k)) (filter (λ want. not (member want ms)) wants) ms
-        ∙ ap (λ ys. without k (filter (λ want. not (member want ms)) wants) ++ ys) (without-absent k ms away)
-        ∙ ap (λ ys. ys ++ ms) (without-more k ms wants))
+    ∙ ap (λ ys. without k (filter (λ want. not (member want ms)) wants) ++ ys) (without-absent k ms away)
+    ∙ ap (λ ys. ys ++ ms) (without-more k ms wants))
     ∙ append_assoc (filter (λ want. not (member want (ms ++ k ∷ []))) wants) ms (k ∷ [])
 wanted-more false k ms wants away = ap (λ ys. wanted_anew ys wants) (sym (append-nil ms))
 

@@ -1,4 +1,4 @@
-use Rattle.std.specs.Prelude.{ℕ, ◌≤◌, ◌^◌, List, length, vec_capacity}
+use Rattle.std.specs.Prelude.{◌≤◌, ◌^◌, length, vec_capacity}
 use Rattle.boss_engine.specs.declared.engine.Engine.TheInside.{Inside}
 use Rattle.boss_engine.specs.Machine.{state_of}
 use Rattle.boss_engine.specs.Running.{Running}

@@ -1,7 +1,5 @@
-use Rattle.std.specs.Prelude.{ℕ, ◌≤◌, ◌^◌, List, length, vec_capacity, Vec}
-use Rattle.std.specs.declared.alloc.Global.{Global}
+use Rattle.std.specs.Prelude.{List}
 use Rattle.boss_model.specs.declared.Actuator.{Actuator}
-use Rattle.boss_model.specs.Sound.{IsSound}
 use Rattle.boss_model.specs.State.{State}
 
 -- a plant, and the state of the machine that runs it

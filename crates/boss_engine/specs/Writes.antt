@@ -1,4 +1,4 @@
-use Rattle.std.specs.Prelude.{ℤ, pos, ◌≤ℤ◌}
+use Rattle.std.specs.Prelude.{pos, ◌≤ℤ◌}
 use Rattle.boss_model.specs.declared.Setting.{Setting}
 
 -- the numbers of a write that have to fit a level and a length

@@ -14,10 +14,11 @@ use crate::settling::{self, drop_want};
 use crate::slots::take_slot;
 use crate::target::{basis, driver_at, target_of};
 use crate::time::{drop_ended, latest_end};
-use std::alloc::Global;
 use boss_model::{
-    Actuator, Answer, Command, DriverId, Lease, Mark, NoMemory, PointId, Priority, Proxy, Refusal, SessionId, Setting, Txn,
+    Actuator, Answer, Command, DriverId, Lease, Mark, NoMemory, PointId, Priority, Proxy, Refusal,
+    SessionId, Setting, Txn,
 };
+use std::alloc::Global;
 
 /// The number after the last transaction's.
 const SPENT: u64 = 1 << 62;
@@ -259,7 +260,10 @@ fn first_want(plant: &[Actuator], wants: &[PointId], driver: DriverId) -> Option
 fn fresh_proxies(alloc: Global, plant: &[Actuator]) -> Result<Vec<Proxy>, NoMemory>
     ensures { IfOk result (λ proxies. proxies.items ≡ map (λ actuator. fresh actuator.default) plant.now) }
 {
-    let proxies = plant.iter().map(|actuator| fresh(actuator.default)).collect(alloc)?;
+    let proxies = plant
+        .iter()
+        .map(|actuator| fresh(actuator.default))
+        .collect(alloc)?;
     Ok(proxies)
 }
 

@@ -8,12 +8,7 @@ use crate::target::target_of;
 use boss_model::{Actuator, Lease, Mark, PointId, Proxy};
 
 /// Compares every point's target with its commanded value, and lets those that differ want their device anew.
-pub fn settle(
-    plant: &[Actuator],
-    leases: &[Lease],
-    proxies: &mut [Proxy],
-    wants: &mut Vec<PointId>,
-)
+pub fn settle(plant: &[Actuator], leases: &[Lease], proxies: &mut [Proxy], wants: &mut Vec<PointId>)
     requires number { length proxies.old ≡ length plant.now }
     requires small { length plant.now ≤ 2 ^ 32 }
     requires room { length plant.now ≤ vec_capacity wants.old }

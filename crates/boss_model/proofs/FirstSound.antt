@@ -1,11 +1,9 @@
 -- The first state is sound.
-use Rattle.std.proofs.Common.{◌≡◌, ℕ, zero, suc, ◌+◌, ◌<◌, ◌≤◌, ◌^◌, pos, List, [], ◌∷◌, length, map, refl, ap, sym, ◌∙◌, arith, drop, add-one, zero-add}
-use Rattle.std.specs.List.{AllByRecursion, range_with_len, slice_get}
-use Rattle.std.specs.Option.{option_map_or}
-use Rattle.std.proofs.lemmas.Grind.{common_steps}
+use Rattle.std.proofs.Common.{◌≡◌, ℕ, zero, suc, ◌+◌, ◌<◌, ◌≤◌, List, [], ◌∷◌, length, map, refl, ap, sym, ◌∙◌, arith, drop}
+use Rattle.std.specs.List.{AllByRecursion, range_with_len}
 use Rattle.boss_model.specs.declared.answer.Mark.TheVariants.{Pending}
 use Rattle.boss_model.specs.Catalogue.{Actuator, default_of}
-use Rattle.boss_model.specs.Machine.{proxy_of, member}
+use Rattle.boss_model.specs.Machine.{proxy_of}
 use Rattle.boss_model.specs.Sound.{Distinct, Settled, IsWant, IsSound}
 use Rattle.boss_model.specs.State.{Proxy, fresh, first_state}
 use Rattle.boss_model.proofs.SettleSound.{member-above}

@@ -1,5 +1,7 @@
+pub mod DrainEnds
 pub mod FirstRows
 pub mod FirstSound
+pub mod NextFacts
 pub mod OrderLemmas
 pub mod SettleSound
 pub mod Soundness

@@ -1,15 +1,14 @@
 -- Settling makes every commanded value the target, and keeps the wants in order.
-use Rattle.std.proofs.Common.{◌≡◌, ℕ, zero, suc, ◌+◌, ◌<◌, ◌≤◌, ◌==◌, ℤ, pos, List, [], ◌∷◌, ◌++◌, length, map, Bool, true, false, not, ◌||◌, cond, refl, ap, sym, ◌∙◌, subst, arith, append_assoc, length-append, add-one, zero-add}
+use Rattle.std.proofs.Common.{◌≡◌, ℕ, zero, suc, ◌+◌, ◌<◌, ℤ, List, [], ◌∷◌, ◌++◌, length, map, true, false, not, cond, refl, ap, sym, ◌∙◌, subst, arith, append_assoc, length-append, zero-add}
 use Rattle.std.specs.List.{filter, enumerate_from, AllByRecursion}
 use Rattle.std.specs.Ordering.{int_eq}
-use Rattle.std.proofs.lemmas.Grind.{common_steps}
 use Rattle.std.proofs.lemmas.Bool.{cond_both}
 use Rattle.std.proofs.lemmas.Bool.Decides.{nat_tests, Decides-int_eq}
 use Rattle.boss_model.specs.declared.answer.Mark.TheVariants.{Pending}
 use Rattle.boss_model.specs.Catalogue.{Actuator}
-use Rattle.boss_model.specs.Machine.{member, is_moved, moved, recommand, settled_proxy, wanted_anew, settle, proxy_of}
+use Rattle.boss_model.specs.Machine.{member, is_moved, moved, recommand, settled_proxy, settle, proxy_of}
 use Rattle.boss_model.specs.Sound.{Distinct, IsSoundDurable, Settled, IsWant, IsSound}
-use Rattle.boss_model.specs.State.{Lease, Proxy, State, fresh}
+use Rattle.boss_model.specs.State.{Lease, Proxy, State}
 use Rattle.boss_model.specs.Target.{target}
 use Rattle.boss_model.proofs.OrderLemmas.{each-filter}
 use Rattle.boss_model.proofs.Soundness.{each-map, each-passed, each-both}
@@ -19,7 +18,7 @@ each-append : {X : Type 0} (P : X → Type 0) (xs ys : List X) → AllByRecursio
 each-append P [] ys p q = q
 each-append P (x ∷ xs) ys p q = (p.0, each-append P xs ys p.1 q)
 
-each-under-map : {X Y : Type 0} (Q : Y → Type 0) (f : X → Y) (xs : List X) → AllByRecursion (λ x. Q (f x)) xs → AllByRecursion Q (map f xs)
+pub each-under-map : {X Y : Type 0} (Q : Y → Type 0) (f : X → Y) (xs : List X) → AllByRecursion (λ x. Q (f x)) xs → AllByRecursion Q (map f xs)
 each-under-map Q f [] all = tt
 each-under-map Q f (x ∷ xs) all = (all.0, each-under-map Q f xs all.1)
 
@@ -50,10 +49,11 @@ IsEntry proxies e = (e.0 < length proxies) × (proxy_of proxies e.0 ≡ e.1)
 
 entries : (front xs : List Proxy) → AllByRecursion (IsEntry (front ++ xs)) (enumerate_from (length front) xs)
 entries front [] = tt
-entries front (x ∷ xs) =
-    ((omega (arith, length-append front (x ∷ xs)), proxy_of-append front x xs),
-    subst (λ ys. AllByRecursion (IsEntry ys) (enumerate_from (length front + 1) xs)) (append_assoc front (x ∷ []) xs)
-        (subst (λ n. AllByRecursion (IsEntry ((front ++ x ∷ []) ++ xs)) (enumerate_from n xs)) (length-append front (x ∷ [])) (entries (front ++ x ∷ []) xs)))
+entries front (x ∷ xs) = (
+  (omega (arith, length-append front (x ∷ xs)), proxy_of-append front x xs),
+  subst (λ ys. AllByRecursion (IsEntry ys) (enumerate_from (length front + 1) xs)) (append_assoc front (x ∷ []) xs)
+      (subst (λ n. AllByRecursion (IsEntry ((front ++ x ∷ []) ++ xs)) (enumerate_from n xs)) (length-append front (x ∷ [])) (entries (front ++ x ∷ []) xs)),
+)
 
 module _ (plant : List Actuator) (leases : List Lease) where
   abbrev S : ℕ × Proxy → Proxy
@@ -65,9 +65,11 @@ module _ (plant : List Actuator) (leases : List Lease) where
 
   settled-Settled : (place : ℕ) (ps : List Proxy) → Settled plant leases place (map S (enumerate_from place ps))
   settled-Settled place [] = tt
-  settled-Settled place (p ∷ ps) =
-      (cond_both (is_moved plant leases (place, p)) (recommand (target plant leases place) p) p (λ q. q.commanded ≡ target plant leases place)
-          (λ _. refl) (λ still. unmoved (target plant leases place) p.commanded still), settled-Settled (place + 1) ps)
+  settled-Settled place (p ∷ ps) = (
+    cond_both (is_moved plant leases (place, p)) (recommand (target plant leases place) p) p (λ q. q.commanded ≡ target plant leases place)
+        (λ _. refl) (λ still. unmoved (target plant leases place) p.commanded still),
+    settled-Settled (place + 1) ps,
+  )
 
   proxy_of-settled : (place k : ℕ) (ps : List Proxy) → k < length ps → proxy_of (map S (enumerate_from place ps)) k ≡ S (place + k, proxy_of ps k)
   proxy_of-settled place k [] within = absurd (omega arith)
@@ -94,11 +96,11 @@ module _ (plant : List Actuator) (leases : List Lease) where
   wants-moved ps =
       each-under-map (IsWant (map S (enumerate_from 0 ps))) place_of (filter (is_moved plant leases) (enumerate_from 0 ps))
       (each-map (λ e. IsEntry ps e × (is_moved plant leases e ≡ true)) (λ e. IsWant (map S (enumerate_from 0 ps)) e.0)
-          (λ e both. pending-moved ps e.0 both.0.0 (ap (λ x. is_moved plant leases (e.0, x)) both.0.1 ∙ both.1))
-          (filter (is_moved plant leases) (enumerate_from 0 ps))
-          (each-both (IsEntry ps) (λ e. is_moved plant leases e ≡ true) (filter (is_moved plant leases) (enumerate_from 0 ps))
-              (each-filter (IsEntry ps) (is_moved plant leases) (enumerate_from 0 ps) (entries [] ps))
-              (each-passed (λ e. is_moved plant leases e ≡ true) (is_moved plant leases) (λ e passed. passed) (enumerate_from 0 ps))))
+      (λ e both. pending-moved ps e.0 both.0.0 (ap (λ x. is_moved plant leases (e.0, x)) both.0.1 ∙ both.1))
+      (filter (is_moved plant leases) (enumerate_from 0 ps))
+      (each-both (IsEntry ps) (λ e. is_moved plant leases e ≡ true) (filter (is_moved plant leases) (enumerate_from 0 ps))
+      (each-filter (IsEntry ps) (is_moved plant leases) (enumerate_from 0 ps) (entries [] ps))
+      (each-passed (λ e. is_moved plant leases e ≡ true) (is_moved plant leases) (λ e passed. passed) (enumerate_from 0 ps))))
 
   above-moved : (least place : ℕ) (ps : List Proxy) → least < place → AllByRecursion (λ x. least < x) (map place_of (filter (is_moved plant leases) (enumerate_from place ps)))
   above-moved least place [] above = tt
@@ -126,7 +128,7 @@ settle-sound plant s durable number wants once =
       commanded = settled-Settled plant leases 0 s.proxies;
       wants = each-append (IsWant (settle plant s).proxies) (filter (λ want. not (member want ms)) s.wants) ms
           (each-filter (IsWant (settle plant s).proxies) (λ want. not (member want ms)) s.wants
-              (each-map (IsWant s.proxies) (IsWant (settle plant s).proxies) (λ want is. pending plant leases s.proxies want is.known is.pending) s.wants wants))
+          (each-map (IsWant s.proxies) (IsWant (settle plant s).proxies) (λ want is. pending plant leases s.proxies want is.known is.pending) s.wants wants))
           (wants-moved plant leases s.proxies);
       once = Distinct-append (filter (λ want. not (member want ms)) s.wants) ms
           (Distinct-filter (λ want. not (member want ms)) s.wants once) (Distinct-moved plant leases 0 s.proxies)

@@ -1,25 +1,16 @@
 -- Each part of a step keeps what holds of every state that can be reached.
-use Rattle.std.proofs.Common.{◌≡◌, ℕ, zero, suc, ◌+◌, ◌^◌, ◌<◌, ◌≤◌, ◌==◌, max, ℤ, pos, List, [], ◌∷◌, ◌++◌, length, map, set, take, get_or, Bool, true, false, not, ◌&&◌, ◌||◌, cond, Option, Some, None, refl, ap, sym, ◌∙◌, subst, arith, nat_lt, nat_le, if◌then◌else◌, zero-add}
-use Rattle.std.specs.List.{filter, fold, enumerate_from, AllByRecursion, list_any, range_with_len}
-use Rattle.std.specs.Ordering.{int_eq}
-use Rattle.std.proofs.lemmas.Grind.{common_steps}
+use Rattle.std.proofs.Common.{◌≡◌, ℕ, zero, suc, ◌^◌, ◌<◌, ◌≤◌, ◌==◌, max, List, [], ◌∷◌, length, map, set, Bool, true, false, not, ◌&&◌, Option, Some, None, refl, ap, ◌∙◌, arith, nat_lt, nat_le}
+use Rattle.std.specs.List.{filter, fold, AllByRecursion}
 use Rattle.std.proofs.Math.ListN.{length-set}
 use Rattle.std.proofs.lemmas.Bool.{cond_both}
 use Rattle.std.proofs.lemmas.Bool.Decides.{nat_tests}
-use Rattle.boss_model.specs.declared.answer.Mark.TheVariants.{Pending}
 use Rattle.boss_model.specs.declared.answer.Answer.TheVariants as answer
-use Rattle.boss_model.specs.declared.command.Command.{Command}
-use Rattle.boss_model.specs.declared.command.Command.TheVariants as command
-use Rattle.boss_model.specs.declared.command.Setting.{Setting}
-use Rattle.boss_model.specs.Catalogue.{Actuator, fits_at}
-use Rattle.boss_model.specs.Machine.{Step, member, without, is_moved, moved, settled_proxy, wanted_anew, settle, submitted, submit, granted, lease_of, supersede, is_superseded, proxy_of, hand_out, next, is_current, marked, report, act, pass_time, step, moment_of}
-use Rattle.boss_model.specs.Order.{comes_before, put, in_order}
-use Rattle.boss_model.specs.Requests.{is_write}
-use Rattle.boss_model.specs.Sound.{Rising, Distinct, IsLease, IsSoundDurable, Settled, IsWant, IsSound, IsAllowed}
-use Rattle.boss_model.specs.State.{Lease, slot, Durable, Proxy, State, fresh, first_state}
-use Rattle.boss_model.specs.Target.{target}
+use Rattle.boss_model.specs.Catalogue.{Actuator}
+use Rattle.boss_model.specs.Machine.{Step, member, proxy_of, hand_out, is_current, marked, report}
+use Rattle.boss_model.specs.Sound.{Distinct, IsLease, IsSoundDurable, IsWant}
+use Rattle.boss_model.specs.State.{Lease, slot, Durable, Proxy, State}
 use Rattle.boss_model.specs.Time.{live, due, latest, tick}
-use Rattle.boss_model.proofs.OrderLemmas.{each-filter, each-snoc, Rising-filter, in_order-Rising}
+use Rattle.boss_model.proofs.OrderLemmas.{each-filter, Rising-filter}
 use Rattle.boss_model.proofs.WantsLemmas.{Distinct-filter}
 
 -- one fact of each item from another
@@ -66,7 +57,7 @@ tick-sound plant n d small within sound =
       leases = each-map (λ lease. IsLease plant d.now lease × (n < lease.until)) (IsLease plant (latest d.now n d.leases))
           (λ lease both. record { fitting = both.0.fitting; live = omega (arith, both.1) }) (live n d.leases)
           (each-both (IsLease plant d.now) (λ lease. n < lease.until) (live n d.leases)
-              (each-filter (IsLease plant d.now) (λ lease. nat_lt n lease.until) d.leases sound.leases) (live-LiveAt n d.leases));
+          (each-filter (IsLease plant d.now) (λ lease. nat_lt n lease.until) d.leases sound.leases) (live-LiveAt n d.leases));
     }
 
 -- ---- the commands
@@ -95,10 +86,13 @@ proxy_of-other (p ∷ ps) (suc point) (suc other) proxy apart = proxy_of-other p
 wants-marked : (proxies : List Proxy) (point : ℕ) (proxy : Proxy) (wants : List ℕ) → member point wants ≡ false →
     AllByRecursion (IsWant proxies) wants → AllByRecursion (IsWant (set proxies point proxy)) wants
 wants-marked proxies point proxy [] away all = tt
-wants-marked proxies point proxy (w ∷ ws) away all = (record {
+wants-marked proxies point proxy (w ∷ ws) away all = (
+  record {
     known = rw (length-set proxies point proxy) all.0.known;
     pending = ap (λ p. p.mark) (proxy_of-other proxies point w proxy (grind (arith, nat_tests))) ∙ all.0.pending;
-  }, wants-marked proxies point proxy ws (grind (arith, nat_tests)) all.1)
+  },
+  wants-marked proxies point proxy ws (grind (arith, nat_tests)) all.1,
+)
 
 pub report-wants : (point version : ℕ) (ok : Bool) (s : State) → AllByRecursion (IsWant s.proxies) s.wants →
     AllByRecursion (IsWant (report point version ok s).state.proxies) (report point version ok s).state.wants

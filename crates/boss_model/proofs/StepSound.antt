@@ -1,5 +1,5 @@
 -- A step keeps a sound state sound.
-use Rattle.std.proofs.Common.{◌≡◌, ℕ, ◌^◌, ◌<◌, ◌≤◌, ◌==◌, max, List, [], ◌∷◌, length, Bool, true, false, cond, Option, refl, ap, sym, ◌∙◌, subst, arith}
+use Rattle.std.proofs.Common.{◌≡◌, ℕ, ◌^◌, ◌<◌, ◌≤◌, ◌==◌, List, [], ◌∷◌, length, true, ap, sym, ◌∙◌, subst, arith}
 use Rattle.std.specs.List.{AllByRecursion, find}
 use Rattle.std.proofs.lemmas.Bool.{cond_both}
 use Rattle.std.proofs.lemmas.Bool.Decides.{nat_tests}
@@ -9,10 +9,10 @@ use Rattle.boss_model.specs.declared.command.Command.{Command}
 use Rattle.boss_model.specs.declared.command.Command.TheVariants as command
 use Rattle.boss_model.specs.declared.command.Setting.{Setting}
 use Rattle.boss_model.specs.Catalogue.{Actuator, driver_of}
-use Rattle.boss_model.specs.Machine.{Step, settle, submitted, submit, granted, first_end, hand_out, next, report, act, pass_time, step, moment_of}
+use Rattle.boss_model.specs.Machine.{Step, settle, submitted, submit, granted, first_end, hand_out, act, pass_time, step, moment_of}
 use Rattle.boss_model.specs.Requests.{is_write}
 use Rattle.boss_model.specs.Sound.{Distinct, IsSoundDurable, IsWant, IsSound, IsAllowed}
-use Rattle.boss_model.specs.State.{Proxy, State}
+use Rattle.boss_model.specs.State.{State}
 use Rattle.boss_model.specs.Time.{tick}
 use Rattle.boss_model.proofs.SettleSound.{settle-sound}
 use Rattle.boss_model.proofs.Soundness.{each-map, LiveAt, live-LiveAt, tick-sound, hand_out-wants, hand_out-once, hand_out-rest, report-wants, report-rest}

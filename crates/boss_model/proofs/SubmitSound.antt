@@ -1,15 +1,14 @@
 -- A submit keeps the leases in the order of their slots, each slot once.
-use Rattle.std.proofs.Common.{◌≡◌, ℕ, zero, suc, ◌+◌, ◌^◌, ◌<◌, ◌≤◌, ◌==◌, ℤ, pos, negsuc, List, [], ◌∷◌, ◌++◌, Bool, true, false, not, ◌&&◌, ◌||◌, cond, refl, ap, sym, ◌∙◌, subst, arith, unsigned_abs}
+use Rattle.std.proofs.Common.{◌≡◌, ℕ, zero, suc, ◌^◌, ◌<◌, ◌≤◌, ℤ, pos, negsuc, List, [], ◌∷◌, true, false, not, ◌&&◌, refl, sym, subst, arith, unsigned_abs}
 use Rattle.std.specs.Prelude.{int_le}
 use Rattle.std.specs.List.{filter, AllByRecursion}
-use Rattle.std.proofs.lemmas.Grind.{common_steps}
 use Rattle.std.proofs.lemmas.Bool.{cond_both}
 use Rattle.std.proofs.lemmas.Bool.Decides.{nat_tests}
 use Rattle.boss_model.specs.declared.command.Setting.{Setting}
 use Rattle.boss_model.specs.Catalogue.{Actuator, fits_at}
-use Rattle.boss_model.specs.Machine.{submitted, granted, lease_of, supersede, is_superseded}
+use Rattle.boss_model.specs.Machine.{submitted, lease_of, is_superseded}
 use Rattle.boss_model.specs.Order.{comes_before, put, in_order}
-use Rattle.boss_model.specs.Requests.{is_write, is_level, is_within, longest_lease}
+use Rattle.boss_model.specs.Requests.{is_write}
 use Rattle.boss_model.specs.Sound.{Rising, IsLease, IsSoundDurable}
 use Rattle.boss_model.specs.State.{Lease, slot, Durable}
 use Rattle.boss_model.proofs.OrderLemmas.{each-filter, Rising-filter, in_order-Rising}
@@ -71,11 +70,11 @@ submit-sound plant n write d allowed small unspent alive sound =
       next = omega arith;
       slots = subst (λ xs. Rising slot (put slot new xs)) (sym still)
           (Rising-put slot new left (Rising-filter slot (λ lease. not (is_superseded (new ∷ []) lease)) d.leases sound.slots)
-              (each-passed (Apart slot new) (λ lease. not (is_superseded (new ∷ []) lease)) (apart-slots new) d.leases));
+          (each-passed (Apart slot new) (λ lease. not (is_superseded (new ∷ []) lease)) (apart-slots new) d.leases));
       leases = subst (λ xs. AllByRecursion (IsLease plant n) (put slot new xs)) (sym still)
           (each-put (IsLease plant n) slot new left (record { fitting = fitting-write plant write allowed; live = omega arith })
-              (each-filter (IsLease plant n) (λ lease. not (is_superseded (new ∷ []) lease)) d.leases
-                  (each-map (λ lease. IsLease plant d.now lease × (n < lease.until)) (IsLease plant n)
-                      (λ lease both. record { fitting = both.0.fitting; live = both.1 }) d.leases
-                      (each-both (IsLease plant d.now) (λ lease. n < lease.until) d.leases sound.leases alive))));
+          (each-filter (IsLease plant n) (λ lease. not (is_superseded (new ∷ []) lease)) d.leases
+          (each-map (λ lease. IsLease plant d.now lease × (n < lease.until)) (IsLease plant n)
+          (λ lease both. record { fitting = both.0.fitting; live = both.1 }) d.leases
+          (each-both (IsLease plant d.now) (λ lease. n < lease.until) d.leases sound.leases alive))));
     }

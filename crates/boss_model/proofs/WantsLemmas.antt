@@ -1,10 +1,8 @@
 -- Lists of points in which none stands twice.
-use Rattle.std.proofs.Common.{◌≡◌, ◌≢◌, ℕ, zero, suc, ◌+◌, ◌-◌, ◌<◌, ◌≤◌, ◌==◌, List, [], ◌∷◌, ◌++◌, length, Bool, true, false, not, ◌||◌, cond, refl, ap, sym, ◌∙◌, arith}
-use Rattle.std.specs.List.{filter, AllByRecursion, list_any}
-use Rattle.std.proofs.lemmas.Grind.{common_steps}
+use Rattle.std.proofs.Common.{◌≡◌, ℕ, zero, suc, ◌+◌, ◌<◌, ◌≤◌, ◌==◌, List, [], ◌∷◌, ◌++◌, length, Bool, false, not, ◌||◌, refl, arith}
+use Rattle.std.specs.List.{filter, AllByRecursion}
 use Rattle.std.proofs.lemmas.Bool.{cond_both}
 use Rattle.std.proofs.lemmas.Bool.Decides.{nat_tests}
-use Rattle.std.proofs.lemmas.List.Elements.{filter-append}
 use Rattle.boss_model.specs.Machine.{member, without}
 use Rattle.boss_model.specs.Sound.{Distinct}
 use Rattle.boss_model.proofs.OrderLemmas.{each-filter}
@@ -62,7 +60,7 @@ length-Distinct (suc n) (x ∷ xs) once below =
 pub room-without : (n point : ℕ) (xs : List ℕ) → Distinct xs → AllByRecursion (λ x. x < n) xs → point < n → length (without point xs) < n
 room-without n point xs once below within =
     let most = length-Distinct n (point ∷ without point xs) (member-without point xs, Distinct-filter (λ want. not (want == point)) xs once)
-            (within, each-filter (λ x. x < n) (λ want. not (want == point)) xs below) in omega arith
+    (within, each-filter (λ x. x < n) (λ want. not (want == point)) xs below) in omega arith
 
 -- numbers below n are not n
 pub member-below : (n : ℕ) (xs : List ℕ) → AllByRecursion (λ x. x < n) xs → member n xs ≡ false

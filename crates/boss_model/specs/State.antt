@@ -1,6 +1,5 @@
 use Rattle.std.specs.Prelude.{ℕ, ℤ, List, [], ◌∷◌, map, length}
 use Rattle.std.specs.List.{range_with_len}
-use Rattle.boss_model.specs.declared.answer.Mark.{Mark}
 use Rattle.boss_model.specs.declared.answer.Mark.TheVariants.{Pending}
 use Rattle.boss_model.specs.Catalogue.{Actuator}
 -- a lease: transaction `txn` holds the slot (point, priority) at this value as long as the moment is before `until`

@@ -1,8 +1,6 @@
-use Rattle.std.proofs.Common.{◌≡◌, ◌<◌, length, set, ap, sym, ◌∙◌, arith, rules, refl, take}
-use Rattle.std.specs.List.{AllByRecursion}
+use Rattle.std.proofs.Common.{◌≡◌, length, set, ap, sym, ◌∙◌, arith, refl, take}
 use Rattle.boss_model.proofs.WantsLemmas.{room-without, member-below}
 use Rattle.boss_model.specs.Machine.{settled_proxy, moved, is_moved, proxy_of, wanted_anew}
-use Rattle.boss_model.specs.Sound.{Distinct}
 use Rattle.boss_engine.specs.Wants.{wanted_if}
 use Rattle.boss_engine.proofs.SettlingLemmas.{upto, upto-none, upto-all, settled-more, proxy_of-upto, moved-more, moved-below, wanted-none, wanted-more, wanted-known, wanted-once}
 use Rattle.boss_engine.proofs.settling.settle.Goals as goal
@@ -32,9 +30,9 @@ loop-place-preserved c =
     let b = is_moved c.args.plant.now c.args.leases.now (k, proxy_of old k) in
     let within = c.loop-place-test.true in
     let told : c.settle_point.new.wants.items ≡ wanted_if b k c.loop-place.wants.items =
-        c.settle_point.ensures.wants
-        ∙ ap (λ zs. wanted_if (is_moved c.args.plant.now c.args.leases.now (k, proxy_of zs k)) k c.loop-place.wants.items) inv.proxies
-        ∙ ap (λ p. wanted_if (is_moved c.args.plant.now c.args.leases.now (k, p)) k c.loop-place.wants.items) (proxy_of-upto f k old) in
+    c.settle_point.ensures.wants
+    ∙ ap (λ zs. wanted_if (is_moved c.args.plant.now c.args.leases.now (k, proxy_of zs k)) k c.loop-place.wants.items) inv.proxies
+    ∙ ap (λ p. wanted_if (is_moved c.args.plant.now c.args.leases.now (k, p)) k c.loop-place.wants.items) (proxy_of-upto f k old) in
     record {
       proxies = c.settle_point.ensures.proxies ∙ ap (λ zs. set zs k (f (k, proxy_of zs k))) inv.proxies ∙ settled-more f k old within;
       wants = told ∙ ap (wanted_if b k) inv.wants

@@ -1,5 +1,5 @@
-use Rattle.std.proofs.Common.{◌≡◌, ◌∙◌, [], ◌∷◌, ap, sym, not}
-use Rattle.std.specs.List.{filter, insert}
+use Rattle.std.proofs.Common.{◌∙◌, [], ◌∷◌, ap, sym, not}
+use Rattle.std.specs.List.{insert}
 use Rattle.boss_model.specs.Machine.{is_superseded}
 use Rattle.boss_model.specs.Order.{put}
 use Rattle.boss_model.specs.State.{slot}

@@ -1,4 +1,3 @@
-use Rattle.std.proofs.Common.{◌≡◌}
 use Rattle.boss_engine.proofs.Leases.{in_force-more}
 use Rattle.boss_engine.proofs.target.lease_in_force.Goals as goal
 

@@ -10,7 +10,7 @@ pub act-answer-requires-clause-sound : goal.act-answer-requires-clause-sound
 act-answer-requires-clause-sound c =
     let before : c.args.self.now.moment ≤ 2 ^ 60 = c.requires.sound.durable.now in
     let passes : state_of c.settle.new.self ≡ pass_time c.args.plant.now c.max-n.result (state_of c.args.self.now) =
-        c.settle.ensures.state ∙ ap (settle c.args.plant.now) c.tick.ensures.state in
+    c.settle.ensures.state ∙ ap (settle c.args.plant.now) c.tick.ensures.state in
     subst (IsSound c.args.plant.now) (sym passes)
     (passed c.args.plant.now c.max-n.result (state_of c.args.self.now) (omega arith) (omega arith) c.requires.sound)
 
