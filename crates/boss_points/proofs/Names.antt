@@ -7,7 +7,7 @@ use Rattle.toml.specs.Data.{Data}
 use Rattle.toml.specs.View.{view}
 use Rattle.toml.specs.declared.value.Value.{Value}
 use Rattle.boss_points.specs.Seen.{views}
-use Rattle.boss_points.proofs.Places.{fails_in_views}
+use Rattle.boss_points.proofs.Views.{fails_in_views}
 use Rattle.boss_model.specs.declared.point.Kind.{Kind}
 use Rattle.boss_points.specs.declared.point.Point.{Point}
 use Rattle.boss_points.specs.declared.refusal.CatalogueRefusal.{CatalogueRefusal}

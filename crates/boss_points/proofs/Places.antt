@@ -1,10 +1,6 @@
 -- Places in a list, and in the list of what its items are seen as.
 use Rattle.std.proofs.Common.{◌≡◌, ℕ, zero, suc, ◌+◌, ◌<◌, Bool, true, false, ◌||◌, cond, List, [], ◌∷◌, length, get_or, map, position, Option, Some, None, refl, sym, ap, ◌∙◌, arith}
 use Rattle.std.proofs.lemmas.Iterator.Adapters.{position_from-zero}
-use Rattle.toml.specs.Data.{Data}
-use Rattle.toml.specs.View.{view}
-use Rattle.toml.specs.declared.value.Value.{Value}
-use Rattle.boss_points.specs.Seen.{views}
 use Rattle.std.specs.List.{AllByRecursion, position_from, filter_map, cons_option, list_any}
 
 module _ {A B : Type 0} (see : A → B) where
@@ -29,9 +25,6 @@ module _ {A B : Type 0} (see : A → B) where
   fails_at test (y ∷ xs) zero x all within is = rw is all.0
   fails_at test (y ∷ xs) (suc i) x all within is = fails_at test xs i x all.1 (omega arith) is
 
-pub position_in_views : (test : Data → Bool) (values : List Value) → position test (views values) ≡ position (λ value. test (view value)) values
-position_in_views test values = sym (position-map view test values)
-
 -- where no place is found, the test fails at each
 failed : (found : Bool) (place : ℕ) (more : Option ℕ) → cond found (Some place) more ≡ None → (found ≡ false) × (more ≡ None)
 failed true place more none = absurd (cc)
@@ -46,5 +39,6 @@ fails_from test place (x ∷ xs) none =
 pub fails_everywhere : {A : Type 0} (test : A → Bool) (xs : List A) → position test xs ≡ None → AllByRecursion (λ x. test x ≡ false) xs
 fails_everywhere test xs none = fails_from test 0 xs (sym (position_from-zero test xs) ∙ none)
 
-pub fails_in_views : (test : Data → Bool) (values : List Value) → position (λ value. test (view value)) values ≡ None → AllByRecursion (λ d. test d ≡ false) (views values)
-fails_in_views test values none = fails_everywhere test (views values) (position_in_views test values ∙ none)
+-- tests that agree find the same place
+pub position-same : {A : Type 0} (test other : A → Bool) (xs : List A) → ((x : A) → test x ≡ other x) → position test xs ≡ position other xs
+position-same test other xs same = λ j. position (λ x. same x j) xs

@@ -1,4 +1,7 @@
 pub mod Keys
+pub mod Seen
 pub mod Reading
 pub mod Given
-pub mod Seen
+pub mod Canonical
+pub mod Fed
+pub mod Kept

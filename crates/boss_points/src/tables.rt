@@ -1,10 +1,11 @@
-ghost use Rattle.std.specs.Prelude.{◌≡◌, ◌≤◌, [], ◌∷◌, ◌++◌, if◌then◌else◌, not, false, length, map, position, is_none, IfOk, IfErr};
+ghost use Rattle.std.specs.Prelude.{◌≡◌, ◌≤◌, [], ◌∷◌, ◌++◌, if◌then◌else◌, not, false, length, map, position, is_none, All, IfOk, IfErr};
 ghost use Rattle.std.specs.List.{AllByRecursion, list_any, filter_map};
 ghost use Rattle.std.specs.Str.{bytes_eq};
 ghost use Rattle.toml.specs.View.{view};
 ghost use Rattle.boss_points.specs.declared.refusal.CatalogueRefusal.TheVariants.{BadDriver, SameName, NoMemory};
 ghost use Rattle.boss_points.specs.Given.{Gives};
 ghost use Rattle.boss_points.specs.Keys.{name_spelled, name_of, kind_of, default_of, driver_of, point_of};
+ghost use Rattle.boss_points.specs.Kept.{IsWhole};
 ghost use Rattle.boss_points.specs.Reading.{distinct, points_of};
 ghost use Rattle.boss_points.specs.Seen.{views, texts};
 
@@ -17,7 +18,8 @@ use toml::Value;
 
 /// The drivers, whose names are all different.
 pub(crate) fn drivers_of(alloc: Global, values: &[Value]) -> Result<Vec<Name>, CatalogueRefusal>
-    ensures { Gives (λ drivers. drivers.items) result (distinct BadDriver (map name_spelled (views values.now))) }
+    ensures drivers { Gives (λ drivers. drivers.items) result (distinct BadDriver (map name_spelled (views values.now))) }
+    ensures few { IfOk result (λ drivers. length drivers.items ≤ length values.now) }
 {
     let mut drivers = Vec::with_capacity(alloc, values.len())?;
     for (at, value) in values.iter().enumerate() {
@@ -123,6 +125,7 @@ fn all_points(
     requires few { length drivers.now ≤ 16 }
     requires passed { AllByRecursion (λ table. is_none (point_of drivers.now table) ≡ false) (views tables.now) }
     ensures points { IfOk result (λ points. points.items ≡ filter_map (point_of drivers.now) (views tables.now)) }
+    ensures few { IfOk result (λ points. length points.items ≤ length tables.now) }
     ensures memory { IfErr result (λ refusal. refusal ≡ NoMemory) }
 {
     let mut points = Vec::with_capacity(alloc, tables.len())?;
@@ -136,7 +139,7 @@ fn all_points(
 }
 
 /// The names and the points of the tables, once each has passed the tests in their order.
-#[tactic(auto, using(crate::proofs::Places::position_in_views))]
+#[tactic(auto, using(crate::proofs::Views::position_in_views))]
 pub(crate) fn points_of(
     alloc: Global,
     drivers: &[Name],
@@ -145,6 +148,8 @@ pub(crate) fn points_of(
     requires { length drivers.now ≤ 16 }
     ensures points { Gives (λ found. found.1.items) result (points_of drivers.now (views tables.now)) }
     ensures names { IfOk result (λ found. texts found.0.keys ≡ map (λ point. point.name) found.1.items) }
+    ensures whole { IfOk result (λ found. All (IsWhole (length drivers.now)) found.1.items) }
+    ensures few { IfOk result (λ found. length found.1.items ≤ length tables.now) }
 {
     if let Some(place) = first_without_name(tables) {
         let place = place as u64;

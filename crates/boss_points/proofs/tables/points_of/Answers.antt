@@ -2,6 +2,7 @@ use Rattle.std.proofs.Common.{◌≡◌, ◌∙◌, sym, rules}
 use Rattle.boss_points.specs.declared.refusal.CatalogueRefusal.TheVariants.{SameName}
 use Rattle.boss_points.specs.Seen.{views, texts}
 use Rattle.boss_points.proofs.Names.{parts-read, points-read, distinct-names}
+use Rattle.boss_points.proofs.Whole.{all_whole}
 use Rattle.boss_points.proofs.tables.points_of.Goals as goal
 
 pub all_points-requires-clause-passed : goal.all_points-requires-clause-passed
@@ -16,3 +17,6 @@ returns-clause-names c =
       (sym c.first_without_name.ensures ∙ c.in_default.is) (sym c.first_without_kind.ensures ∙ c.in_default-first_without_kind.is)
       (sym c.first_without_default.ensures ∙ c.in_default-first_without_default.is) (sym c.first_without_driver.ensures ∙ c.in_default-first_without_driver.is) in
     rw c.in_ok-points.ensures.points (distinct-names c.args.drivers.now (λ place. SameName place) (views c.args.tables.now) (texts c.in_ok-names.names.keys) parts c.in_ok-names.ensures)
+
+pub returns-clause-whole : goal.returns-clause-whole
+returns-clause-whole c = rw c.in_ok-points.ensures.points (all_whole c.args.drivers.now (views c.args.tables.now))

@@ -1,0 +1,30 @@
+-- The canonical text of a catalogue, which its digest is of: two files that spell one catalogue have one digest.
+use Rattle.std.specs.Prelude.{ℕ, List, [], ◌∷◌, ◌++◌, codes, slice_index_or}
+use Rattle.std.specs.Fmt.{signed_decimal}
+use Rattle.std.specs.List.{flat_map}
+use Rattle.boss_model.specs.declared.point.Kind.{Kind}
+use Rattle.boss_model.specs.declared.point.Kind.TheVariants.{Analog, Binary, Multi}
+use Rattle.boss_model.specs.Catalogue.{Catalogue, Point}
+
+abbrev newline : List ℕ
+newline = 10 ∷ []
+
+-- the kind, and the least and the greatest value that it takes
+abbrev pub kind_text : Kind → List ℕ
+kind_text (Analog min max) = codes "analog " ++ signed_decimal min ++ codes " " ++ signed_decimal max
+kind_text Binary = codes "binary 0 1"
+kind_text (Multi states) = codes "multi 1 " ++ signed_decimal states
+
+-- d NAME
+abbrev pub driver_line : List ℕ → List ℕ
+driver_line name = codes "d " ++ name ++ newline
+
+-- p NAME DRIVER KIND LOW HIGH DEFAULT
+abbrev pub point_line : List (List ℕ) → Point → List ℕ
+point_line drivers point =
+    codes "p " ++ point.name ++ codes " " ++ slice_index_or drivers point.actuator.driver [] ++ codes " " ++ kind_text point.actuator.kind
+    ++ codes " " ++ signed_decimal point.actuator.default ++ newline
+
+-- the drivers, and then the points, a line each
+abbrev pub canonical : Catalogue → List ℕ
+canonical catalogue = flat_map driver_line catalogue.drivers ++ flat_map (point_line catalogue.drivers) catalogue.points

@@ -1,0 +1,18 @@
+-- What holds of every catalogue.
+use Rattle.std.specs.Prelude.{◌≡◌, ℕ, ◌<◌, ◌≤◌, true, List, length, map, All, Vec}
+use Rattle.std.specs.declared.alloc.Global.{Global}
+use Rattle.boss_model.specs.Catalogue.{fits}
+use Rattle.boss_points.specs.declared.point.Point.{Point}
+use Rattle.boss_points.specs.Seen.{texts}
+
+-- the point's default is a value that it takes, and its driver is one of so many
+pub record IsWhole (drivers : ℕ) (point : Point) : Type 0 where
+  pub fitting : fits point.kind point.default ≡ true
+  pub known : point.driver < drivers
+
+-- the names are those of the points, in their order
+pub record IsKept (drivers : List (List ℕ)) (points : List Point) (names : List (Vec ℕ Global)) : Type 0 where
+  pub few_drivers : length drivers ≤ 16
+  pub few_points : length points ≤ 1024
+  pub named : texts names ≡ map (λ point. point.name) points
+  pub whole : All (IsWhole (length drivers)) points

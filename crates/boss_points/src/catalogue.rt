@@ -1,0 +1,131 @@
+ghost use Rattle.std.specs.Prelude.{◌≡◌, ◌<◌, ◌≤◌, length, true, slice_get, Some};
+ghost use Rattle.sha2.specs.Sha256.{sha256};
+ghost use Rattle.toml.specs.View.{view};
+ghost use Rattle.boss_model.specs.Catalogue.{place_of, fits};
+ghost use Rattle.boss_points.specs.Canonical.{canonical};
+ghost use Rattle.boss_points.specs.Given.{Gives};
+ghost use Rattle.boss_points.specs.Reading.{catalogue_of, catalogue_in};
+ghost use Rattle.boss_points.specs.Seen.{seen};
+
+use crate::digest::digest_of;
+use crate::file::{array_at, at_most, table_of};
+use crate::tables::{drivers_of, points_of};
+use crate::{CatalogueRefusal, Key, Point};
+use boss_model::{DriverId, Name, PointId};
+use indexmap::IndexSet;
+use std::alloc::Global;
+use std::marker::Model;
+use toml::Value;
+
+/// How many bytes a file may have.
+const LONGEST_FILE: usize = 1_048_576;
+
+/// How many drivers there may be.
+const MOST_DRIVERS: usize = 16;
+
+/// How many points there may be.
+const MOST_POINTS: usize = 1_024;
+
+/// The points that `bossd` commands and the drivers of their devices, each by its place in the file, from 0.
+/// A contract sees it as these two lists.
+#[derive(Debug, Drop)]
+pub struct Catalogue {
+    drivers: Vec<Name>,
+    points: Vec<Point>,
+    names: IndexSet<Vec<u8>>,
+}
+
+impl Model for Catalogue {
+    ghost use Rattle.boss_model.specs.Catalogue.{Catalogue as Contents};
+    ghost use Rattle.boss_points.specs.Kept.{IsKept};
+    ghost use Rattle.boss_points.specs.Seen.{all_seen};
+
+    ghost Value = { Contents };
+
+    ghost view = { λ c. record { drivers = c.drivers.items; points = all_seen c.points.items } };
+
+    ghost invariant = { λ c. IsKept c.drivers.items c.points.items c.names.keys };
+}
+
+impl Catalogue {
+    /// The catalogue that a file spells, in TOML. Keys that mean nothing here are passed over.
+    #[tactic(auto, unfolding(crate::specs::Reading::catalogue_of))]
+    pub fn read(alloc: Global, bytes: &[u8]) -> Result<Catalogue, CatalogueRefusal>
+        ensures { Gives (λ catalogue. catalogue) result (catalogue_of bytes.now) }
+    {
+        if bytes.len() > LONGEST_FILE {
+            let length = bytes.len() as u64;
+            return Err(CatalogueRefusal::TooLong { length });
+        }
+        let file = table_of(alloc, bytes)?;
+        Catalogue::in_file(alloc, &file)
+    }
+
+    /// The catalogue that a file's table spells.
+    fn in_file(alloc: Global, file: &Value) -> Result<Catalogue, CatalogueRefusal>
+        ensures { Gives (λ catalogue. catalogue) result (catalogue_in (view file.now)) }
+    {
+        let drivers = array_at(file, "drivers").ok_or(CatalogueRefusal::Missing {
+            key: Key::Drivers,
+        })?;
+        let points = array_at(file, "point").ok_or(CatalogueRefusal::Missing { key: Key::Point })?;
+        at_most(MOST_DRIVERS, drivers)?;
+        at_most(MOST_POINTS, points)?;
+        let drivers = drivers_of(alloc, drivers)?;
+        let (names, points) = points_of(alloc, &drivers, points)?;
+        Ok(Catalogue {
+            drivers,
+            points,
+            names,
+        })
+    }
+
+    /// The point of this name.
+    pub fn find(&self, name: &[u8]) -> Option<PointId>
+        ensures { result ≡ place_of self.now name.now }
+    {
+        let place = self.names.get_index_of(name)?;
+        Some(PointId(place as u32))
+    }
+
+    /// The point at this place.
+    pub fn point(&self, id: PointId) -> &Point
+        requires { id < length self.now.points }
+        ensures point { slice_get self.now.points id ≡ Some (seen result.now) }
+        ensures driver { result.now.driver < length self.now.drivers }
+        ensures default { fits result.now.kind result.now.default ≡ true }
+    {
+        &self.points[id.0 as usize]
+    }
+
+    /// How many points there are: at most 1,024.
+    pub fn count(&self) -> u32
+        ensures count { result ≡ length self.now.points }
+        ensures few { result ≤ 1024 }
+    {
+        self.points.len() as u32
+    }
+
+    /// How many drivers there are: at most 16.
+    pub fn drivers(&self) -> u16
+        ensures count { result ≡ length self.now.drivers }
+        ensures few { result ≤ 16 }
+    {
+        self.drivers.len() as u16
+    }
+
+    /// The name of the driver at this place.
+    pub fn driver_name(&self, id: DriverId) -> &Name
+        requires { id < length self.now.drivers }
+        ensures { slice_get self.now.drivers id ≡ Some result.now }
+    {
+        &self.drivers[id.0 as usize]
+    }
+
+    /// SHA-256 of the canonical text, which is the same for all files that spell this catalogue.
+    pub fn digest(&self) -> [u8; 32]
+        ensures { result ≡ sha256 (canonical self.now) }
+    {
+        digest_of(&self.drivers, &self.points)
+    }
+}
