@@ -1,6 +1,6 @@
 -- What one pass over a list finds and makes.
 use Rattle.std.proofs.Common.{◌≡◌, ℕ, zero, suc, ◌+◌, ◌<◌, List, [], ◌∷◌, ◌++◌, length, map, take, get_or, Bool, true, false, Some, cond, subst, ap, sym, ◌∙◌, arith, add-one, zero-add}
-use Rattle.std.specs.List.{find, AllByRecursion, range_with_len}
+use Rattle.std.specs.List.{find, AllByRecursion, range_with_len, slice_get}
 use Rattle.std.proofs.lemmas.List.{take_more, map-append}
 use Rattle.boss_model.specs.Order.{least, kept}
 use Rattle.boss_model.proofs.OrderLemmas.{least-snoc}
@@ -30,3 +30,9 @@ least-more f points i point within is =
     ∙ ap (λ x. least (λ n. n) (map f (take i points ++ x ∷ []))) (sym is)
     ∙ ap (least (λ n. n)) (map-append f (take i points) (point ∷ []))
     ∙ least-snoc (λ n. n) (map f (take i points)) (f point)
+
+-- a front with one more item
+pub take-get : {X : Type 0} (xs : List X) (i : ℕ) (x : X) → slice_get xs i ≡ Some x → take (i + 1) xs ≡ take i xs ++ x ∷ []
+take-get [] i x is = cc
+take-get (y ∷ ys) zero x is = let same : y ≡ x = cc in ap (λ z. z ∷ []) same
+take-get (y ∷ ys) (suc i) x is = let next : suc i + 1 ≡ suc (i + 1) = omega arith in ap (λ n. take n (y ∷ ys)) next ∙ ap (λ zs. y ∷ zs) (take-get ys i x is)

@@ -2,9 +2,12 @@ ghost use Rattle.std.specs.Prelude.{◌≡◌, ◌<◌, ◌≤◌, ◌+◌, ◌^
 ghost use Rattle.boss_model.specs.Machine.{act, moment_of, pass_time, step, wanting};
 ghost use Rattle.boss_model.specs.Sound.{IsAllowed, IsSound};
 ghost use Rattle.boss_model.specs.State.{first_state};
+ghost use Rattle.boss_model.specs.Catalogue.{actuators};
+ghost use Rattle.boss_points.specs.Seen.{seen};
 
 use crate::machine::Machine;
-use boss_model::{Actuator, Answer, Command, DriverId, NoMemory, SessionId};
+use boss_model::{Actuator, Answer, Command, DriverId, NoMemory, PointId, SessionId};
+use boss_points::{Catalogue, Point};
 use std::alloc::Global;
 use std::marker::Model;
 
@@ -30,9 +33,17 @@ impl Model for Engine {
 }
 
 impl Engine {
+    /// The engine of a catalogue's points before anything was done: no lease, and every point wants its default.
+    pub fn new(alloc: Global, catalogue: &Catalogue) -> Result<Engine, NoMemory>
+        ensures { IfOk result (λ engine. engine
+            ≡ record { plant = actuators catalogue.now; state = first_state (actuators catalogue.now) }) }
+    {
+        Engine::for_plant(alloc, plant_of(alloc, catalogue)?)
+    }
+
     /// The engine of a plant before anything was done: no lease, and every point wants its default.
-    pub fn for_plant(alloc: Global, plant: Vec<Actuator>) -> Result<Engine, NoMemory>
-        requires { vec_len plant ≤ 2 ^ 32 }
+    fn for_plant(alloc: Global, plant: Vec<Actuator>) -> Result<Engine, NoMemory>
+        requires { length plant.items ≤ 2 ^ 32 }
         ensures { IfOk result (λ engine. engine ≡ record { plant = plant.items; state = first_state plant.items }) }
     {
         let machine = Machine::first(alloc, &plant)?;
@@ -67,5 +78,27 @@ impl Engine {
     {
         self.machine.make_room(command)?;
         Ok(self.machine.step(&self.plant, session, command, moment))
+    }
+}
+
+/// What the machine knows of a catalogue's points.
+fn plant_of(alloc: Global, catalogue: &Catalogue) -> Result<Vec<Actuator>, NoMemory>
+    ensures points { IfOk result (λ plant. plant.items ≡ actuators catalogue.now) }
+    ensures few { IfOk result (λ plant. length plant.items ≤ 1024) }
+{
+    let mut plant = Vec::new(alloc);
+    for place in 0..catalogue.count() {
+        plant.push(actuator_of(catalogue.point(PointId(place))))?;
+    }
+    Ok(plant)
+}
+
+fn actuator_of(point: &Point) -> Actuator
+    ensures { result ≡ (seen point.now).actuator }
+{
+    Actuator {
+        kind: point.kind,
+        default: point.default,
+        driver: point.driver,
     }
 }

@@ -11,4 +11,5 @@ pub mod Lines
 pub mod Requests
 pub mod Sound
 pub mod Texts
+pub mod Call
 pub mod Script

@@ -81,10 +81,15 @@ if_write plant setting = if is_write plant setting then Some setting else None
 abbrev pub write_of : Catalogue → Data → Option Setting
 write_of catalogue d = if is_missing (codes "revert") d then option_and_then (if_write (actuators catalogue)) (setting_of catalogue d) else None
 
+-- the one write of a submit
+abbrev pub only_write_of : Catalogue → Data → Option Setting
+only_write_of catalogue d = do
+  writes ← option_and_then as_array (get (codes "writes") d)
+  option_and_then (write_of catalogue) (only writes)
+
 abbrev pub submit_of : Catalogue → Data → Option Command
 submit_of catalogue d = do
-  writes ← option_and_then as_array (get (codes "writes") d)
-  write ← option_and_then (write_of catalogue) (only writes)
+  write ← only_write_of catalogue d
   if is_missing (codes "policy") d then Some (command.Submit (write ∷ []) Abort) else None
 
 abbrev pub read_of : Catalogue → Data → Option Command
@@ -114,6 +119,10 @@ asked catalogue d = do
   command ← command_of catalogue op d
   Some (record { at = at; command = command })
 
--- what a line asks, as JSON reads it
+-- the value that a line writes
+abbrev pub value_in : List ℕ → Option Data
+value_in line = if is_utf8 line then read line else None
+
+-- what a line asks, if it is of a form that is served
 unfoldable pub request_of : Catalogue → List ℕ → Option Request
-request_of catalogue line = if is_utf8 line then option_and_then (asked catalogue) (read line) else None
+request_of catalogue line = option_and_then (asked catalogue) (value_in line)

@@ -2,18 +2,13 @@ use Rattle.std.specs.Prelude.{ℕ, ℤ, Bool, true, false, ◌||◌, if◌then�
 use Rattle.boss_model.specs.declared.answer.Answer.{Answer}
 use Rattle.boss_model.specs.declared.answer.Answer.TheVariants as answer
 use Rattle.boss_model.specs.declared.command.Command.TheVariants as command
+use Rattle.boss_model.specs.Call.{Call}
 use Rattle.boss_model.specs.Catalogue.{Catalogue, actuators}
 use Rattle.boss_model.specs.Lines.{lines, is_blank}
 use Rattle.boss_model.specs.Machine.{step, wanting}
 use Rattle.boss_model.specs.Requests.{Request, request_of}
 use Rattle.boss_model.specs.State.{State}
 use Rattle.boss_model.specs.Texts.{answer_text, device_text, line_of}
-
--- one call of a device: the point, the value, and whether the device took it
-pub record Call : Type 0 where
-  pub point : ℕ
-  pub value : ℤ
-  pub ok : Bool
 
 -- A script under way: the machine's state, the text so far, the calls of devices so far, and what the devices will
 -- answer to the calls that are still to come. A script is cut short where no more of the devices' answers are known, or
@@ -64,7 +59,7 @@ unfoldable pub drain : Catalogue → ℕ → List Bool → Run → Run
 drain catalogue moment [] run = if_wanting (wanting (actuators catalogue) run.state)
     (λ driver. cut_short (record run { results = [] })) (record run { results = [] })
 drain catalogue moment (ok ∷ results) run = if_wanting (wanting (actuators catalogue) run.state)
-    (λ driver. drain catalogue moment results (serve catalogue moment ok driver run)) (record run { results = ok ∷ results })
+    (λ driver. drain catalogue moment results (serve catalogue moment ok driver (record run { results = results }))) (record run { results = ok ∷ results })
 
 -- the answer to a command, and then the wants that it leaves
 abbrev pub answered : Catalogue → Request → Run → Run

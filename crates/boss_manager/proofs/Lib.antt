@@ -1,0 +1,4 @@
+pub mod PointNames
+pub mod RunLemmas
+pub mod ServeLemmas
+pub mod Values

@@ -1,0 +1,23 @@
+use Rattle.std.proofs.Common.{◌≡◌, map, vec_len}
+use Rattle.std.specs.List.{AllByRecursion}
+use Rattle.boss_model.specs.Catalogue.{actuators}
+use Rattle.boss_model.specs.Sound.{IsSound}
+use Rattle.boss_manager.specs.Runs.{Did, served}
+use Rattle.boss_manager.specs.Weights.{weight}
+use Rattle.boss_manager.proofs.draining.drain.Given as goal
+
+-- so far wants were served, and wants are left to be served
+abbrev pub invariant-loop-driver : goal.invariant-loop-driver
+invariant-loop-driver g l = record {
+  plant : l.engine.plant ≡ l.fn.engine.plant;
+  sound : IsSound l.engine.plant l.engine.state;
+  len : vec_len l.devices ≡ vec_len l.fn.devices;
+  did : g.K.Sink.tells → g.A.Actuators.tells → Did (actuators l.fn.catalogue) (served l.fn.catalogue l.fn.moment) (served l.fn.catalogue l.fn.moment)
+      l.fn.engine.state l.engine.state (g.K.Sink.taken l.fn.sink) (g.K.Sink.taken l.sink)
+      (map g.A.Actuators.calls l.fn.devices.items) (map g.A.Actuators.calls l.devices.items)
+      (AllByRecursion g.A.Actuators.whole l.fn.devices.items) (AllByRecursion g.A.Actuators.whole l.devices.items);
+}
+
+-- each turn leaves less to do
+abbrev pub decreases-loop-driver : goal.decreases-loop-driver
+decreases-loop-driver g l = weight l.engine.plant l.engine.state

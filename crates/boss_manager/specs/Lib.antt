@@ -1,0 +1,5 @@
+pub mod Answers
+pub mod Runs
+pub mod Served
+pub mod Wanted
+pub mod Weights

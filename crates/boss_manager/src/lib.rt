@@ -1,0 +1,11 @@
+//! The program: from the words of the command line to the bytes that it writes.
+#![tactic(auto)]
+
+mod devices;
+mod draining;
+mod ending;
+mod requests;
+mod texts;
+mod wants;
+
+pub use ending::Ending;
