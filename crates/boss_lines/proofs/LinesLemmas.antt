@@ -5,7 +5,7 @@ use Rattle.std.proofs.lemmas.List.{get_or_append_left, length-append, take_all, 
 use Rattle.boss_model.specs.Lines.{lines}
 use Rattle.boss_lines.specs.declared.reader.Next.{Next}
 use Rattle.boss_lines.specs.declared.reader.Next.TheVariants.{Line, Finish, TooLong, ReadFault}
-use Rattle.boss_lines.specs.Lines.{Answers, BeginsTooLong, stop_at}
+use Rattle.boss_lines.specs.Lines.{Answers, BeginsTooLong, Leaves, stop_at}
 use Rattle.boss_lines.specs.Window.{NoLineEnd, IsTooLong, Shows}
 use Rattle.boss_lines.specs.declared.window.Found.TheVariants.{LineEnd, SourceEnd}
 
@@ -94,9 +94,9 @@ Answers-too_long held left old line all long =
     let whole = subst IsTooLong all (IsTooLong-append held left long) in (all, whole, BeginsTooLong-lines old whole)
 
 -- a reader that stopped gives the same answer again
-pub Answers-again : (answer : Next) (ahead left line : List ℕ) → stop_at answer ≡ Some answer → (answer ≡ TooLong → IsTooLong ahead) → Answers (ahead ++ left) (ahead ++ left) line answer
+pub Answers-again : (answer : Next) (ahead left line : List ℕ) → stop_at answer ≡ Some answer → Leaves line ahead answer → Answers (ahead ++ left) (ahead ++ left) line answer
 Answers-again Line ahead left line stops long = absurd cc
 Answers-again Finish ahead left line stops long = absurd cc
 Answers-again TooLong ahead left line stops long =
-    let all = IsTooLong-append ahead left (long refl) in (refl, all, BeginsTooLong-lines (ahead ++ left) all)
+    let all = IsTooLong-append ahead left long.1 in (refl, all, BeginsTooLong-lines (ahead ++ left) all)
 Answers-again ReadFault ahead left line stops long = refl

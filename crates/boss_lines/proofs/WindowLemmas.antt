@@ -39,5 +39,5 @@ Adds-read Failed room held new into fits size is = is ∙ append-nil held
 -- the bytes that are held and those that are left are those of before the read
 pub append-read : (got : Got) (held new into left rest : List ℕ) → Reads left rest into got → new ≡ held ++ take (count_of got) into → new ++ rest ≡ held ++ left
 append-read (Bytes count) held new into left rest reads is = rw (is, append_assoc, reads) refl
-append-read Finish held new into left rest reads is = rw (is, reads.0, reads.1, append-nil) refl
+append-read Finish held new into left rest reads is = rw (reads.0, reads.1) (ap (λ (xs : List ℕ). xs ++ []) (is ∙ append-nil held))
 append-read Failed held new into left rest reads is = rw (is, reads, append-nil) refl

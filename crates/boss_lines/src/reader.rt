@@ -1,6 +1,5 @@
 ghost use Rattle.std.specs.Prelude.{◌≡◌, ◌≤◌, ℕ, [], ◌++◌, length, None, IfOk, IfSome};
-ghost use Rattle.boss_lines.specs.Lines.{Answers, NextCause, stop_at};
-ghost use Rattle.boss_lines.specs.Window.{IsTooLong};
+ghost use Rattle.boss_lines.specs.Lines.{Answers, Leaves, NextCause, stop_at};
 
 use crate::window::{Found, Window};
 use boss_model::NoMemory;
@@ -75,7 +74,7 @@ impl Lines {
         ensures held { S.tells → S.held source.new ≡ S.held source.old }
 
         // Of every source.
-        ensures too_long { result ≡ Next.TooLong → IsTooLong self.new.ahead }
+        ensures leaves { Leaves self.new.line self.new.ahead result }
         ensures cause { self.old.stopped ≡ None → NextCause (S.faults source.old) (S.faults source.new) result }
         ensures stops { self.new.stopped ≡ stop_at result }
         ensures stays { IfSome self.old.stopped
