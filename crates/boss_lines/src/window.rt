@@ -16,6 +16,7 @@ const LONGEST: usize = 65_535;
 const ROOM: usize = 131_072;
 
 /// Where the first line ends.
+#[derive(Clone, Copy, Debug, PartialEq, Eq)]
 pub enum Found {
     /// At this place among the bytes that are held.
     LineEnd(usize),
