@@ -3,6 +3,7 @@ use Rattle.boss_model.specs.Lines.{lines}
 use Rattle.boss_outside.specs.Counts.{Rose}
 use Rattle.boss_lines.specs.declared.reader.Next.{Next}
 use Rattle.boss_lines.specs.declared.reader.Next.TheVariants.{Line, Finish, TooLong, ReadFault}
+use Rattle.boss_lines.specs.declared.window.TheConstants.{LONGEST_LINE}
 use Rattle.boss_lines.specs.Window.{IsTooLong, NoLineEnd}
 
 -- a reader of lines: the line that it gave last, the bytes behind it that were read ahead, and the answer that it stopped at
@@ -13,7 +14,7 @@ pub record Progress : Type 0 where
 
 -- the first line of these bytes is longer than a line may be
 abbrev pub BeginsTooLong : List (List ℕ) → Type 0
-BeginsTooLong all = (line : List ℕ) × (more : List (List ℕ)) × (all ≡ line ∷ more) × (65535 < length line)
+BeginsTooLong all = (line : List ℕ) × (more : List (List ℕ)) × (all ≡ line ∷ more) × (LONGEST_LINE < length line)
 
 -- what an answer says of the bytes that were ahead of it, of those that are ahead now, and of the line
 abbrev pub Answers : List ℕ → List ℕ → List ℕ → Next → Type 0
@@ -24,7 +25,7 @@ Answers old new line ReadFault = new ≡ old
 
 -- what an answer leaves: the line, and the bytes that were read ahead
 abbrev pub Leaves : List ℕ → List ℕ → Next → Type 0
-Leaves line ahead Line = length line ≤ 65535
+Leaves line ahead Line = length line ≤ LONGEST_LINE
 Leaves line ahead Finish = (line ≡ []) × (ahead ≡ [])
 Leaves line ahead TooLong = (line ≡ []) × IsTooLong ahead
 Leaves line ahead ReadFault = (line ≡ []) × NoLineEnd (length ahead) ahead

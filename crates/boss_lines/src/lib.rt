@@ -9,3 +9,4 @@ mod window;
 
 pub use reader::{Lines, Next};
 pub use whole::{LinesRead, read_lines};
+pub use window::LONGEST_LINE;

@@ -2,7 +2,7 @@ ghost use Rattle.std.specs.Prelude.{◌≡◌, ◌≤◌, length, All, IfOk};
 ghost use Rattle.boss_model.specs.Lines.{lines};
 ghost use Rattle.boss_lines.specs.Lines.{GivesAll, NextCause};
 
-use crate::{Lines, Next};
+use crate::{LONGEST_LINE, Lines, Next};
 use boss_model::{Items, NoMemory};
 use boss_outside::Source;
 use std::alloc::Global;
@@ -25,7 +25,7 @@ pub fn read_lines<S: Source>(
     ensures all { S.tells → IfOk result (λ read. GivesAll (lines (S.left source.old)) read.lines read.end) }
 
     // Of every source.
-    ensures short { IfOk result (λ read. All (λ line. length line ≤ 65535) read.lines) }
+    ensures short { IfOk result (λ read. All (λ line. length line ≤ LONGEST_LINE) read.lines) }
     ensures limit { IfOk result (λ read. length read.lines ≤ limit) }
     ensures full { IfOk result (λ read. read.end ≡ Next.Line → length read.lines ≡ limit) }
     ensures cause { IfOk result (λ read. NextCause (S.faults source.old) (S.faults source.new) read.end) }

@@ -1,4 +1,4 @@
-use Rattle.std.proofs.Common.{◌≡◌, [], ◌++◌, Some, length, subst, sym, ◌∙◌, ap, arith}
+use Rattle.std.proofs.Common.{[], ◌++◌, length, subst, ◌∙◌, ap, arith}
 use Rattle.boss_lines.specs.Lines.{Leaves}
 use Rattle.boss_lines.proofs.LinesLemmas.{Answers-line, Answers-rest, Answers-too_long, Answers-again}
 use Rattle.boss_lines.proofs.reader.Lines.next.Goals as goal
