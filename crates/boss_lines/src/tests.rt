@@ -155,6 +155,15 @@ fn lines_are_the_same_however_the_text_is_cut(rt: HostRuntime) -> Result<(), Fai
 }
 
 #[test]
+fn long_line_is_told_without_one_more_read(rt: HostRuntime) -> Result<(), Fail> {
+    let mut source = Pieces::new(&LONG, 1, 0, 0);
+    let mut reader = Lines::new(rt.alloc())?;
+    assert_eq!(rt; reader.next(&mut source), Next::TooLong);
+    assert_eq!(rt; source.reads, 65_536);
+    Ok(())
+}
+
+#[test]
 fn fault_comes_behind_the_lines_that_ended(rt: HostRuntime) -> Result<(), Fail> {
     let alloc = rt.alloc();
     let text = b"ab\n\nc\nd";
