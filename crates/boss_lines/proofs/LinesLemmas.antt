@@ -1,11 +1,12 @@
-use Rattle.std.proofs.Common.{◌≡◌, ◌≢◌, ℕ, zero, suc, ◌+◌, ◌≤◌, ◌<◌, ◌==◌, Bool, true, false, List, [], ◌∷◌, ◌++◌, length, take, drop, slice_index, Option, Some, None, if◌then◌else◌, refl, sym, ◌∙◌, ap, subst, append-nil, add-one, eq-eqb, arith}
+use Rattle.std.proofs.Common.{◌≡◌, ◌≢◌, ℕ, zero, suc, ◌+◌, ◌<◌, Bool, List, [], ◌∷◌, ◌++◌, length, take, drop, slice_index, Some, if◌then◌else◌, refl, sym, ◌∙◌, ap, subst, append-nil, add-one, eq-eqb, arith}
 use Rattle.std.specs.List.{onto_first}
 use Rattle.std.proofs.lemmas.Bool.{ne_eqb}
 use Rattle.std.proofs.lemmas.List.{get_or_append_left, length-append, take_all, drop_all}
 use Rattle.boss_model.specs.Lines.{lines}
+use Rattle.boss_lines.specs.declared.window.TheConstants.{LONGEST_LINE}
 use Rattle.boss_lines.specs.declared.reader.Next.{Next}
 use Rattle.boss_lines.specs.declared.reader.Next.TheVariants.{Line, Finish, TooLong, ReadFault}
-use Rattle.boss_lines.specs.Lines.{Answers, BeginsTooLong, stop_at}
+use Rattle.boss_lines.specs.Lines.{Answers, BeginsTooLong, Leaves, stop_at}
 use Rattle.boss_lines.specs.Window.{NoLineEnd, IsTooLong, Shows}
 use Rattle.boss_lines.specs.declared.window.Found.TheVariants.{LineEnd, SourceEnd}
 
@@ -65,7 +66,7 @@ IsTooLong-append bytes more long =
 -- what is too long begins with a line that is too long
 pub BeginsTooLong-lines : (bytes : List ℕ) → IsTooLong bytes → BeginsTooLong (lines bytes)
 unfolding BeginsLonger
-BeginsTooLong-lines bytes long = BeginsLonger-lines bytes 65535 long.1 (omega (arith, long.0))
+BeginsTooLong-lines bytes long = BeginsLonger-lines bytes LONGEST_LINE long.1 long.0
 
 -- where the first line end stands among the bytes that are held, the bytes before it are the line
 pub Answers-line : (held left old : List ℕ) (place : ℕ) → held ++ left ≡ old → Shows held (LineEnd place)
@@ -94,9 +95,9 @@ Answers-too_long held left old line all long =
     let whole = subst IsTooLong all (IsTooLong-append held left long) in (all, whole, BeginsTooLong-lines old whole)
 
 -- a reader that stopped gives the same answer again
-pub Answers-again : (answer : Next) (ahead left line : List ℕ) → stop_at answer ≡ Some answer → (answer ≡ TooLong → IsTooLong ahead) → Answers (ahead ++ left) (ahead ++ left) line answer
+pub Answers-again : (answer : Next) (ahead left line : List ℕ) → stop_at answer ≡ Some answer → Leaves line ahead answer → Answers (ahead ++ left) (ahead ++ left) line answer
 Answers-again Line ahead left line stops long = absurd cc
 Answers-again Finish ahead left line stops long = absurd cc
 Answers-again TooLong ahead left line stops long =
-    let all = IsTooLong-append ahead left (long refl) in (refl, all, BeginsTooLong-lines (ahead ++ left) all)
+    let all = IsTooLong-append ahead left long.1 in (refl, all, BeginsTooLong-lines (ahead ++ left) all)
 Answers-again ReadFault ahead left line stops long = refl

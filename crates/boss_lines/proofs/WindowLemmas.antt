@@ -1,6 +1,6 @@
-use Rattle.std.proofs.Common.{◌≡◌, ℕ, ◌+◌, ◌-◌, ◌≤◌, ◌<◌, List, [], ◌++◌, length, take, drop, refl, sym, ◌∙◌, ap, subst, append_assoc, append-nil, arith}
+use Rattle.std.proofs.Common.{◌≡◌, ℕ, ◌+◌, List, [], ◌++◌, length, take, drop, refl, sym, ◌∙◌, ap, append_assoc, append-nil, arith}
 use Rattle.std.proofs.Math.Seq.{take-add}
-use Rattle.std.proofs.lemmas.List.{drop-take, drop-drop, length-take-le, length-drop}
+use Rattle.std.proofs.lemmas.List.{drop-take, drop-drop, length-take-le}
 use Rattle.boss_outside.specs.declared.source.Got.{Got}
 use Rattle.boss_outside.specs.declared.source.Got.TheVariants.{Bytes, Finish, Failed}
 use Rattle.boss_outside.specs.Streams.{count_of, FitsRoom, Reads}
@@ -39,5 +39,5 @@ Adds-read Failed room held new into fits size is = is ∙ append-nil held
 -- the bytes that are held and those that are left are those of before the read
 pub append-read : (got : Got) (held new into left rest : List ℕ) → Reads left rest into got → new ≡ held ++ take (count_of got) into → new ++ rest ≡ held ++ left
 append-read (Bytes count) held new into left rest reads is = rw (is, append_assoc, reads) refl
-append-read Finish held new into left rest reads is = rw (is, reads.0, reads.1, append-nil) refl
+append-read Finish held new into left rest reads is = rw (reads.0, reads.1) (ap (λ (xs : List ℕ). xs ++ []) (is ∙ append-nil held))
 append-read Failed held new into left rest reads is = rw (is, reads, append-nil) refl

@@ -1,3 +1,3 @@
+pub mod Inside
 pub mod Lines
 pub mod Window
-pub mod Inside

@@ -1,9 +1,10 @@
-use Rattle.std.specs.Prelude.{◌≡◌, ℕ, ◌<◌, ◌≤◌, List, [], ◌∷◌, length, Option, Some, None, IfSome}
+use Rattle.std.specs.Prelude.{◌≡◌, ℕ, ◌<◌, ◌≤◌, List, [], ◌∷◌, ◌++◌, length, Option, Some, None}
 use Rattle.boss_model.specs.Lines.{lines}
 use Rattle.boss_outside.specs.Counts.{Rose}
 use Rattle.boss_lines.specs.declared.reader.Next.{Next}
 use Rattle.boss_lines.specs.declared.reader.Next.TheVariants.{Line, Finish, TooLong, ReadFault}
-use Rattle.boss_lines.specs.Window.{IsTooLong}
+use Rattle.boss_lines.specs.declared.window.TheConstants.{LONGEST_LINE}
+use Rattle.boss_lines.specs.Window.{IsTooLong, NoLineEnd}
 
 -- a reader of lines: the line that it gave last, the bytes behind it that were read ahead, and the answer that it stopped at
 pub record Progress : Type 0 where
@@ -13,7 +14,7 @@ pub record Progress : Type 0 where
 
 -- the first line of these bytes is longer than a line may be
 abbrev pub BeginsTooLong : List (List ℕ) → Type 0
-BeginsTooLong all = (line : List ℕ) × (more : List (List ℕ)) × (all ≡ line ∷ more) × (65535 < length line)
+BeginsTooLong all = (line : List ℕ) × (more : List (List ℕ)) × (all ≡ line ∷ more) × (LONGEST_LINE < length line)
 
 -- what an answer says of the bytes that were ahead of it, of those that are ahead now, and of the line
 abbrev pub Answers : List ℕ → List ℕ → List ℕ → Next → Type 0
@@ -21,6 +22,13 @@ Answers old new line Line = (lines old ≡ line ∷ lines new) × ¬ IsTooLong o
 Answers old new line Finish = (old ≡ []) × (new ≡ [])
 Answers old new line TooLong = (new ≡ old) × IsTooLong old × BeginsTooLong (lines old)
 Answers old new line ReadFault = new ≡ old
+
+-- what an answer leaves: the line, and the bytes that were read ahead
+abbrev pub Leaves : List ℕ → List ℕ → Next → Type 0
+Leaves line ahead Line = length line ≤ LONGEST_LINE
+Leaves line ahead Finish = (line ≡ []) × (ahead ≡ [])
+Leaves line ahead TooLong = (line ≡ []) × IsTooLong ahead
+Leaves line ahead ReadFault = (line ≡ []) × NoLineEnd (length ahead) ahead
 
 -- the answer is a read fault exactly where the source's count rose
 abbrev pub NextCause : ℕ → ℕ → Next → Type 0
@@ -35,3 +43,10 @@ stop_at Line = None
 stop_at Finish = None
 stop_at TooLong = Some TooLong
 stop_at ReadFault = Some ReadFault
+
+-- what the lines of a source were, where these were given and then this answer, and what is known of all its lines
+abbrev pub GivesAll : List (List ℕ) → List (List ℕ) → Next → Type 0
+GivesAll all given Line = (rest : List (List ℕ)) × (all ≡ given ++ rest)
+GivesAll all given Finish = all ≡ given
+GivesAll all given TooLong = (rest : List (List ℕ)) × (all ≡ given ++ rest) × BeginsTooLong rest
+GivesAll all given ReadFault = (rest : List (List ℕ)) × (all ≡ given ++ rest)

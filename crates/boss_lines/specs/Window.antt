@@ -2,6 +2,7 @@ use Rattle.std.specs.Prelude.{◌≡◌, ◌≢◌, ℕ, ◌+◌, ◌<◌, ◌�
 use Rattle.boss_outside.specs.Counts.{Rose}
 use Rattle.boss_outside.specs.declared.source.Got.{Got}
 use Rattle.boss_outside.specs.declared.source.Got.TheVariants.{Bytes, Finish, Failed}
+use Rattle.boss_lines.specs.declared.window.TheConstants.{LONGEST_LINE}
 use Rattle.boss_lines.specs.declared.window.Found.{Found}
 use Rattle.boss_lines.specs.declared.window.Found.TheVariants.{LineEnd, SourceEnd, TooFar, Fault}
 
@@ -9,9 +10,9 @@ use Rattle.boss_lines.specs.declared.window.Found.TheVariants.{LineEnd, SourceEn
 abbrev pub NoLineEnd : ℕ → List ℕ → Type 0
 NoLineEnd count bytes = (k : ℕ) → k < count → slice_index bytes k ≢ 10
 
--- 65,536 bytes come before the first line end, or before the end
+-- more bytes than a line may have come before the first line end
 abbrev pub IsTooLong : List ℕ → Type 0
-IsTooLong bytes = (65536 ≤ length bytes) × NoLineEnd 65536 bytes
+IsTooLong bytes = (LONGEST_LINE < length bytes) × NoLineEnd (LONGEST_LINE + 1) bytes
 
 -- what a read adds to the bytes that are held
 abbrev pub Adds : List ℕ → List ℕ → Got → Type 0
@@ -21,8 +22,8 @@ Adds old new Failed = new ≡ old
 
 -- what the bytes that are held show, once the line end was sought
 abbrev pub Shows : List ℕ → Found → Type 0
-Shows bytes (LineEnd place) = NoLineEnd place bytes × (place < length bytes) × (slice_index bytes place ≡ 10) × (place ≤ 65535)
-Shows bytes SourceEnd = NoLineEnd (length bytes) bytes × (length bytes ≤ 65535)
+Shows bytes (LineEnd place) = NoLineEnd place bytes × (place < length bytes) × (slice_index bytes place ≡ 10) × (place ≤ LONGEST_LINE)
+Shows bytes SourceEnd = NoLineEnd (length bytes) bytes × (length bytes ≤ LONGEST_LINE)
 Shows bytes TooFar = IsTooLong bytes
 Shows bytes Fault = NoLineEnd (length bytes) bytes
 

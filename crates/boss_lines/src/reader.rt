@@ -1,8 +1,7 @@
 ghost use Rattle.std.specs.Prelude.{◌≡◌, ◌≤◌, ℕ, [], ◌++◌, length, None, IfOk, IfSome};
-ghost use Rattle.boss_lines.specs.Lines.{Answers, NextCause, stop_at};
-ghost use Rattle.boss_lines.specs.Window.{IsTooLong};
+ghost use Rattle.boss_lines.specs.Lines.{Answers, Leaves, NextCause, stop_at};
 
-use crate::window::{Found, Window};
+use crate::window::{Found, LONGEST_LINE, Window};
 use boss_model::NoMemory;
 use boss_outside::Source;
 use std::alloc::Global;
@@ -15,14 +14,14 @@ pub enum Next {
     Line,
     /// The end: a read gave nothing, and no byte is left over.
     Finish,
-    /// 65,536 bytes in a row without a line end.
+    /// More than `LONGEST_LINE` bytes in a row without a line end.
     TooLong,
     /// A read that failed.
     ReadFault,
 }
 
-/// Reads the lines of a source. A line ends at byte 10, which is no part of it, and has at most 65,535 bytes. What stands
-/// behind the last line end is a line where it is not empty.
+/// Reads the lines of a source. A line ends at byte 10, which is no part of it, and has at most `LONGEST_LINE` bytes. What
+/// stands behind the last line end is a line where it is not empty.
 #[derive(Debug, Drop)]
 pub struct Lines {
     window: Window,
@@ -61,7 +60,7 @@ impl Lines {
     /// The line that the last call of `next` came to, and nothing where it came to none.
     pub fn line(&self) -> &[u8]
         ensures value { result.now ≡ self.now.line }
-        ensures within { length self.now.line ≤ 65535 }
+        ensures within { length self.now.line ≤ LONGEST_LINE }
     {
         &self.window.bytes()[..self.line]
     }
@@ -75,7 +74,7 @@ impl Lines {
         ensures held { S.tells → S.held source.new ≡ S.held source.old }
 
         // Of every source.
-        ensures too_long { result ≡ Next.TooLong → IsTooLong self.new.ahead }
+        ensures leaves { Leaves self.new.line self.new.ahead result }
         ensures cause { self.old.stopped ≡ None → NextCause (S.faults source.old) (S.faults source.new) result }
         ensures stops { self.new.stopped ≡ stop_at result }
         ensures stays { IfSome self.old.stopped

@@ -9,13 +9,14 @@ use std::alloc::Global;
 use std::marker::Model;
 
 /// The most bytes that a line may have before its end.
-const LONGEST: usize = 65_535;
+pub const LONGEST_LINE: usize = 65_535;
 
-/// Twice the bytes that may come before a line end: so the bytes of a line that reaches the end of the room fit in front
-/// of their own place.
-const ROOM: usize = 131_072;
+/// Room for two lines of that length with their ends: so a line that reaches the end of the room fits in front of its own
+/// place.
+const ROOM: usize = 2 * (LONGEST_LINE + 1);
 
 /// Where the first line ends.
+#[derive(Clone, Copy, Debug, PartialEq, Eq)]
 pub enum Found {
     /// At this place among the bytes that are held.
     LineEnd(usize),
@@ -40,12 +41,13 @@ pub struct Window {
 
 impl Model for Window {
     ghost use Rattle.std.specs.Prelude.{◌≡◌, ◌≤◌, ◌+◌, ℕ, List, length, take, drop};
+    ghost use Rattle.boss_lines.specs.declared.window.TheConstants.{ROOM};
 
     ghost Value = { List ℕ };
 
     ghost view = { λ w. take w.count (drop w.start w.bytes.items) };
 
-    ghost invariant = { λ w. (w.start + w.count ≤ length w.bytes.items) × (length w.bytes.items ≡ 131072) };
+    ghost invariant = { λ w. (w.start + w.count ≤ length w.bytes.items) × (length w.bytes.items ≡ ROOM) };
 }
 
 impl Window {
@@ -78,7 +80,7 @@ impl Window {
 
     /// Reads some bytes behind those that are held.
     fn fill<S: Source>(&mut self, source: &mut S) -> Got
-        requires { length self.old ≤ 65535 }
+        requires { length self.old ≤ LONGEST_LINE }
         ensures adds { Adds self.old self.new result }
         ensures bytes { S.tells → self.new ++ S.left source.new ≡ self.old ++ S.left source.old }
         ensures finish { S.tells → result ≡ Got.Finish → S.left source.new ≡ [] }
@@ -104,14 +106,14 @@ impl Window {
         loop {
             let held = self.bytes();
             if let Some(place) = line_end_from(held, sought) {
-                return if place <= LONGEST {
+                return if place <= LONGEST_LINE {
                     Found::LineEnd(place)
                 } else {
                     Found::TooFar
                 };
             }
             sought = held.len();
-            if sought > LONGEST {
+            if sought > LONGEST_LINE {
                 return Found::TooFar;
             }
             match self.fill(source) {
@@ -139,8 +141,8 @@ fn line_end_from(bytes: &[u8], from: usize) -> Option<usize>
 /// none they start at the front.
 fn make_room(bytes: &mut [u8], start: usize, count: usize) -> usize
     requires within { start + count ≤ length bytes.old }
-    requires few { count ≤ 65535 }
-    requires room { length bytes.old ≡ 131072 }
+    requires few { count ≤ LONGEST_LINE }
+    requires room { length bytes.old ≡ ROOM }
     ensures kept { take count (drop result bytes.new) ≡ take count (drop start bytes.old) }
     ensures room { result + count < length bytes.new }
 {

@@ -82,7 +82,8 @@ impl Model for MemoryFiles {
 }
 
 impl MemoryFiles {
-    /// These files, each a name with its bytes, of which the calls with these numbers fail, counted from 1.
+    /// These files, each a name with its bytes, of which the calls with these numbers fail, counted from 1. No name may
+    /// stand twice.
     pub fn new(
         _alloc: Global,
         contents: Items<(Items<u8>, Items<u8>)>,

@@ -1,6 +1,5 @@
-use Rattle.std.proofs.Common.{◌≡◌, ◌+◌, ◌-◌, ◌≤◌, ◌<◌, length, take, drop, sym, ◌∙◌, eqb-true, arith}
+use Rattle.std.proofs.Common.{◌+◌, ◌-◌, ◌<◌, length, take, drop, sym, ◌∙◌, eqb-true, arith}
 use Rattle.std.proofs.lemmas.List.{length-take, length-drop}
-use Rattle.boss_lines.specs.Window.{NoLineEnd}
 use Rattle.boss_lines.proofs.LineEndLemmas.{NoLineEnd-add, slice_index-take-drop}
 use Rattle.boss_lines.proofs.window.line_end_from.Goals as goal
 

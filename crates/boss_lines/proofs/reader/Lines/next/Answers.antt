@@ -1,12 +1,16 @@
-use Rattle.std.proofs.Common.{◌≡◌, [], ◌++◌, Some, length, subst, sym, ◌∙◌, ap, arith}
-use Rattle.boss_lines.specs.Window.{IsTooLong}
+use Rattle.std.proofs.Common.{[], ◌++◌, length, subst, ◌∙◌, ap, arith}
+use Rattle.boss_lines.specs.Lines.{Leaves}
 use Rattle.boss_lines.proofs.LinesLemmas.{Answers-line, Answers-rest, Answers-too_long, Answers-again}
 use Rattle.boss_lines.proofs.reader.Lines.next.Goals as goal
 
 pub returns-in-Some-clause-bytes : goal.returns-in-Some-clause-bytes
 returns-in-Some-clause-bytes g c t =
     Answers-again c.in-Some.answer c.args.self.now.ahead _ _ (c.self.invariant.stops c.in-Some.answer c.in-Some.is)
-    (λ is. subst (λ reader. IsTooLong reader.ahead) c.self.view_is (c.self.invariant.too_long (c.in-Some.is ∙ ap Some is)))
+    (subst (λ reader. Leaves reader.line reader.ahead c.in-Some.answer) c.self.view_is (c.self.invariant.leaves c.in-Some.answer c.in-Some.is))
+
+pub returns-in-Some-clause-leaves : goal.returns-in-Some-clause-leaves
+returns-in-Some-clause-leaves g c =
+    subst (λ reader. Leaves reader.line reader.ahead c.in-Some.answer) c.self.view_is (c.self.invariant.leaves c.in-Some.answer c.in-Some.is)
 
 pub returns-in-LineEnd-clause-bytes : goal.returns-in-LineEnd-clause-bytes
 returns-in-LineEnd-clause-bytes g c t =

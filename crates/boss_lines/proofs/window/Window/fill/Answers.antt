@@ -1,4 +1,4 @@
-use Rattle.std.proofs.Common.{rules, ◌≡◌, ◌+◌, ◌-◌, ◌++◌, length, take, drop, ◌∙◌, ap, arith}
+use Rattle.std.proofs.Common.{rules, ◌+◌, take, drop, ◌∙◌, ap, arith}
 use Rattle.std.proofs.lemmas.List.{with_items_is, length-drop}
 use Rattle.boss_outside.specs.Streams.{count_of}
 use Rattle.boss_lines.proofs.WindowLemmas.{held-read, Adds-read, append-read}
