@@ -3,3 +3,4 @@ pub mod Links
 pub mod Firsts
 pub mod Least
 pub mod Wanting
+pub mod Rounds

@@ -1,5 +1,5 @@
-use Rattle.std.specs.Prelude.{ℕ, ◌+◌, ◌%◌, ◌^◌, ◌==◌, nat_le, ℤ, pos, Bool, true, false, not, ◌&&◌, if◌then◌else◌, List, [], ◌∷◌, ◌++◌, map, filter, Option, slice_get, slice_set, unwrap_or}
-use Rattle.std.specs.List.{enumerate_from}
+use Rattle.std.specs.Prelude.{ℕ, ◌+◌, ◌%◌, ◌^◌, ◌==◌, nat_le, ℤ, pos, Bool, true, false, not, ◌&&◌, if◌then◌else◌, List, [], ◌∷◌, ◌++◌, map, filter, length, Option, slice_get, slice_set, unwrap_or}
+use Rattle.std.specs.List.{enumerate_from, range_with_len}
 use Rattle.std.specs.Option.{option_map_or}
 use Rattle.std.specs.Ordering.{int_eq}
 use Rattle.boss_model.specs.declared.answer.Mark.{Mark}
@@ -9,7 +9,7 @@ use Rattle.boss_marks.specs.declared.proxy.Reported.TheVariants as reported
 use Rattle.boss_marks.specs.declared.marks.Want.{Want}
 use Rattle.boss_marks.specs.Line.{member, without}
 use Rattle.boss_marks.specs.Wants.{first_of}
-use Rattle.boss_marks.specs.Proxy.{Proxy, fresh, recommand, report_of, after_report, is_due, retried}
+use Rattle.boss_marks.specs.Proxy.{Proxy, fresh, recommand, report_of, after_report, is_due, pending, retried}
 
 -- each point's driver and where its device stands, and the points that want their device to be written, in order of
 -- arrival
@@ -30,6 +30,14 @@ wanted_last point wants = without point wants ++ point ∷ []
 
 abbrev pub wanted : ℕ → Proxy → Marks → Marks
 wanted point proxy marks = record marks { proxies = slice_set marks.proxies point proxy; wants = wanted_last point marks.wants }
+
+-- every point wants its device to be written at its default
+abbrev pub opened : List (ℕ × ℤ) → Marks
+opened points = record {
+  drivers = map (λ point. point.0) points;
+  proxies = map (λ point. fresh point.1) points;
+  wants = range_with_len 0 (length points);
+}
 
 -- the point is told its target as if its device had not been told anything yet
 abbrev pub started : ℕ → ℤ → Marks → Marks
@@ -71,6 +79,9 @@ due n proxies = map (λ place. place.0) (filter (λ place. is_due n place.1) (en
 -- these points stand last among the wants; an older want of theirs is taken out
 abbrev pub wanted_anew : List ℕ → List ℕ → List ℕ
 wanted_anew points wants = filter (λ want. not (member want points)) wants ++ points
+
+abbrev pub retried_at : ℕ → ℕ → Marks → Marks
+retried_at point n marks = if is_due n (proxy_of marks point) then wanted point (pending (proxy_of marks point)) marks else marks
 
 abbrev pub retried_all : ℕ → Marks → Marks
 retried_all n marks = record marks { proxies = map (retried n) marks.proxies; wants = wanted_anew (due n marks.proxies) marks.wants }

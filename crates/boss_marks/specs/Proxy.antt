@@ -43,5 +43,9 @@ after_report ok n proxy = if ok then record proxy { mark = Settled } else record
 abbrev pub is_due : ℕ → Proxy → Bool
 is_due n proxy = is_failed proxy.mark && nat_le proxy.retry_at n
 
+-- the device is to be written again
+abbrev pub pending : Proxy → Proxy
+pending proxy = record proxy { mark = Pending }
+
 abbrev pub retried : ℕ → Proxy → Proxy
-retried n proxy = if is_due n proxy then record proxy { mark = Pending } else proxy
+retried n proxy = if is_due n proxy then pending proxy else proxy

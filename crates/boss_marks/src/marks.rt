@@ -1,9 +1,7 @@
-ghost use Rattle.std.specs.Prelude.{◌≡◌, ◌<◌, ◌≤◌, ◌^◌, length, map, IfOk};
+ghost use Rattle.std.specs.Prelude.{◌≡◌, ◌<◌, ◌≤◌, ◌^◌, length, IfOk};
 ghost use Rattle.std.specs.Option.{option_map};
-ghost use Rattle.std.specs.List.{range_with_len};
-ghost use Rattle.boss_marks.specs.Proxy.{fresh};
 ghost use Rattle.boss_marks.specs.Wants.{least_wanting};
-ghost use Rattle.boss_marks.specs.Marks.{proxy_of, started, settled, want_of, first_want, handed_out, answer_to, after_reporting, retried_all};
+ghost use Rattle.boss_marks.specs.Marks.{proxy_of, opened, started, settled, want_of, first_want, handed_out, answer_to, after_reporting, retried_at, retried_all};
 
 use crate::proxy::{Proxy, Reported};
 use crate::wants::Wants;
@@ -30,12 +28,126 @@ pub struct Marks {
 }
 
 impl Model for Marks {
-    ghost use Rattle.std.specs.Prelude.{◌≡◌, length};
+    ghost use Rattle.std.specs.Prelude.{◌≡◌, ◌≤◌, ◌^◌, length};
     ghost use Rattle.boss_marks.specs.Marks.{Marks as Devices};
 
     ghost Value = { Devices };
 
     ghost view = { λ m. record { drivers = m.wants.drivers; proxies = m.proxies.items; wants = m.wants.points } };
 
-    ghost invariant = { λ m. length m.proxies.items ≡ length m.wants.drivers };
+    ghost invariant = { λ m. (length m.proxies.items ≡ length m.wants.drivers) × (length m.proxies.items ≤ 2 ^ 32) };
+}
+
+impl Marks {
+    /// The points with these drivers and Relinquish_Defaults (ASHRAE 135, clause 19.2), each of which wants its device to
+    /// be written at the default. There may be 2^32.
+    pub fn new(alloc: Global, points: &Items<(DriverId, i64)>) -> Result<Marks, NoMemory>
+        requires { length points.now ≤ 2 ^ 32 }
+        ensures { IfOk result (λ marks. marks ≡ opened points.now) }
+    {
+        let count = points.slice().len();
+        let mut drivers = Vec::with_capacity(alloc, count)?;
+        let mut proxies = Vec::with_capacity(alloc, count)?;
+        for (driver, default) in points.slice() {
+            drivers.push_reserved(*driver);
+            proxies.push_reserved(Proxy::new(*default));
+        }
+        let mut wants = Wants::new(alloc, drivers)?;
+        for point in 0..count {
+            wants.put_last(PointId(point as u32));
+        }
+        Ok(Marks { proxies, wants })
+    }
+
+    /// The point's device is to be told this target as if it had not been told anything yet: as version 1, which has not
+    /// failed. It takes no memory.
+    pub fn start(&mut self, point: PointId, target: i64)
+        requires { point < length self.old.drivers }
+        ensures { self.new ≡ started point target self.old }
+    {
+        self.proxies[point.0 as usize] = Proxy::new(target);
+        self.wants.put_last(point);
+    }
+
+    /// The point's device is to be told this target, as a new version, unless it is the commanded value. It takes no
+    /// memory.
+    pub fn settle(&mut self, point: PointId, target: i64)
+        requires { point < length self.old.drivers }
+        ensures { self.new ≡ settled point target self.old }
+    {
+        let place = point.0 as usize;
+        if self.proxies[place].commanded() == target {
+            return;
+        }
+        self.proxies[place].command(target);
+        self.wants.put_last(point);
+    }
+
+    /// The driver's first want, which is handed out; none where the driver has none. It takes no memory.
+    pub fn next(&mut self, driver: DriverId) -> Option<Want>
+        ensures want { result ≡ option_map (want_of self.old) (first_want driver self.old) }
+        ensures after { self.new ≡ handed_out driver self.old }
+    {
+        let point = self.wants.first(driver)?;
+        self.wants.remove(point);
+        let proxy = &self.proxies[point.0 as usize];
+        Some(Want {
+            point,
+            version: proxy.version(),
+            value: proxy.commanded(),
+        })
+    }
+
+    /// What a driver says at moment `n`, at most 2^60, of its write of this version: whether the device took it. A failed
+    /// write is tried again 5,000 milliseconds later. A report of another version, or of a point that is to be written
+    /// anew, changes nothing. It takes no memory.
+    pub fn report(&mut self, point: PointId, version: u64, ok: bool, n: u64) -> Reported
+        requires point { point < length self.old.drivers }
+        requires moment { n ≤ 2 ^ 60 }
+        ensures answer { result ≡ answer_to point version ok self.old }
+        ensures after { self.new ≡ after_reporting point version ok n self.old }
+    {
+        let place = point.0 as usize;
+        if self.proxies[place].version() != version || self.wants.contains(point) {
+            return Reported::Old;
+        }
+        self.proxies[place].report(ok, n)
+    }
+
+    /// The points whose failed write is due at moment `n` want their devices to be written again, by rising point. It
+    /// takes no memory.
+    pub fn retry_due(&mut self, n: u64)
+        ensures { self.new ≡ retried_all n self.old }
+    {
+        for point in 0..self.proxies.len() {
+            self.retry_if_due(PointId(point as u32), n);
+        }
+    }
+
+    /// The point's device is to be written again if its failed write is due at moment `n`.
+    fn retry_if_due(&mut self, point: PointId, n: u64)
+        requires { point < length self.old.drivers }
+        ensures { self.new ≡ retried_at point n self.old }
+    {
+        let place = point.0 as usize;
+        if self.proxies[place].is_due(n) {
+            self.proxies[place].retry();
+            self.wants.put_last(point);
+        }
+    }
+
+    /// How far the point's device has come.
+    pub fn mark(&self, point: PointId) -> Mark
+        requires { point < length self.now.drivers }
+        ensures { result ≡ (proxy_of self.now point).mark }
+    {
+        self.proxies[point.0 as usize].mark()
+    }
+
+    /// The least driver that has a want.
+    pub fn wanting(&self) -> Option<DriverId>
+        ensures { result ≡ least_wanting self.now.drivers self.now.wants }
+    {
+        self.wants.least_driver()
+    }
 }

@@ -1,5 +1,5 @@
 ghost use Rattle.std.specs.Prelude.{◌≡◌, ◌≤◌, ◌^◌};
-ghost use Rattle.boss_marks.specs.Proxy.{fresh, recommand, report_of, after_report, is_due, retried};
+ghost use Rattle.boss_marks.specs.Proxy.{fresh, recommand, report_of, after_report, is_due, pending};
 
 use boss_model::Mark;
 use std::marker::Model;
@@ -103,15 +103,17 @@ impl Proxy {
         answer
     }
 
-    /// Whether a failed write was due at moment `n`, which then is pending again.
-    pub fn retry(&mut self, n: u64) -> bool
-        ensures due { result ≡ is_due n self.old }
-        ensures after { self.new ≡ retried n self.old }
+    /// Whether the device's write failed and is to be tried again at moment `n`.
+    pub fn is_due(&self, n: u64) -> bool
+        ensures { result ≡ is_due n self.now }
     {
-        let due = self.mark == Mark::Failed && self.retry_at <= n;
-        if due {
-            self.mark = Mark::Pending;
-        }
-        due
+        self.mark == Mark::Failed && self.retry_at <= n
+    }
+
+    /// The device is to be written again.
+    pub fn retry(&mut self)
+        ensures { self.new ≡ pending self.old }
+    {
+        self.mark = Mark::Pending;
     }
 }
