@@ -1,7 +1,6 @@
 -- The first of some points that passes a test, where a point is taken out or comes last.
-use Rattle.std.proofs.Common.{◌≡◌, ℕ, ◌<◌, ◌≤◌, ◌==◌, Bool, true, false, not, ◌||◌, ◌&&◌, cond, List, [], ◌∷◌, ◌++◌, length, Option, Some, None, refl, sym, ◌∙◌, ap, ⊎_elim, arith}
-use Rattle.std.specs.Prelude.{◌⊎◌, filter, find, slice_get, unwrap_or}
-use Rattle.std.specs.List.{list_any}
+use Rattle.std.proofs.Common.{◌≡◌, ℕ, ◌==◌, Bool, true, false, List, [], ◌∷◌, ◌++◌, Option, Some, None, refl, sym, ⊎_elim, arith}
+use Rattle.std.specs.Prelude.{find, slice_get, unwrap_or}
 use Rattle.std.proofs.lemmas.Bool.{cases_eq, cases_Bool}
 use Rattle.std.proofs.lemmas.Grind.{common_steps}
 use Rattle.boss_marks.specs.Line.{member, without, behind, Once}
@@ -16,9 +15,9 @@ pub member-behind : (point other : ℕ) (points : List ℕ) → member other (be
 member-behind point other [] inside = inside
 member-behind point other (x ∷ xs) inside =
     ⊎_elim
-      (λ here. grind (arith, common_steps))
-      (λ further. grind (arith, common_steps, member-behind point other xs))
-      (cases_eq x point)
+    (λ here. grind (arith, common_steps))
+    (λ further. grind (arith, common_steps, member-behind point other xs))
+    (cases_eq x point)
 
 pub member-first : (point : ℕ) (points : List ℕ) → slice_get points 0 ≡ Some point → member point points ≡ true
 member-first point [] first = absurd (grind arith)
@@ -31,11 +30,11 @@ pub onward-behind : (point : ℕ) (points : List ℕ) → Once points → onward
 onward-behind point [] once = refl
 onward-behind point (x ∷ xs) once =
     ⊎_elim
-      (λ here. onward_here point x xs here once.0)
-      (λ further.
-        let apart : (x == point) ≡ false = grind (arith, common_steps) in
-        rw apart (onward_further point x xs (slice_get (behind point xs) 0) refl once.0 (onward-behind point xs once.1)))
-      (cases_eq x point)
+    (λ here. onward_here point x xs here once.0)
+    (λ further.
+    let apart : (x == point) ≡ false = grind (arith, common_steps) in
+    rw apart (onward_further point x xs (slice_get (behind point xs) 0) refl once.0 (onward-behind point xs once.1)))
+    (cases_eq x point)
   where
     onward_here : (point x : ℕ) (xs : List ℕ) → x ≡ point → member x xs ≡ false → onward (slice_get (behind point (x ∷ xs)) 0) (x ∷ xs) ≡ behind point (x ∷ xs)
     onward_here point x [] same outside = grind (arith, common_steps)
@@ -51,28 +50,28 @@ module _ (test : ℕ → Bool) where
   find-member [] point found = absurd (grind arith)
   find-member (x ∷ xs) point found =
       ⊎_elim
-        (λ passes. grind (arith, common_steps))
-        (λ fails. let rest = find-member xs point (grind (arith, common_steps)) in (grind (arith, common_steps, rest.0), rest.1))
-        (cases_Bool (test x))
+      (λ passes. grind (arith, common_steps))
+      (λ fails. let rest = find-member xs point (grind (arith, common_steps)) in (grind (arith, common_steps, rest.0), rest.1))
+      (cases_Bool (test x))
 
   pub find-without_other : (point : ℕ) (points : List ℕ) → (find test points ≡ Some point → ⊥) → find test (without point points) ≡ find test points
   find-without_other point [] other = refl
   find-without_other point (x ∷ xs) other =
       ⊎_elim
-        (λ passes. grind (arith, common_steps))
-        (λ fails. let rest : find test (without point xs) ≡ find test xs = find-without_other point xs (λ found. other (grind (arith, common_steps))) in grind (arith, common_steps))
-        (cases_Bool (test x))
+      (λ passes. grind (arith, common_steps))
+      (λ fails. let rest : find test (without point xs) ≡ find test xs = find-without_other point xs (λ found. other (grind (arith, common_steps))) in grind (arith, common_steps))
+      (cases_Bool (test x))
 
   pub find-without_first : (point : ℕ) (points : List ℕ) → Once points → find test points ≡ Some point → find test (without point points) ≡ find test (behind point points)
   find-without_first point [] once found = refl
   find-without_first point (x ∷ xs) once found =
       ⊎_elim
-        (λ here. grind (arith, common_steps, once.0, without_outside point xs))
-        (λ further.
-          let fails : test x ≡ false = grind (arith, common_steps) in
-          let rest : find test (without point xs) ≡ find test (behind point xs) = find-without_first point xs once.1 (grind (arith, common_steps)) in
-          grind (arith, common_steps))
-        (cases_eq x point)
+      (λ here. grind (arith, common_steps, once.0, without_outside point xs))
+      (λ further.
+      let fails : test x ≡ false = grind (arith, common_steps) in
+      let rest : find test (without point xs) ≡ find test (behind point xs) = find-without_first point xs once.1 (grind (arith, common_steps)) in
+      grind (arith, common_steps))
+      (cases_eq x point)
 
   pub find-push_yes : (points : List ℕ) (point : ℕ) → test point ≡ true → find test (points ++ point ∷ []) ≡ Some (unwrap_or (find test points) point)
   find-push_yes [] point passes = grind (arith, common_steps)

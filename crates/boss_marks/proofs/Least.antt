@@ -1,8 +1,8 @@
 -- The least of some numbers, by which of them there are.
-use Rattle.std.proofs.Common.{◌≡◌, ℕ, suc, ◌+◌, ◌-◌, ◌<◌, ◌≤◌, ◌==◌, Bool, true, false, ◌||◌, List, [], ◌∷◌, length, map, get_or, Option, Some, None, refl, sym, ◌∙◌, ap, ⊎_elim, arith}
+use Rattle.std.proofs.Common.{◌≡◌, ℕ, suc, ◌+◌, ◌-◌, ◌<◌, ◌≤◌, ◌==◌, true, false, List, [], ◌∷◌, map, get_or, Option, Some, None, refl, sym, ◌∙◌, ap, ⊎_elim, arith}
 use Rattle.std.specs.Prelude.{find, is_some, nat_lt}
-use Rattle.std.specs.List.{list_any, position_from}
-use Rattle.std.proofs.lemmas.Bool.{cases_eq, cases_lt, cases_Bool}
+use Rattle.std.specs.List.{position_from}
+use Rattle.std.proofs.lemmas.Bool.{cases_eq, cases_lt}
 use Rattle.std.proofs.lemmas.Grind.{common_steps}
 use Rattle.boss_model.specs.Order.{least, lesser}
 use Rattle.boss_marks.specs.Line.{member}
@@ -13,15 +13,17 @@ pub record IsLeast (values : List ℕ) (value : ℕ) : Type 0 where
   pub below : (other : ℕ) → member other values ≡ true → value ≤ other
 
 IsLeast-lesser : (value best : ℕ) (values : List ℕ) → IsLeast values best → IsLeast (value ∷ values) (lesser (λ v. v) value (Some best))
-IsLeast-lesser value best values is =
-    ⊎_elim
-      (λ less.
+IsLeast-lesser value best values is = ⊎_elim less more (cases_lt best value)
+  where
+    less : best < value → IsLeast (value ∷ values) (lesser (λ v. v) value (Some best))
+    less below =
         let test : nat_lt best value ≡ true = grind (arith, common_steps) in
-        rw test (record { inside = grind (arith, common_steps, is.inside); below = λ other inside. grind (arith, common_steps, is.below other) }))
-      (λ more.
+        rw test (record { inside = grind (arith, common_steps, is.inside); below = λ other inside. grind (arith, common_steps, is.below other) })
+
+    more : value ≤ best → IsLeast (value ∷ values) (lesser (λ v. v) value (Some best))
+    more above =
         let test : nat_lt best value ≡ false = grind (arith, common_steps) in
-        rw test (record { inside = grind (arith, common_steps); below = λ other inside. grind (arith, common_steps, is.below other) }))
-      (cases_lt best value)
+        rw test (record { inside = grind (arith, common_steps); below = λ other inside. grind (arith, common_steps, is.below other) })
 
 pub IsLeast-least : (value : ℕ) (values : List ℕ) → (best : ℕ) × (least (λ v. v) (value ∷ values) ≡ Some best) × IsLeast (value ∷ values) best
 IsLeast-least value [] = (value, refl, record { inside = grind (arith, common_steps); below = λ other inside. grind (arith, common_steps) })
@@ -52,11 +54,11 @@ position-least [] from (v ∷ vs) filled above =
 position-least (None ∷ places) from values filled above =
     let empty : member from values ≡ false = grind (arith, common_steps, filled from) in
     position-least places (from + 1) values
-      (λ place further.
-        let next : place - from ≡ suc (place - (from + 1)) = omega arith in
-        let there : is_some (get_or (None ∷ places) (place - from) None) ≡ member place values = filled place (omega arith) in
-        rw next at there)
-      (λ value inside. not_first from value values (above value inside) inside empty)
+    (λ place further.
+    let next : place - from ≡ suc (place - (from + 1)) = omega arith in
+    let there : is_some (get_or (None ∷ places) (place - from) None) ≡ member place values = filled place (omega arith) in
+    rw next at there)
+    (λ value inside. not_first from value values (above value inside) inside empty)
 position-least (Some x ∷ places) from values filled above =
     let first : from - from ≡ 0 = omega arith in
     let there : is_some (get_or (Some x ∷ places) (from - from) None) ≡ member from values = filled from (omega arith) in

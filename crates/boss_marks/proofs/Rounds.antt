@@ -1,10 +1,10 @@
 -- Rounds over all points, one by one: the wants at the start, and the failed writes that are due.
-use Rattle.std.proofs.Common.{◌≡◌, ℕ, zero, suc, ◌+◌, ◌-◌, ◌<◌, ◌≤◌, ◌==◌, ℤ, pos, Bool, true, false, not, ◌||◌, ◌&&◌, cond, List, [], ◌∷◌, ◌++◌, length, map, take, drop, set, get_or, Some, refl, sym, ◌∙◌, ap, subst, ⊎_elim, arith}
-use Rattle.std.specs.Prelude.{filter, slice_get}
-use Rattle.std.specs.List.{enumerate_from, range_with_len, list_any}
-use Rattle.std.proofs.lemmas.Bool.{cases_eq, cases_Bool}
+use Rattle.std.proofs.Common.{◌≡◌, ℕ, zero, suc, ◌+◌, ◌<◌, ◌≤◌, pos, false, not, cond, List, [], ◌∷◌, ◌++◌, length, map, take, drop, set, get_or, refl, sym, ◌∙◌, ap, ⊎_elim, arith}
+use Rattle.std.specs.Prelude.{filter}
+use Rattle.std.specs.List.{enumerate_from, range_with_len}
+use Rattle.std.proofs.lemmas.Bool.{cases_Bool}
 use Rattle.std.proofs.lemmas.Grind.{common_steps}
-use Rattle.std.proofs.lemmas.List.{append_assoc, append-nil, take_more, drop_more, set_at, length-append, length-map, length-take-le, take_all, drop_all, map_push, get_or_at}
+use Rattle.std.proofs.lemmas.List.{append_assoc, append-nil, take_more, drop_more, set_at, length-map, length-take-le, take_all, drop_all, map_push, get_or_at}
 use Rattle.std.proofs.lemmas.Option.{unwrap_or-slice_get}
 use Rattle.boss_marks.specs.Line.{member, without}
 use Rattle.boss_marks.specs.Proxy.{Proxy, fresh, is_due, pending, retried}
@@ -58,7 +58,7 @@ without-append point (x ∷ xs) ys = grind (arith, common_steps, without-append 
 wanted_anew-push : (point : ℕ) (points wants : List ℕ) → member point points ≡ false → wanted_last point (wanted_anew points wants) ≡ wanted_anew (points ++ point ∷ []) wants
 wanted_anew-push point points wants outside =
     rw (without-append point (filter (λ want. not (member want points)) wants) points, filter-without point points wants, without_outside point points outside)
-      (append_assoc (filter (λ want. not (member want (points ++ point ∷ []))) wants) points (point ∷ []))
+    (append_assoc (filter (λ want. not (member want (points ++ point ∷ []))) wants) points (point ∷ []))
 
 -- the state after the points below `count` had their turn
 abbrev pub retried_below : ℕ → ℕ → Marks → Marks
@@ -103,20 +103,20 @@ turn_next n count drivers front proxy back wants is =
     let place : 0 + length front ≡ count = omega arith in
     let low : 0 + length front ≤ count = omega arith in
     ⊎_elim
-      (λ passes.
-        let due_next : due n (front ++ proxy ∷ []) ≡ due n front ++ count ∷ [] = pushed ∙ ap (λ b. due n front ++ cond b ((0 + length front) ∷ []) []) passes ∙ ap (λ p. due n front ++ p ∷ []) place in
-        let again : retried n proxy ≡ pending proxy = ap (λ b. cond b (pending proxy) proxy) passes in
-        let proxies : set (map (retried n) front ++ proxy ∷ back) count (pending proxy) ≡ map (retried n) (front ++ proxy ∷ []) ++ back =
-          set_at (map (retried n) front) proxy back (pending proxy) count length_is ∙ sym (map_next n front proxy back ∙ ap (λ p. map (retried n) front ++ p ∷ back) again) in
-        let last : wanted_last count (wanted_anew (due n front) wants) ≡ wanted_anew (due n (front ++ proxy ∷ [])) wants =
-          wanted_anew-push count (due n front) wants (due_from-below n 0 front count low) ∙ sym (ap (λ points. wanted_anew points wants) due_next) in
-        rw passes (same_marks drivers _ _ _ _ proxies last))
-      (λ fails.
-        let due_same : due n (front ++ proxy ∷ []) ≡ due n front = pushed ∙ ap (λ b. due n front ++ cond b ((0 + length front) ∷ []) []) fails ∙ append-nil (due n front) in
-        let stays : retried n proxy ≡ proxy = ap (λ b. cond b (pending proxy) proxy) fails in
-        let proxies : map (retried n) front ++ proxy ∷ back ≡ map (retried n) (front ++ proxy ∷ []) ++ back = sym (map_next n front proxy back ∙ ap (λ p. map (retried n) front ++ p ∷ back) stays) in
-        rw fails (same_marks drivers _ _ _ _ proxies (sym (ap (λ points. wanted_anew points wants) due_same))))
-      (cases_Bool (is_due n proxy))
+    (λ passes.
+    let due_next : due n (front ++ proxy ∷ []) ≡ due n front ++ count ∷ [] = pushed ∙ ap (λ b. due n front ++ cond b ((0 + length front) ∷ []) []) passes ∙ ap (λ p. due n front ++ p ∷ []) place in
+    let again : retried n proxy ≡ pending proxy = ap (λ b. cond b (pending proxy) proxy) passes in
+    let proxies : set (map (retried n) front ++ proxy ∷ back) count (pending proxy) ≡ map (retried n) (front ++ proxy ∷ []) ++ back =
+    set_at (map (retried n) front) proxy back (pending proxy) count length_is ∙ sym (map_next n front proxy back ∙ ap (λ p. map (retried n) front ++ p ∷ back) again) in
+    let last : wanted_last count (wanted_anew (due n front) wants) ≡ wanted_anew (due n (front ++ proxy ∷ [])) wants =
+    wanted_anew-push count (due n front) wants (due_from-below n 0 front count low) ∙ sym (ap (λ points. wanted_anew points wants) due_next) in
+    rw passes (same_marks drivers _ _ _ _ proxies last))
+    (λ fails.
+    let due_same : due n (front ++ proxy ∷ []) ≡ due n front = pushed ∙ ap (λ b. due n front ++ cond b ((0 + length front) ∷ []) []) fails ∙ append-nil (due n front) in
+    let stays : retried n proxy ≡ proxy = ap (λ b. cond b (pending proxy) proxy) fails in
+    let proxies : map (retried n) front ++ proxy ∷ back ≡ map (retried n) (front ++ proxy ∷ []) ++ back = sym (map_next n front proxy back ∙ ap (λ p. map (retried n) front ++ p ∷ back) stays) in
+    rw fails (same_marks drivers _ _ _ _ proxies (sym (ap (λ points. wanted_anew points wants) due_same))))
+    (cases_Bool (is_due n proxy))
 
 pub retried_below-more : (count n : ℕ) (marks : Marks) → count < length marks.proxies → retried_at count n (retried_below count n marks) ≡ retried_below (count + 1) n marks
 retried_below-more count n marks more =
@@ -132,9 +132,9 @@ retried_below-more count n marks more =
     } in
     ap (λ left. retried_at count n (with_proxies (take count marks.proxies) left)) rest
     ∙ (retried_at-turn n count proxy (with_proxies (take count marks.proxies) (proxy ∷ back))
-        (proxy_at marks.drivers (wanted_anew (due n (take count marks.proxies)) marks.wants) (map (retried n) (take count marks.proxies)) proxy back count (length-map (take count marks.proxies) (retried n) ∙ is))
-      ∙ (turn_next n count marks.drivers (take count marks.proxies) proxy back marks.wants is
-        ∙ ap (λ done. with_proxies done back) (sym front)))
+    (proxy_at marks.drivers (wanted_anew (due n (take count marks.proxies)) marks.wants) (map (retried n) (take count marks.proxies)) proxy back count (length-map (take count marks.proxies) (retried n) ∙ is))
+    ∙ (turn_next n count marks.drivers (take count marks.proxies) proxy back marks.wants is
+    ∙ ap (λ done. with_proxies done back) (sym front)))
 
 pub retried_below-all : (count n : ℕ) (marks : Marks) → length marks.proxies ≤ count → retried_below count n marks ≡ retried_all n marks
 retried_below-all count n marks all = rw (take_all count marks.proxies all, drop_all count marks.proxies all, append-nil) refl

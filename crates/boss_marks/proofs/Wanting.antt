@@ -1,14 +1,13 @@
 -- Wants with each driver's first one: what is read from them, and what they are after a want was taken out or put last.
-use Rattle.std.proofs.Common.{◌≡◌, ◌≢◌, ℕ, ◌-◌, ◌<◌, ◌≤◌, ◌==◌, Bool, true, false, not, ◌||◌, ◌&&◌, List, [], ◌∷◌, ◌++◌, length, map, set, get_or, Option, Some, None, refl, sym, ◌∙◌, ap, ⊎_elim, arith}
-use Rattle.std.specs.Prelude.{find, filter, is_some, unwrap_or, slice_get, slice_index, IfSome}
+use Rattle.std.proofs.Common.{◌≡◌, ◌≢◌, ℕ, ◌-◌, ◌<◌, ◌==◌, Bool, true, false, List, [], ◌∷◌, ◌++◌, length, map, set, get_or, Option, Some, None, sym, ◌∙◌, ap, ⊎_elim, arith}
+use Rattle.std.specs.Prelude.{is_some, unwrap_or, slice_get, slice_index, IfSome}
 use Rattle.std.specs.List.{position_from}
-use Rattle.std.proofs.lemmas.Bool.{cases_eq, cases_Bool}
+use Rattle.std.proofs.lemmas.Bool.{cases_eq}
 use Rattle.std.proofs.lemmas.Grind.{common_steps}
 use Rattle.std.proofs.lemmas.List.{length-set, get_or_read, get_or-set_same, get_or-set_other}
-use Rattle.boss_model.specs.Order.{least}
-use Rattle.boss_marks.specs.Line.{Line, member, without, behind, Once}
+use Rattle.boss_marks.specs.Line.{Line, member, without, behind}
 use Rattle.boss_marks.specs.Wants.{first_of, least_wanting, IsWants}
-use Rattle.boss_marks.proofs.Members.{member-append, member-without, Once-push, Once-without, without_outside}
+use Rattle.boss_marks.proofs.Members.{member-append, member-without, Once-push, Once-without}
 use Rattle.boss_marks.proofs.Firsts.{onward, onward-behind, member-next, find-member, find-without_other, find-without_first, find-push_yes, find-push_no}
 use Rattle.boss_marks.proofs.Least.{position-least, is_some-find}
 
@@ -67,45 +66,45 @@ module _ {drivers : List ℕ} {line : Line} {firsts : List (Option ℕ)} (wants 
   pub IsWants-removed : (driver point : ℕ) (first : Option ℕ) → member point line.points ≡ true → driver ≡ slice_index drivers point → first ≡ first_of drivers driver (without point line.points)
       → IsWants drivers (record line { points = without point line.points }) (set firsts driver first)
   IsWants-removed driver point first inside is_driver is_first =
-    let room : driver < length firsts = rw is_driver (wants.served point (wants.known point inside)) in
-    let here : get_or (set firsts driver first) driver None ≡ first_of drivers driver (without point line.points) = get_or-set_same firsts driver first None room ∙ is_first in
-    record {
-    sized = wants.sized;
-    once = Once-without point line.points wants.once;
-    known = λ other stays. wants.known other (grind (arith, common_steps, member-without other point line.points));
-    served = λ other known. rw length-set (wants.served other known);
-    few = rw length-set wants.few;
-    kept = λ other. ⊎_elim
-      (λ same. rw same here)
-      (λ apart. get_or-set_other firsts driver other first None apart
-        ∙ (wants.kept other ∙ sym (find-without_other (is_of drivers other) point line.points (other_driver other point (λ e. apart (sym (is_driver ∙ e)))))))
-      (cases_eq other driver);
-  }
+      let room : driver < length firsts = rw is_driver (wants.served point (wants.known point inside)) in
+      let here : get_or (set firsts driver first) driver None ≡ first_of drivers driver (without point line.points) = get_or-set_same firsts driver first None room ∙ is_first in
+      record {
+        sized = wants.sized;
+        once = Once-without point line.points wants.once;
+        known = λ other stays. wants.known other (grind (arith, common_steps, member-without other point line.points));
+        served = λ other known. rw length-set (wants.served other known);
+        few = rw length-set wants.few;
+        kept = λ other. ⊎_elim
+            (λ same. rw same here)
+            (λ apart. get_or-set_other firsts driver other first None apart
+            ∙ (wants.kept other ∙ sym (find-without_other (is_of drivers other) point line.points (other_driver other point (λ e. apart (sym (is_driver ∙ e)))))))
+            (cases_eq other driver);
+      }
 
   pub IsWants-pushed : (driver point first : ℕ) → point < length drivers → member point line.points ≡ false → driver ≡ slice_index drivers point → first ≡ unwrap_or (get_or firsts driver None) point
       → IsWants drivers (record line { points = line.points ++ point ∷ [] }) (set firsts driver (Some first))
   IsWants-pushed driver point first known outside is_driver is_first =
-    let room : driver < length firsts = rw is_driver (wants.served point known) in
-    let own_test : is_of drivers driver point ≡ true = grind (arith, common_steps, is_driver) in
-    let is : first ≡ unwrap_or (first_of drivers driver line.points) point = is_first ∙ ap (λ o. unwrap_or o point) (wants.kept driver) in
-    let here : get_or (set firsts driver (Some first)) driver None ≡ first_of drivers driver (line.points ++ point ∷ []) =
+      let room : driver < length firsts = rw is_driver (wants.served point known) in
+      let own_test : is_of drivers driver point ≡ true = grind (arith, common_steps, is_driver) in
+      let is : first ≡ unwrap_or (first_of drivers driver line.points) point = is_first ∙ ap (λ o. unwrap_or o point) (wants.kept driver) in
+      let here : get_or (set firsts driver (Some first)) driver None ≡ first_of drivers driver (line.points ++ point ∷ []) =
       get_or-set_same firsts driver (Some first) None room ∙ (ap Some is ∙ sym (find-push_yes (is_of drivers driver) line.points point own_test)) in
-    let other_test : (other : ℕ) → (other ≡ driver → ⊥) → is_of drivers other point ≡ false = λ other apart. grind (arith, common_steps, is_driver, apart) in
-    record {
-    sized = wants.sized;
-    once = Once-push line.points point wants.once outside;
-    known = λ other stays. grind (arith, common_steps, member-append other line.points (point ∷ []), wants.known other, known);
-    served = λ other known. rw length-set (wants.served other known);
-    few = rw length-set wants.few;
-    kept = λ other. ⊎_elim
-      (λ same. rw same here)
-      (λ apart. get_or-set_other firsts driver other (Some first) None apart ∙ (wants.kept other ∙ sym (find-push_no (is_of drivers other) line.points point (other_test other apart))))
-      (cases_eq other driver);
-  }
+      let other_test : (other : ℕ) → (other ≡ driver → ⊥) → is_of drivers other point ≡ false = λ other apart. grind (arith, common_steps, is_driver, apart) in
+      record {
+        sized = wants.sized;
+        once = Once-push line.points point wants.once outside;
+        known = λ other stays. grind (arith, common_steps, member-append other line.points (point ∷ []), wants.known other, known);
+        served = λ other known. rw length-set (wants.served other known);
+        few = rw length-set wants.few;
+        kept = λ other. ⊎_elim
+            (λ same. rw same here)
+            (λ apart. get_or-set_other firsts driver other (Some first) None apart ∙ (wants.kept other ∙ sym (find-push_no (is_of drivers other) line.points point (other_test other apart))))
+            (cases_eq other driver);
+      }
 
   pub least_first : position_from (λ first. is_some first) 0 firsts ≡ least_wanting drivers line.points
   least_first = position-least firsts 0 (map (λ point. slice_index drivers point) line.points)
-    (λ driver from.
+      (λ driver from.
       let same : driver - 0 ≡ driver = omega arith in
       rw same (ap (λ o. is_some o) (wants.kept driver) ∙ is_some-find (λ point. slice_index drivers point) driver line.points))
-    (λ driver inside. omega arith)
+      (λ driver inside. omega arith)

@@ -1,9 +1,7 @@
-use Rattle.std.specs.Prelude.{ℕ, ◌+◌, ◌%◌, ◌^◌, ◌==◌, nat_le, ℤ, pos, Bool, true, false, not, ◌&&◌, if◌then◌else◌, List, [], ◌∷◌, ◌++◌, map, filter, length, Option, slice_get, slice_set, unwrap_or}
+use Rattle.std.specs.Prelude.{ℕ, ◌==◌, ℤ, pos, Bool, not, ◌&&◌, if◌then◌else◌, List, [], ◌∷◌, ◌++◌, map, filter, length, Option, slice_get, slice_set, unwrap_or}
 use Rattle.std.specs.List.{enumerate_from, range_with_len}
 use Rattle.std.specs.Option.{option_map_or}
 use Rattle.std.specs.Ordering.{int_eq}
-use Rattle.boss_model.specs.declared.answer.Mark.{Mark}
-use Rattle.boss_model.specs.declared.answer.Mark.TheVariants.{Settled, Pending, Failed}
 use Rattle.boss_marks.specs.declared.proxy.Reported.{Reported}
 use Rattle.boss_marks.specs.declared.proxy.Reported.TheVariants as reported
 use Rattle.boss_marks.specs.declared.marks.Want.{Want}

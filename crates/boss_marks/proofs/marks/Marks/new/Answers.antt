@@ -1,4 +1,4 @@
-use Rattle.std.proofs.Common.{◌≡◌, sym, ◌∙◌, ap, arith}
+use Rattle.std.proofs.Common.{◌∙◌, ap}
 use Rattle.boss_marks.specs.Marks.{wanted_last}
 use Rattle.boss_marks.proofs.Rounds.{wanted_last-range}
 use Rattle.boss_marks.proofs.marks.Marks.new.Goals as goal

@@ -1,4 +1,4 @@
-use Rattle.std.proofs.Common.{◌≡◌, ◌≤◌, ◌^◌, length, map, take, vec_capacity}
+use Rattle.std.proofs.Common.{◌≡◌, ◌≤◌, map, take, vec_capacity}
 use Rattle.std.specs.List.{range_with_len}
 use Rattle.boss_marks.specs.Proxy.{fresh}
 use Rattle.boss_marks.proofs.marks.Marks.new.Given as goal

@@ -1,6 +1,4 @@
-use Rattle.std.proofs.Common.{◌≡◌, ◌<◌, ◌==◌, length, true, false, sym, ◌∙◌, ap, arith}
-use Rattle.std.specs.Prelude.{slice_index}
-use Rattle.std.proofs.lemmas.Grind.{common_steps}
+use Rattle.std.proofs.Common.{◌≡◌, ◌<◌, length, true, false, sym, ◌∙◌, ap, arith}
 use Rattle.boss_marks.specs.Line.{member}
 use Rattle.boss_marks.specs.Wants.{first_of}
 use Rattle.boss_marks.proofs.Firsts.{onward}

@@ -1,4 +1,4 @@
-use Rattle.std.proofs.Common.{◌≡◌, ◌<◌, List, ℕ, false, length, None, sym, ◌∙◌, ap, arith}
+use Rattle.std.proofs.Common.{◌≡◌, ◌<◌, false, length, ◌∙◌, ap}
 use Rattle.boss_marks.specs.Line.{member, without}
 use Rattle.boss_marks.proofs.Members.{member-without_same}
 use Rattle.boss_marks.proofs.Wanting.{read_first, IsWants-pushed}
@@ -16,6 +16,6 @@ invariant_of-self c =
     let outside : member c.args.point c.self.inside.line.points ≡ false = rw points (member-without_same c.args.point c.args.self.now.points) in
     let known : c.args.point < length c.self.inside.drivers.items = rw drivers c.requires in
     let read = read_first c.self.invariant c.point.inside.0 c.driver.inside.0 c.args.point c.index-driver.result.now c.index_mut-first.result.now
-      c.point.view_is known c.index-driver.ensures c.driver.view_is c.index_mut-first.ensures.value in
+    c.point.view_is known c.index-driver.ensures c.driver.view_is c.index_mut-first.ensures.value in
     let first = rw read.2 at c.unwrap_or.ensures in
     rw (c.push.ensures, c.driver.view_is) (IsWants-pushed c.self.invariant c.index-driver.result.now c.args.point c.unwrap_or.result known outside read.0 first)

@@ -1,4 +1,4 @@
-use Rattle.std.proofs.Common.{◌≡◌, false, sym, ◌∙◌, arith}
+use Rattle.std.proofs.Common.{◌≡◌, false, sym, ◌∙◌}
 use Rattle.boss_marks.specs.Line.{member}
 use Rattle.boss_marks.proofs.Members.{without_outside}
 use Rattle.boss_marks.proofs.Wanting.{read_at, IsWants-removed}
