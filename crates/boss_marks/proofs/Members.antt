@@ -56,12 +56,18 @@ pub member-without : (other point : ℕ) (xs : List ℕ) → member other (witho
 member-without other point [] = grind (arith, common_steps)
 member-without other point (x ∷ xs) = grind (arith, common_steps, member-without other point xs)
 
+pub member-without_same : (point : ℕ) (xs : List ℕ) → member point (without point xs) ≡ false
+member-without_same point xs = grind (arith, common_steps, member-without point point xs)
+
+cond_apart : (x y : ℕ) → (x ≡ y → ⊥) → (x == y) ≡ false
+cond_apart x y apart = grind (arith, common_steps)
+
 pub Once-without : (point : ℕ) (xs : List ℕ) → Once xs → Once (without point xs)
 Once-without point [] once = tt
 Once-without point (x ∷ xs) once =
     ⊎_elim
     (λ here. let same : (x == point) ≡ true = grind (arith, common_steps) in rw same (Once-without point xs once.1))
-    (λ further. let apart : (x == point) ≡ false = grind (arith, common_steps) in rw apart (grind (arith, common_steps, member-without x point xs, once.0), Once-without point xs once.1))
+    (λ further. let apart : (x == point) ≡ false = cond_apart x point further in rw apart (grind (arith, common_steps, member-without x point xs, once.0), Once-without point xs once.1))
     (cases_eq x point)
 
 -- a point that stands once does not stand before itself

@@ -1,1 +1,4 @@
 pub mod Line
+pub mod Wants
+pub mod Proxy
+pub mod Marks

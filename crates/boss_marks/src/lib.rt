@@ -2,3 +2,9 @@
 #![tactic(auto)]
 
 mod line;
+mod marks;
+mod proxy;
+mod wants;
+
+pub use marks::{Marks, Want};
+pub use proxy::Reported;

@@ -1,0 +1,237 @@
+ghost use Rattle.std.specs.Prelude.{◌≡◌, ◌<◌, ◌≤◌, ◌^◌, length, IfOk};
+ghost use Rattle.std.specs.Option.{option_map};
+ghost use Rattle.boss_marks.specs.Wants.{least_wanting};
+ghost use Rattle.boss_marks.specs.Marks.{proxy_of, opened, started, settled, want_of, first_want, handed_out, answer_to, after_reporting, retried_at, retried_all};
+
+use crate::proxy::{Proxy, Reported};
+use crate::wants::Wants;
+use boss_model::{DriverId, Items, Mark, NoMemory, PointId};
+use std::alloc::Global;
+use std::marker::Model;
+
+/// What a driver is to write: this value to the point's device. The report of it has to name this version.
+#[derive(Clone, Copy, Debug, PartialEq, Eq)]
+pub struct Want {
+    /// The point whose device is to be written.
+    pub point: PointId,
+    /// The version of the value: from 1, one more at each change of the point's target, modulo 2^64.
+    pub version: u64,
+    /// The value, in thousandths of the unit for an analog point, a state's number otherwise.
+    pub value: i64,
+}
+
+/// Where the devices of points stand, and which points want their device to be written, in order of arrival.
+#[derive(Drop)]
+pub struct Marks {
+    proxies: Vec<Proxy>,
+    wants: Wants,
+}
+
+impl Model for Marks {
+    ghost use Rattle.std.specs.Prelude.{◌≡◌, ◌≤◌, ◌^◌, length};
+    ghost use Rattle.boss_marks.specs.Marks.{Marks as Devices};
+
+    ghost Value = { Devices };
+
+    ghost view = { λ m. record { drivers = m.wants.drivers; proxies = m.proxies.items; wants = m.wants.points } };
+
+    ghost invariant = { λ m. (length m.proxies.items ≡ length m.wants.drivers) × (length m.proxies.items ≤ 2 ^ 32) };
+}
+
+impl Marks {
+    /// The points with these drivers and Relinquish_Defaults (ASHRAE 135, clause 19.2), each of which wants its device to
+    /// be written at the default. There may be 2^32.
+    pub fn new(alloc: Global, points: &Items<(DriverId, i64)>) -> Result<Marks, NoMemory>
+        requires { length points.now ≤ 2 ^ 32 }
+        ensures { IfOk result (λ marks. marks ≡ opened points.now) }
+    {
+        let count = points.slice().len();
+        let mut drivers = Vec::with_capacity(alloc, count)?;
+        let mut proxies = Vec::with_capacity(alloc, count)?;
+        for (driver, default) in points.slice() {
+            drivers.push_reserved(*driver);
+            proxies.push_reserved(Proxy::new(*default));
+        }
+        let mut wants = Wants::new(alloc, drivers)?;
+        for point in 0..count {
+            wants.put_last(PointId(point as u32));
+        }
+        Ok(Marks { proxies, wants })
+    }
+
+    /// The point's device is to be told this target as if it had not been told anything yet: as version 1, which has not
+    /// failed. It takes no memory.
+    pub fn start(&mut self, point: PointId, target: i64)
+        requires { point < length self.old.drivers }
+        ensures { self.new ≡ started point target self.old }
+    {
+        self.proxies[point.0 as usize] = Proxy::new(target);
+        self.wants.put_last(point);
+    }
+
+    /// The point's device is to be told this target, as a new version, unless it is the commanded value. It takes no
+    /// memory.
+    pub fn settle(&mut self, point: PointId, target: i64)
+        requires { point < length self.old.drivers }
+        ensures after { self.new ≡ settled point target self.old }
+        ensures drivers { self.new.drivers ≡ self.old.drivers }
+    {
+        let place = point.0 as usize;
+        if self.proxies[place].commanded() == target {
+            return;
+        }
+        self.proxies[place].command(target);
+        self.wants.put_last(point);
+    }
+
+    /// The driver's first want, which is handed out; none where the driver has none. It takes no memory.
+    pub fn next(&mut self, driver: DriverId) -> Option<Want>
+        ensures want { result ≡ option_map (want_of self.old) (first_want driver self.old) }
+        ensures after { self.new ≡ handed_out driver self.old }
+        ensures drivers { self.new.drivers ≡ self.old.drivers }
+    {
+        let point = self.wants.first(driver)?;
+        self.wants.remove(point);
+        let proxy = &self.proxies[point.0 as usize];
+        Some(Want {
+            point,
+            version: proxy.version(),
+            value: proxy.commanded(),
+        })
+    }
+
+    /// What a driver says at moment `n`, at most 2^60, of its write of this version: whether the device took it. A failed
+    /// write is tried again 5,000 milliseconds later. A report of another version, or of a point that is to be written
+    /// anew, changes nothing. It takes no memory.
+    pub fn report(&mut self, point: PointId, version: u64, ok: bool, n: u64) -> Reported
+        requires point { point < length self.old.drivers }
+        requires moment { n ≤ 2 ^ 60 }
+        ensures answer { result ≡ answer_to point version ok self.old }
+        ensures after { self.new ≡ after_reporting point version ok n self.old }
+        ensures drivers { self.new.drivers ≡ self.old.drivers }
+    {
+        let place = point.0 as usize;
+        if self.proxies[place].version() != version || self.wants.contains(point) {
+            return Reported::Old;
+        }
+        self.proxies[place].report(ok, n)
+    }
+
+    /// The points whose failed write is due at moment `n` want their devices to be written again, by rising point. It
+    /// takes no memory.
+    pub fn retry_due(&mut self, n: u64)
+        ensures { self.new ≡ retried_all n self.old }
+    {
+        for point in 0..self.proxies.len() {
+            self.retry_if_due(PointId(point as u32), n);
+        }
+    }
+
+    /// The point's device is to be written again if its failed write is due at moment `n`.
+    fn retry_if_due(&mut self, point: PointId, n: u64)
+        requires { point < length self.old.drivers }
+        ensures { self.new ≡ retried_at point n self.old }
+    {
+        let place = point.0 as usize;
+        if self.proxies[place].is_due(n) {
+            self.proxies[place].retry();
+            self.wants.put_last(point);
+        }
+    }
+
+    /// How far the point's device has come.
+    pub fn mark(&self, point: PointId) -> Mark
+        requires { point < length self.now.drivers }
+        ensures { result ≡ (proxy_of self.now point).mark }
+    {
+        self.proxies[point.0 as usize].mark()
+    }
+
+    /// The least driver that has a want.
+    pub fn wanting(&self) -> Option<DriverId>
+        ensures { result ≡ least_wanting self.now.drivers self.now.wants }
+    {
+        self.wants.least_driver()
+    }
+}
+
+#[cfg(test)]
+mod tests {
+    use super::*;
+    use std::test::Fail;
+
+    const DAMPER: PointId = PointId(0);
+
+    const LAMP: PointId = PointId(1);
+
+    const FAN: PointId = PointId(2);
+
+    const FIELD: DriverId = DriverId(0);
+
+    const ROOF: DriverId = DriverId(1);
+
+    /// A damper and a lamp of one driver, and a fan of another.
+    fn plant(alloc: Global) -> Result<Marks, NoMemory>
+        ensures { IfOk result (λ marks. length marks.drivers ≡ 3) }
+    {
+        let points = vec![in alloc; (FIELD, 20000), (FIELD, 0), (ROOF, 1)]?;
+        Marks::new(alloc, &Items::from_vec(points))
+    }
+
+    fn want(point: PointId, version: u64, value: i64) -> Option<Want> {
+        Some(Want {
+            point,
+            version,
+            value,
+        })
+    }
+
+    #[test]
+    fn points_want_their_defaults_at_first(rt: HostRuntime) -> Result<(), Fail> {
+        let mut marks = plant(rt.alloc())?;
+        assert_eq!(rt; marks.report(DAMPER, 1, true, 0), Reported::Old);
+        assert_eq!(rt; marks.mark(DAMPER), Mark::Pending);
+        assert_eq!(rt; marks.wanting(), Some(FIELD));
+        assert_eq!(rt; marks.next(FIELD), want(DAMPER, 1, 20000));
+        assert_eq!(rt; marks.next(FIELD), want(LAMP, 1, 0));
+        assert_eq!(rt; marks.next(FIELD), None);
+        assert_eq!(rt; marks.wanting(), Some(ROOF));
+        assert_eq!(rt; marks.next(ROOF), want(FAN, 1, 1));
+        assert_eq!(rt; marks.wanting(), None);
+        assert_eq!(rt; marks.report(FAN, 1, true, 0), Reported::Settled);
+        assert_eq!(rt; marks.mark(FAN), Mark::Settled);
+        Ok(())
+    }
+
+    #[test]
+    fn report_of_an_older_version_changes_nothing(rt: HostRuntime) -> Result<(), Fail> {
+        let mut marks = plant(rt.alloc())?;
+        marks.settle(DAMPER, 45000);
+        assert_eq!(rt; marks.next(FIELD), want(LAMP, 1, 0));
+        assert_eq!(rt; marks.next(FIELD), want(DAMPER, 2, 45000));
+        marks.settle(DAMPER, 50000);
+        assert_eq!(rt; marks.report(DAMPER, 2, false, 1000), Reported::Old);
+        assert_eq!(rt; marks.next(FIELD), want(DAMPER, 3, 50000));
+        marks.settle(DAMPER, 50000);
+        assert_eq!(rt; marks.next(FIELD), None);
+        marks.start(DAMPER, 50000);
+        assert_eq!(rt; marks.next(FIELD), want(DAMPER, 1, 50000));
+        Ok(())
+    }
+
+    #[test]
+    fn failed_write_is_tried_again_after_five_seconds(rt: HostRuntime) -> Result<(), Fail> {
+        let mut marks = plant(rt.alloc())?;
+        assert_eq!(rt; marks.next(FIELD), want(DAMPER, 1, 20000));
+        assert_eq!(rt; marks.next(FIELD), want(LAMP, 1, 0));
+        assert_eq!(rt; marks.report(LAMP, 1, false, 1000), Reported::FirstFailure);
+        marks.retry_due(5999);
+        assert_eq!(rt; marks.mark(LAMP), Mark::Failed);
+        assert_eq!(rt; marks.next(FIELD), None);
+        marks.retry_due(6000);
+        assert_eq!(rt; marks.mark(LAMP), Mark::Pending);
+        assert_eq!(rt; marks.next(FIELD), want(LAMP, 1, 0));
+        assert_eq!(rt; marks.report(LAMP, 1, false, 6000), Reported::LaterFailure);
+        Ok(())
+    }
+}
