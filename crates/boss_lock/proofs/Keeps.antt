@@ -9,7 +9,7 @@ use Rattle.atomic_table.specs.Table.{State, Me, step, keeps, takes, gives, put_b
 use Rattle.atomic_table.proofs.Lists.{at_set, at_snoc, set_else, one_turn}
 use Rattle.boss_lock.specs.Places.{same, below, times, numbers_from, AllBelow, longer}
 use Rattle.boss_lock.specs.Rule.{in_line, ticketed, away, due, Knows, spent_view, placed, Fits, slot_of, present, StandsAtHome, IsKept}
-use Rattle.boss_lock.specs.Steps.{ticket_of, list_of, made_of, staged, after_pass, after_compare, left_part, right_part, both_parts, drawn, looked, taken, given, passed, compared}
+use Rattle.boss_lock.specs.Steps.{ticket_of, list_of, made_of, waiting_view, turn_view, holding_view, given_view, passed_view, left_view, right_view, joined_view, compared_view, IsHolding, StandsFor, drawn, looked, taken, given, passed, compared}
 use Rattle.boss_lock.specs.declared.view.View.{View}
 use Rattle.boss_lock.specs.declared.view.Stage.{Stage}
 use Rattle.boss_lock.specs.declared.view.Stage.TheVariants.{Idle, Waiting, Turn, Holding, Given}
@@ -172,7 +172,7 @@ module _ {V T E : Type 0} (means : V → T → List E → Type 0) (start : T) (s
       → Allows Rule slots id me 0 (λ n. (n + 1) % 2 ^ 64) (drawn (step slots 0 1 0 slot.none) me)
   draws slots id me idle some_part s r _ at _ =
       let v = me.0 in
-      let w = staged v (Waiting r.high) in
+      let w = waiting_view v r.high in
       let was = r.each_seat id v at in
       let unheld : (k : ℕ) → ticketed k v.stage ≡ 0 = λ k. ap (ticketed k) idle in
       let not_in_line : in_line v.stage ≡ 0 = ap in_line idle in
@@ -210,7 +210,7 @@ module _ {V T E : Type 0} (means : V → T → List E → Type 0) (start : T) (s
       let range = ticket_range s r id v own at mine in
       let few = few_tickets s r in
       let is : r.low ≡ own = one_turn r.low own (2 ^ 64) range.0 (let up = range.1 in omega arith) (sym found ∙ hit) in
-      let w = staged v (Turn own r.log) in (
+      let w = turn_view v r.log in (
         w,
         keeps,
         tt,
@@ -249,7 +249,7 @@ module _ {V T E : Type 0} (means : V → T → List E → Type 0) (start : T) (s
       let served : ticketed r.low v.stage ≡ 1 = ap (ticketed r.low) turn ∙ (rw known.0 (same_self r.low)) in
       let home = value_of r.home (is_home s r id v at served not_away) in
       let y = home.0 in
-      let w = staged v (Holding own (list_of v.stage)) in
+      let w = holding_view v (list_of v.stage) in
       let slot_is : s.homes ≡ slot.some (Some y) ∷ [] = r.slots ∙ ap (λ (h : Option V). slot_of h ∷ []) home.1 in
       let stands : means y start r.log = subst (StandsAtHome means start r.log) home.1 r.stands in (
         w,
@@ -275,7 +275,7 @@ module _ {V T E : Type 0} (means : V → T → List E → Type 0) (start : T) (s
 
   -- A seat that holds the value puts it back, and knows which entries it has made
   pub gives_value : (slots id : ℕ) (me : Me (Option V) (View T E)) (t : ℕ) (list told : List E) (y : V) → me.0.stage ≡ Holding t list → me.1 ≡ (0, Some y) ∷ [] → 0 < me.0.parts
-      → ((x : T) → me.0.start ≡ Some x → means y x (list ++ told))
+      → StandsFor means y me.0 (list ++ told)
       → Allows Rule slots id me 1 (λ n. n) (given told (step slots 1 0 0 slot.none) me)
   gives_value slots id me t list told y holding carried some_part asked s r _ at _ =
       let v = me.0 in
@@ -289,7 +289,7 @@ module _ {V T E : Type 0} (means : V → T → List E → Type 0) (start : T) (s
       let one = r.one_value in
       let some_away = total_at away_of s.views id v at in
       let log = r.log ++ told in
-      let w = staged v (Given own (list_of v.stage) told) in (
+      let w = given_view v told in (
         w,
         gives,
         tt,
@@ -352,7 +352,7 @@ module _ {V T E : Type 0} (means : V → T → List E → Type 0) (start : T) (s
       let same_due : (k : ℕ) → times k (numbers_from n m) ≡ times k (numbers_from (length list) (length made)) = λ k i. times k (numbers_from (length (is_list i)) (length (is_made i))) in
       let dues : (k : ℕ) → due k v.stage ≡ times k (numbers_from n m) = λ k. ap (due k) done ∙ sym (same_due k) in
       let before = places_before s r id v (list_of v.stage) (made_of v.stage) at dues whole in
-      let w = after_pass v in
+      let w = passed_view v in
       let rising = rises_then n m v.places was.rising before in
       let seen_long : length w.seen ≡ n + m = length-append (list_of v.stage) (made_of v.stage) in
       let inside : AllBelow (length w.seen) w.places = all_below_append (length w.seen) v.places (numbers_from n m)
@@ -378,7 +378,7 @@ module _ {V T E : Type 0} (means : V → T → List E → Type 0) (start : T) (s
             (let e : in_line v.stage ≡ 1 = ap in_line done in omega arith)
             (λ k. let e : ticketed k v.stage ≡ same k r.low = ap (ticketed k) done ∙ ap (same k) known.0 in omega arith)
             (λ k. let e = dues k in let f = times_append k v.places (numbers_from n m) in omega arith),
-        (refl, rising, inside),
+        (refl, (rising, inside)),
       )
 
   -- A seat compares two lists that it knows, of which one begins the other
@@ -387,7 +387,7 @@ module _ {V T E : Type 0} (means : V → T → List E → Type 0) (start : T) (s
       let v = me.0 in
       let was = r.each_seat id v at in
       let both = longer v.seen v.other in
-      let w = after_compare v in (
+      let w = compared_view v in (
         w,
         keeps,
         tt,
@@ -407,15 +407,15 @@ module _ {V T E : Type 0} (means : V → T → List E → Type 0) (start : T) (s
             (omega arith)
             (λ t. omega arith)
             (λ k. refl),
-        (refl, longer_is v.seen v.other r.log was.seen_before was.other_before, was.rising, was.places_seen),
+        (refl, longer_is v.seen v.other r.log was.seen_before was.other_before, (was.rising, was.places_seen)),
       )
 
   -- A seat with two parts or more gives one of them to a new seat
-  pub splits : (id : ℕ) (v : View T E) → v.stage ≡ Idle → 2 ≤ v.parts → Splits Rule id v (left_part v) (right_part v)
+  pub splits : (id : ℕ) (v : View T E) → v.stage ≡ Idle → 2 ≤ v.parts → Splits Rule id v (left_view v) (right_view v)
   splits id v idle two s r at =
       let was = r.each_seat id v at in
-      let left = left_part v in
-      let right = right_part v in
+      let left = left_view v in
+      let right = right_view v in
       let views = set s.views id left in
       let cut = λ (f : View T E → ℕ). total_set f s.views id v left at in
       let grown = λ (f : View T E → ℕ). total_snoc f views right in
@@ -459,9 +459,9 @@ module _ {V T E : Type 0} (means : V → T → List E → Type 0) (start : T) (s
 
   -- A seat takes in the parts and the places of another, and what it had seen
   pub joins : (id : ℕ) (v : View T E) (other : ℕ) (u : View T E) → v.stage ≡ Idle → u.stage ≡ Idle → v.other ≡ [] → u.other ≡ [] → 0 < v.parts
-      → Joins Rule id v other u (both_parts v u) spent_view
+      → Joins Rule id v other u (joined_view v u) spent_view
   joins id v other u idle idle_too compared_once compared_too some_part s r at apart there =
-      let w = both_parts v u in
+      let w = joined_view v u in
       let views = set s.views id w in
       let was = r.each_seat id v at in
       let theirs = r.each_seat other u (sym (set_else s.views id other w apart) ∙ there) in
@@ -523,8 +523,8 @@ module _ {V T E : Type 0} (means : V → T → List E → Type 0) (start : T) (s
 
   -- the same once the value lies in the slot that the seat holds
   pub gives_back : (slots id : ℕ) (me now : Me (Option V) (View T E)) (told made : List E) (y : V) → now ≡ (me.0, (0, Some y) ∷ rest me.1)
-      → me.0.stage ≡ Holding (ticket_of me.0.stage) (list_of me.0.stage) → me.1 ≡ (0, None) ∷ [] → 0 < me.0.parts → told ≡ made
-      → ((x : T) → me.0.start ≡ Some x → means y x (list_of me.0.stage ++ made))
+      → IsHolding me.0 → me.1 ≡ (0, None) ∷ [] → 0 < me.0.parts → told ≡ made
+      → StandsFor means y me.0 (list_of me.0.stage ++ made)
       → Allows Rule slots id now 1 (λ n. n) (given told (step slots 1 0 0 slot.none) now)
   gives_back slots id me now told made y is holding carried some_part same_made asked =
       subst (λ (m : Me (Option V) (View T E)). Allows Rule slots id m 1 (λ n. n) (given told (step slots 1 0 0 slot.none) m)) (sym is)

@@ -2,7 +2,7 @@
 use Rattle.std.specs.Prelude.{◌≡◌, ℕ, ◌+◌, ◌-◌, ◌<◌, List, [], ◌∷◌, ◌++◌, length, Option, Some, None, unwrap_or}
 use mathlib.Core.List.{IsPrefix}
 use Rattle.atomic_table.specs.Seated.{TableId}
-use Rattle.boss_lock.specs.Places.{numbers_from, AllBelow, Rises, woven, entries_at, longer}
+use Rattle.boss_lock.specs.Places.{numbers_from, ArePlacesOf, woven, entries_at, longer}
 use Rattle.boss_lock.specs.Steps.{Knower}
 use Rattle.boss_lock.specs.declared.view.View.{View}
 use Rattle.boss_lock.specs.declared.view.Stage.{Stage}
@@ -49,8 +49,7 @@ module _ {T E : Type 0} where
 pub record IsAtRest {V T E : Type 0} (me : Knower V T E) : Type 0 where
   pub some_part : 0 < me.0.parts
   pub compared : me.0.other ≡ []
-  pub rising : Rises me.0.places
-  pub places_seen : AllBelow (length me.0.seen) me.0.places
+  pub places : ArePlacesOf me.0.places me.0.seen
   pub carries : Carries me.0.seen me.0.stage me.1
 
 module _ {T E : Type 0} where

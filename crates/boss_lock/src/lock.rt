@@ -1,7 +1,7 @@
 // The lock and its calls.
 ghost use Rattle.std.specs.Prelude.{◌≡◌, ℕ, ◌+◌, ◌<◌, ◌≤◌, ◌⊎◌, List, [], ◌∷◌, ◌++◌, length, Some, None, IsSome, IfOk, IfErr};
 ghost use mathlib.Core.List.{IsPrefix};
-ghost use Rattle.boss_lock.specs.Places.{numbers_from, AllBelow, IsLonger, Rises, total};
+ghost use Rattle.boss_lock.specs.Places.{numbers_from, ArePlacesOf, IsLonger, total};
 ghost use Rattle.boss_lock.specs.Seats.{IsSeatOf, found, own_entries, first_seat, with_turn, after_turn, one_part_less, one_part_of, both_seats};
 
 use crate::seat::Seat;
@@ -125,7 +125,7 @@ impl<V: Stands> Ruled<V> {
         requires value { V.stands value self.now.start (found seat.old ++ M.entries made.now) }
         ensures seat { seat.new ≡ after_turn seat.old (M.entries made.now) }
         ensures own_entries { own_entries seat.new ≡ own_entries seat.old ++ M.entries made.now }
-        ensures places { Rises seat.new.places × AllBelow (length seat.new.seen) seat.new.places }
+        ensures places { ArePlacesOf seat.new.places seat.new.seen }
     {
         end_turn(&self.table.shared, &mut seat.token, value, made);
     }
@@ -153,8 +153,9 @@ impl<V: Stands> Ruled<V> {
         requires no_turn { (seat.old.turn ≡ None) × (other.turn ≡ None) }
         ensures seat { seat.new ≡ both_seats seat.old other }
         ensures history { IsLonger seat.old.seen other.seen seat.new.seen }
-        ensures own_entries { (weight : V.Entry → ℕ) → total weight (own_entries seat.new) ≡ total weight (own_entries seat.old) + total weight (own_entries other) }
-        ensures places { Rises seat.new.places × AllBelow (length seat.new.seen) seat.new.places }
+        ensures own_entries { (weight : V.Entry → ℕ) →
+            total weight (own_entries seat.new) ≡ total weight (own_entries seat.old) + total weight (own_entries other) }
+        ensures places { ArePlacesOf seat.new.places seat.new.seen }
     {
         let Seat { token } = other;
         take_in(&self.table.shared, &mut seat.token, token);
