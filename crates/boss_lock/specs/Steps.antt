@@ -54,11 +54,8 @@ module _ {T E : Type 0} where
 
   -- the view of a seat that passed the turn on
   abbrev pub passed_view : View T E → View T E
-  passed_view v = record {
-    start = v.start;
-    parts = v.parts;
+  passed_view v = record v {
     seen = list_of v.stage ++ made_of v.stage;
-    other = v.other;
     places = v.places ++ numbers_from (length (list_of v.stage)) (length (made_of v.stage));
     stage = Idle;
   }
@@ -69,11 +66,11 @@ module _ {T E : Type 0} where
 
   -- the view of the seat that got the part
   abbrev pub right_view : View T E → View T E
-  right_view v = record { start = v.start; parts = 1; seen = v.seen; other = []; places = []; stage = Idle }
+  right_view v = record v { parts = 1; other = []; places = []; stage = Idle }
 
   -- the view of a seat that took in another, before what both had seen is compared
   abbrev pub joined_view : View T E → View T E → View T E
-  joined_view v u = record { start = v.start; parts = v.parts + u.parts; seen = v.seen; other = u.seen; places = woven v.places u.places; stage = v.stage }
+  joined_view v u = record v { parts = v.parts + u.parts; other = u.seen; places = woven v.places u.places }
 
   -- the view of a seat that has compared them
   abbrev pub compared_view : View T E → View T E

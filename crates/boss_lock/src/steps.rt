@@ -29,7 +29,8 @@ fn draw<V: Stands>(board: &Board<V>, token: &mut Token<V>) -> u64
     board.fetch_add::<Draw>(token, TICKET, 1)
 }
 
-// A word sleeps by its low half. Fewer than 2^32 tickets are ever out, so that half changes before the seat's turn has passed.
+// The half of a word that a sleep compares. Fewer than 2^32 tickets are out at any time, so it changes
+// before a seat's turn comes.
 fn low_half(word: u64) -> u32
     ensures { result ≡ word % 2 ^ 32 }
 {
@@ -106,7 +107,8 @@ fn give_back<V: Stands, M: Made<V>, J: Telling<V::Entry>>(
     board.load::<GiveBack<J>>(token, SERVING);
 }
 
-// Serves the next ticket. Whoever sleeps is woken where a seat has drawn that ticket; one that draws it later finds it served.
+// Serves the next ticket, and wakes those who sleep where a seat has drawn it. A seat that draws it later
+// finds it served.
 fn pass_on<V: Stands>(board: &Board<V>, token: &mut Token<V>)
     requires own { IsOn board.now.table_id token.old }
     requires given { HasGiven token.old.me.0 }
