@@ -7,6 +7,7 @@ ghost use Rattle.boss_lock.specs.declared.view.Stage.TheVariants.{Idle};
 
 use crate::plays::{AllParts, Compare, Draw, GiveBack, Look, OnePart, PassOn, Take, Telling};
 use crate::view::{Board, Made, Stands, Token};
+use std::hint::spin_loop;
 use std::marker::Brand;
 use std::sync::Wait;
 
@@ -18,6 +19,9 @@ const SERVING: usize = 1;
 
 // The only slot, where the value lies while no seat has the turn.
 const VALUE: usize = 0;
+
+// How often a seat looks before it sleeps, since a turn is mostly passed on sooner than a thread wakes.
+const LOOKS: u32 = 1000;
 
 // Draws the next ticket, and returns it modulo 2^64.
 fn draw<V: Stands>(board: &Board<V>, token: &mut Token<V>) -> u64
@@ -37,7 +41,8 @@ fn low_half(word: u64) -> u32
     (word & 0xffff_ffff) as u32
 }
 
-// Looks until the ticket is served, and sleeps between two looks until the next turn is passed on.
+// Looks until the ticket is served. After a number of looks it sleeps between two of them, until the next
+// turn is passed on.
 fn wait<V: Stands, R: Wait>(board: &Board<V>, rt: &R, token: &mut Token<V>, ticket: u64)
     requires own { IsOn board.now.table_id token.old }
     requires waiting { IsWaiting token.old.me.0 }
@@ -46,12 +51,18 @@ fn wait<V: Stands, R: Wait>(board: &Board<V>, rt: &R, token: &mut Token<V>, tick
     ensures history { IsPrefix token.old.me.0.seen (list_of token.new.me.0.stage) }
     ensures turn { token.new.me ≡ (turn_view token.old.me.0 (list_of token.new.me.0.stage), token.old.me.1) }
 {
+    let mut looks = 0;
     for _ in rt.forever() {
         let serving = board.load::<Look>(token, SERVING);
         if serving == ticket {
             return;
         }
-        board.park(rt, SERVING, low_half(serving));
+        if looks < LOOKS {
+            looks += 1;
+            spin_loop();
+        } else {
+            board.park(rt, SERVING, low_half(serving));
+        }
     }
     unreachable!()
 }
