@@ -112,7 +112,7 @@ module _ {V T E : Type 0} (means : V → T → List E → Type 0) (held lock : L
   closes table id me seat words slots r lock_is seat_is rest none every final taken =
       let idle = idle_at_rest table me seat seat_is rest none in
       let all : me.0.parts ≡ held.seats = ap (λ (s : Standing T E). s.parts) seat_is ∙ (every ∙ sym (ap (λ (l : Lock T). l.seats) lock_is)) in
-      let end = settles means held.start held.seats final.0 final.1.0 id me.0 final.1.1 all idle.0 rest.compared rest.places_seen in
+      let end = settles means held.start held.seats final.0 final.1.0 id me.0 final.1.1 all idle.0 rest.compared rest.places.1 in
       let there : get_elem? slots 0 ≡ slot.some (Some end.value) = final.4 0 (Some end.value) (ap (λ (hs : List (slot.Option (Option V))). get_elem? hs 0) end.home) in (
         end.value,
         slot.some-injective _ _ (sym taken ∙ there),

@@ -5,11 +5,11 @@ use mathlib.Core.Option as slot
 use mathlib.Core.Logic.{dite}
 use native.Mathlib.Decide.{ℕ_discrete}
 use lib.ListN.{get_elem?}
-use Rattle.atomic_table.specs.Table.{State, Me, step, keeps, takes, gives, put_back, rest, Allows, Splits, Joins}
+use Rattle.atomic_table.specs.Table.{State, step, keeps, takes, gives, put_back, rest, Allows, Splits, Joins}
 use Rattle.atomic_table.proofs.Lists.{at_set, at_snoc, set_else, one_turn}
 use Rattle.boss_lock.specs.Places.{same, below, times, numbers_from, AllBelow, longer}
 use Rattle.boss_lock.specs.Rule.{in_line, ticketed, away, due, Knows, spent_view, placed, Fits, slot_of, present, StandsAtHome, IsKept}
-use Rattle.boss_lock.specs.Steps.{ticket_of, list_of, made_of, staged, after_pass, after_compare, left_part, right_part, both_parts, drawn, looked, taken, given, passed, compared}
+use Rattle.boss_lock.specs.Steps.{Knower, ticket_of, list_of, made_of, waiting_view, turn_view, holding_view, given_view, passed_view, left_view, right_view, joined_view, compared_view, IsHolding, StandsFor, drawn, looked, taken, given, passed, compared}
 use Rattle.boss_lock.specs.declared.view.View.{View}
 use Rattle.boss_lock.specs.declared.view.Stage.{Stage}
 use Rattle.boss_lock.specs.declared.view.Stage.TheVariants.{Idle, Waiting, Turn, Holding, Given}
@@ -127,7 +127,8 @@ module _ {V T E : Type 0} (means : V → T → List E → Type 0) (start : T) (s
       let p = r.line in let q = r.all_parts in let f = r.few_seats in omega arith
 
   -- a ticket that a seat has is not yet served past
-  ticket_range : (s : Table) (r : Rule s) (id : ℕ) (v : View T E) (t : ℕ) → get_elem? s.views id ≡ slot.some v → ticketed t v.stage ≡ 1 → (r.low ≤ t) × (t < r.high)
+  ticket_range : (s : Table) (r : Rule s) (id : ℕ) (v : View T E) (t : ℕ) → get_elem? s.views id ≡ slot.some v → ticketed t v.stage ≡ 1
+      → (r.low ≤ t) × (t < r.high)
   ticket_range s r id v t at has =
       let m = total_at (ticket_at t) s.views id v at in
       let q = r.tickets t in
@@ -146,33 +147,55 @@ module _ {V T E : Type 0} (means : V → T → List E → Type 0) (start : T) (s
       cases (inr g) = g
 
   -- no two seats have one ticket
-  tickets_apart : (s : Table) (r : Rule s) (i j : ℕ) (v u : View T E) (t : ℕ) → i ≢ j → get_elem? s.views i ≡ slot.some v → get_elem? s.views j ≡ slot.some u → ticketed t v.stage ≡ 1 → ticketed t u.stage ≡ 0
+  tickets_apart : (s : Table) (r : Rule s) (i j : ℕ) (v u : View T E) (t : ℕ) → i ≢ j → get_elem? s.views i ≡ slot.some v → get_elem? s.views j ≡ slot.some u
+      → ticketed t v.stage ≡ 1 → ticketed t u.stage ≡ 0
   tickets_apart s r i j v u t apart at there has =
       let m = total_two (ticket_at t) s.views i j v u apart at there in
       let q = r.tickets t in
       let b = below_le t r.high in
       omega arith
 
+  -- the seat at another stage of its turn
+  restaged : (low : ℕ) (log : List E) (v : View T E) (stage : Stage E) → Fits low log start v → in_line stage ≤ v.parts → Knows low log stage
+      → Fits low log start (record v { stage = stage })
+  restaged low log v stage fits one knows = record {
+    same_start = fits.same_start;
+    one_ticket = one;
+    spent = fits.spent;
+    rising = fits.rising;
+    seen_before = fits.seen_before;
+    other_before = fits.other_before;
+    places_seen = fits.places_seen;
+    knows = knows;
+  }
+
+  -- the same where the history has grown, or another ticket is served
+  advanced : (low now : ℕ) (log more : List E) (v : View T E) (stage : Stage E) → Fits low log start v → in_line stage ≤ v.parts → Knows now (log ++ more) stage
+      → Fits now (log ++ more) start (record v { stage = stage })
+  advanced low now log more v stage fits one knows = record {
+    same_start = fits.same_start;
+    one_ticket = one;
+    spent = fits.spent;
+    rising = fits.rising;
+    seen_before = prefix_more v.seen log more fits.seen_before;
+    other_before = prefix_more v.other log more fits.other_before;
+    places_seen = fits.places_seen;
+    knows = knows;
+  }
+
   -- a seat with the turn has the ticket that is served, so no other knows the history's end
   others_move : (s : Table) (r : Rule s) (id : ℕ) (v : View T E) (low : ℕ) (more : List E) → get_elem? s.views id ≡ slot.some v → ticketed r.low v.stage ≡ 1
       → (j : ℕ) (u : View T E) → j ≢ id → get_elem? s.views j ≡ slot.some u → Fits r.low r.log start u → Fits low (r.log ++ more) start u
-  others_move s r id v low more at has j u apart there fits = record {
-    same_start = fits.same_start;
-    one_ticket = fits.one_ticket;
-    spent = fits.spent;
-    rising = fits.rising;
-    seen_before = prefix_more u.seen r.log more fits.seen_before;
-    other_before = prefix_more u.other r.log more fits.other_before;
-    places_seen = fits.places_seen;
-    knows = knows_none r.low low r.log (r.log ++ more) u.stage (tickets_apart s r id j v u r.low (λ e. apart (sym e)) at there has) fits.knows;
-  }
+  others_move s r id v low more at has j u apart there fits =
+      let other = tickets_apart s r id j v u r.low (λ e. apart (sym e)) at there has in
+      advanced r.low low r.log more u u.stage fits fits.one_ticket (knows_none r.low low r.log (r.log ++ more) u.stage other fits.knows)
 
   -- A seat with no ticket draws the next one
-  pub draws : (slots id : ℕ) (me : Me (Option V) (View T E)) → me.0.stage ≡ Idle → 0 < me.0.parts
+  pub draws : (slots id : ℕ) (me : Knower V T E) → me.0.stage ≡ Idle → 0 < me.0.parts
       → Allows Rule slots id me 0 (λ n. (n + 1) % 2 ^ 64) (drawn (step slots 0 1 0 slot.none) me)
   draws slots id me idle some_part s r _ at _ =
       let v = me.0 in
-      let w = staged v (Waiting r.high) in
+      let w = waiting_view v r.high in
       let was = r.each_seat id v at in
       let unheld : (k : ℕ) → ticketed k v.stage ≡ 0 = λ k. ap (ticketed k) idle in
       let not_in_line : in_line v.stage ≡ 0 = ap in_line idle in
@@ -182,7 +205,7 @@ module _ {V T E : Type 0} (means : V → T → List E → Type 0) (start : T) (s
         keeps,
         tt,
         moves s r id v w at refl r.low (suc r.high) r.log r.home _ _ (add_first s.words r.high _ r.words) r.slots r.stands
-            (record { same_start = was.same_start; one_ticket = some_part; spent = was.spent; rising = was.rising; seen_before = was.seen_before; other_before = was.other_before; places_seen = was.places_seen; knows = tt })
+            (restaged r.low r.log v w.stage was some_part tt)
             (λ j u _ _ fits. fits)
             (omega arith)
             (omega arith)
@@ -197,7 +220,7 @@ module _ {V T E : Type 0} (means : V → T → List E → Type 0) (start : T) (s
   stays s r id v at words is = moves s r id v v at refl r.low r.high r.log r.home words s.homes is r.slots r.stands (r.each_seat id v at) (λ j u _ _ fits. fits) refl (omega arith) (λ t. omega arith) (λ k. refl)
 
   -- A seat that waits looks at the ticket that is served. Where it is its own, it has the turn
-  pub looks : (slots id : ℕ) (me : Me (Option V) (View T E)) (t : ℕ) → me.0.stage ≡ Waiting t
+  pub looks : (slots id : ℕ) (me : Knower V T E) (t : ℕ) → me.0.stage ≡ Waiting t
       → Allows Rule slots id me 1 (λ n. n) (looked (step slots 1 0 0 slot.none) me)
   looks slots id me t waits s r _ at _ =
       let v = me.0 in
@@ -210,12 +233,12 @@ module _ {V T E : Type 0} (means : V → T → List E → Type 0) (start : T) (s
       let range = ticket_range s r id v own at mine in
       let few = few_tickets s r in
       let is : r.low ≡ own = one_turn r.low own (2 ^ 64) range.0 (let up = range.1 in omega arith) (sym found ∙ hit) in
-      let w = staged v (Turn own r.log) in (
+      let w = turn_view v r.log in (
         w,
         keeps,
         tt,
         moves s r id v w at refl r.low r.high r.log r.home _ _ (load_second s.words _ _ r.words) r.slots r.stands
-            (record { same_start = was.same_start; one_ticket = (let o = was.one_ticket in let l : in_line v.stage ≡ 1 = ap in_line waits in omega arith); spent = was.spent; rising = was.rising; seen_before = was.seen_before; other_before = was.other_before; places_seen = was.places_seen; knows = (sym is, refl) })
+            (restaged r.low r.log v w.stage was (let o = was.one_ticket in let e : in_line v.stage ≡ 1 = ap in_line waits in omega arith) (sym is, refl))
             (λ j u _ _ fits. fits)
             (let e : away v.stage ≡ 0 = ap away waits in omega arith)
             (let e : in_line v.stage ≡ 1 = ap in_line waits in omega arith)
@@ -226,7 +249,8 @@ module _ {V T E : Type 0} (means : V → T → List E → Type 0) (start : T) (s
       (λ miss. (v, keeps, tt, stays s r id v at _ (load_second s.words _ _ r.words), ((λ hit. absurd (miss hit)), (λ _. refl))))
 
   -- the value is home while no seat but this one may hold it
-  is_home : (s : Table) (r : Rule s) (id : ℕ) (v : View T E) → get_elem? s.views id ≡ slot.some v → ticketed r.low v.stage ≡ 1 → away v.stage ≡ 0 → present r.home ≡ 1
+  is_home : (s : Table) (r : Rule s) (id : ℕ) (v : View T E) → get_elem? s.views id ≡ slot.some v → ticketed r.low v.stage ≡ 1 → away v.stage ≡ 0
+      → present r.home ≡ 1
   is_home s r id v at served not_away =
       let h = total_le_but away_of (ticket_at r.low) s.views id v (λ j u there. away_served r.low r.log u.stage (r.each_seat j u there).knows) at in
       let q = r.tickets r.low in
@@ -236,7 +260,7 @@ module _ {V T E : Type 0} (means : V → T → List E → Type 0) (start : T) (s
       omega arith
 
   -- A seat with the turn takes the value out of its slot
-  pub takes_value : (slots id : ℕ) (me : Me (Option V) (View T E)) (t : ℕ) (list : List E) → me.0.stage ≡ Turn t list → 0 < me.0.parts
+  pub takes_value : (slots id : ℕ) (me : Knower V T E) (t : ℕ) (list : List E) → me.0.stage ≡ Turn t list → 0 < me.0.parts
       → Allows Rule slots id me 1 (λ n. n) (taken means (step slots 1 0 0 slot.none) me)
   takes_value slots id me t list turn some_part s r _ at _ =
       let v = me.0 in
@@ -249,14 +273,14 @@ module _ {V T E : Type 0} (means : V → T → List E → Type 0) (start : T) (s
       let served : ticketed r.low v.stage ≡ 1 = ap (ticketed r.low) turn ∙ (rw known.0 (same_self r.low)) in
       let home = value_of r.home (is_home s r id v at served not_away) in
       let y = home.0 in
-      let w = staged v (Holding own (list_of v.stage)) in
+      let w = holding_view v (list_of v.stage) in
       let slot_is : s.homes ≡ slot.some (Some y) ∷ [] = r.slots ∙ ap (λ (h : Option V). slot_of h ∷ []) home.1 in
       let stands : means y start r.log = subst (StandsAtHome means start r.log) home.1 r.stands in (
         w,
         takes 0 (Some y),
         ap (λ (hs : List (slot.Option (Option V))). get_elem? hs 0) slot_is,
         moves s r id v w at refl r.low r.high r.log None _ _ (load_second s.words _ _ r.words) (ap (λ (hs : List (slot.Option (Option V))). set hs 0 slot.none) slot_is) tt
-            (record { same_start = was.same_start; one_ticket = (let o = was.one_ticket in let l : in_line v.stage ≡ 1 = ap in_line turn in omega arith); spent = was.spent; rising = was.rising; seen_before = was.seen_before; other_before = was.other_before; places_seen = was.places_seen; knows = (is_own ∙ known.0, is_list ∙ known.1) })
+            (restaged r.low r.log v w.stage was some_part (is_own ∙ known.0, is_list ∙ known.1))
             (λ j u _ _ fits. fits)
             (let e : present r.home ≡ 1 = ap present home.1 in omega arith)
             (let e : in_line v.stage ≡ 1 = ap in_line turn in omega arith)
@@ -274,8 +298,9 @@ module _ {V T E : Type 0} (means : V → T → List E → Type 0) (start : T) (s
       )
 
   -- A seat that holds the value puts it back, and knows which entries it has made
-  pub gives_value : (slots id : ℕ) (me : Me (Option V) (View T E)) (t : ℕ) (list told : List E) (y : V) → me.0.stage ≡ Holding t list → me.1 ≡ (0, Some y) ∷ [] → 0 < me.0.parts
-      → ((x : T) → me.0.start ≡ Some x → means y x (list ++ told))
+  pub gives_value : (slots id : ℕ) (me : Knower V T E) (t : ℕ) (list told : List E) (y : V) → me.0.stage ≡ Holding t list
+      → me.1 ≡ (0, Some y) ∷ [] → 0 < me.0.parts
+      → StandsFor means y me.0 (list ++ told)
       → Allows Rule slots id me 1 (λ n. n) (given told (step slots 1 0 0 slot.none) me)
   gives_value slots id me t list told y holding carried some_part asked s r _ at _ =
       let v = me.0 in
@@ -289,23 +314,15 @@ module _ {V T E : Type 0} (means : V → T → List E → Type 0) (start : T) (s
       let one = r.one_value in
       let some_away = total_at away_of s.views id v at in
       let log = r.log ++ told in
-      let w = staged v (Given own (list_of v.stage) told) in (
+      let w = given_view v told in (
         w,
         gives,
         tt,
         moves s r id v w at refl r.low r.high log (Some y) _ _ (load_second s.words _ _ r.words)
-            (subst (λ (c : List (ℕ × Option V)). put_back s.homes c ≡ slot.some (Some y) ∷ []) (sym carried) (ap (λ (hs : List (slot.Option (Option V))). set hs 0 (slot.some (Some y))) r.slots))
+            (subst (λ (c : List (ℕ × Option V)). put_back s.homes c ≡ slot.some (Some y) ∷ []) (sym carried)
+            (ap (λ (hs : List (slot.Option (Option V))). set hs 0 (slot.some (Some y))) r.slots))
             (subst (λ (l : List E). means y start (l ++ told)) known.1 (asked start (was.same_start some_part)))
-            (record {
-              same_start = was.same_start;
-              one_ticket = (let o = was.one_ticket in let l : in_line v.stage ≡ 1 = ap in_line holding in omega arith);
-              spent = was.spent;
-              rising = was.rising;
-              seen_before = prefix_more v.seen r.log told was.seen_before;
-              other_before = prefix_more v.other r.log told was.other_before;
-              places_seen = was.places_seen;
-              knows = (is_own ∙ known.0, ap (λ (l : List E). l ++ told) (is_list ∙ known.1));
-            })
+            (advanced r.low r.low r.log told v w.stage was some_part (is_own ∙ known.0, ap (λ (l : List E). l ++ told) (is_list ∙ known.1)))
             (others_move s r id v r.low told at served)
             (omega arith)
             (let e : in_line v.stage ≡ 1 = ap in_line holding in omega arith)
@@ -321,7 +338,8 @@ module _ {V T E : Type 0} (means : V → T → List E → Type 0) (start : T) (s
       )
 
   -- a seat that has given the value back has its own places before those that are due
-  places_before : (s : Table) (r : Rule s) (id : ℕ) (v : View T E) (list made : List E) → get_elem? s.views id ≡ slot.some v → ((k : ℕ) → due k v.stage ≡ times k (numbers_from (length list) (length made)))
+  places_before : (s : Table) (r : Rule s) (id : ℕ) (v : View T E) (list made : List E) → get_elem? s.views id ≡ slot.some v
+      → ((k : ℕ) → due k v.stage ≡ times k (numbers_from (length list) (length made)))
       → list ++ made ≡ r.log → AllBelow (length list) v.places
   places_before s r id v list made at dues whole = all_below_from (length list) v.places (λ k stands_there.
       let n = length list in
@@ -336,7 +354,7 @@ module _ {V T E : Type 0} (means : V → T → List E → Type 0) (start : T) (s
       below_is k n (omega arith))
 
   -- A seat that has given the value back passes the turn on, and its new places are its own
-  pub passes_on : (slots id : ℕ) (me : Me (Option V) (View T E)) (t : ℕ) (list made : List E) → me.0.stage ≡ Given t list made → 0 < me.0.parts
+  pub passes_on : (slots id : ℕ) (me : Knower V T E) (t : ℕ) (list made : List E) → me.0.stage ≡ Given t list made → 0 < me.0.parts
       → Allows Rule slots id me 1 (λ n. (n + 1) % 2 ^ 64) (passed (step slots 1 1 0 slot.none) me)
   passes_on slots id me t list made done some_part s r _ at _ =
       let v = me.0 in
@@ -352,7 +370,7 @@ module _ {V T E : Type 0} (means : V → T → List E → Type 0) (start : T) (s
       let same_due : (k : ℕ) → times k (numbers_from n m) ≡ times k (numbers_from (length list) (length made)) = λ k i. times k (numbers_from (length (is_list i)) (length (is_made i))) in
       let dues : (k : ℕ) → due k v.stage ≡ times k (numbers_from n m) = λ k. ap (due k) done ∙ sym (same_due k) in
       let before = places_before s r id v (list_of v.stage) (made_of v.stage) at dues whole in
-      let w = after_pass v in
+      let w = passed_view v in
       let rising = rises_then n m v.places was.rising before in
       let seen_long : length w.seen ≡ n + m = length-append (list_of v.stage) (made_of v.stage) in
       let inside : AllBelow (length w.seen) w.places = all_below_append (length w.seen) v.places (numbers_from n m)
@@ -378,16 +396,16 @@ module _ {V T E : Type 0} (means : V → T → List E → Type 0) (start : T) (s
             (let e : in_line v.stage ≡ 1 = ap in_line done in omega arith)
             (λ k. let e : ticketed k v.stage ≡ same k r.low = ap (ticketed k) done ∙ ap (same k) known.0 in omega arith)
             (λ k. let e = dues k in let f = times_append k v.places (numbers_from n m) in omega arith),
-        (refl, rising, inside),
+        (refl, (rising, inside)),
       )
 
   -- A seat compares two lists that it knows, of which one begins the other
-  pub compares : (slots id : ℕ) (me : Me (Option V) (View T E)) → Allows Rule slots id me 0 (λ n. n) (compared (step slots 0 0 0 slot.none) me)
+  pub compares : (slots id : ℕ) (me : Knower V T E) → Allows Rule slots id me 0 (λ n. n) (compared (step slots 0 0 0 slot.none) me)
   compares slots id me s r _ at _ =
       let v = me.0 in
       let was = r.each_seat id v at in
       let both = longer v.seen v.other in
-      let w = after_compare v in (
+      let w = compared_view v in (
         w,
         keeps,
         tt,
@@ -407,15 +425,15 @@ module _ {V T E : Type 0} (means : V → T → List E → Type 0) (start : T) (s
             (omega arith)
             (λ t. omega arith)
             (λ k. refl),
-        (refl, longer_is v.seen v.other r.log was.seen_before was.other_before, was.rising, was.places_seen),
+        (refl, longer_is v.seen v.other r.log was.seen_before was.other_before, (was.rising, was.places_seen)),
       )
 
   -- A seat with two parts or more gives one of them to a new seat
-  pub splits : (id : ℕ) (v : View T E) → v.stage ≡ Idle → 2 ≤ v.parts → Splits Rule id v (left_part v) (right_part v)
+  pub splits : (id : ℕ) (v : View T E) → v.stage ≡ Idle → 2 ≤ v.parts → Splits Rule id v (left_view v) (right_view v)
   splits id v idle two s r at =
       let was = r.each_seat id v at in
-      let left = left_part v in
-      let right = right_part v in
+      let left = left_view v in
+      let right = right_view v in
       let views = set s.views id left in
       let cut = λ (f : View T E → ℕ). total_set f s.views id v left at in
       let grown = λ (f : View T E → ℕ). total_snoc f views right in
@@ -459,9 +477,9 @@ module _ {V T E : Type 0} (means : V → T → List E → Type 0) (start : T) (s
 
   -- A seat takes in the parts and the places of another, and what it had seen
   pub joins : (id : ℕ) (v : View T E) (other : ℕ) (u : View T E) → v.stage ≡ Idle → u.stage ≡ Idle → v.other ≡ [] → u.other ≡ [] → 0 < v.parts
-      → Joins Rule id v other u (both_parts v u) spent_view
+      → Joins Rule id v other u (joined_view v u) spent_view
   joins id v other u idle idle_too compared_once compared_too some_part s r at apart there =
-      let w = both_parts v u in
+      let w = joined_view v u in
       let views = set s.views id w in
       let was = r.each_seat id v at in
       let theirs = r.each_seat other u (sym (set_else s.views id other w apart) ∙ there) in
@@ -522,11 +540,11 @@ module _ {V T E : Type 0} (means : V → T → List E → Type 0) (start : T) (s
       }
 
   -- the same once the value lies in the slot that the seat holds
-  pub gives_back : (slots id : ℕ) (me now : Me (Option V) (View T E)) (told made : List E) (y : V) → now ≡ (me.0, (0, Some y) ∷ rest me.1)
-      → me.0.stage ≡ Holding (ticket_of me.0.stage) (list_of me.0.stage) → me.1 ≡ (0, None) ∷ [] → 0 < me.0.parts → told ≡ made
-      → ((x : T) → me.0.start ≡ Some x → means y x (list_of me.0.stage ++ made))
+  pub gives_back : (slots id : ℕ) (me now : Knower V T E) (told made : List E) (y : V) → now ≡ (me.0, (0, Some y) ∷ rest me.1)
+      → IsHolding me.0 → me.1 ≡ (0, None) ∷ [] → 0 < me.0.parts → told ≡ made
+      → StandsFor means y me.0 (list_of me.0.stage ++ made)
       → Allows Rule slots id now 1 (λ n. n) (given told (step slots 1 0 0 slot.none) now)
   gives_back slots id me now told made y is holding carried some_part same_made asked =
-      subst (λ (m : Me (Option V) (View T E)). Allows Rule slots id m 1 (λ n. n) (given told (step slots 1 0 0 slot.none) m)) (sym is)
+      subst (λ (m : Knower V T E). Allows Rule slots id m 1 (λ n. n) (given told (step slots 1 0 0 slot.none) m)) (sym is)
       (gives_value slots id (me.0, (0, Some y) ∷ rest me.1) (ticket_of me.0.stage) (list_of me.0.stage) told y holding (ap (λ (c : List (ℕ × Option V)). (0, Some y) ∷ rest c) carried) some_part
       (λ x known. subst (λ (m : List E). means y x (list_of me.0.stage ++ m)) (sym same_made) (asked x known)))

@@ -2,4 +2,3 @@ pub mod Places
 pub mod Rule
 pub mod Seats
 pub mod Steps
-pub mod Tokens

@@ -1,5 +1,6 @@
--- Words that count, and lists of places in a history. Each count is a number, so that what is said of many seats is a sum.
-use Rattle.std.specs.Prelude.{◌≡◌, ◌⊎◌, ℕ, zero, suc, ◌+◌, ◌<◌, List, [], ◌∷◌, ◌++◌, if◌then◌else◌, nat_lt}
+-- Words that count, and lists of places in a history. Counts are numbers, so that what is said of many
+-- seats is a sum over them.
+use Rattle.std.specs.Prelude.{◌≡◌, ◌⊎◌, ℕ, zero, suc, ◌+◌, ◌<◌, List, [], ◌∷◌, ◌++◌, length, if◌then◌else◌, nat_lt}
 use mathlib.Core.List.{IsPrefix}
 
 -- 1 where the two numbers are equal, else 0
@@ -38,6 +39,10 @@ AllAbove n (x ∷ xs) = (n < x) × AllAbove n xs
 abbrev pub Rises : List ℕ → Type 0
 Rises [] = Unit {0}
 Rises (x ∷ xs) = AllAbove x xs × Rises xs
+
+-- the numbers rise, and each is a place of this list
+abbrev pub ArePlacesOf : {E : Type 0} → List ℕ → List E → Type 0
+ArePlacesOf ks xs = Rises ks × AllBelow (length xs) ks
 
 -- a number put into a list that rises, at its place
 abbrev pub put_in : ℕ → List ℕ → List ℕ

@@ -1,5 +1,5 @@
 -- The rule of the lock: a fact over the two words, the slot and what every seat knows.
--- The first word is the next ticket that will be drawn, and the second the one that is served, each modulo 2 ^ 64.
+-- The first word is the next ticket to be drawn, and the second the one that is served, each modulo 2 ^ 64.
 use Rattle.std.specs.Prelude.{◌≡◌, ℕ, ◌+◌, ◌%◌, ◌^◌, ◌<◌, ◌≤◌, List, [], ◌∷◌, ◌++◌, length, Option, Some, None}
 use mathlib.Core.Option as slot
 use mathlib.Core.List.{IsPrefix}
@@ -90,7 +90,8 @@ module _ {V : Type 0} where
   StandsAtHome means start log (Some y) = means y start log
   StandsAtHome means start log None = Unit {0}
 
--- The rule. Tickets are counted without end here, from `low`, which is served, up to `high`, which is drawn next. `log` is the history
+-- The rule. Tickets are counted without end here, from `low`, which is served, up to `high`, which is drawn next.
+-- `log` is the history, and `home` the value in the slot
 pub record IsKept {V T E : Type 0} (means : V → T → List E → Type 0) (start : T) (seats : ℕ) (s : State (Option V) (View T E)) : Type 0 where
   pub low : ℕ
   pub high : ℕ

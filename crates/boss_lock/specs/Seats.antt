@@ -2,7 +2,7 @@
 use Rattle.std.specs.Prelude.{◌≡◌, ℕ, ◌+◌, ◌-◌, ◌<◌, List, [], ◌∷◌, ◌++◌, length, Option, Some, None, unwrap_or}
 use mathlib.Core.List.{IsPrefix}
 use Rattle.atomic_table.specs.Seated.{TableId}
-use Rattle.boss_lock.specs.Places.{numbers_from, AllBelow, Rises, woven, entries_at, longer}
+use Rattle.boss_lock.specs.Places.{numbers_from, ArePlacesOf, woven, entries_at, longer}
 use Rattle.boss_lock.specs.Steps.{Knower}
 use Rattle.boss_lock.specs.declared.view.View.{View}
 use Rattle.boss_lock.specs.declared.view.Stage.{Stage}
@@ -14,8 +14,8 @@ pub record Lock (T : Type 0) : Type 0 where
   pub start : T
   pub seats : ℕ
 
--- A seat: its table, the start, its parts, the beginning of the history that it has seen, the places in it of the entries that it made,
--- and, while it has the turn, the history as it found it
+-- A seat: its table, the start, its parts, the beginning of the history that it has seen, the places in it of
+-- the entries that it made, and, while it has the turn, the history as it found it
 pub record Standing (T E : Type 0) : Type 0 where
   pub table : TableId
   pub start : Option T
@@ -33,7 +33,8 @@ module _ {E : Type 0} where
   turn_of (Given t list made) = None
 
 module _ {V E : Type 0} where
-  -- Between two calls a seat is idle, or has the value's slot with nothing in it, and found a history that begins with all that it has seen
+  -- Between two calls a seat is idle, or it has the turn: it holds the slot, with nothing in it, and found a
+  -- history that begins with all that it has seen
   abbrev pub Carries : List E → Stage E → List (ℕ × Option V) → Type 0
   Carries seen Idle slots = slots ≡ []
   Carries seen (Waiting t) slots = ⊥
@@ -49,8 +50,7 @@ module _ {T E : Type 0} where
 pub record IsAtRest {V T E : Type 0} (me : Knower V T E) : Type 0 where
   pub some_part : 0 < me.0.parts
   pub compared : me.0.other ≡ []
-  pub rising : Rises me.0.places
-  pub places_seen : AllBelow (length me.0.seen) me.0.places
+  pub places : ArePlacesOf me.0.places me.0.seen
   pub carries : Carries me.0.seen me.0.stage me.1
 
 module _ {T E : Type 0} where
@@ -76,7 +76,11 @@ module _ {T E : Type 0} where
 
   -- the seat after a turn in which these entries were made
   abbrev pub after_turn : Standing T E → List E → Standing T E
-  after_turn seat made = record seat { seen = found seat ++ made; places = seat.places ++ numbers_from (length (found seat)) (length made); turn = None }
+  after_turn seat made = record seat {
+    seen = found seat ++ made;
+    places = seat.places ++ numbers_from (length (found seat)) (length made);
+    turn = None;
+  }
 
   -- the seat after it has given one part away
   abbrev pub one_part_less : Standing T E → Standing T E
@@ -88,4 +92,8 @@ module _ {T E : Type 0} where
 
   -- the seat after it has taken in another
   abbrev pub both_seats : Standing T E → Standing T E → Standing T E
-  both_seats seat other = record seat { parts = seat.parts + other.parts; seen = longer seat.seen other.seen; places = woven seat.places other.places }
+  both_seats seat other = record seat {
+    parts = seat.parts + other.parts;
+    seen = longer seat.seen other.seen;
+    places = woven seat.places other.places;
+  }

@@ -1,8 +1,11 @@
--- What each kind of step tells the seat that makes it: the step, the seat before, the number found in the word, the seat after.
+-- The views that the kinds of step leave, and what each step tells the seat that makes it.
+-- A telling takes the step, the seat before, the number found in the word, and the seat after.
 use Rattle.std.specs.Prelude.{◌≡◌, ◌≢◌, ℕ, ◌+◌, ◌-◌, ◌%◌, ◌^◌, List, [], ◌∷◌, ◌++◌, length, Option, Some}
 use mathlib.Core.List.{IsPrefix}
+use Rattle.atomic_table.specs.Seated.{TableId}
 use Rattle.atomic_table.specs.Table.{Step, Me, rest}
-use Rattle.boss_lock.specs.Places.{numbers_from, AllBelow, Rises, woven, longer, IsLonger}
+use Rattle.atomic_table.specs.declared.shared.Seat.{Seat}
+use Rattle.boss_lock.specs.Places.{numbers_from, ArePlacesOf, woven, longer, IsLonger}
 use Rattle.boss_lock.specs.declared.view.View.{View}
 use Rattle.boss_lock.specs.declared.view.Stage.{Stage}
 use Rattle.boss_lock.specs.declared.view.Stage.TheVariants.{Idle, Waiting, Turn, Holding, Given}
@@ -33,69 +36,95 @@ module _ {E : Type 0} where
   made_of (Given t list made) = made
 
 module _ {T E : Type 0} where
-  abbrev pub staged : View T E → Stage E → View T E
-  staged v stage = record v { stage = stage }
+  -- the view of a seat that has drawn the ticket t
+  abbrev pub waiting_view : View T E → ℕ → View T E
+  waiting_view v t = record v { stage = Waiting t }
 
-  -- the view once its turn is passed on
-  abbrev pub after_pass : View T E → View T E
-  after_pass v = record {
-    start = v.start;
-    parts = v.parts;
+  -- the view of a seat that got the turn, and found this history
+  abbrev pub turn_view : View T E → List E → View T E
+  turn_view v list = record v { stage = Turn (ticket_of v.stage) list }
+
+  -- the view of a seat that took the value out
+  abbrev pub holding_view : View T E → List E → View T E
+  holding_view v list = record v { stage = Holding (ticket_of v.stage) list }
+
+  -- the view of a seat that put a value back, and has made these entries
+  abbrev pub given_view : View T E → List E → View T E
+  given_view v made = record v { stage = Given (ticket_of v.stage) (list_of v.stage) made }
+
+  -- the view of a seat that passed the turn on
+  abbrev pub passed_view : View T E → View T E
+  passed_view v = record v {
     seen = list_of v.stage ++ made_of v.stage;
-    other = v.other;
     places = v.places ++ numbers_from (length (list_of v.stage)) (length (made_of v.stage));
     stage = Idle;
   }
 
-  -- the view after a turn in which these entries were made
-  abbrev pub after_turn_of : View T E → List E → View T E
-  after_turn_of v made = after_pass (staged v (Given (ticket_of v.stage) (list_of v.stage) made))
+  -- the view of a seat that gave one part away
+  abbrev pub left_view : View T E → View T E
+  left_view v = record v { parts = v.parts - 1 }
 
-  -- the view once its two lists are compared
-  abbrev pub after_compare : View T E → View T E
-  after_compare v = record v { seen = longer v.seen v.other; other = [] }
+  -- the view of the seat that got the part
+  abbrev pub right_view : View T E → View T E
+  right_view v = record v { parts = 1; other = []; places = []; stage = Idle }
 
-  -- a split leaves a seat one part less
-  abbrev pub left_part : View T E → View T E
-  left_part v = record v { parts = v.parts - 1 }
+  -- the view of a seat that took in another, before what both had seen is compared
+  abbrev pub joined_view : View T E → View T E → View T E
+  joined_view v u = record v { parts = v.parts + u.parts; other = u.seen; places = woven v.places u.places }
 
-  -- and gives the new seat one part, with no places
-  abbrev pub right_part : View T E → View T E
-  right_part v = record { start = v.start; parts = 1; seen = v.seen; other = []; places = []; stage = Idle }
+  -- the view of a seat that has compared them
+  abbrev pub compared_view : View T E → View T E
+  compared_view v = record v { seen = longer v.seen v.other; other = [] }
 
-  -- a join adds the parts and the places of the other, and keeps what it had seen to be compared
-  abbrev pub both_parts : View T E → View T E → View T E
-  both_parts v u = record { start = v.start; parts = v.parts + u.parts; seen = v.seen; other = u.seen; places = woven v.places u.places; stage = v.stage }
+  -- the stage of a seat, with whatever it has
+  abbrev pub IsWaiting : View T E → Type 0
+  IsWaiting v = v.stage ≡ Waiting (ticket_of v.stage)
 
--- a seat at the table: its view, and the slot that it holds, if any
+  abbrev pub HasTurn : View T E → Type 0
+  HasTurn v = v.stage ≡ Turn (ticket_of v.stage) (list_of v.stage)
+
+  abbrev pub IsHolding : View T E → Type 0
+  IsHolding v = v.stage ≡ Holding (ticket_of v.stage) (list_of v.stage)
+
+  abbrev pub HasGiven : View T E → Type 0
+  HasGiven v = v.stage ≡ Given (ticket_of v.stage) (list_of v.stage) (made_of v.stage)
+
+  -- the value stands for a list, from the start that the seat knows
+  abbrev pub StandsFor : {V : Type 0} → (V → T → List E → Type 0) → V → View T E → List E → Type 0
+  StandsFor means value v list = (start : T) → v.start ≡ Some start → means value start list
+
+-- a seat as the table sees it: its view, and the slots that it holds, each with what lies in it
 abbrev pub Knower : Type 0 → Type 0 → Type 0 → Type 0
 Knower V T E = Me (Option V) (View T E)
 
 module _ {V T E : Type 0} where
   abbrev pub drawn : Step (Option V) → Knower V T E → ℕ → Knower V T E → Type 0
-  drawn step me found after = (t : ℕ) × (found ≡ t % 2 ^ 64) × (after ≡ (staged me.0 (Waiting t), me.1))
+  drawn step me found after = (t : ℕ) × (found ≡ t % 2 ^ 64) × (after ≡ (waiting_view me.0 t, me.1))
 
   abbrev pub looked : Step (Option V) → Knower V T E → ℕ → Knower V T E → Type 0
   looked step me found after =
-      let own = ticket_of me.0.stage in
-      (found ≡ own % 2 ^ 64 → (list : List E) × IsPrefix me.0.seen list × (after ≡ (staged me.0 (Turn own list), me.1)))
-      × (found ≢ own % 2 ^ 64 → after ≡ me)
+      let own = ticket_of me.0.stage % 2 ^ 64 in
+      (found ≡ own → (list : List E) × IsPrefix me.0.seen list × (after ≡ (turn_view me.0 list, me.1))) × (found ≢ own → after ≡ me)
 
   abbrev pub taken : (V → T → List E → Type 0) → Step (Option V) → Knower V T E → ℕ → Knower V T E → Type 0
   taken means step me found after =
-      let own = ticket_of me.0.stage in
       let list = list_of me.0.stage in
-      (y : V) × ((start : T) → me.0.start ≡ Some start → means y start list) × (after ≡ (staged me.0 (Holding own list), (0, Some y) ∷ me.1))
+      (value : V) × StandsFor means value me.0 list × (after ≡ (holding_view me.0 list, (0, Some value) ∷ me.1))
 
   abbrev pub given : List E → Step (Option V) → Knower V T E → ℕ → Knower V T E → Type 0
-  given told step me found after = after ≡ (staged me.0 (Given (ticket_of me.0.stage) (list_of me.0.stage) told), rest me.1)
+  given told step me found after = after ≡ (given_view me.0 told, rest me.1)
 
   abbrev pub passed : Step (Option V) → Knower V T E → ℕ → Knower V T E → Type 0
-  passed step me found after =
-      (after ≡ (after_pass me.0, me.1)) × Rises (after_pass me.0).places × AllBelow (length (after_pass me.0).seen) (after_pass me.0).places
+  passed step me found after = let v = passed_view me.0 in (after ≡ (v, me.1)) × ArePlacesOf v.places v.seen
 
   abbrev pub compared : Step (Option V) → Knower V T E → ℕ → Knower V T E → Type 0
   compared step me found after =
-      (after ≡ (after_compare me.0, me.1))
-      × IsLonger me.0.seen me.0.other (longer me.0.seen me.0.other)
-      × Rises me.0.places × AllBelow (length (longer me.0.seen me.0.other)) me.0.places
+      let v = compared_view me.0 in (after ≡ (v, me.1)) × IsLonger me.0.seen me.0.other v.seen × ArePlacesOf v.places v.seen
+
+-- the token is one of this table, which has a lock's words and its slot
+abbrev pub IsOn : {S W : Type 0} → TableId → Seat S W → Type 0
+IsOn table token = (token.table_id ≡ table) × (table.words ≡ 2) × (table.slots ≡ 1)
+
+-- the token has changed its view and its slots alone
+abbrev pub IsSameToken : {S W : Type 0} → Seat S W → Seat S W → Type 0
+IsSameToken old new = (new.table_id ≡ old.table_id) × (new.id ≡ old.id)

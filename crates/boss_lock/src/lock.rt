@@ -1,7 +1,7 @@
 // The lock and its calls.
 ghost use Rattle.std.specs.Prelude.{◌≡◌, ℕ, ◌+◌, ◌<◌, ◌≤◌, ◌⊎◌, List, [], ◌∷◌, ◌++◌, length, Some, None, IsSome, IfOk, IfErr};
 ghost use mathlib.Core.List.{IsPrefix};
-ghost use Rattle.boss_lock.specs.Places.{numbers_from, AllBelow, IsLonger, Rises, total};
+ghost use Rattle.boss_lock.specs.Places.{numbers_from, ArePlacesOf, IsLonger, total};
 ghost use Rattle.boss_lock.specs.Seats.{IsSeatOf, found, own_entries, first_seat, with_turn, after_turn, one_part_less, one_part_of, both_seats};
 
 use crate::seat::Seat;
@@ -17,14 +17,17 @@ use std::sync::Wait;
 #[derive(Clone, Copy, Debug, PartialEq, Eq)]
 pub struct NoMemory;
 
-/// A lock that keeps a value, which stands for a list of entries: the history. It counts from the start that the first value told.
+/// A lock that keeps a value, which stands for a list of entries, the history, from the start that the
+/// first value told.
 ///
-/// Seats take turns in the order of the tickets that they draw. Whoever has the turn has the value, and may add entries to the
-/// end of the history. The history exists in proofs alone: no call stores any of it, and only `new` takes memory.
+/// Seats take turns in the order of the tickets that they draw. Whoever has the turn has the value, and
+/// may add entries to the end of the history. The history exists in proofs alone: no call stores any of
+/// it, and only `new` takes memory. Tickets count modulo 2^64, which is no limit on the turns.
 ///
 /// To a contract a lock is a `Lock`: its table, the start, and how many parts its seats have together.
 ///
-/// Not promised: that a seat which waits gets its turn, how long that takes, or that a lock which is dropped was free.
+/// Not promised: that a seat which waits gets its turn, or how long that takes. Each turn that is passed
+/// on while others wait wakes all that sleep.
 #[derive(Drop)]
 pub struct Ruled<V: Stands> {
     table: Table<Option<V>, Known<V>, Terms<V>, OneHistory, Global>,
@@ -36,7 +39,11 @@ impl<V: Stands> Model for Ruled<V> {
 
     ghost Value = { Lock V.Start };
 
-    ghost view = { λ l. record { table = l.table.shared.table_id; start = V.start l.table.shared.key.value.value; seats = l.table.shared.key.seats } };
+    ghost view = { λ l. record {
+      table = l.table.shared.table_id;
+      start = V.start l.table.shared.key.value.value;
+      seats = l.table.shared.key.seats;
+    } };
 
     ghost invariant = { λ l. (l.table.shared.table_id.words ≡ 2) × (l.table.shared.table_id.slots ≡ 1) };
 }
@@ -73,8 +80,8 @@ fn only_value<V>(mut slots: Vec<Option<V>>) -> V
 impl<V: Stands> Ruled<V> {
     /// A new lock, and its only seat, which has all `seats` parts. The history is empty.
     ///
-    /// There has to be a part or more, and the value has to stand for the empty list from the start that it tells. Without
-    /// memory the value comes back as it was.
+    /// There has to be a part or more, and the value has to stand for the empty list from the start that
+    /// it tells. Without memory the value comes back as it was.
     pub fn new(alloc: Global, value: V, seats: u32) -> Result<(Ruled<V>, Seat<V>), (V, NoMemory)>
         requires seats { 0 < seats }
         requires value { V.stands value (V.start value) [] }
@@ -101,9 +108,9 @@ impl<V: Stands> Ruled<V> {
 
     /// Waits for the seat's turn, and takes the value out.
     ///
-    /// The seat has to be one of this lock, and not have the turn. The value stands for a history that begins with all that the
-    /// seat has seen, and which stays as it is until the seat leaves. The call takes no memory. That it returns is not promised:
-    /// it does not while another seat keeps the turn.
+    /// The seat has to be one of this lock, and not have the turn. The value stands for a history that
+    /// begins with all that the seat has seen, and that stays as it is until the seat leaves. The call
+    /// takes no memory. That it returns is not promised: it does not while another seat keeps the turn.
     pub fn enter<R: Wait>(&self, rt: &R, seat: &mut Seat<V>) -> V
         requires own { IsSeatOf self.now seat.old }
         requires no_turn { seat.old.turn ≡ None }
@@ -116,23 +123,24 @@ impl<V: Stands> Ruled<V> {
 
     /// Gives a value back, and passes the turn on.
     ///
-    /// The seat has to be one of this lock, and have the turn. The value has to stand for the history that `enter` found and then
-    /// the entries that `made` tells. The seat has then seen just that, and the new entries' places are its own. `made` is not
-    /// read. The call takes no memory, does not wait, and wakes whoever sleeps until the turn comes.
+    /// The seat has to be one of this lock, and have the turn. The value has to stand for the history that
+    /// `enter` found and then the entries that `made` tells. The seat has then seen just that, and the new
+    /// entries' places are its own. `made` is not read. The call takes no memory and does not wait.
     pub fn leave<M: Made<V>>(&self, seat: &mut Seat<V>, value: V, made: &M)
         requires own { IsSeatOf self.now seat.old }
         requires turn { IsSome seat.old.turn }
         requires value { V.stands value self.now.start (found seat.old ++ M.entries made.now) }
         ensures seat { seat.new ≡ after_turn seat.old (M.entries made.now) }
         ensures own_entries { own_entries seat.new ≡ own_entries seat.old ++ M.entries made.now }
-        ensures places { Rises seat.new.places × AllBelow (length seat.new.seen) seat.new.places }
+        ensures places { ArePlacesOf seat.new.places seat.new.seen }
     {
         end_turn(&self.table.shared, &mut seat.token, value, made);
     }
 
     /// Moves one part to a new seat, which has seen the same and has no places.
     ///
-    /// The seat has to be one of this lock, not have the turn, and have two parts or more. The call takes no memory.
+    /// The seat has to be one of this lock, not have the turn, and have two parts or more. The call takes
+    /// no memory.
     pub fn split(&self, seat: &mut Seat<V>) -> Seat<V>
         requires own { IsSeatOf self.now seat.old }
         requires no_turn { seat.old.turn ≡ None }
@@ -144,8 +152,8 @@ impl<V: Stands> Ruled<V> {
         Seat { token }
     }
 
-    /// Takes in the parts and the places of another seat, and what it had seen: of the two beginnings of the history, the
-    /// seat has then seen the longer.
+    /// Takes in another seat: its parts, its places, and the longer of what the two have seen, which both
+    /// begin.
     ///
     /// Both have to be seats of this lock, and have no turn. The call takes no memory.
     pub fn join(&self, seat: &mut Seat<V>, other: Seat<V>)
@@ -153,18 +161,19 @@ impl<V: Stands> Ruled<V> {
         requires no_turn { (seat.old.turn ≡ None) × (other.turn ≡ None) }
         ensures seat { seat.new ≡ both_seats seat.old other }
         ensures history { IsLonger seat.old.seen other.seen seat.new.seen }
-        ensures own_entries { (weight : V.Entry → ℕ) → total weight (own_entries seat.new) ≡ total weight (own_entries seat.old) + total weight (own_entries other) }
-        ensures places { Rises seat.new.places × AllBelow (length seat.new.seen) seat.new.places }
+        ensures own_entries { (weight : V.Entry → ℕ) →
+            total weight (own_entries seat.new) ≡ total weight (own_entries seat.old) + total weight (own_entries other) }
+        ensures places { ArePlacesOf seat.new.places seat.new.seen }
     {
         let Seat { token } = other;
         take_in(&self.table.shared, &mut seat.token, token);
     }
 
-    /// Gives the value up. It stands for all that the seat has seen, and every place of that is the seat's: so it is the whole
-    /// history, and each of its entries was made by a seat whose places this one has.
+    /// Ends the lock, and gives its value. It stands for all that the seat has seen, and every place of
+    /// that is the seat's own.
     ///
-    /// The seat has to be one of this lock, not have the turn, and have all parts. The call takes no memory, and gives back what
-    /// the lock took.
+    /// The seat has to be one of this lock, not have the turn, and have all parts, so it is the only seat
+    /// left. The call takes no memory, and gives back what the lock took.
     pub fn close(self, seat: Seat<V>) -> V
         requires own { IsSeatOf self seat }
         requires no_turn { seat.turn ≡ None }

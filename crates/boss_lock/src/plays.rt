@@ -1,7 +1,7 @@
 // The kinds of step, and what each tells the seat that makes it.
 ghost use Rattle.std.specs.Prelude.{List, []};
 ghost use Rattle.boss_lock.specs.Rule.{spent_view};
-ghost use Rattle.boss_lock.specs.Steps.{left_part, right_part, both_parts, drawn, looked, taken, given, passed, compared};
+ghost use Rattle.boss_lock.specs.Steps.{left_view, right_view, joined_view, drawn, looked, taken, given, passed, compared};
 
 use crate::view::{Known, Stands, View};
 use atomic_table::{Join, Play, Split};
@@ -58,15 +58,15 @@ impl<V: Stands> Play<Option<V>, Known<V>> for Compare {
 pub struct OnePart;
 
 impl<T, E> Split<View<T, E>> for OnePart {
-    ghost left = { left_part };
+    ghost left = { left_view };
 
-    ghost right = { right_part };
+    ghost right = { right_view };
 }
 
 pub struct AllParts;
 
 impl<T, E> Join<View<T, E>> for AllParts {
-    ghost both = { both_parts };
+    ghost both = { joined_view };
 
     ghost spent = { spent_view };
 }

@@ -40,7 +40,9 @@ fn add<R: Wait>(lock: &Ruled<Count>, rt: &R, seat: &mut Seat<Count>, by: u64) ->
     requires own { IsSeatOf lock.now seat.old }
     requires no_turn { seat.old.turn ≡ None }
     ensures same { seat.new ≡ record seat.old { seen = seat.new.seen; places = seat.new.places } }
-    ensures made { MatchBool result (own_entries seat.new ≡ own_entries seat.old ++ by ∷ []) (own_entries seat.new ≡ own_entries seat.old) }
+    ensures made { MatchBool result
+        (own_entries seat.new ≡ own_entries seat.old ++ by ∷ [])
+        (own_entries seat.new ≡ own_entries seat.old) }
 {
     let count = lock.enter(rt, seat);
     match count.value.checked_add(by) {
@@ -66,7 +68,8 @@ fn add_all<R: Wait>(
     requires own { IsSeatOf lock.now seat }
     requires no_turn { seat.turn ≡ None }
     ensures same { result.0 ≡ record seat { seen = result.0.seen; places = result.0.places } }
-    ensures made { IsTrue result.1 → total (λ n. n) (own_entries result.0) ≡ total (λ n. n) (own_entries seat) + turns * by }
+    ensures made { IsTrue result.1 →
+        total (λ n. n) (own_entries result.0) ≡ total (λ n. n) (own_entries seat) + turns * by }
 {
     for _ in 0..turns {
         if !add(lock, rt, &mut seat, by) {
@@ -95,11 +98,13 @@ fn add_in_two_threads<R: Threads + Wait + Sync>(
         rt,
         move || -> (Seat<Count>, bool)
             requires { IsSeatOf shared.now seat × (seat.turn ≡ None) × (seat.parts ≡ 1) × (seat.places ≡ []) }
-            ensures { IsSeatOf shared.entry.now result.0 × (result.0.turn ≡ None) × (result.0.parts ≡ 1) × (IsTrue result.1 → total (λ n. n) (own_entries result.0) ≡ turns * by.0) }
+            ensures { IsSeatOf shared.entry.now result.0 × (result.0.turn ≡ None) × (result.0.parts ≡ 1)
+                × (IsTrue result.1 → total (λ n. n) (own_entries result.0) ≡ turns * by.0) }
         { add_all(shared, rt, seat, by.0, turns) },
         move || -> (Seat<Count>, bool)
             requires { IsSeatOf shared.now other × (other.turn ≡ None) × (other.parts ≡ 1) × (other.places ≡ []) }
-            ensures { IsSeatOf shared.entry.now result.0 × (result.0.turn ≡ None) × (result.0.parts ≡ 1) × (IsTrue result.1 → total (λ n. n) (own_entries result.0) ≡ turns * by.1) }
+            ensures { IsSeatOf shared.entry.now result.0 × (result.0.turn ≡ None) × (result.0.parts ≡ 1)
+                × (IsTrue result.1 → total (λ n. n) (own_entries result.0) ≡ turns * by.1) }
         { add_all(shared, rt, other, by.1, turns) },
     );
     if !here || !there {

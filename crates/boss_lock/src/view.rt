@@ -5,7 +5,8 @@ use atomic_table::{Seat, Shared, TableRule};
 use std::collections::LinkedList;
 use std::snapshot::Snapshot;
 
-/// A value that stands for a list of entries, from a start. The trait has no calls: its two meanings are read by contracts alone.
+/// A value that stands for a list of entries, from a start. Contracts alone read its two meanings, so
+/// the trait has no calls.
 pub trait Stands {
     /// What a value tells of the state before the first entry. It is plain data, and no value of it is made.
     type Start;
@@ -19,14 +20,14 @@ pub trait Stands {
     ghost stands: { Self → Self.Start → List Self.Entry → Type 0 };
 }
 
-/// A value that tells which entries a turn made. The trait has no calls, and no code reads such a value.
+/// A value that tells which entries a turn made. No code reads it, so the trait has no calls.
 pub trait Made<V: Stands> {
     // The entries, in the order in which they were made.
     ghost entries: { Self → List V.Entry };
 }
 
-// How far a seat is with its turn. A number is the seat's ticket, counted without end. The first list is the history as the
-// seat found it when it got the turn, and the second the entries that it made.
+// How far a seat is with its turn. A number is the seat's ticket, counted without end. The first list
+// is the history as the seat found it when it got the turn, and the second the entries that it made.
 pub enum Stage<E> {
     Idle,
     Waiting(u64),
@@ -51,7 +52,7 @@ pub struct View<T, E> {
 
 pub type Known<V> = View<<V as Stands>::Start, <V as Stands>::Entry>;
 
-// What the table is told when it is made. It has the value's start, and takes four bytes.
+// What the table is told when it is made. It has no byte of the value, whose start the rule reads.
 #[derive(Drop)]
 pub struct Terms<V> {
     pub seats: u32,

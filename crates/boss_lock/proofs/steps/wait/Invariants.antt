@@ -1,5 +1,5 @@
 use Rattle.std.proofs.Common.{◌≡◌}
-use Rattle.boss_lock.specs.Tokens.{IsSameToken}
+use Rattle.boss_lock.specs.Steps.{IsSameToken}
 use Rattle.boss_lock.proofs.steps.wait.Given as goal
 
 abbrev pub invariant-loop : goal.invariant-loop
