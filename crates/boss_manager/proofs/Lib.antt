@@ -1,3 +1,4 @@
+pub mod LineLemmas
 pub mod PointNames
 pub mod RunLemmas
 pub mod ServeLemmas

@@ -1,5 +1,5 @@
 -- One want served, and wants that are all served, as parts of a script.
-use Rattle.std.proofs.Common.{◌≡◌, ℕ, ℤ, Bool, List, [], ◌∷◌, ◌++◌, Option, Some, None, refl, ap, ap₂, sym, ◌∙◌, append-nil, true, ◌^◌, ◌<◌, ◌≤◌, length, map, subst, arith}
+use Rattle.std.proofs.Common.{◌≡◌, ℕ, zero, suc, ℤ, Bool, List, [], ◌∷◌, ◌++◌, Option, Some, None, refl, ap, ap₂, sym, ◌∙◌, append-nil, true, ◌^◌, ◌<◌, ◌≤◌, length, map, subst, arith}
 use Rattle.boss_model.specs.declared.Answer.{Answer}
 use Rattle.boss_model.specs.declared.Answer.TheVariants as answer
 use Rattle.boss_model.specs.declared.Command.TheVariants as command
@@ -7,9 +7,12 @@ use Rattle.boss_model.specs.Call.{Call}
 use Rattle.boss_model.specs.Catalogue.{Catalogue, actuators, driver_of}
 use Rattle.boss_model.specs.declared.Actuator.{Actuator}
 use Rattle.boss_model.specs.Sound.{IsSound}
-use Rattle.boss_model.proofs.NextFacts.{IsOf, next-of}
+use Rattle.boss_model.proofs.NextFacts.{IsOf, next-of, wanting-known}
+use Rattle.boss_model.proofs.Soundness.{each-map}
+use Rattle.boss_model.proofs.StepSound.{unsettled, wants-known}
+use Rattle.boss_manager.specs.Weights.{HasDevices}
 use Rattle.std.proofs.lemmas.List.{length-map}
-use Rattle.boss_manager.proofs.RunLemmas.{dealt-one}
+use Rattle.boss_manager.proofs.RunLemmas.{dealt-none, dealt-one, did-then}
 use Rattle.boss_model.specs.Machine.{step, wanting}
 use Rattle.boss_model.specs.Script.{Run, drain, serve, carry_out, if_wanting}
 use Rattle.boss_model.specs.State.{State}
@@ -70,3 +73,23 @@ did-serve catalogue driver moment point version value ok plant plant' s s' s'' o
       text = told;
       devices = λ all. let one = gain all in (one.0, one.1 ∙ dealt-one cat driver (record { point = point; value = value; ok = ok }) before behind within);
     }
+
+-- once nothing is wanted, all wants of the moment are served
+pub did-drained : (catalogue : Catalogue) (moment : ℕ) (plant : List Actuator) (s s' : State) (old new : List ℕ) (before after : List (List Call)) (was now : Type 0) →
+    plant ≡ actuators catalogue → wanting plant s' ≡ None →
+    Did (actuators catalogue) (served catalogue moment) (served catalogue moment) s s' old new before after was now →
+    Did (actuators catalogue) (served catalogue moment) stop s s' old new before after was now
+did-drained catalogue moment plant s s' old new before after was now same wants did =
+    let wants' : wanting (actuators catalogue) s' ≡ None = subst (λ p. wanting p s' ≡ None) same wants in
+    did-then (actuators catalogue) (served catalogue moment) (served catalogue moment) stop s s' s' old new new before after after was now now did
+    (record { results = []; told = []; calls = []; leads = drained-leads catalogue moment s' wants'; text = sym (append-nil new); devices = λ all. (all, sym (dealt-none (actuators catalogue) after)) })
+
+driver-there : (count : ℕ) (plant : List Actuator) → HasDevices count plant → (point : ℕ) → point < length plant → driver_of plant point < count
+driver-there count [] all point within = absurd (omega arith)
+driver-there count (a ∷ rest) all zero within = all.0
+driver-there count (a ∷ rest) all (suc point) within = driver-there count rest all.1 point (omega arith)
+
+-- the driver that is wanting has a device
+pub device-there : (count : ℕ) (plant : List Actuator) (s : State) (driver : ℕ) → HasDevices count plant → IsSound plant s → wanting plant s ≡ Some driver → driver < count
+device-there count plant s driver all sound wants = wanting-known plant s driver count
+    (each-map (λ want. want < length plant) (λ want. driver_of plant want < count) (driver-there count plant all) s.wants (wants-known plant s (unsettled plant s sound))) wants

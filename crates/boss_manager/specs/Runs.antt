@@ -1,9 +1,10 @@
-use Rattle.std.specs.Prelude.{◌≡◌, ℕ, ◌==◌, Bool, false, List, [], ◌∷◌, ◌++◌, map, filter, slice_set, slice_index_or}
+use Rattle.std.specs.Prelude.{◌≡◌, ℕ, ◌==◌, Bool, false, List, [], ◌∷◌, ◌++◌, fold, map, filter, slice_set, slice_index_or}
 use Rattle.std.specs.List.{AllByRecursion, enumerate_from}
 use Rattle.boss_model.specs.declared.Actuator.{Actuator}
 use Rattle.boss_model.specs.Call.{Call}
 use Rattle.boss_model.specs.Catalogue.{Catalogue, driver_of}
-use Rattle.boss_model.specs.Script.{Run, drain}
+use Rattle.boss_model.specs.Script.{Run, drain, line_read}
+use Rattle.boss_model.specs.Lines.{lines}
 use Rattle.boss_model.specs.State.{State}
 
 -- a script under way that was not cut short
@@ -23,6 +24,13 @@ stop run = run
 -- the wants of this moment are served
 abbrev pub served : Catalogue → ℕ → Run → Run
 served catalogue moment run = drain catalogue moment run.results run
+
+-- a line is taken, and all lines of these bytes are
+abbrev pub line_taken : Catalogue → List ℕ → Run → Run
+line_taken catalogue line run = line_read catalogue run line
+
+abbrev pub reading : Catalogue → List ℕ → Run → Run
+reading catalogue bytes run = fold (line_read catalogue) run (lines bytes)
 
 -- ---- one list of calls a device, in the order of drivers
 

@@ -5,7 +5,11 @@ mod devices;
 mod draining;
 mod ending;
 mod requests;
+mod script;
+mod status;
 mod texts;
 mod wants;
 
 pub use ending::Ending;
+pub use script::script_run;
+pub use status::Status;

@@ -11,6 +11,8 @@ mod notice;
 mod numbers;
 mod point;
 mod state;
+#[cfg(test)]
+mod tests;
 
 pub use answer::{Answer, Basis, Mark, Refusal};
 pub use buffer::Buffer;

@@ -1,0 +1,48 @@
+use Rattle.std.proofs.Common.{◌≡◌, ◌<◌, map, sym, ap, subst, ◌∙◌, arith, refl, vec_len}
+use Rattle.std.specs.List.{AllByRecursion}
+use Rattle.boss_model.specs.Catalogue.{actuators}
+use Rattle.boss_manager.specs.Runs.{served, stop}
+use Rattle.boss_manager.specs.Weights.{HasDevices}
+use Rattle.boss_manager.proofs.RunLemmas.{did-nothing, did-then}
+use Rattle.boss_manager.proofs.ServeLemmas.{device-there, did-drained}
+use Rattle.boss_manager.proofs.draining.drain.Goals as goal
+
+pub loop-driver-init : goal.loop-driver-init
+loop-driver-init g c = record {
+  plant = refl;
+  sound = c.requires.sound;
+  len = refl;
+  did = λ tells told. did-nothing (actuators c.args.catalogue.now) (served c.args.catalogue.now c.args.moment) c.args.engine.now.state (g.K.Sink.taken c.args.sink.now)
+      (map g.A.Actuators.calls c.args.devices.now.items) (AllByRecursion g.A.Actuators.whole c.args.devices.now.items);
+}
+
+pub serve-requires-clause-device : goal.serve-requires-clause-device
+serve-requires-clause-device g c =
+    let inv = c.loop-driver.invariant in
+    let devices : HasDevices (vec_len c.loop-driver.devices) c.loop-driver.engine.plant =
+        rw (inv.len, inv.plant) c.requires.devices in
+    device-there (vec_len c.loop-driver.devices) c.loop-driver.engine.plant c.loop-driver.engine.state c.in-Some.driver devices inv.sound (sym c.wanting.ensures ∙ c.in-Some.is)
+
+pub loop-driver-preserved : goal.loop-driver-preserved
+loop-driver-preserved g c =
+    let inv = c.loop-driver.invariant in
+    let done = c.in_ok-serve.ensures in
+    let part = served c.args.catalogue.now c.args.moment in
+    record {
+      plant = c.serve.ensures.plant ∙ inv.plant;
+      sound = c.serve.ensures.sound;
+      len = c.serve.ensures.len ∙ inv.len;
+      did = λ tells told. did-then (actuators c.args.catalogue.now) part part part c.args.engine.now.state c.loop-driver.engine.state c.serve.new.engine.state
+          (g.K.Sink.taken c.args.sink.now) (g.K.Sink.taken c.loop-driver.sink) (g.K.Sink.taken c.serve.new.sink)
+          (map g.A.Actuators.calls c.args.devices.now.items) (map g.A.Actuators.calls c.loop-driver.devices.items) (map g.A.Actuators.calls c.serve.new.devices.items)
+          (AllByRecursion g.A.Actuators.whole c.args.devices.now.items) (AllByRecursion g.A.Actuators.whole c.loop-driver.devices.items) (AllByRecursion g.A.Actuators.whole c.serve.new.devices.items)
+          (inv.did tells told) (done.did tells told);
+    }
+
+pub returns-clause-did : goal.returns-clause-did
+returns-clause-did g c = λ tells told.
+    let inv = c.loop-driver.invariant in
+    did-drained c.args.catalogue.now c.args.moment c.loop-driver.engine.plant c.args.engine.now.state c.loop-driver.engine.state
+    (g.K.Sink.taken c.args.sink.now) (g.K.Sink.taken c.loop-driver.sink) (map g.A.Actuators.calls c.args.devices.now.items) (map g.A.Actuators.calls c.loop-driver.devices.items)
+    (AllByRecursion g.A.Actuators.whole c.args.devices.now.items) (AllByRecursion g.A.Actuators.whole c.loop-driver.devices.items)
+    (inv.plant ∙ c.requires.plant) (sym c.wanting.ensures ∙ c.in_default.is) (inv.did tells told)

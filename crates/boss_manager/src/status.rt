@@ -1,0 +1,26 @@
+/// How a run of the program ended, as the number that the process ends with.
+#[derive(Clone, Copy, Debug, PartialEq, Eq)]
+pub struct Status(pub u8);
+
+impl Status {
+    /// All was done.
+    pub const DONE: Status = Status(0);
+    /// The input asks for something that is not served yet.
+    pub const UNSERVED: Status = Status(1);
+    /// The words ask for no job that is there.
+    pub const USAGE: Status = Status(2);
+    /// The catalogue was refused.
+    pub const CATALOGUE: Status = Status(3);
+    /// A file failed.
+    pub const FILE_FAULT: Status = Status(5);
+    /// A read failed.
+    pub const READ_FAULT: Status = Status(6);
+    /// A write failed.
+    pub const WRITE_FAULT: Status = Status(7);
+    /// No memory was to be had.
+    pub const NO_MEMORY: Status = Status(8);
+    /// A line is too long.
+    pub const LINE_TOO_LONG: Status = Status(13);
+    /// There are more than 2^32 lines.
+    pub const TOO_MANY_LINES: Status = Status(14);
+}
