@@ -14,7 +14,17 @@ fn reads_each_job(rt: HostRuntime) -> Result<(), Fail> {
     assert_eq!(rt; catalogue.text(), "--help");
     assert_eq!(rt; journal.text(), "-");
 
-    let words = words_of(alloc, &["serve", "k.toml", "j", "[::1]:80", "0000000032", "4294967295"])?;
+    let words = words_of(
+        alloc,
+        &[
+            "serve",
+            "k.toml",
+            "j",
+            "[::1]:80",
+            "0000000032",
+            "4294967295",
+        ],
+    )?;
     let Job::Serve {
         catalogue,
         journal,
