@@ -1,5 +1,5 @@
 -- The driver of a point, where it is none of the drivers.
-use Rattle.std.proofs.Common.{◌≡◌, ℕ, List, codes, position, Option, Some, None, refl}
+use Rattle.std.proofs.Common.{◌≡◌, ℕ, List, codes, position, Some, None}
 use Rattle.std.specs.Str.{bytes_eq}
 use Rattle.toml.specs.Data.{Data}
 use Rattle.boss_points.specs.Keys.{text_at, driver_of}

@@ -1,5 +1,5 @@
 -- The place of a name among the keys of a set, and among the points.
-use Rattle.std.proofs.Common.{◌≡◌, ℕ, List, map, position, Vec, Global, nat_eq, sym, ap, ◌∙◌}
+use Rattle.std.proofs.Common.{◌≡◌, ℕ, List, map, position, Vec, Global, sym, ap, ◌∙◌}
 use Rattle.std.proofs.lemmas.Cmp.{lists_equiv}
 use Rattle.std.specs.Cmp.{nat_eq_equiv}
 use Rattle.std.specs.Str.{bytes_eq}

@@ -6,3 +6,4 @@ pub mod Whole
 pub mod Fed
 pub mod Found
 pub mod Texts
+pub mod Refusals

@@ -1,5 +1,5 @@
 -- Names that are all different, and the points that have them.
-use Rattle.std.proofs.Common.{◌≡◌, ℕ, ◌+◌, Bool, true, false, cond, List, [], ◌∷◌, ◌++◌, map, ℤ, position, is_none, Option, Some, None, Result, Ok, Err, refl, sym, ap, ◌∙◌, append_assoc, append-nil, rules, arith}
+use Rattle.std.proofs.Common.{◌≡◌, ℕ, ◌+◌, Bool, true, false, cond, List, [], ◌∷◌, ◌++◌, map, ℤ, position, is_none, Option, Some, None, Result, Ok, Err, refl, sym, ap, ◌∙◌, append_assoc, append-nil}
 use Rattle.std.specs.List.{AllByRecursion, filter_map, cons_option, list_any}
 use Rattle.std.specs.Option.{option_and_then}
 use Rattle.std.specs.Str.{bytes_eq}
@@ -43,9 +43,11 @@ first_read drivers d ds parts =
     let name = something (name_of d) parts.names.0 in
     let kind = something (kind_of d) parts.kinds.0 in
     let default = something (default_of d) parts.defaults.0 in
-    let driver = something (driver_of drivers d) parts.owners.0 in
-    (record { name = name.0; kind = kind.0; default = default.0; driver = driver.0 },
-      point_read drivers d name.0 kind.0 default.0 driver.0 name.1 kind.1 default.1 driver.1, name.1)
+    let driver = something (driver_of drivers d) parts.owners.0 in (
+      record { name = name.0; kind = kind.0; default = default.0; driver = driver.0 },
+      point_read drivers d name.0 kind.0 default.0 driver.0 name.1 kind.1 default.1 driver.1,
+      name.1,
+    )
 
 others : (drivers : List (List ℕ)) (d : Data) (ds : List Data) → AllParts drivers (d ∷ ds) → AllParts drivers ds
 others drivers d ds parts = record { names = parts.names.1; kinds = parts.kinds.1; defaults = parts.defaults.1; owners = parts.owners.1 }
@@ -64,7 +66,7 @@ distinct_from-names drivers place earlier refusal [] names parts ok = let all : 
 distinct_from-names drivers place earlier refusal (d ∷ ds) names parts ok =
     let (point, read, name) = first_read drivers d ds parts in
     let later : distinct_from (place + 1) (earlier ++ point.name ∷ []) refusal (map name_of ds) ≡ Ok names =
-      not_refused (list_any (bytes_eq point.name) earlier) (refusal place) _ names (sym (ap (λ found. distinct_from place earlier refusal (found ∷ map name_of ds)) name) ∙ ok) in
+    not_refused (list_any (bytes_eq point.name) earlier) (refusal place) _ names (sym (ap (λ found. distinct_from place earlier refusal (found ∷ map name_of ds)) name) ∙ ok) in
     distinct_from-names drivers (place + 1) (earlier ++ point.name ∷ []) refusal ds names (others drivers d ds parts) later
     ∙ append_assoc earlier (point.name ∷ []) _
     ∙ sym (ap (λ found. earlier ++ map (λ point. point.name) (cons_option found (filter_map (point_of drivers) ds))) read)

@@ -1,7 +1,7 @@
 -- Places in a list, and in the list of what its items are seen as.
 use Rattle.std.proofs.Common.{◌≡◌, ℕ, zero, suc, ◌+◌, ◌<◌, Bool, true, false, ◌||◌, cond, List, [], ◌∷◌, length, get_or, map, position, Option, Some, None, refl, sym, ap, ◌∙◌, arith}
 use Rattle.std.proofs.lemmas.Iterator.Adapters.{position_from-zero}
-use Rattle.std.specs.List.{AllByRecursion, position_from, filter_map, cons_option, list_any}
+use Rattle.std.specs.List.{AllByRecursion, position_from, list_any}
 
 module _ {A B : Type 0} (see : A → B) where
   position_from-map : (test : B → Bool) (place : ℕ) (xs : List A) → position_from (λ x. test (see x)) place xs ≡ position_from test place (map see xs)
@@ -10,10 +10,6 @@ module _ {A B : Type 0} (see : A → B) where
 
   pub position-map : (test : B → Bool) (xs : List A) → position (λ x. test (see x)) xs ≡ position test (map see xs)
   position-map test xs = position_from-zero (λ x. test (see x)) xs ∙ position_from-map test 0 xs ∙ sym (position_from-zero test (map see xs))
-
-  pub filter_map-map : {C : Type 0} (read : B → Option C) (xs : List A) → filter_map (λ x. read (see x)) xs ≡ filter_map read (map see xs)
-  filter_map-map read [] = refl
-  filter_map-map read (x ∷ xs) = ap (cons_option (read (see x))) (filter_map-map read xs)
 
   pub list_any-map : (test : B → Bool) (xs : List A) → list_any (λ x. test (see x)) xs ≡ list_any test (map see xs)
   list_any-map test [] = refl

@@ -1,5 +1,5 @@
 -- What holds of each point that is read, and how many there are.
-use Rattle.std.proofs.Common.{◌≡◌, ℕ, ◌+◌, ◌<◌, ◌≤◌, ℤ, true, List, [], ◌∷◌, ◌++◌, length, Option, Some, None, All, position, codes, refl, sym, ◌∙◌, rules, arith}
+use Rattle.std.proofs.Common.{◌≡◌, ℕ, ◌<◌, ℤ, true, List, [], ◌∷◌, length, Option, Some, None, All, position, codes, refl, sym, ◌∙◌}
 use Rattle.std.proofs.lemmas.List.Elements.{All-from_recursion}
 use Rattle.std.proofs.lemmas.List.Quantifiers.{position-Some}
 use Rattle.std.proofs.lemmas.Option.{option_and_then_some, cond_some, same_Some}
@@ -15,27 +15,27 @@ use Rattle.boss_points.specs.Kept.{IsWhole}
 default_of-fits : (d : Data) (kind : Kind) (default : ℤ) → kind_of d ≡ Some kind → default_of d ≡ Some default → fits kind default ≡ true
 default_of-fits d kind default kinded defaulted =
     option_and_then_some _ (kind_of d) default defaulted (λ other is rest.
-      option_and_then_some _ _ default rest (λ whole _ tested.
-        let fitting = cond_some (fits other whole) whole default tested in
-        let same : other ≡ kind = let found : Some other ≡ Some kind = sym is ∙ kinded in cc in
-        rw (← same, ← fitting.1) fitting.0))
+    option_and_then_some _ _ default rest (λ whole _ tested.
+    let fitting = cond_some (fits other whole) whole default tested in
+    let same : other ≡ kind = let found : Some other ≡ Some kind = sym is ∙ kinded in cc in
+    rw (← same, ← fitting.1) fitting.0))
 
 driver_of-known : (drivers : List (List ℕ)) (d : Data) (driver : ℕ) → driver_of drivers d ≡ Some driver → driver < length drivers
 driver_of-known drivers d driver is =
     option_and_then_some (λ name. position (λ other. bytes_eq other name) drivers) (text_at (codes "driver") d) driver is
-      (λ name _ found. (position-Some (λ other. bytes_eq other name) drivers driver [] found).0)
+    (λ name _ found. (position-Some (λ other. bytes_eq other name) drivers driver [] found).0)
 
 point_of-whole : (drivers : List (List ℕ)) (d : Data) (point : Point) → point_of drivers d ≡ Some point → IsWhole (length drivers) point
 point_of-whole drivers d point is =
     option_and_then_some _ _ point is (λ name _ named.
-      option_and_then_some _ _ point named (λ kind kinded rest.
-        option_and_then_some _ _ point rest (λ default defaulted more.
-          option_and_then_some _ _ point more (λ driver driven made.
-            let whole : IsWhole (length drivers) (record { name = name; kind = kind; default = default; driver = driver }) = record {
-              fitting = default_of-fits d kind default kinded defaulted;
-              known = driver_of-known drivers d driver driven;
-            } in
-            rw (← same_Some (record { name = name; kind = kind; default = default; driver = driver }) point made) whole))))
+    option_and_then_some _ _ point named (λ kind kinded rest.
+    option_and_then_some _ _ point rest (λ default defaulted more.
+    option_and_then_some _ _ point more (λ driver driven made.
+    let whole : IsWhole (length drivers) (record { name = name; kind = kind; default = default; driver = driver }) = record {
+      fitting = default_of-fits d kind default kinded defaulted;
+      known = driver_of-known drivers d driver driven;
+    } in
+    rw (← same_Some (record { name = name; kind = kind; default = default; driver = driver }) point made) whole))))
 
 whole_by_recursion : (drivers : List (List ℕ)) (ds : List Data) → AllByRecursion (IsWhole (length drivers)) (filter_map (point_of drivers) ds)
 whole_by_recursion drivers [] = tt

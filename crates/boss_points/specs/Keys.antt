@@ -1,5 +1,5 @@
 -- What the keys of a file and of a point spell. A key that is not named here is passed over.
-use Rattle.std.specs.Prelude.{ℕ, ◌^◌, ℤ, pos, neg_ℤ, int_le, Bool, ◌&&◌, if◌then◌else◌, List, [], ◌∷◌, map, codes, position, Option, Some, None}
+use Rattle.std.specs.Prelude.{ℕ, ◌^◌, ℤ, pos, neg_ℤ, int_le, Bool, ◌&&◌, if◌then◌else◌, List, [], ◌∷◌, codes, position, Option, Some, None}
 use Rattle.std.specs.Option.{option_and_then}
 use Rattle.std.specs.Str.{bytes_eq}
 use Rattle.toml.specs.Data.{Data, Items, no_items, item, get, as_str, as_integer, as_array}
@@ -46,9 +46,6 @@ name_spelled d = as_str d >>= if_true is_name
 abbrev pub name_of : Data → Option (List ℕ)
 name_of point = get (codes "name") point >>= name_spelled
 
-abbrev pub is_within : ℤ → ℤ → ℤ → Bool
-is_within low high z = int_le low z && int_le z high
-
 -- analog limits lie within these bounds, in thousandths of the unit
 abbrev pub least_limit : ℤ
 least_limit = neg_ℤ (pos (10 ^ 15))
@@ -68,7 +65,7 @@ analog_of point = do
 abbrev pub multi_of : Data → Option Kind
 multi_of point = do
   states ← whole_at (codes "states") point
-  if is_within (pos 2) (pos 255) states then Some (Multi states) else None
+  if int_le (pos 2) states && int_le states (pos 255) then Some (Multi states) else None
 
 abbrev pub kind_named : List ℕ → Data → Option Kind
 kind_named kind point =

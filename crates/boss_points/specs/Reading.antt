@@ -44,30 +44,30 @@ distinct refusal names = distinct_from 0 [] refusal names
 abbrev pub all_read : {A : Type 0} → (Data → Option A) → (ℕ → CatalogueRefusal) → List Data → Result (Unit {0}) CatalogueRefusal
 all_read read refusal items = option_map_or (λ place. Err (refusal place)) (position (λ d. is_none (read d)) items) (Ok tt)
 
--- the points that pass the tests 6 to 10
+-- tests 6 to 10, and the points: where these tests pass, each item reads as one
 abbrev pub points_of : List (List ℕ) → List Data → Result (List Point) CatalogueRefusal
 points_of drivers points = do
-  _ ← all_read name_of BadName points
-  _ ← distinct SameName (map name_of points)
-  _ ← all_read kind_of BadKind points
-  _ ← all_read default_of BadDefault points
-  _ ← all_read (driver_of drivers) UnknownDriver points
+  _ ← all_read name_of BadName points  -- 6
+  _ ← distinct SameName (map name_of points)  -- 7
+  _ ← all_read kind_of BadKind points  -- 8
+  _ ← all_read default_of BadDefault points  -- 9
+  _ ← all_read (driver_of drivers) UnknownDriver points  -- 10
   Ok (filter_map (point_of drivers) points)
 
--- the catalogue of a table: tests 3 to 10
+-- tests 3 to 10, and the catalogue of a table
 abbrev pub catalogue_in : Data → Result Catalogue CatalogueRefusal
 catalogue_in file = do
-  drivers ← ok_or (array_at (codes "drivers") file) (Missing Drivers)
+  drivers ← ok_or (array_at (codes "drivers") file) (Missing Drivers)  -- 3
   points ← ok_or (array_at (codes "point") file) (Missing Points)
-  _ ← at_most 16 drivers
+  _ ← at_most 16 drivers  -- 4
   _ ← at_most 1024 points
-  drivers ← distinct BadDriver (map name_spelled drivers)
+  drivers ← distinct BadDriver (map name_spelled drivers)  -- 5
   points ← points_of drivers points
   Ok (record { drivers = drivers; points = all_seen points })
 
--- the catalogue that the bytes spell: all ten tests
+-- all ten tests, and the catalogue that the bytes spell
 unfoldable pub catalogue_of : List ℕ → Result Catalogue CatalogueRefusal
 catalogue_of bytes = do
-  _ ← refuse_if (nat_lt 1048576 (length bytes)) (TooLong (length bytes))
-  file ← ok_or (table_of bytes) NotToml
+  _ ← refuse_if (nat_lt 1048576 (length bytes)) (TooLong (length bytes))  -- 1
+  file ← ok_or (table_of bytes) NotToml  -- 2
   catalogue_in file

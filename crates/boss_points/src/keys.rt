@@ -6,8 +6,10 @@ ghost use Rattle.boss_points.specs.Keys.{name_spelled, name_of, kind_of, analog,
 use boss_model::{DriverId, Kind, Name};
 use toml::Value;
 
-/// The least and the greatest limit that an analog point may have, in thousandths of its unit.
+/// The least limit that an analog point may have, in thousandths of its unit.
 const LEAST_LIMIT: i64 = -1_000_000_000_000_000;
+
+/// The greatest limit that an analog point may have, in thousandths of its unit.
 const GREATEST_LIMIT: i64 = 1_000_000_000_000_000;
 
 /// The name that a value spells.
@@ -37,6 +39,7 @@ pub(crate) fn kind_of(point: &Value) -> Option<Kind>
     }
 }
 
+/// The kind of an analog point: two whole limits, in order.
 fn analog_of(point: &Value) -> Option<Kind>
     ensures { result ≡ analog_of (view point.now) }
 {
@@ -49,6 +52,7 @@ fn analog_of(point: &Value) -> Option<Kind>
     }
 }
 
+/// The kind of a point of several states: how many there are, 2 to 255.
 fn multi_of(point: &Value) -> Option<Kind>
     ensures { result ≡ multi_of (view point.now) }
 {
@@ -85,18 +89,20 @@ pub(crate) fn driver_of(drivers: &[Name], point: &Value) -> Option<DriverId>
 
 /// Where the name stands among these.
 fn place_among(names: &[Name], name: &[u8]) -> Option<usize>
-    ensures place { result ≡ position (λ n. bytes_eq n name.now) names.now }
+    ensures place { result ≡ position (λ other. bytes_eq other name.now) names.now }
     ensures within { IfSome result (λ place. place < length names.now) }
 {
-    names.iter().position(|n| n.bytes() == name)
+    names.iter().position(|other| other.bytes() == name)
 }
 
+/// The text under a key of a point.
 fn text_at<'a>(point: &'a Value, key: &str) -> Option<&'a str>
     ensures { option_copied result ≡ text_at key.now (view point.now) }
 {
     point.get(key)?.as_str()
 }
 
+/// The whole number under a key of a point.
 fn whole_at(point: &Value, key: &str) -> Option<i64>
     ensures { result ≡ whole_at key.now (view point.now) }
 {

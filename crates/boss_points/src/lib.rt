@@ -13,3 +13,6 @@ mod tables;
 pub use catalogue::Catalogue;
 pub use point::Point;
 pub use refusal::{CatalogueRefusal, Key};
+
+#[cfg(test)]
+mod tests;

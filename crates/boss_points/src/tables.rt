@@ -34,6 +34,7 @@ pub(crate) fn drivers_of(alloc: Global, values: &[Value]) -> Result<Vec<Name>, C
     Ok(drivers)
 }
 
+/// Whether the name is one of these.
 fn is_among(names: &[Name], name: &[u8]) -> bool
     ensures { result ≡ list_any (bytes_eq name.now) names.now }
 {
@@ -41,10 +42,7 @@ fn is_among(names: &[Name], name: &[u8]) -> bool
 }
 
 /// The names of the points, which are all different.
-fn distinct_names(
-    alloc: Global,
-    points: &[Value],
-) -> Result<IndexSet<Vec<u8>>, CatalogueRefusal>
+fn distinct_names(alloc: Global, points: &[Value]) -> Result<IndexSet<Vec<u8>>, CatalogueRefusal>
     ensures { Gives (λ names. texts names.keys) result (distinct SameName (map name_of (views points.now))) }
 {
     let mut names = IndexSet::with_capacity(alloc, points.len())?;
@@ -100,7 +98,9 @@ fn first_without_driver(drivers: &[Name], points: &[Value]) -> Option<usize>
     requires { length drivers.now ≤ 16 }
     ensures { result ≡ position (λ point. is_none (driver_of drivers.now (view point))) points.now }
 {
-    points.iter().position(|point| driver_of(drivers, point).is_none())
+    points
+        .iter()
+        .position(|point| driver_of(drivers, point).is_none())
 }
 
 /// The point that a table spells.

@@ -1,5 +1,5 @@
 -- What `parse` says of a text of digits.
-use Rattle.std.proofs.Common.{◌≡◌, ℕ, ◌^◌, ◌<◌, ◌≤◌, Bool, true, false, ◌&&◌, cond, nat_le, List, length, Option, Some, None, Result, Ok, Err, inl, inr, refl, rules, arith}
+use Rattle.std.proofs.Common.{◌≡◌, ℕ, ◌^◌, ◌<◌, ◌≤◌, Bool, true, false, ◌&&◌, cond, nat_le, List, length, Some, None, Err, inl, inr, refl, rules, arith}
 use Rattle.std.proofs.lemmas.Bool.{cases_Bool, and_parts}
 use Rattle.std.proofs.lemmas.Bool.Decides.{nat_tests}
 use Rattle.std.proofs.lemmas.Str.Parse.{IsNumeralModel, numerals_by_value, parse_digits}
@@ -28,8 +28,8 @@ number_of-refused least most text e small is h =
     let value = digits_value 10 text in
     elim (cases_Bool (nat_le value most)) [
       | inl low ↦
-        let one : 1 ≤ length text = within _ _ some in
-        let low : value ≤ most = within _ _ low in
-        absurd (refused (one, omega arith))
+          let one : 1 ≤ length text = within _ _ some in
+          let low : value ≤ most = within _ _ low in
+          absurd (refused (one, omega arith))
       | inr high ↦ nothing_from_false (is_number text && nat_le least value) (nat_le value most) value high
     ]

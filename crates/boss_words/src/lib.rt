@@ -9,3 +9,6 @@ mod word;
 pub use job::Job;
 pub use read::{WordsRefusal, read_words};
 pub use word::Word;
+
+#[cfg(test)]
+mod tests;

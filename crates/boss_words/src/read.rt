@@ -64,7 +64,13 @@ fn serve(alloc: Global, arguments: &[String]) -> Result<Job, WordsRefusal>
     let address = Word::new(alloc, address.as_str())?;
     let workers = number(workers.as_str(), 1, 32).ok_or(WordsRefusal::Usage)?;
     let connections = number(connections.as_str(), 1, u32::MAX).ok_or(WordsRefusal::Usage)?;
-    Ok(Job::Serve { catalogue, journal, address, workers, connections })
+    Ok(Job::Serve {
+        catalogue,
+        journal,
+        address,
+        workers,
+        connections,
+    })
 }
 
 /// `check CATALOGUE JOURNAL`

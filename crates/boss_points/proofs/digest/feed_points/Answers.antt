@@ -10,5 +10,5 @@ loop-point-preserved c =
     let line = point_line c.args.drivers.now in
     let points = c.args.points.now in
     rw (all_seen-take_more line points c.loop-point.point-index c.point-item.result c.loop-point-test.true c.point-item.is)
-      (takes_both c.args.hasher.now c.loop-point.hasher c.feed_point.new.hasher (flat_map line (all_seen (take c.loop-point.point-index points))) (line (seen c.point-item.result))
-        c.loop-point.invariant c.feed_point.ensures)
+    (takes_both c.args.hasher.now c.loop-point.hasher c.feed_point.new.hasher (flat_map line (all_seen (take c.loop-point.point-index points))) (line (seen c.point-item.result))
+    c.loop-point.invariant c.feed_point.ensures)

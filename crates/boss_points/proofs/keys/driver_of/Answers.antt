@@ -1,4 +1,4 @@
-use Rattle.std.proofs.Common.{◌≡◌, codes, Some, None, sym, rules}
+use Rattle.std.proofs.Common.{◌≡◌, codes, Some, sym, rules}
 use Rattle.toml.specs.View.{view}
 use Rattle.boss_points.specs.Keys.{text_at}
 use Rattle.boss_points.proofs.Drivers.{driver_of-missing}

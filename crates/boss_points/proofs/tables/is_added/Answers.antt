@@ -1,4 +1,4 @@
-use Rattle.std.proofs.Common.{◌≡◌, rules}
+use Rattle.std.proofs.Common.{rules}
 use Rattle.std.specs.Str.{bytes_eq}
 use Rattle.boss_points.proofs.Places.{list_any-map}
 use Rattle.boss_points.proofs.tables.is_added.Goals as goal

@@ -1,5 +1,4 @@
-use Rattle.std.proofs.Common.{◌≡◌, None, Some, position, sym, ◌∙◌, rules}
-use Rattle.std.specs.Str.{bytes_eq}
+use Rattle.std.proofs.Common.{sym, ◌∙◌}
 use Rattle.boss_points.proofs.Found.{place_among_points}
 use Rattle.boss_points.proofs.catalogue.Catalogue.find.Goals as goal
 
