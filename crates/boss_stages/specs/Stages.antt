@@ -1,4 +1,4 @@
-use Rattle.std.specs.Prelude.{ℕ, ◌-◌, ◌==◌, nat_lt, Bool, true, false, not, ◌&&◌, if◌then◌else◌, List, [], ◌∷◌, ◌++◌, length, map, filter, find, take, Option, Some, None, is_none, slice_get, option_and_then}
+use Rattle.std.specs.Prelude.{ℕ, ◌<◌, ◌-◌, ◌==◌, nat_lt, Bool, true, false, not, ◌&&◌, if◌then◌else◌, List, [], ◌∷◌, ◌++◌, length, map, filter, find, take, Option, Some, None, is_none, slice_get, option_and_then}
 use Rattle.std.specs.List.{list_any}
 use Rattle.std.specs.Option.{option_map, option_map_or}
 use Rattle.circular_buffer.specs.Buffer.{keep_last}
@@ -94,14 +94,27 @@ is_reverting txn point stages = option_map_or (λ kept. list_any (λ other. othe
 abbrev pub changed : ℕ → (Kept → Kept) → List Kept → List Kept
 changed txn change all = map (λ kept. if number kept == txn then change kept else kept) all
 
+-- the transactions are in order of number
+abbrev pub AllAbove : ℕ → List Kept → Type 0
+AllAbove txn [] = Unit {0}
+AllAbove txn (kept ∷ all) = (txn < number kept) × AllAbove txn all
+
+abbrev pub Rising : List Kept → Type 0
+Rising [] = Unit {0}
+Rising (kept ∷ all) = AllAbove (number kept) all × Rising all
+
 -- of all that became done, those before the last 1,024
 abbrev pub dropped : List ℕ → List ℕ
 dropped done = take (length done - 1024) done
 
+-- the transactions but for those of these numbers
+abbrev pub without : List ℕ → List Kept → List Kept
+without gone all = filter (λ kept. not (list_any (λ txn. txn == number kept) gone)) all
+
 -- one more is done: the numbers of the last 1,024 are kept, and the transactions before those are gone
 abbrev pub finished : ℕ → Stages → Stages
 finished txn stages = record {
-  kept = filter (λ kept. not (list_any (λ gone. gone == number kept) (dropped (stages.done ++ txn ∷ [])))) stages.kept;
+  kept = without (dropped (stages.done ++ txn ∷ [])) stages.kept;
   done = keep_last 1024 (stages.done ++ txn ∷ []);
 }
 

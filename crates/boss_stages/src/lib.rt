@@ -2,6 +2,8 @@
 #![tactic(auto)]
 
 mod part;
+mod stages;
 mod transaction;
 
 pub use part::PartEnd;
+pub use stages::Stages;
