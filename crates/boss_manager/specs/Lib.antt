@@ -1,4 +1,6 @@
 pub mod Answers
+pub mod Loads
+pub mod Programs
 pub mod Runs
 pub mod Scripts
 pub mod Served

@@ -1,6 +1,7 @@
 //! The program: from the words of the command line to the bytes that it writes.
 #![tactic(auto)]
 
+mod catalogue;
 mod devices;
 mod draining;
 mod ending;

@@ -1,9 +1,0 @@
-//! What is kept of transactions: their parts, how the leases of these ended, and how far each transaction has come.
-#![tactic(auto)]
-
-mod part;
-mod stages;
-mod transaction;
-
-pub use part::PartEnd;
-pub use stages::Stages;
