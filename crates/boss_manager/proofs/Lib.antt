@@ -1,4 +1,5 @@
 pub mod LineLemmas
+pub mod Places
 pub mod PointNames
 pub mod RunLemmas
 pub mod ServeLemmas

@@ -3,13 +3,14 @@ ghost use Rattle.std.specs.List.{position_from};
 ghost use Rattle.boss_model.specs.Catalogue.{actuators};
 ghost use Rattle.boss_outside.specs.Counts.{Rose};
 ghost use Rattle.boss_points.specs.declared.CatalogueRefusal.TheVariants.{NoMemory};
+ghost use Rattle.boss_points.specs.Seen.{seen};
 ghost use Rattle.boss_manager.specs.Weights.{HasDevices};
 ghost use Rattle.boss_manager.specs.Loads.{Loads, FaultOnly};
 ghost use Rattle.boss_manager.specs.Programs.{key_text, lacks_device, refusal_line, refusal_text, usable};
 
 use boss_model::{NoMemory, PointId};
 use boss_outside::{FileBytes, FileFault, Files};
-use boss_points::{Catalogue, CatalogueRefusal, Key};
+use boss_points::{Catalogue, CatalogueRefusal, Key, Point};
 use std::alloc::Global;
 
 /// How many bytes a catalogue's file may have.
@@ -61,11 +62,19 @@ fn first_without_device(catalogue: &Catalogue, devices: usize) -> Option<u64>
     ensures { result ≡ position_from (lacks_device devices) 0 catalogue.now.points }
 {
     for place in 0..catalogue.count() {
-        if catalogue.point(PointId(place)).driver.0 as usize >= devices {
+        if lacks_device(catalogue.point(PointId(place)), devices) {
             return Some(u64::from(place));
         }
     }
     None
+}
+
+/// Whether a point's driver has none of so many devices.
+fn lacks_device(point: &Point, devices: usize) -> bool
+    ensures { result ≡ lacks_device devices (seen point.now) }
+{
+    let driver = point.driver;
+    driver.0 as usize >= devices
 }
 
 /// The line that tells a refusal.

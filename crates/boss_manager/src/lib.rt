@@ -9,8 +9,10 @@ mod requests;
 mod script;
 mod status;
 mod texts;
+mod top_call;
 mod wants;
 
 pub use ending::Ending;
 pub use script::script_run;
 pub use status::Status;
+pub use top_call::boss;

@@ -42,6 +42,8 @@ pub fn script_run<S: Source, K: Sink, A: Actuators>(
         (K.taken sink.old) (K.taken sink.new) (map A.calls devices.old.items) (map A.calls devices.new.items)
         (AllByRecursion A.whole devices.old.items) (AllByRecursion A.whole devices.new.items) }
     ensures read { result.0 ≡ 0 → S.tells → S.left source.new ≡ [] }
+    // It never answers what only the words, the catalogue or a file can bring about.
+    ensures other { (result.0 ≢ 2) × (result.0 ≢ 3) × (result.0 ≢ 5) }
 {
     match run(alloc, catalogue, source, sink, devices) {
         Ok(()) => Status::DONE,
@@ -50,7 +52,7 @@ pub fn script_run<S: Source, K: Sink, A: Actuators>(
 }
 
 fn status_of(ending: Ending) -> Status
-    ensures { result.0 ≢ 0 }
+    ensures { (result.0 ≢ 0) × (result.0 ≢ 2) × (result.0 ≢ 3) × (result.0 ≢ 5) }
 {
     match ending {
         Ending::Unserved => Status::UNSERVED,
