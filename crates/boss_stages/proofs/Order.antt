@@ -1,6 +1,6 @@
 -- Transactions in order of number: where one of them stands, and what stays in order.
-use Rattle.std.proofs.Common.{◌≡◌, ◌≢◌, ℕ, zero, suc, ◌+◌, ◌<◌, ◌≤◌, ◌==◌, Bool, true, false, not, ◌||◌, List, [], ◌∷◌, ◌++◌, length, map, take, drop, set, get_or, Option, Some, None, Result, Ok, Err, refl, sym, ◌∙◌, ap, ⊎_elim, arith}
-use Rattle.std.specs.Prelude.{find, filter, slice_get, All}
+use Rattle.std.proofs.Common.{◌≡◌, ◌≢◌, ℕ, zero, suc, ◌<◌, ◌≤◌, ◌==◌, Bool, true, false, List, [], ◌∷◌, ◌++◌, length, set, get_or, Some, None, Result, Ok, Err, refl, sym, ◌∙◌, ap, ⊎_elim, arith}
+use Rattle.std.specs.Prelude.{All}
 use Rattle.std.specs.List.{list_any, position_from, remove}
 use Rattle.std.specs.List.Sorted.{IsSearchInRange, IsBinarySearchResult, IsNonDecreasingBy}
 use Rattle.std.specs.Ordering.{nat_cmp, ordering_index}
@@ -38,34 +38,34 @@ AllAbove-without : (txn : ℕ) (gone : List ℕ) (all : List Kept) → AllAbove 
 AllAbove-without txn gone [] above = tt
 AllAbove-without txn gone (first ∷ all) above =
     ⊎_elim
-      (λ goes. rw goes (AllAbove-without txn gone all above.1))
-      (λ stays. rw stays (above.0, AllAbove-without txn gone all above.1))
-      (cases_Bool (list_any (λ txn. txn == number first) gone))
+    (λ goes. rw goes (AllAbove-without txn gone all above.1))
+    (λ stays. rw stays (above.0, AllAbove-without txn gone all above.1))
+    (cases_Bool (list_any (λ txn. txn == number first) gone))
 
 pub Rising-without : (gone : List ℕ) (all : List Kept) → Rising all → Rising (without gone all)
 Rising-without gone [] rising = tt
 Rising-without gone (first ∷ all) rising =
     ⊎_elim
-      (λ goes. rw goes (Rising-without gone all rising.1))
-      (λ stays. rw stays (AllAbove-without (number first) gone all rising.0, Rising-without gone all rising.1))
-      (cases_Bool (list_any (λ txn. txn == number first) gone))
+    (λ goes. rw goes (Rising-without gone all rising.1))
+    (λ stays. rw stays (AllAbove-without (number first) gone all rising.0, Rising-without gone all rising.1))
+    (cases_Bool (list_any (λ txn. txn == number first) gone))
 
 module _ (txn : ℕ) (change : Kept → Kept) (same : (kept : Kept) → number (change kept) ≡ number kept) where
   AllAbove-changed : (low : ℕ) (all : List Kept) → AllAbove low all → AllAbove low (changed txn change all)
   AllAbove-changed low [] above = tt
   AllAbove-changed low (first ∷ all) above =
       ⊎_elim
-        (λ own. rw own (rw same above.0, AllAbove-changed low all above.1))
-        (λ other. rw other (above.0, AllAbove-changed low all above.1))
-        (cases_Bool (is_of txn first))
+      (λ own. rw own (rw same above.0, AllAbove-changed low all above.1))
+      (λ other. rw other (above.0, AllAbove-changed low all above.1))
+      (cases_Bool (is_of txn first))
 
   pub Rising-changed : (all : List Kept) → Rising all → Rising (changed txn change all)
   Rising-changed [] rising = tt
   Rising-changed (first ∷ all) rising =
       ⊎_elim
-        (λ own. rw own (rw same (AllAbove-changed (number first) all rising.0), Rising-changed all rising.1))
-        (λ other. rw other (AllAbove-changed (number first) all rising.0, Rising-changed all rising.1))
-        (cases_Bool (is_of txn first))
+      (λ own. rw own (rw same (AllAbove-changed (number first) all rising.0), Rising-changed all rising.1))
+      (λ other. rw other (AllAbove-changed (number first) all rising.0, Rising-changed all rising.1))
+      (cases_Bool (is_of txn first))
 
 -- ---- the transaction of a number stands once
 
@@ -145,9 +145,9 @@ module _ (all : List Kept) (rising : Rising all) (txn : ℕ) where
       fail : AllFail (is_of txn) all
       fail place d inside =
           ⊎_elim
-            (λ low. apart (get_or all place d) (λ same. omega (arith, ranked (number (get_or all place d)) txn _ (sym ((parted comparisons_rise).0 place d (omega arith) low)))))
-            (λ high. apart (get_or all place d) (λ same. omega (arith, ranked (number (get_or all place d)) txn _ (sym ((parted comparisons_rise).1 place d high inside)))))
-            (cases_lt place gap)
+          (λ low. apart (get_or all place d) (λ same. omega (arith, ranked (number (get_or all place d)) txn _ (sym ((parted comparisons_rise).0 place d (omega arith) low)))))
+          (λ high. apart (get_or all place d) (λ same. omega (arith, ranked (number (get_or all place d)) txn _ (sym ((parted comparisons_rise).1 place d high inside)))))
+          (cases_lt place gap)
 
 -- ---- what is read and written at the place of a number
 

@@ -1,7 +1,6 @@
 -- The parts of a transaction: how many live leases are left where one ends.
-use Rattle.std.proofs.Common.{◌≡◌, ℕ, ◌+◌, ◌<◌, ◌≤◌, ◌==◌, Bool, true, false, not, ◌&&◌, cond, List, [], ◌∷◌, ◌++◌, length, map, take, drop, Option, Some, None, refl, sym, ◌∙◌, ap, ⊎_elim, arith}
-use Rattle.std.specs.Prelude.{filter, find, is_none}
-use Rattle.std.specs.List.{list_any}
+use Rattle.std.proofs.Common.{◌≡◌, ℕ, ◌+◌, ◌≤◌, ◌==◌, true, false, cond, List, [], ◌∷◌, length, map, Option, Some, None, refl, ap, ⊎_elim, arith}
+use Rattle.std.specs.Prelude.{filter, is_none}
 use Rattle.std.proofs.lemmas.Bool.{cases_Bool}
 use Rattle.std.proofs.lemmas.Grind.{common_steps}
 use Rattle.boss_model.specs.Records.{End, Part}
@@ -20,9 +19,9 @@ pub live-ended : (point : ℕ) (end : End) (parts : List Part) → length (filte
 live-ended point end [] = omega arith
 live-ended point end (part ∷ parts) =
     ⊎_elim
-      (λ own. grind (arith, common_steps, ended_on-own point end part own, live-ended point end parts))
-      (λ other. grind (arith, common_steps, ended_on-other point end part other, live-ended point end parts))
-      (cases_Bool (part.point == point))
+    (λ own. grind (arith, common_steps, ended_on-own point end part own, live-ended point end parts))
+    (λ other. grind (arith, common_steps, ended_on-other point end part other, live-ended point end parts))
+    (cases_Bool (part.point == point))
 
 live_end : (end : Option End) → end_as end ≡ Live → is_none end ≡ true
 live_end None live = refl
@@ -33,12 +32,12 @@ pub live-ended_live : (point : ℕ) (end : End) (parts : List Part) → part_end
 live-ended_live point end [] live = absurd (grind arith)
 live-ended_live point end (part ∷ parts) live =
     ⊎_elim
-      (λ own.
-        let found : part_on point (part ∷ parts) ≡ Some part = ap (λ b. cond b (Some part) (part_on point parts)) own in
-        let was_live : is_live part ≡ true = live_end part.end (rw found at live) in
-        grind (arith, common_steps, was_live, ended_on-own point end part own, live-ended point end parts))
-      (λ other. grind (arith, common_steps, ended_on-other point end part other, live-ended_live point end parts))
-      (cases_Bool (part.point == point))
+    (λ own.
+    let found : part_on point (part ∷ parts) ≡ Some part = ap (λ b. cond b (Some part) (part_on point parts)) own in
+    let was_live : is_live part ≡ true = live_end part.end (rw found at live) in
+    grind (arith, common_steps, was_live, ended_on-own point end part own, live-ended point end parts))
+    (λ other. grind (arith, common_steps, ended_on-other point end part other, live-ended_live point end parts))
+    (cases_Bool (part.point == point))
 
 -- all parts of a new transaction are live
 pub live-live_part : (slots : List (ℕ × ℕ)) → length (filter is_live (map live_part slots)) ≡ length slots

@@ -1,5 +1,5 @@
 -- The first place of a list whose item passes a test.
-use Rattle.std.proofs.Common.{◌≡◌, ℕ, zero, suc, ◌+◌, ◌-◌, ◌<◌, ◌≤◌, Bool, true, false, List, [], ◌∷◌, length, get_or, Option, Some, None, refl, sym, ◌∙◌, ap, subst, ⊎_elim, arith}
+use Rattle.std.proofs.Common.{◌≡◌, ℕ, zero, suc, ◌+◌, ◌<◌, Bool, true, false, List, [], ◌∷◌, length, get_or, Some, None, refl, ◌∙◌, ap, subst, ⊎_elim, arith}
 use Rattle.std.specs.Prelude.{find, slice_get}
 use Rattle.std.specs.List.{position_from}
 use Rattle.std.proofs.lemmas.Bool.{cases_Bool}
@@ -67,14 +67,14 @@ module _ {X : Type 0} (test : X → Bool) where
   from_position from [] at is = absurd (grind arith)
   from_position from (x ∷ xs) at is =
       ⊎_elim
-        (λ passes.
-          let here : from ≡ at = grind (arith, common_steps) in
-          (0, omega arith, IsFirst-head x xs passes))
-        (λ fails.
-          let further : position_from test (from + 1) xs ≡ Some at = grind (arith, common_steps) in
-          let rest = from_position (from + 1) xs at further in
-          (suc rest.0, omega (arith, rest.1), IsFirst-further x xs rest.0 fails rest.2))
-        (cases_Bool (test x))
+      (λ passes.
+      let here : from ≡ at = grind (arith, common_steps) in
+      (0, omega arith, IsFirst-head x xs passes))
+      (λ fails.
+      let further : position_from test (from + 1) xs ≡ Some at = grind (arith, common_steps) in
+      let rest = from_position (from + 1) xs at further in
+      (suc rest.0, omega (arith, rest.1), IsFirst-further x xs rest.0 fails rest.2))
+      (cases_Bool (test x))
 
   pub IsFirst-position : (xs : List X) (place : ℕ) → position_from test 0 xs ≡ Some place → IsFirst xs place
   IsFirst-position xs place is =
@@ -88,9 +88,9 @@ module _ {X : Type 0} (test : X → Bool) where
       ⊎_elim (λ passes. absurd (grind (arith, common_steps))) (λ fails. fails) (cases_Bool (test x))
   from_no_position from (x ∷ xs) is (suc place) d within =
       ⊎_elim
-        (λ passes. absurd (grind (arith, common_steps)))
-        (λ fails. from_no_position (from + 1) xs (grind (arith, common_steps)) place d (omega arith))
-        (cases_Bool (test x))
+      (λ passes. absurd (grind (arith, common_steps)))
+      (λ fails. from_no_position (from + 1) xs (grind (arith, common_steps)) place d (omega arith))
+      (cases_Bool (test x))
 
   pub AllFail-position : (xs : List X) → position_from test 0 xs ≡ None → AllFail xs
   AllFail-position xs is = from_no_position 0 xs is

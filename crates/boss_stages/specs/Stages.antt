@@ -1,6 +1,6 @@
-use Rattle.std.specs.Prelude.{ℕ, ◌<◌, ◌-◌, ◌==◌, nat_lt, Bool, true, false, not, ◌&&◌, if◌then◌else◌, List, [], ◌∷◌, ◌++◌, length, map, filter, find, take, Option, Some, None, is_none, slice_get, option_and_then}
+use Rattle.std.specs.Prelude.{ℕ, ◌<◌, ◌-◌, ◌==◌, nat_lt, Bool, false, not, ◌&&◌, if◌then◌else◌, List, [], ◌∷◌, ◌++◌, length, map, filter, find, take, Option, Some, None, is_none, option_and_then}
 use Rattle.std.specs.List.{list_any}
-use Rattle.std.specs.Option.{option_map, option_map_or}
+use Rattle.std.specs.Option.{option_map_or}
 use Rattle.circular_buffer.specs.Buffer.{keep_last}
 use Rattle.boss_model.specs.declared.command.Policy.{Policy}
 use Rattle.boss_model.specs.declared.notice.Cause.{Cause}

@@ -12,6 +12,9 @@ use std::alloc::Global;
 use std::collections::VecDeque;
 use std::marker::Model;
 
+#[cfg(test)]
+mod tests;
+
 /// How many of the transactions that are done are kept.
 const DONE_KEPT: usize = 1024;
 
@@ -144,13 +147,9 @@ impl Stages {
         ensures place { result ≡ position_from (λ kept. number kept == txn) 0 self.now.kept }
         ensures within { IfSome result (λ place. place < length self.now.kept) }
     {
-        match self
-            .transactions
+        self.transactions
             .binary_search_by_key(&txn.0, |transaction| transaction.number())
-        {
-            Ok(place) => Some(place),
-            Err(_) => None,
-        }
+            .ok()
     }
 
     /// If nothing of the transaction is left, it is done.

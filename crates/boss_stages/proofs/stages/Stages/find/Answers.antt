@@ -1,4 +1,4 @@
-use Rattle.std.proofs.Common.{◌≡◌, ◌<◌, Some, length, refl, sym, ◌∙◌, ap}
+use Rattle.std.proofs.Common.{◌≡◌, Some, length, refl, sym, ◌∙◌, ap}
 use Rattle.std.specs.Prelude.{slice_get}
 use Rattle.std.proofs.lemmas.Option.{slice_get_read}
 use Rattle.boss_stages.proofs.Order.{is_of}
@@ -10,7 +10,7 @@ returns-in-Some c =
     let all = ap (λ stages. stages.kept) c.self.view_is in
     let first = IsFirst-position (is_of c.args.txn) c.args.self.now.kept c.in-Some.place (sym c.place_of.ensures.place ∙ c.in-Some.is) in
     let there : slice_get c.args.self.now.kept c.in-Some.place ≡ Some c.index.result.now =
-      slice_get_read c.args.self.now.kept (length c.args.self.now.kept) c.in-Some.place c.index.result.now refl first.within (rw (← all) c.index.ensures) in
+    slice_get_read c.args.self.now.kept (length c.args.self.now.kept) c.in-Some.place c.index.result.now refl first.within (rw (← all) c.index.ensures) in
     sym (find-IsFirst (is_of c.args.txn) c.args.self.now.kept c.in-Some.place first ∙ there)
 
 pub returns-in-None : goal.returns-in-None

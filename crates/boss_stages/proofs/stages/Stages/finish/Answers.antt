@@ -1,4 +1,4 @@
-use Rattle.std.proofs.Common.{◌≡◌, ◌≤◌, ◌<◌, None, length, refl, arith}
+use Rattle.std.proofs.Common.{refl, arith}
 use Rattle.boss_stages.proofs.Done.{dropped-full, dropped-room, without-none, handed_back, nothing_back}
 use Rattle.boss_stages.proofs.stages.Stages.finish.Goals as goal
 

@@ -1,5 +1,4 @@
-use Rattle.std.proofs.Common.{◌≡◌, [], ◌∷◌, sym, ◌∙◌, ap}
-use Rattle.boss_stages.specs.Stages.{without}
+use Rattle.std.proofs.Common.{[], ◌∷◌, sym, ◌∙◌}
 use Rattle.boss_stages.proofs.Order.{is_of, Rising-without, without-IsFirst, without-AllFail}
 use Rattle.boss_stages.proofs.Places.{IsFirst-position, AllFail-position}
 use Rattle.boss_stages.proofs.stages.Stages.forget.Goals as goal

@@ -1,4 +1,4 @@
-use Rattle.std.proofs.Common.{◌≡◌, sym, ◌∙◌, ap}
+use Rattle.std.proofs.Common.{sym, ◌∙◌}
 use Rattle.boss_stages.specs.Stages.{with_end}
 use Rattle.boss_stages.proofs.Order.{kept_as_read, kept_as-none, set-changed, Rising-changed, number-with_end}
 use Rattle.boss_stages.proofs.stages.Stages.lease_ended.Goals as goal

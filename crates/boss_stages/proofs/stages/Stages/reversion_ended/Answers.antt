@@ -1,4 +1,4 @@
-use Rattle.std.proofs.Common.{◌≡◌, sym, ◌∙◌, ap}
+use Rattle.std.proofs.Common.{sym, ◌∙◌}
 use Rattle.boss_stages.specs.Stages.{without_reversion}
 use Rattle.boss_stages.proofs.Order.{kept_as-none, set-changed, Rising-changed, number-without_reversion}
 use Rattle.boss_stages.proofs.stages.Stages.reversion_ended.Goals as goal
