@@ -1,0 +1,9 @@
+//! What is kept of transactions: their parts, how the leases of these ended, and how far each transaction has come.
+#![tactic(auto)]
+
+mod part;
+mod stages;
+mod transaction;
+
+pub use part::PartEnd;
+pub use stages::Stages;

@@ -1,0 +1,103 @@
+ghost use Rattle.std.specs.Prelude.{◌≡◌, ◌==◌};
+ghost use Rattle.boss_stages.specs.Stages.{is_live, slot_of, end_as, live_part, ended_on};
+
+use boss_model::{Cause, PointId, Priority};
+use std::marker::Model;
+
+/// How a part of a transaction stands: one of its writes.
+#[derive(Clone, Copy, Debug, PartialEq, Eq)]
+pub enum PartEnd {
+    /// The transaction is not kept, or has no part on the point.
+    NotInTxn,
+    /// The part's lease is live.
+    Live,
+    /// The part's lease ended at this moment, in milliseconds.
+    Ended { cause: Cause, at: u64 },
+}
+
+/// Why and when a lease ended.
+#[derive(Drop)]
+struct End {
+    cause: Cause,
+    at: u64,
+}
+
+impl Model for End {
+    ghost use Rattle.boss_model.specs.Records.{End as LeaseEnd};
+
+    ghost Value = { LeaseEnd };
+
+    ghost view = { λ e. record { cause = e.cause; at = e.at } };
+}
+
+/// One write of a transaction.
+#[derive(Drop)]
+pub struct Part {
+    point: PointId,
+    priority: Priority,
+    end: Option<End>,
+}
+
+impl Model for Part {
+    ghost use Rattle.boss_model.specs.Records.{Part as Write};
+
+    ghost Value = { Write };
+
+    ghost view = { λ p. record { point = p.point; priority = p.priority; end = p.end } };
+}
+
+impl Part {
+    /// A part whose lease is live.
+    pub fn new(point: PointId, priority: Priority) -> Part
+        ensures { result ≡ live_part (point, priority) }
+    {
+        Part {
+            point,
+            priority,
+            end: None,
+        }
+    }
+
+    /// The part's slot.
+    pub fn slot(&self) -> (PointId, Priority)
+        ensures { result ≡ slot_of self.now }
+    {
+        (self.point, self.priority)
+    }
+
+    /// Whether the part is on this point.
+    pub fn is_on(&self, point: PointId) -> bool
+        ensures { result ≡ (self.now.point == point) }
+    {
+        self.point == point
+    }
+
+    /// Whether the part's lease is live.
+    pub fn is_live(&self) -> bool
+        ensures { result ≡ is_live self.now }
+    {
+        self.end.is_none()
+    }
+
+    /// How the part stands.
+    pub fn standing(&self) -> PartEnd
+        ensures { result ≡ end_as self.now.end }
+    {
+        match &self.end {
+            Some(end) => PartEnd::Ended {
+                cause: end.cause,
+                at: end.at,
+            },
+            None => PartEnd::Live,
+        }
+    }
+
+    /// If the part is on this point, its lease ends so.
+    pub fn end_if_on(&mut self, point: PointId, cause: &Cause, at: u64)
+        ensures { self.new ≡ ended_on point (record { cause = cause.now; at = at }) self.old }
+    {
+        if self.point == point {
+            self.end = Some(End { cause: *cause, at });
+        }
+    }
+}

@@ -1,0 +1,199 @@
+ghost use Rattle.std.specs.Prelude.{◌≡◌, ◌<◌, ◌==◌, ◌∷◌, [], ◌++◌, true, length, option_copied, option_and_then, slice_get, All, IfOk, IfSome, OnOk, OnErr};
+ghost use Rattle.std.specs.List.{position_from, remove};
+ghost use Rattle.std.specs.Option.{option_map};
+ghost use Rattle.boss_stages.specs.declared.part.PartEnd.TheVariants.{Live};
+ghost use Rattle.boss_stages.specs.Stages.{number, stage_of, slot_of, begun, kept_as, end_on, is_reverting, is_over, without, finished, finished_if_over, after_lease, after_reversion};
+
+use crate::part::PartEnd;
+use crate::transaction::Transaction;
+use boss_model::{Cause, Items, NoMemory, PointId, Policy, Priority, ProcId, Stage, Txn};
+use circular_buffer::HeapCircularBuffer;
+use std::alloc::Global;
+use std::collections::VecDeque;
+use std::marker::Model;
+
+#[cfg(test)]
+mod tests;
+
+/// How many of the transactions that are done are kept.
+const DONE_KEPT: usize = 1024;
+
+/// What is kept of transactions: of all that are not done, and of the last 1,024 that became done.
+#[derive(Drop)]
+pub struct Stages {
+    transactions: VecDeque<Transaction>,
+    done: HeapCircularBuffer<Txn>,
+}
+
+impl Model for Stages {
+    ghost use Rattle.std.specs.Prelude.{◌≡◌, ◌≤◌, length};
+    ghost use Rattle.boss_stages.specs.Stages.{Stages as Records, Rising};
+
+    ghost Value = { Records };
+
+    ghost view = { λ s. record { kept = s.transactions.items; done = s.done.items } };
+
+    ghost invariant = { λ s. (s.done.capacity ≡ 1024) × (length s.done.items ≤ 1024) × Rising s.transactions.items };
+}
+
+impl Stages {
+    /// No transaction, with room for this many that are not done.
+    pub fn new(alloc: Global, capacity: u32) -> Result<Stages, NoMemory>
+        ensures { IfOk result (λ stages. stages ≡ record { kept = []; done = [] }) }
+    {
+        Ok(Stages {
+            transactions: VecDeque::with_capacity(alloc, capacity as usize + DONE_KEPT)?,
+            done: HeapCircularBuffer::with_capacity(alloc, DONE_KEPT)?,
+        })
+    }
+
+    /// A transaction more, all of whose parts have live leases. Its number is above that of each one that is kept. A
+    /// transaction has 1 to 32 parts, on different points.
+    pub fn begin(
+        &mut self,
+        alloc: Global,
+        txn: Txn,
+        owner: ProcId,
+        policy: Policy,
+        parts: &Items<(PointId, Priority)>,
+    ) -> Result<(), NoMemory>
+        requires { All (λ kept. number kept < txn) self.old.kept }
+        ensures ok { OnOk result (self.new ≡ record self.old { kept = self.old.kept ++ begun txn owner policy parts.now ∷ [] }) }
+        ensures err { OnErr result (self.new ≡ self.old) }
+    {
+        let transaction = Transaction::new(alloc, txn, owner, policy, parts.slice())?;
+        self.transactions.push_back(transaction)?;
+        Ok(())
+    }
+
+    /// The live lease of the transaction's part on the point ended so, and its reversion began if it has one. Where
+    /// nothing of the transaction is left, it is done. It takes no memory.
+    pub fn lease_ended(&mut self, txn: Txn, point: PointId, cause: Cause, at: u64, reverts: bool)
+        requires { end_on txn point self.old ≡ Live }
+        ensures { self.new ≡ after_lease txn point cause at reverts self.old }
+    {
+        let Some(place) = self.place_of(txn) else {
+            return;
+        };
+        self.transactions[place].end_lease(point, cause, at, reverts);
+        self.finish_if_over(txn);
+    }
+
+    /// The pending reversion of the transaction's part on the point ended. Where nothing of the transaction is left, it
+    /// is done. It takes no memory.
+    pub fn reversion_ended(&mut self, txn: Txn, point: PointId)
+        requires { is_reverting txn point self.old ≡ true }
+        ensures { self.new ≡ after_reversion txn point self.old }
+    {
+        let Some(place) = self.place_of(txn) else {
+            return;
+        };
+        self.transactions[place].end_reversion(point);
+        self.finish_if_over(txn);
+    }
+
+    /// How far the transaction has come; none where it is not kept.
+    pub fn stage(&self, txn: Txn) -> Option<Stage>
+        ensures { result ≡ option_map stage_of (kept_as txn self.now.kept) }
+    {
+        match self.find(txn) {
+            Some(transaction) => Some(transaction.stage()),
+            None => None,
+        }
+    }
+
+    /// The process that submitted the transaction; none where it is not kept.
+    pub fn owner(&self, txn: Txn) -> Option<ProcId>
+        ensures { result ≡ option_map (λ kept. kept.transaction.owner) (kept_as txn self.now.kept) }
+    {
+        match self.find(txn) {
+            Some(transaction) => Some(transaction.owner()),
+            None => None,
+        }
+    }
+
+    /// The slot of the transaction's part at this place, from 0; none where there is none.
+    pub fn part(&self, txn: Txn, index: u32) -> Option<(PointId, Priority)>
+        ensures { result ≡ option_and_then (λ kept. option_map slot_of (slice_get kept.transaction.parts index)) (kept_as txn self.now.kept) }
+    {
+        match self.find(txn) {
+            Some(transaction) => transaction.slot(index as usize),
+            None => None,
+        }
+    }
+
+    /// How the transaction's part on the point stands.
+    pub fn end_of(&self, txn: Txn, point: PointId) -> PartEnd
+        ensures { result ≡ end_on txn point self.now }
+    {
+        match self.find(txn) {
+            Some(transaction) => transaction.end_of(point),
+            None => PartEnd::NotInTxn,
+        }
+    }
+
+    /// The transaction of this number.
+    fn find(&self, txn: Txn) -> Option<&Transaction>
+        ensures { option_copied result ≡ kept_as txn self.now.kept }
+    {
+        match self.place_of(txn) {
+            Some(place) => Some(&self.transactions[place]),
+            None => None,
+        }
+    }
+
+    /// The place of the transaction of this number, which a binary search finds.
+    fn place_of(&self, txn: Txn) -> Option<usize>
+        ensures place { result ≡ position_from (λ kept. number kept == txn) 0 self.now.kept }
+        ensures within { IfSome result (λ place. place < length self.now.kept) }
+    {
+        self.transactions
+            .binary_search_by_key(&txn.0, |transaction| transaction.number())
+            .ok()
+    }
+
+    /// If nothing of the transaction is left, it is done.
+    fn finish_if_over(&mut self, txn: Txn)
+        ensures { self.new ≡ finished_if_over txn self.old }
+    {
+        if self.is_over(txn) {
+            self.finish(txn);
+        }
+    }
+
+    /// Whether the transaction is kept, and nothing of it is left.
+    fn is_over(&self, txn: Txn) -> bool
+        ensures { result ≡ is_over (kept_as txn self.now.kept) }
+    {
+        match self.find(txn) {
+            Some(transaction) => transaction.is_over(),
+            None => false,
+        }
+    }
+
+    /// One more transaction is done. The one that became done 1,024 before it is gone.
+    fn finish(&mut self, txn: Txn)
+        ensures { self.new ≡ finished txn self.old }
+    {
+        if let Some(oldest) = self.done.push_back(txn) {
+            self.forget(oldest);
+        }
+    }
+
+    /// The transaction of this number is no longer kept.
+    fn forget(&mut self, txn: Txn)
+        ensures { self.new ≡ record self.old { kept = without (txn ∷ []) self.old.kept } }
+    {
+        if let Some(place) = self.place_of(txn) {
+            drop_at(&mut self.transactions, place);
+        }
+    }
+}
+
+/// The transaction at this place is dropped.
+fn drop_at(transactions: &mut VecDeque<Transaction>, place: usize)
+    requires { place < length transactions.old.items }
+    ensures { transactions.new.items ≡ remove transactions.old.items place }
+{
+    let _ = transactions.remove(place);
+}
