@@ -1,0 +1,63 @@
+//! Runs `bossd` on this machine: its words, its files, its standard input and output, and devices that take every
+//! command, behind each of the sixteen drivers.
+#![tactic(auto)]
+
+mod console;
+mod disk_files;
+
+use boss_manager::{Status, boss};
+use boss_outside::IdleActuators;
+use console::{Input, Output};
+use disk_files::DiskFiles;
+use std::alloc::{AllocError, Global};
+use std::env;
+use std::io;
+use std::process::ExitCode;
+
+/// How many drivers there are.
+const DRIVERS: usize = 16;
+
+/// The program's words, without its own name. Words that are not UTF-8 are read as none, which is asking for nothing.
+fn words_of(rt: &HostRuntime) -> Result<Vec<String>, AllocError> {
+    let mut words = Vec::new(rt.alloc());
+    match env::args(rt) {
+        Ok(args) => {
+            for word in args.skip(1) {
+                words.push(word)?;
+            }
+            Ok(words)
+        }
+        Err(error) if error.kind() == io::ErrorKind::OutOfMemory => Err(AllocError),
+        Err(_) => Ok(words),
+    }
+}
+
+/// Devices behind each driver.
+fn devices(alloc: Global) -> Result<Vec<IdleActuators>, AllocError> {
+    let mut devices = Vec::new(alloc);
+    for _ in 0..DRIVERS {
+        devices.push(IdleActuators::new())?;
+    }
+    Ok(devices)
+}
+
+fn run(rt: HostRuntime) -> Result<Status, AllocError> {
+    let words = words_of(&rt)?;
+    let mut devices = devices(rt.alloc())?;
+    let mut input = Input::new(rt.stdin());
+    let mut output = Output::new(rt.stdout());
+    let mut files = DiskFiles::new(rt);
+    Ok(boss(
+        rt.alloc(),
+        &words,
+        &mut files,
+        &mut input,
+        &mut output,
+        &mut devices,
+    ))
+}
+
+fn main(rt: HostRuntime) -> ExitCode {
+    let status = run(rt).unwrap_or(Status::NO_MEMORY);
+    ExitCode::from(status.0)
+}
