@@ -131,27 +131,59 @@ fn run(
     fails: Fails,
 ) -> Result<Outcome, Fail> {
     let words = words_of(alloc, words)?;
-    let mut files = MemoryFiles::new(alloc, one_file(alloc, file)?, call(alloc, fails.files)?)?;
-    let mut source = BytesSource::new(alloc, bytes(alloc, input)?, call(alloc, fails.source)?)?;
-    let mut sink = BytesSink::new(alloc, call(alloc, fails.sink)?)?;
-    let mut devices = Vec::with_capacity(alloc, 16)?;
-    devices.push(SimActuators::new(alloc, call(alloc, fails.device)?)?)?;
-    for _ in 1..16 {
-        devices.push(SimActuators::new(alloc, call(alloc, 0)?)?)?;
-    }
-    let status = boss(
-        alloc,
-        &words,
-        &mut files,
-        &mut source,
-        &mut sink,
-        &mut devices,
-    );
-    Ok(Outcome {
+    let mut files = files_of(alloc, file, fails.files)?;
+    let mut source = source_of(alloc, input, fails.source)?;
+    let sink = sink_of(alloc, fails.sink)?;
+    let devices = sixteen_devices(alloc, fails.device)?;
+    Ok(run_with(alloc, &words, &mut files, &mut source, sink, devices))
+}
+
+fn run_with(
+    alloc: Global,
+    words: &Vec<String>,
+    files: &mut MemoryFiles,
+    source: &mut BytesSource,
+    mut sink: BytesSink,
+    mut devices: Vec<SimActuators>,
+) -> Outcome {
+    let status = boss(alloc, words, files, source, &mut sink, &mut devices);
+    Outcome {
         status,
         sink,
         devices,
-    })
+    }
+}
+
+fn files_of(alloc: Global, text: &str, fails: u64) -> Result<MemoryFiles, Fail> {
+    let contents = one_file(alloc, text)?;
+    let fails = call(alloc, fails)?;
+    Ok(MemoryFiles::new(alloc, contents, fails)?)
+}
+
+fn source_of(alloc: Global, input: &[u8], fails: u64) -> Result<BytesSource, Fail> {
+    let contents = bytes(alloc, input)?;
+    let fails = call(alloc, fails)?;
+    Ok(BytesSource::new(alloc, contents, fails)?)
+}
+
+fn sink_of(alloc: Global, fails: u64) -> Result<BytesSink, Fail> {
+    let fails = call(alloc, fails)?;
+    Ok(BytesSink::new(alloc, fails)?)
+}
+
+/// Sixteen devices, of which the first fails the call of this number.
+fn sixteen_devices(alloc: Global, fails: u64) -> Result<Vec<SimActuators>, Fail> {
+    let mut devices = Vec::new(alloc);
+    devices.push(device_of(alloc, fails)?)?;
+    for _ in 1..16 {
+        devices.push(device_of(alloc, 0)?)?;
+    }
+    Ok(devices)
+}
+
+fn device_of(alloc: Global, fails: u64) -> Result<SimActuators, Fail> {
+    let fails = call(alloc, fails)?;
+    Ok(SimActuators::new(alloc, fails)?)
 }
 
 fn words_of(alloc: Global, texts: &[&str]) -> Result<Vec<String>, AllocError> {
@@ -165,9 +197,10 @@ fn words_of(alloc: Global, texts: &[&str]) -> Result<Vec<String>, AllocError> {
 fn one_file(alloc: Global, text: &str) -> Result<Items<(Items<u8>, Items<u8>)>, AllocError>
     ensures { IfOk result (λ files. IsTrue (have_distinct_names files)) }
 {
-    Ok(Items::from_vec(vec![in alloc;
-        (bytes(alloc, b"site.toml")?, bytes(alloc, text.as_bytes())?),
-    ]?))
+    let file = (bytes(alloc, b"site.toml")?, bytes(alloc, text.as_bytes())?);
+    let mut files = Vec::new(alloc);
+    files.push(file)?;
+    Ok(Items::from_vec(files))
 }
 
 fn bytes(alloc: Global, text: &[u8]) -> Result<Items<u8>, AllocError> {
