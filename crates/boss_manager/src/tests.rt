@@ -356,9 +356,10 @@ fn a_line_too_long_ends_the_script(rt: HostRuntime) -> Result<(), Fail> {
     let output = r#"write field ahu1.damper 20000 ok
 {"ok":"read","point":"ahu1.damper","value":20000,"from":"default","mark":"settled"}
 "#;
-    for (length, status) in [(65_535, 0), (65_536, 13)] {
+    let longest: &[u8] = &BLANKS[..65_535];
+    for (blanks, status) in [(longest, 0), (BLANKS.as_slice(), 13)] {
         let mut input = b"{\"op\":\"read\",\"point\":\"ahu1.damper\"}\n".to_vec(alloc)?;
-        input.extend_from_slice(&BLANKS[..length])?;
+        input.extend_from_slice(blanks)?;
         let outcome = run(alloc, SCRIPT, DAMPER, input.as_slice(), NONE_FAILS)?;
         expect(&rt, &outcome, status, output, &[&[(0, 20_000, true)]]);
     }
