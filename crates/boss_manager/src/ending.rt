@@ -19,12 +19,20 @@ pub enum Ending {
 }
 
 impl From<NoMemory> for Ending {
+    ghost use Rattle.boss_manager.specs.declared.ending.Ending.TheVariants as ending;
+
+    ghost from_gives = { λ _ gives. gives ≡ ending.NoMemory };
+
     fn from(_error: NoMemory) -> Self {
         Ending::NoMemory
     }
 }
 
 impl From<Failed> for Ending {
+    ghost use Rattle.boss_manager.specs.declared.ending.Ending.TheVariants as ending;
+
+    ghost from_gives = { λ _ gives. gives ≡ ending.WriteFault };
+
     fn from(_failed: Failed) -> Self {
         Ending::WriteFault
     }
