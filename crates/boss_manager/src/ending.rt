@@ -1,3 +1,6 @@
+ghost use Rattle.std.specs.Prelude.{◌≡◌};
+ghost use Rattle.boss_manager.specs.declared.ending.Ending.TheVariants as ending;
+
 use boss_model::NoMemory;
 use boss_outside::Failed;
 
@@ -19,8 +22,6 @@ pub enum Ending {
 }
 
 impl From<NoMemory> for Ending {
-    ghost use Rattle.boss_manager.specs.declared.ending.Ending.TheVariants as ending;
-
     ghost from_gives = { λ _ gives. gives ≡ ending.NoMemory };
 
     fn from(_error: NoMemory) -> Self {
@@ -29,8 +30,6 @@ impl From<NoMemory> for Ending {
 }
 
 impl From<Failed> for Ending {
-    ghost use Rattle.boss_manager.specs.declared.ending.Ending.TheVariants as ending;
-
     ghost from_gives = { λ _ gives. gives ≡ ending.WriteFault };
 
     fn from(_failed: Failed) -> Self {

@@ -4,8 +4,7 @@ ghost use Rattle.boss_model.specs.Catalogue.{actuators};
 ghost use Rattle.boss_model.specs.Lines.{is_blank};
 ghost use Rattle.boss_model.specs.Sound.{IsSound};
 ghost use Rattle.boss_model.specs.State.{first_state};
-ghost use Rattle.boss_outside.specs.Counts.{Rose};
-ghost use Rattle.boss_manager.specs.Causes.{ReadCause, WriteCause};
+ghost use Rattle.boss_manager.specs.Causes.{NoReadFault, ReadCause, Tells, WriteCause, status_of};
 ghost use Rattle.boss_manager.specs.Runs.{Did, line_taken, reading, stop};
 ghost use Rattle.boss_manager.specs.Scripts.{RanScript};
 ghost use Rattle.boss_manager.specs.Weights.{HasDevices};
@@ -45,10 +44,8 @@ pub fn script_run<S: Source, K: Sink, A: Actuators>(
         (AllByRecursion A.whole devices.old.items) (AllByRecursion A.whole devices.new.items) }
     ensures read { result.0 ≡ 0 → S.tells → S.left source.new ≡ [] }
     // Status 6 comes exactly where a read failed, and status 7 exactly where a write did.
-    ensures read_fault { (result.0 ≡ 6 → Rose (S.faults source.old) (S.faults source.new))
-        × (result.0 ≢ 6 → S.faults source.new ≡ S.faults source.old) }
-    ensures write_fault { (result.0 ≡ 7 → Rose (K.faults sink.old) (K.faults sink.new))
-        × (result.0 ≢ 7 → K.faults sink.new ≡ K.faults sink.old) }
+    ensures read_fault { Tells result.0 6 (S.faults source.old) (S.faults source.new) }
+    ensures write_fault { Tells result.0 7 (K.faults sink.old) (K.faults sink.new) }
     // It never answers what only the words, the catalogue or a file can bring about.
     ensures other { (result.0 ≢ 2) × (result.0 ≢ 3) × (result.0 ≢ 5) }
 {
@@ -59,7 +56,8 @@ pub fn script_run<S: Source, K: Sink, A: Actuators>(
 }
 
 fn status_of(ending: Ending) -> Status
-    ensures { (result.0 ≢ 0) × (result.0 ≢ 2) × (result.0 ≢ 3) × (result.0 ≢ 5) }
+    ensures status { result.0 ≡ status_of ending }
+    ensures other { (result.0 ≢ 0) × (result.0 ≢ 2) × (result.0 ≢ 3) × (result.0 ≢ 5) }
 {
     match ending {
         Ending::Unserved => Status::UNSERVED,
@@ -148,6 +146,7 @@ fn take_line<K: Sink, A: Actuators>(
     ensures sound { IsSound engine.new.plant engine.new.state }
     ensures len { vec_len devices.new ≡ vec_len devices.old }
     ensures write { WriteCause (K.faults sink.old) (K.faults sink.new) result }
+    ensures read { NoReadFault result }
     ensures did { OnOk result (K.tells → A.tells → Did (actuators catalogue.now) (line_taken catalogue.now line.now) stop
         engine.old.state engine.new.state (K.taken sink.old) (K.taken sink.new)
         (map A.calls devices.old.items) (map A.calls devices.new.items)
