@@ -9,3 +9,6 @@ mod target;
 mod time;
 
 pub use engine::Engine;
+
+#[cfg(test)]
+mod tests;

@@ -35,7 +35,9 @@ blank-leads catalogue line s blank more text earlier =
 pub did-blank : (catalogue : Catalogue) (line : List ℕ) (s : State) (old : List ℕ) (before : List (List Call)) (whole : Type 0) → is_blank line ≡ true →
     Did (actuators catalogue) (line_taken catalogue line) stop s s old old before before whole whole
 did-blank catalogue line s old before whole blank = record {
-  results = []; told = []; calls = [];
+  results = [];
+  told = [];
+  calls = [];
   leads = blank-leads catalogue line s blank;
   text = sym (append-nil old);
   devices = λ all. (all, sym (dealt-none (actuators catalogue) before));
@@ -43,12 +45,12 @@ did-blank catalogue line s old before whole blank = record {
 
 asked-leads : (catalogue : Catalogue) (line : List ℕ) (request : Request) (s : State) → is_blank line ≡ false → request_of catalogue line ≡ Some request →
     Leads (line_taken catalogue line) (served catalogue request.at) s (step (actuators catalogue) 1 request.command request.at s).state
-        (line_of (answer_text catalogue (step (actuators catalogue) 1 request.command request.at s).answer)) [] []
+    (line_of (answer_text catalogue (step (actuators catalogue) 1 request.command request.at s).answer)) [] []
 asked-leads catalogue line request s blank asks more text earlier =
     ap (λ b. cond b (at s text earlier more) (asked_for catalogue (request_of catalogue line) (at s text earlier more))) blank
     ∙ ap (λ r. asked_for catalogue r (at s text earlier more)) asks
     ∙ ap (λ cs. served catalogue request.at (at (step (actuators catalogue) 1 request.command request.at s).state
-            (text ++ line_of (answer_text catalogue (step (actuators catalogue) 1 request.command request.at s).answer)) cs more)) (sym (append-nil earlier))
+    (text ++ line_of (answer_text catalogue (step (actuators catalogue) 1 request.command request.at s).answer)) cs more)) (sym (append-nil earlier))
 
 -- a request is answered, and then the wants that it leaves are served
 pub did-asked : (catalogue : Catalogue) (line : List ℕ) (request : Request) (answer : Answer) (plant : List Actuator) (s s' s'' : State) (old mid new : List ℕ)
@@ -63,10 +65,12 @@ did-asked catalogue line request answer plant s s' s'' old mid new before after 
     let answers' : (step cat 1 request.command request.at s).answer ≡ answer = sym (answers ∙ ap (λ p. (step p 1 request.command request.at s).answer) same) in
     did-then cat (line_taken catalogue line) (served catalogue request.at) stop s s' s'' old mid new before before after was was now
     (record {
-      results = []; told = line_of (answer_text catalogue answer); calls = [];
+      results = [];
+      told = line_of (answer_text catalogue answer);
+      calls = [];
       leads = subst (λ t. Leads (line_taken catalogue line) (served catalogue request.at) s t (line_of (answer_text catalogue answer)) [] []) next'
           (subst (λ a. Leads (line_taken catalogue line) (served catalogue request.at) s (step cat 1 request.command request.at s).state (line_of (answer_text catalogue a)) [] []) answers'
-              (asked-leads catalogue line request s blank (sym asks)));
+          (asked-leads catalogue line request s blank (sym asks)));
       text = told;
       devices = λ all. (all, sym (dealt-none cat before));
     }) rest
@@ -95,11 +99,11 @@ ran-script catalogue bytes s s' old mid new before between after was half now fi
     let cat = actuators catalogue in
     let s'' = rest.0 in
     let all = did-then cat (λ run. reading catalogue bytes (served catalogue 0 run)) (reading catalogue bytes) stop s s' s'' old mid new before between after was half now
-        (did-under cat (served catalogue 0) (reading catalogue bytes) s s' old mid before between was half opening) rest.1 in
+    (did-under cat (served catalogue 0) (reading catalogue bytes) s s' old mid before between was half opening) rest.1 in
     let run : whole_script catalogue bytes all.results ≡ at s'' all.told all.calls [] =
-        ap (λ t. reading catalogue bytes (drain catalogue 0 all.results (begun t all.results))) (sym first)
-        ∙ ap (λ rs. reading catalogue bytes (served catalogue 0 (at s [] [] rs))) (sym (append-nil all.results))
-        ∙ all.leads [] [] [] in
+    ap (λ t. reading catalogue bytes (drain catalogue 0 all.results (begun t all.results))) (sym first)
+    ∙ ap (λ rs. reading catalogue bytes (served catalogue 0 (at s [] [] rs))) (sym (append-nil all.results))
+    ∙ all.leads [] [] [] in
     record {
       results = all.results;
       finished = ap (λ r. r.short) run;
@@ -132,7 +136,7 @@ act-known catalogue n (command.Submit writes policy) s allowed wants = submit-kn
 act-known catalogue n (command.Next driver) s allowed wants =
     want-known catalogue (find (λ point. driver_of (actuators catalogue) point == driver) s.wants) s
     (λ point found. let there = (found-passes (λ want. want < length (actuators catalogue)) (λ point. driver_of (actuators catalogue) point == driver) s.wants point wants found).0 in
-        omega (arith, there, length-map catalogue.points (λ p. p.actuator)))
+    omega (arith, there, length-map catalogue.points (λ p. p.actuator)))
 act-known catalogue n (command.Report point version ok) s allowed wants = report-known catalogue point version ok s
 act-known catalogue n (command.Read point) s allowed wants = omega (arith, allowed, length-map catalogue.points (λ p. p.actuator))
 

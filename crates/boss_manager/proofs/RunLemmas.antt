@@ -75,7 +75,9 @@ gains calls whole call (d ∷ ds) (suc driver) old new within is go all =
 
 pub did-nothing : (plant : List Actuator) (G : Run → Run) (s : State) (old : List ℕ) (before : List (List Call)) (whole : Type 0) → Did plant G G s s old old before before whole whole
 did-nothing plant G s old before whole = record {
-  results = []; told = []; calls = [];
+  results = [];
+  told = [];
+  calls = [];
   leads = λ more text earlier. ap₂ (λ t cs. G (at s t cs more)) (sym (append-nil text)) (sym (append-nil earlier));
   text = sym (append-nil old);
   devices = λ all. (all, sym (dealt-none plant before));
@@ -84,7 +86,9 @@ did-nothing plant G s old before whole = record {
 pub did-then : (plant : List Actuator) (G H K : Run → Run) (s s' s'' : State) (old mid new : List ℕ) (before between after : List (List Call)) (was half now : Type 0) →
     Did plant G H s s' old mid before between was half → Did plant H K s' s'' mid new between after half now → Did plant G K s s'' old new before after was now
 did-then plant G H K s s' s'' old mid new before between after was half now first second = record {
-  results = first.results ++ second.results; told = first.told ++ second.told; calls = first.calls ++ second.calls;
+  results = first.results ++ second.results;
+  told = first.told ++ second.told;
+  calls = first.calls ++ second.calls;
   leads = leads-then G H K s s' s'' first.told second.told first.calls second.calls first.results second.results first.leads second.leads;
   text = second.text ∙ ap (λ t. t ++ second.told) first.text ∙ append_assoc old first.told second.told;
   devices = λ all.
@@ -97,7 +101,9 @@ did-then plant G H K s s' s'' old mid new before between after was half now firs
 pub did-under : (plant : List Actuator) (F H : Run → Run) (s s' : State) (old new : List ℕ) (before after : List (List Call)) (was now : Type 0) →
     Did plant F stop s s' old new before after was now → Did plant (λ run. H (F run)) H s s' old new before after was now
 did-under plant F H s s' old new before after was now did = record {
-  results = did.results; told = did.told; calls = did.calls;
+  results = did.results;
+  told = did.told;
+  calls = did.calls;
   leads = λ more text earlier. ap H (did.leads more text earlier);
   text = did.text;
   devices = did.devices;

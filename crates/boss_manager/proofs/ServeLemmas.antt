@@ -22,8 +22,8 @@ use Rattle.boss_manager.specs.Runs.{at, Did, Leads, gained, served, stop}
 pub serve-leads : (catalogue : Catalogue) (moment driver point version : ℕ) (value : ℤ) (ok : Bool) (s : State) → wanting (actuators catalogue) s ≡ Some driver →
     (step (actuators catalogue) 0 (command.Next driver) moment s).answer ≡ answer.Want point version value →
     Leads (served catalogue moment) (served catalogue moment) s
-        (step (actuators catalogue) 0 (command.Report point version ok) moment (step (actuators catalogue) 0 (command.Next driver) moment s).state).state
-        (line_of (device_text catalogue point value ok)) (record { point = point; value = value; ok = ok } ∷ []) (ok ∷ [])
+    (step (actuators catalogue) 0 (command.Report point version ok) moment (step (actuators catalogue) 0 (command.Next driver) moment s).state).state
+    (line_of (device_text catalogue point value ok)) (record { point = point; value = value; ok = ok } ∷ []) (ok ∷ [])
 unfolding drain
 serve-leads catalogue moment driver point version value ok s wants asked more text earlier =
     ap (λ found. if_wanting found (λ d. drain catalogue moment more (serve catalogue moment ok d (at s text earlier more))) (at s text earlier (ok ∷ more))) wants
@@ -46,7 +46,7 @@ pub next-point : (catalogue : Catalogue) (driver moment point version : ℕ) (va
 next-point catalogue driver moment point version value plant s same small sound asked =
     let of : IsOf plant driver (answer.Want point version value) = subst (IsOf plant driver) (sym asked) (next-of plant 0 driver moment s small sound) in
     let there : (point < length (actuators catalogue)) × (driver_of (actuators catalogue) point ≡ driver) =
-        subst (λ p. (point < length p) × (driver_of p point ≡ driver)) same of in
+    subst (λ p. (point < length p) × (driver_of p point ≡ driver)) same of in
     (omega (arith, there.0, length-map catalogue.points (λ p. p.actuator)), there.1)
 
 pub did-serve : (catalogue : Catalogue) (driver moment point version : ℕ) (value : ℤ) (ok : Bool) (plant plant' : List Actuator) (s s' s'' : State)
@@ -62,7 +62,7 @@ did-serve catalogue driver moment point version value ok plant plant' s s' s'' o
     let wants' : wanting cat s ≡ Some driver = subst (λ p. wanting p s ≡ Some driver) same wants in
     let asked' : (step cat 0 (command.Next driver) moment s).answer ≡ answer.Want point version value = subst (λ p. (step p 0 (command.Next driver) moment s).answer ≡ answer.Want point version value) same (sym asked) in
     let end : (step cat 0 (command.Report point version ok) moment (step cat 0 (command.Next driver) moment s).state).state ≡ s'' =
-        sym (reported ∙ ap₂ (λ p t. (step p 0 (command.Report point version ok) moment t).state) (same' ∙ same) (next ∙ ap (λ p. (step p 0 (command.Next driver) moment s).state) same)) in
+    sym (reported ∙ ap₂ (λ p t. (step p 0 (command.Report point version ok) moment t).state) (same' ∙ same) (next ∙ ap (λ p. (step p 0 (command.Next driver) moment s).state) same)) in
     let behind = (next-point catalogue driver moment point version value plant s same small sound asked).1 in
     record {
       results = ok ∷ [];

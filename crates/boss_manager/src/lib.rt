@@ -8,6 +8,8 @@ mod ending;
 mod requests;
 mod script;
 mod status;
+#[cfg(test)]
+mod tests;
 mod texts;
 mod top_call;
 mod wants;

@@ -87,7 +87,15 @@ fn run<S: Source, K: Sink, A: Actuators>(
     let mut engine = Engine::new(alloc, catalogue)?;
     let mut lines = Lines::new(alloc)?;
     drain(alloc, catalogue, &mut engine, 0, sink, devices)?;
-    take_lines(alloc, catalogue, &mut engine, &mut lines, source, sink, devices)?;
+    take_lines(
+        alloc,
+        catalogue,
+        &mut engine,
+        &mut lines,
+        source,
+        sink,
+        devices,
+    )?;
     Ok(())
 }
 

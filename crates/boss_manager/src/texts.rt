@@ -3,8 +3,8 @@ ghost use Rattle.std.specs.Fmt.{signed_decimal};
 ghost use Rattle.boss_model.specs.Texts.{answer_text, basis_text, device_text, line_of, mark_text, quoted, result_text};
 ghost use Rattle.boss_manager.specs.Answers.{IsOfCatalogue};
 
-use boss_model::{Answer, Basis, Mark, Name, NoMemory, Priority, Refusal, Txn};
 use crate::wants::Want;
+use boss_model::{Answer, Basis, Mark, Name, NoMemory, Priority, Refusal, Txn};
 use boss_points::Catalogue;
 use std::alloc::Global;
 

@@ -7,9 +7,9 @@ ghost use Rattle.boss_manager.specs.Programs.{catalogue_word, refusal_line, scri
 ghost use Rattle.boss_manager.specs.Causes.{Tells};
 ghost use Rattle.boss_manager.specs.Ends.{MayYield, RanProgram, Refuses};
 
+use crate::Status;
 use crate::catalogue::{Unusable, load, refusal_line};
 use crate::script::script_run;
-use crate::Status;
 use boss_model::NoMemory;
 use boss_outside::{Actuators, Files, Sink, Source};
 use boss_points::CatalogueRefusal;

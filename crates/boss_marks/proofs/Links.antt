@@ -3,7 +3,9 @@ use Rattle.std.proofs.Common.{◌≡◌, ◌≢◌, ℕ, zero, suc, ◌<◌, ◌
 use Rattle.std.specs.Prelude.{reverse, slice_get}
 use Rattle.std.proofs.lemmas.Bool.{cases_eq}
 use Rattle.std.proofs.lemmas.Grind.{common_steps}
-use Rattle.std.proofs.lemmas.List.{length-set, length-replicate, get_or-set_same, get_or-set_other, get_or_read, reverse-append, reverse-reverse, append_assoc}
+use Rattle.std.specs.Prelude.{Vec}
+use Rattle.std.specs.Vec.{with_items}
+use Rattle.std.proofs.lemmas.List.{with_items_is, length-set, length-replicate, get_or-set_same, get_or-set_other, get_or_read, reverse-append, reverse-reverse, append_assoc}
 use Rattle.boss_marks.specs.Line.{Line, member, without, behind, Once, link_of, Leads, walk, IsLine, linked, started}
 use Rattle.boss_marks.proofs.Members.{member-append, member-reverse, reverse_cons, Once-push, Once-reverse, Once-ahead, member-without, Once-without, ahead, around, without_is, length-le_from_Once}
 
@@ -294,3 +296,8 @@ module _ {afters befores : List (Option ℕ)} {stands : List Bool} {first last :
 
 pub seen : (room room' : ℕ) (points points' : List ℕ) → room ≡ room' → points ≡ points' → ◌≡◌ {A = Line} (record { room = room; points = points }) (record { room = room'; points = points' })
 seen room room' points points' same_room same_points = cc
+
+-- the links of a vector, once a change of one of them was lent
+pub linked_items : {Z : Type 0} (v : Vec (Option ℕ) Z) (from to : Option ℕ) (lent written : List (Option ℕ)) → lent ≡ v.items → length lent ≡ v.len → written ≡ linked from to lent → (with_items v written).items ≡ linked from to v.items
+linked_items v from to lent written is len change =
+    with_items_is v written (ap length change ∙ (linked-length from to lent ∙ len)) ∙ (change ∙ ap (linked from to) is)

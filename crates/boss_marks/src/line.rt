@@ -87,13 +87,13 @@ impl Line {
 
 /// Makes the link of `from` lead to `to`, or where there is no `from`, the start.
 fn link(
-    links: &mut Vec<Option<PointId>>,
+    links: &mut [Option<PointId>],
     start: &mut Option<PointId>,
     from: Option<PointId>,
     to: Option<PointId>,
 )
-    requires { ForSome from (λ point. point < length links.old.items) }
-    ensures links { links.new.items ≡ linked from to links.old.items }
+    requires { ForSome from (λ point. point < length links.old) }
+    ensures links { links.new ≡ linked from to links.old }
     ensures start { start.new ≡ started from to start.old }
 {
     match from {

@@ -18,7 +18,8 @@ mod tests;
 /// How many of the transactions that are done are kept.
 const DONE_KEPT: usize = 1024;
 
-/// What is kept of transactions: of all that are not done, and of the last 1,024 that became done.
+/// What is kept of transactions: of all that are not done, and of the last 1,024 that became done. A transaction goes
+/// from stage to stage as in BOSS (Dawson-Haggerty et al., NSDI 2013): it runs, it reverts, and it is done.
 #[derive(Drop)]
 pub struct Stages {
     transactions: VecDeque<Transaction>,
@@ -66,8 +67,8 @@ impl Stages {
         Ok(())
     }
 
-    /// The live lease of the transaction's part on the point ended so, and its reversion began if it has one. Where
-    /// nothing of the transaction is left, it is done. It takes no memory.
+    /// The live lease of the transaction's part on the point ended for this cause at this moment, in milliseconds, and its
+    /// reversion began if it has one. Where nothing of the transaction is left, it is done. It takes no memory.
     pub fn lease_ended(&mut self, txn: Txn, point: PointId, cause: Cause, at: u64, reverts: bool)
         requires { end_on txn point self.old ≡ Live }
         ensures { self.new ≡ after_lease txn point cause at reverts self.old }

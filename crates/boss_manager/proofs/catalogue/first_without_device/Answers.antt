@@ -12,7 +12,7 @@ returns-then-lacks_device c =
     let place = c.loop-place.place in
     ap Some c.from.ensures
     ∙ sym (c.loop-place.invariant ∙ position-here test points place (seen c.point.result.now) c.point.ensures.point
-        ∙ ap (λ b. cond b (Some place) (position_from test (place + 1) (drop (place + 1) points))) (sym c.lacks_device.ensures ∙ c.if-lacks_device.true))
+    ∙ ap (λ b. cond b (Some place) (position_from test (place + 1) (drop (place + 1) points))) (sym c.lacks_device.ensures ∙ c.if-lacks_device.true))
 
 pub loop-place-preserved : goal.loop-place-preserved
 loop-place-preserved c =

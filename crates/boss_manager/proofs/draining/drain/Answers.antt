@@ -22,7 +22,7 @@ pub serve-requires-clause-device : goal.serve-requires-clause-device
 serve-requires-clause-device g c =
     let inv = c.loop-driver.invariant in
     let devices : HasDevices (vec_len c.loop-driver.devices) c.loop-driver.engine.plant =
-        rw (inv.len, inv.plant) c.requires.devices in
+    rw (inv.len, inv.plant) c.requires.devices in
     device-there (vec_len c.loop-driver.devices) c.loop-driver.engine.plant c.loop-driver.engine.state c.in-Some.driver devices inv.sound (sym c.wanting.ensures ∙ c.in-Some.is)
 
 pub loop-driver-preserved : goal.loop-driver-preserved

@@ -17,8 +17,10 @@ returns-clause-ran g c = λ left tells told.
     (g.K.Sink.taken c.args.sink.now) (g.K.Sink.taken c.drain.new.sink) (g.K.Sink.taken c.take_lines.new.sink)
     (map g.A.Actuators.calls c.args.devices.now.items) (map g.A.Actuators.calls c.drain.new.devices.items) (map g.A.Actuators.calls c.take_lines.new.devices.items)
     (AllByRecursion g.A.Actuators.whole c.args.devices.now.items) (AllByRecursion g.A.Actuators.whole c.drain.new.devices.items) (AllByRecursion g.A.Actuators.whole c.take_lines.new.devices.items)
-    first (c.in_ok-drain.ensures.did tells told)
-    (c.take_lines.new.engine.state, subst (λ bytes. Did (actuators catalogue) (reading catalogue bytes) stop c.drain.new.engine.state c.take_lines.new.engine.state
-        (g.K.Sink.taken c.drain.new.sink) (g.K.Sink.taken c.take_lines.new.sink)
-        (map g.A.Actuators.calls c.drain.new.devices.items) (map g.A.Actuators.calls c.take_lines.new.devices.items)
-        (AllByRecursion g.A.Actuators.whole c.drain.new.devices.items) (AllByRecursion g.A.Actuators.whole c.take_lines.new.devices.items)) ahead taken)
+    first (c.in_ok-drain.ensures.did tells told) (
+      c.take_lines.new.engine.state,
+      subst (λ bytes. Did (actuators catalogue) (reading catalogue bytes) stop c.drain.new.engine.state c.take_lines.new.engine.state
+          (g.K.Sink.taken c.drain.new.sink) (g.K.Sink.taken c.take_lines.new.sink)
+          (map g.A.Actuators.calls c.drain.new.devices.items) (map g.A.Actuators.calls c.take_lines.new.devices.items)
+          (AllByRecursion g.A.Actuators.whole c.drain.new.devices.items) (AllByRecursion g.A.Actuators.whole c.take_lines.new.devices.items)) ahead taken,
+    )

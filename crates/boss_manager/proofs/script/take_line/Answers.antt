@@ -15,6 +15,6 @@ answer_line-requires g c =
     let request : Request = record { at = c.request.inside.at; command = c.request.inside.command } in
     let is : request ≡ c.in-Some.request = c.request.view_is in
     let served : IsServed c.args.catalogue.now request =
-        rw is (subst (λ found. IfSome found (IsServed c.args.catalogue.now)) c.in-Some.is c.in_ok-request.ensures.allowed) in
+    rw is (subst (λ found. IfSome found (IsServed c.args.catalogue.now)) c.in-Some.is c.in_ok-request.ensures.allowed) in
     rw c.in_ok-answer.ensures.answer
     (step-known c.args.catalogue.now c.args.engine.now.plant 1 request.command request.at c.args.engine.now.state c.requires.plant served.at served.allowed c.requires.sound)

@@ -45,8 +45,8 @@ loop-preserved g c =
           (AllByRecursion g.A.Actuators.whole c.args.devices.now.items) (AllByRecursion g.A.Actuators.whole c.loop.devices.items) (AllByRecursion g.A.Actuators.whole c.take_line.new.devices.items)
           (inv.did left tells told)
           (did-line catalogue before after c.line.result.now c.loop.engine.state c.take_line.new.engine.state (g.K.Sink.taken c.loop.sink) (g.K.Sink.taken c.take_line.new.sink)
-              (map g.A.Actuators.calls c.loop.devices.items) (map g.A.Actuators.calls c.take_line.new.devices.items)
-              (AllByRecursion g.A.Actuators.whole c.loop.devices.items) (AllByRecursion g.A.Actuators.whole c.take_line.new.devices.items) ahead taken);
+          (map g.A.Actuators.calls c.loop.devices.items) (map g.A.Actuators.calls c.take_line.new.devices.items)
+          (AllByRecursion g.A.Actuators.whole c.loop.devices.items) (AllByRecursion g.A.Actuators.whole c.take_line.new.devices.items) ahead taken);
     }
 
 pub returns-in_err-take_line-in-Line-clause-write : goal.returns-in_err-take_line-in-Line-clause-write

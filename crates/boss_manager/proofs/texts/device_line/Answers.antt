@@ -15,5 +15,5 @@ returns c =
     let fits : SFits w64 c.args.want.now.value = search rules in
     c.in_ok-extend_from_slice.ensures.items
     ∙ ap (λ text. text ++ 10 ∷ []) (simp to_z-of_z at c.in_ok-line.ensures
-        ∙ device_text-names c.args.catalogue.now c.args.want.now.point (seen c.point-told.result.now) c.args.want.now.value c.args.ok c.bytes.result.now c.bytes-2.result.now
-            c.point-told.ensures.point (c.driver_name-driver.ensures ∙ ap Some (sym c.bytes.ensures.value)) (sym c.bytes-2.ensures.value))
+    ∙ device_text-names c.args.catalogue.now c.args.want.now.point (seen c.point-told.result.now) c.args.want.now.value c.args.ok c.bytes.result.now c.bytes-2.result.now
+    c.point-told.ensures.point (c.driver_name-driver.ensures ∙ ap Some (sym c.bytes.ensures.value)) (sym c.bytes-2.ensures.value))
