@@ -1,3 +1,4 @@
+pub mod CauseLemmas
 pub mod LineLemmas
 pub mod Places
 pub mod PointNames

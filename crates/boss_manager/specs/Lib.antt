@@ -1,4 +1,5 @@
 pub mod Answers
+pub mod Causes
 pub mod Ends
 pub mod Loads
 pub mod Programs

@@ -4,6 +4,7 @@ ghost use Rattle.boss_model.specs.Catalogue.{actuators};
 ghost use Rattle.boss_model.specs.Machine.{wanting};
 ghost use Rattle.boss_model.specs.Sound.{IsSound};
 ghost use Rattle.boss_manager.specs.Runs.{Did, served, stop};
+ghost use Rattle.boss_manager.specs.Causes.{NoReadFault, WriteCause};
 ghost use Rattle.boss_manager.specs.Weights.{HasDevices, weight};
 
 use crate::Ending;
@@ -36,6 +37,8 @@ pub fn drain<K: Sink, A: Actuators>(
     ensures plant { engine.new.plant ≡ engine.old.plant }
     ensures sound { IsSound engine.new.plant engine.new.state }
     ensures len { vec_len devices.new ≡ vec_len devices.old }
+    ensures write { WriteCause (K.faults sink.old) (K.faults sink.new) result }
+    ensures read { NoReadFault result }
     ensures did { OnOk result (K.tells → A.tells → Did (actuators catalogue.now) (served catalogue.now moment) stop
         engine.old.state engine.new.state (K.taken sink.old) (K.taken sink.new)
         (map A.calls devices.old.items) (map A.calls devices.new.items)
@@ -66,6 +69,8 @@ fn serve<K: Sink, A: Actuators>(
     ensures plant { engine.new.plant ≡ engine.old.plant }
     ensures sound { IsSound engine.new.plant engine.new.state }
     ensures len { vec_len devices.new ≡ vec_len devices.old }
+    ensures write { WriteCause (K.faults sink.old) (K.faults sink.new) result }
+    ensures read { NoReadFault result }
     ensures lighter { OnOk result (weight engine.new.plant engine.new.state < weight engine.old.plant engine.old.state) }
     ensures did { OnOk result (K.tells → A.tells → Did (actuators catalogue.now) (served catalogue.now moment) (served catalogue.now moment)
         engine.old.state engine.new.state (K.taken sink.old) (K.taken sink.new)

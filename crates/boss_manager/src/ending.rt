@@ -1,3 +1,6 @@
+ghost use Rattle.std.specs.Prelude.{◌≡◌};
+ghost use Rattle.boss_manager.specs.declared.ending.Ending.TheVariants as ending;
+
 use boss_model::NoMemory;
 use boss_outside::Failed;
 
@@ -19,12 +22,16 @@ pub enum Ending {
 }
 
 impl From<NoMemory> for Ending {
+    ghost from_gives = { λ _ gives. gives ≡ ending.NoMemory };
+
     fn from(_error: NoMemory) -> Self {
         Ending::NoMemory
     }
 }
 
 impl From<Failed> for Ending {
+    ghost from_gives = { λ _ gives. gives ≡ ending.WriteFault };
+
     fn from(_failed: Failed) -> Self {
         Ending::WriteFault
     }

@@ -1,9 +1,10 @@
-ghost use Rattle.std.specs.Prelude.{◌≡◌, ◌≢◌, ◌≤◌, ◌^◌, [], ◌++◌, map, OnOk, vec_len};
+ghost use Rattle.std.specs.Prelude.{◌≡◌, ◌≢◌, ◌≤◌, ◌^◌, [], ◌++◌, map, OnOk, vec_len, None};
 ghost use Rattle.std.specs.List.{AllByRecursion};
 ghost use Rattle.boss_model.specs.Catalogue.{actuators};
 ghost use Rattle.boss_model.specs.Lines.{is_blank};
 ghost use Rattle.boss_model.specs.Sound.{IsSound};
 ghost use Rattle.boss_model.specs.State.{first_state};
+ghost use Rattle.boss_manager.specs.Causes.{NoReadFault, ReadCause, Tells, WriteCause, status_of};
 ghost use Rattle.boss_manager.specs.Runs.{Did, line_taken, reading, stop};
 ghost use Rattle.boss_manager.specs.Scripts.{RanScript};
 ghost use Rattle.boss_manager.specs.Weights.{HasDevices};
@@ -42,6 +43,9 @@ pub fn script_run<S: Source, K: Sink, A: Actuators>(
         (K.taken sink.old) (K.taken sink.new) (map A.calls devices.old.items) (map A.calls devices.new.items)
         (AllByRecursion A.whole devices.old.items) (AllByRecursion A.whole devices.new.items) }
     ensures read { result.0 ≡ 0 → S.tells → S.left source.new ≡ [] }
+    // Status 6 comes exactly where a read failed, and status 7 exactly where a write did.
+    ensures read_fault { Tells result.0 6 (S.faults source.old) (S.faults source.new) }
+    ensures write_fault { Tells result.0 7 (K.faults sink.old) (K.faults sink.new) }
     // It never answers what only the words, the catalogue or a file can bring about.
     ensures other { (result.0 ≢ 2) × (result.0 ≢ 3) × (result.0 ≢ 5) }
 {
@@ -52,7 +56,8 @@ pub fn script_run<S: Source, K: Sink, A: Actuators>(
 }
 
 fn status_of(ending: Ending) -> Status
-    ensures { (result.0 ≢ 0) × (result.0 ≢ 2) × (result.0 ≢ 3) × (result.0 ≢ 5) }
+    ensures status { result.0 ≡ status_of ending }
+    ensures other { (result.0 ≢ 0) × (result.0 ≢ 2) × (result.0 ≢ 3) × (result.0 ≢ 5) }
 {
     match ending {
         Ending::Unserved => Status::UNSERVED,
@@ -75,6 +80,8 @@ fn run<S: Source, K: Sink, A: Actuators>(
     ensures ran { OnOk result (S.tells → K.tells → A.tells → RanScript catalogue.now (S.left source.old)
         (K.taken sink.old) (K.taken sink.new) (map A.calls devices.old.items) (map A.calls devices.new.items)
         (AllByRecursion A.whole devices.old.items) (AllByRecursion A.whole devices.new.items)) }
+    ensures write { WriteCause (K.faults sink.old) (K.faults sink.new) result }
+    ensures read_fault { ReadCause (S.faults source.old) (S.faults source.new) result }
     ensures read { OnOk result (S.tells → S.left source.new ≡ []) }
 {
     let mut engine = Engine::new(alloc, catalogue)?;
@@ -110,6 +117,8 @@ fn take_lines<S: Source, K: Sink, A: Actuators>(
         engine.old.state engine.new.state (K.taken sink.old) (K.taken sink.new)
         (map A.calls devices.old.items) (map A.calls devices.new.items)
         (AllByRecursion A.whole devices.old.items) (AllByRecursion A.whole devices.new.items)) }
+    ensures write { WriteCause (K.faults sink.old) (K.faults sink.new) result }
+    ensures read_fault { lines.old.stopped ≡ None → ReadCause (S.faults source.old) (S.faults source.new) result }
     ensures read { OnOk result (S.tells → S.left source.new ≡ []) }
 {
     for _ in 0..MOST_LINES {
@@ -144,6 +153,8 @@ fn take_line<K: Sink, A: Actuators>(
     ensures plant { engine.new.plant ≡ engine.old.plant }
     ensures sound { IsSound engine.new.plant engine.new.state }
     ensures len { vec_len devices.new ≡ vec_len devices.old }
+    ensures write { WriteCause (K.faults sink.old) (K.faults sink.new) result }
+    ensures read { NoReadFault result }
     ensures did { OnOk result (K.tells → A.tells → Did (actuators catalogue.now) (line_taken catalogue.now line.now) stop
         engine.old.state engine.new.state (K.taken sink.old) (K.taken sink.new)
         (map A.calls devices.old.items) (map A.calls devices.new.items)

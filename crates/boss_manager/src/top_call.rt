@@ -4,6 +4,7 @@ ghost use Rattle.boss_model.specs.Catalogue.{actuators};
 ghost use Rattle.boss_outside.specs.Counts.{Rose};
 ghost use Rattle.boss_words.specs.Words.{texts};
 ghost use Rattle.boss_manager.specs.Programs.{catalogue_word, refusal_line, script_of_words, usage_line};
+ghost use Rattle.boss_manager.specs.Causes.{Tells};
 ghost use Rattle.boss_manager.specs.Ends.{MayYield, RanProgram, Refuses};
 
 use crate::Status;
@@ -45,6 +46,10 @@ pub fn boss<F: Files, S: Source, K: Sink, A: Actuators>(
     ensures catalogue_silent { result.0 ≡ 3 → devices.new ≡ devices.old }
     ensures catalogue_only { F.tells → Refuses (script_of_words (texts words.now.items)) (F.holds files.old) (vec_len devices.old)
         (λ refusal. Unit {0}) → (result.0 ≡ 3) ⊎ (result.0 ≡ 5) ⊎ MayYield result.0 }
+
+    // Status 6 comes exactly where a read of the source failed, and status 7 exactly where a write to the sink did.
+    ensures read_fault { Tells result.0 6 (S.faults source.old) (S.faults source.new) }
+    ensures write_fault { Tells result.0 7 (K.faults sink.old) (K.faults sink.new) }
 
     // Status 5: a file failed.
     ensures file_fault { result.0 ≡ 5 → Rose (F.faults files.old) (F.faults files.new) }
@@ -88,6 +93,7 @@ fn catalogue_of_job(job: Job) -> Option<Word>
 /// Tells how the program is used.
 fn say_usage<K: Sink>(sink: &mut K) -> Status
     ensures told { result.0 ≡ 2 → K.tells → K.taken sink.new ≡ K.taken sink.old ++ usage_line }
+    ensures write_fault { Tells result.0 7 (K.faults sink.old) (K.faults sink.new) }
     ensures only { (result.0 ≡ 2) ⊎ (result.0 ≡ 7) }
 {
     match sink.write(b"usage\n") {
@@ -99,6 +105,7 @@ fn say_usage<K: Sink>(sink: &mut K) -> Status
 /// Tells why a catalogue was refused.
 fn say_refusal<K: Sink>(alloc: Global, sink: &mut K, refusal: CatalogueRefusal) -> Status
     ensures told { result.0 ≡ 3 → K.tells → K.taken sink.new ≡ K.taken sink.old ++ refusal_line refusal }
+    ensures write_fault { Tells result.0 7 (K.faults sink.old) (K.faults sink.new) }
     ensures only { (result.0 ≡ 3) ⊎ (result.0 ≡ 7) ⊎ (result.0 ≡ 8) }
 {
     let Ok(line) = refusal_line(alloc, refusal) else {
@@ -130,6 +137,8 @@ fn run_script<F: Files, S: Source, K: Sink, A: Actuators>(
     ensures catalogue_silent { result.0 ≡ 3 → devices.new ≡ devices.old }
     ensures catalogue_only { F.tells → Refuses (Some word.now) (F.holds files.old) (vec_len devices.old)
         (λ refusal. Unit {0}) → (result.0 ≡ 3) ⊎ (result.0 ≡ 5) ⊎ MayYield result.0 }
+    ensures read_fault { Tells result.0 6 (S.faults source.old) (S.faults source.new) }
+    ensures write_fault { Tells result.0 7 (K.faults sink.old) (K.faults sink.new) }
     ensures file_fault { result.0 ≡ 5 → Rose (F.faults files.old) (F.faults files.new) }
 {
     match load(alloc, files, word.text(), devices.len()) {

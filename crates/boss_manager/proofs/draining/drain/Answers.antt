@@ -1,6 +1,7 @@
-use Rattle.std.proofs.Common.{◌≡◌, ◌<◌, map, sym, ap, subst, ◌∙◌, arith, refl, vec_len}
+use Rattle.std.proofs.Common.{rules, ◌≡◌, ◌<◌, map, sym, ap, subst, ◌∙◌, arith, refl, vec_len}
 use Rattle.std.specs.List.{AllByRecursion}
 use Rattle.boss_model.specs.Catalogue.{actuators}
+use Rattle.boss_manager.specs.Causes.{WriteCause}
 use Rattle.boss_manager.specs.Runs.{served, stop}
 use Rattle.boss_manager.specs.Weights.{HasDevices}
 use Rattle.boss_manager.proofs.RunLemmas.{did-nothing, did-then}
@@ -12,6 +13,7 @@ loop-driver-init g c = record {
   plant = refl;
   sound = c.requires.sound;
   len = refl;
+  write = refl;
   did = λ tells told. did-nothing (actuators c.args.catalogue.now) (served c.args.catalogue.now c.args.moment) c.args.engine.now.state (g.K.Sink.taken c.args.sink.now)
       (map g.A.Actuators.calls c.args.devices.now.items) (AllByRecursion g.A.Actuators.whole c.args.devices.now.items);
 }
@@ -32,6 +34,7 @@ loop-driver-preserved g c =
       plant = c.serve.ensures.plant ∙ inv.plant;
       sound = c.serve.ensures.sound;
       len = c.serve.ensures.len ∙ inv.len;
+      write = done.write ∙ inv.write;
       did = λ tells told. did-then (actuators c.args.catalogue.now) part part part c.args.engine.now.state c.loop-driver.engine.state c.serve.new.engine.state
           (g.K.Sink.taken c.args.sink.now) (g.K.Sink.taken c.loop-driver.sink) (g.K.Sink.taken c.serve.new.sink)
           (map g.A.Actuators.calls c.args.devices.now.items) (map g.A.Actuators.calls c.loop-driver.devices.items) (map g.A.Actuators.calls c.serve.new.devices.items)
@@ -46,3 +49,7 @@ returns-clause-did g c = λ tells told.
     (g.K.Sink.taken c.args.sink.now) (g.K.Sink.taken c.loop-driver.sink) (map g.A.Actuators.calls c.args.devices.now.items) (map g.A.Actuators.calls c.loop-driver.devices.items)
     (AllByRecursion g.A.Actuators.whole c.args.devices.now.items) (AllByRecursion g.A.Actuators.whole c.loop-driver.devices.items)
     (inv.plant ∙ c.requires.plant) (sym c.wanting.ensures ∙ c.in_default.is) (inv.did tells told)
+
+pub returns-in_err-serve-clause-write : goal.returns-in_err-serve-clause-write
+returns-in_err-serve-clause-write g c =
+    subst (λ before. WriteCause before (g.K.Sink.faults c.serve.new.sink) c.from_residual.result) c.loop-driver.invariant.write (search rules)

@@ -12,6 +12,7 @@ invariant-loop-driver g l = record {
   plant : l.engine.plant ≡ l.fn.engine.plant;
   sound : IsSound l.engine.plant l.engine.state;
   len : vec_len l.devices ≡ vec_len l.fn.devices;
+  write : g.K.Sink.faults l.sink ≡ g.K.Sink.faults l.fn.sink;
   did : g.K.Sink.tells → g.A.Actuators.tells → Did (actuators l.fn.catalogue) (served l.fn.catalogue l.fn.moment) (served l.fn.catalogue l.fn.moment)
       l.fn.engine.state l.engine.state (g.K.Sink.taken l.fn.sink) (g.K.Sink.taken l.sink)
       (map g.A.Actuators.calls l.fn.devices.items) (map g.A.Actuators.calls l.devices.items)
