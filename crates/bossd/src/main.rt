@@ -10,9 +10,8 @@ use boss_outside::IdleActuators;
 use console::{Input, Output};
 use disk_files::DiskFiles;
 use std::alloc::{AllocError, Global};
-use std::env;
-use std::io;
 use std::process::ExitCode;
+use std::{env, io};
 
 /// How many drivers there are.
 const DRIVERS: usize = 16;

@@ -57,7 +57,7 @@ pub returns-in_err-take_line-in-Line-clause-read_fault : goal.returns-in_err-tak
 returns-in_err-take_line-in-Line-clause-read_fault g c = λ fresh.
     let inv = c.loop.invariant.read fresh in
     read-still (g.S.Source.faults c.args.source.now) (g.S.Source.faults c.next.new.source) c.from_residual.result (search rules)
-        (c.in-Line.ensures.cause inv.0 ∙ inv.1)
+    (c.in-Line.ensures.cause inv.0 ∙ inv.1)
 
 pub returns-in-Finish-clause-read_fault : goal.returns-in-Finish-clause-read_fault
 returns-in-Finish-clause-read_fault g c = λ fresh. c.in-Finish.ensures.cause (c.loop.invariant.read fresh).0 ∙ (c.loop.invariant.read fresh).1
