@@ -1,0 +1,339 @@
+-- Draining ends: each want that is served takes a want away, or leases.
+use Rattle.std.proofs.Common.{◌≡◌, ℕ, zero, suc, ◌+◌, ◌*◌, ◌^◌, ◌<◌, ◌≤◌, ◌==◌, max, nat_lt, List, [], ◌∷◌, length, map, set, Bool, true, false, not, ◌||◌, cond, Option, Some, None, refl, ap, sym, ◌∙◌, subst, arith, zero-add}
+use Rattle.std.specs.List.{filter, find, AllByRecursion, list_any}
+use Rattle.std.proofs.Math.ListN.{length-set}
+use Rattle.std.proofs.Math.Nat.{mul-le-mul_right}
+use Rattle.std.proofs.lemmas.Bool.{cond_both}
+use Rattle.std.proofs.lemmas.Bool.Decides.{nat_tests}
+use Rattle.boss_machine.specs.declared.answer.Answer.{Answer}
+use Rattle.boss_machine.specs.declared.answer.Answer.TheVariants as answer
+use Rattle.boss_machine.specs.declared.command.Command.TheVariants as command
+use Rattle.boss_machine.specs.declared.command.Policy.{Policy}
+use Rattle.boss_machine.specs.declared.command.Policy.TheVariants.{Abort, Keep}
+use Rattle.boss_machine.specs.declared.state.Actuator.{Actuator}
+use Rattle.boss_machine.specs.declared.state.Lease.{Lease}
+use Rattle.boss_machine.specs.declared.state.Proxy.{Proxy}
+use Rattle.boss_machine.specs.Catalogue.{driver_of}
+use Rattle.boss_machine.specs.Devices.{Reply, proxy_of, hand_out, next, wanting, is_current, taken, not_taken, faulted_first, heard, report}
+use Rattle.boss_machine.specs.Ends.{is_of, shortened_if, faulted_under, faulted}
+use Rattle.boss_machine.specs.Lists.{member, without}
+use Rattle.boss_machine.specs.Machine.{pass_time, settle_after, step}
+use Rattle.boss_machine.specs.Order.{least}
+use Rattle.boss_machine.specs.Settle.{settle}
+use Rattle.boss_machine.specs.Sound.{Distinct, IsWant, IsSound}
+use Rattle.boss_machine.specs.State.{Durable, State}
+use Rattle.boss_machine.specs.Target.{in_force, target}
+use Rattle.boss_machine.specs.Time.{live, moment_of}
+use Rattle.boss_laws.specs.Draining.{reported, serve, serve_if, drain}
+use Rattle.boss_laws.proofs.NothingDue.{nothing-due}
+use Rattle.boss_laws.proofs.Orders.{each-map, each-filter, each-passed, least-of}
+use Rattle.boss_laws.proofs.Places.{member-each, Distinct-filter, proxy_of-set, proxy_of-other}
+use Rattle.boss_laws.proofs.Resting.{IsResting, IsWaiting, settled-at, settle-none, pass-resting, waiting-passed, resting-step}
+use Rattle.boss_laws.proofs.StepSound.{passed-sound}
+use Rattle.boss_laws.proofs.SubmitSound.{left-live}
+use Rattle.boss_laws.proofs.Targets.{target-stays}
+
+-- ---- lists
+
+length-filter : {X : Type 0} (test : X → Bool) (xs : List X) → length (filter test xs) ≤ length xs
+length-filter test [] = omega arith
+length-filter test (x ∷ xs) = cond_both (test x) (x ∷ filter test xs) (filter test xs) (λ ys. length ys ≤ suc (length xs))
+    (λ _. omega (arith, length-filter test xs)) (λ _. omega (arith, length-filter test xs))
+
+-- a list without those that pass is shorter, if one does
+shorter : {X : Type 0} (test : X → Bool) (xs : List X) → list_any test xs ≡ true → length (filter (λ x. not (test x)) xs) < length xs
+shorter test [] some = cc
+shorter test (x ∷ xs) some = cond_both (test x) true false (λ b. test x ≡ b → length (filter (λ y. not (test y)) (x ∷ xs)) < suc (length xs))
+    (λ yes _. let out : filter (λ y. not (test y)) (x ∷ xs) ≡ filter (λ y. not (test y)) xs = grind (arith) in omega (arith, ap length out, length-filter (λ y. not (test y)) xs))
+    (λ no _. let kept : filter (λ y. not (test y)) (x ∷ xs) ≡ x ∷ filter (λ y. not (test y)) xs = grind (arith) in
+    let rest : length (filter (λ y. not (test y)) xs) < length xs = shorter test xs (grind (arith)) in omega (arith, ap length kept)) (grind (arith))
+
+some-of : {X : Type 0} (test : X → X → Bool) → ((x : X) → test x x ≡ true) → (xs : List X) → AllByRecursion (λ x. list_any (test x) xs ≡ true) xs
+some-of test self [] = tt
+some-of test self (x ∷ xs) = (grind (arith, self x), each-map (λ y. list_any (test y) xs ≡ true) (λ y. list_any (test y) (x ∷ xs) ≡ true) (λ y there. grind (arith)) xs (some-of test self xs))
+
+-- numbers below n that are all different are at most n
+length-without : (n : ℕ) (xs : List ℕ) → Distinct xs → length xs ≤ length (without n xs) + 1
+length-without n [] once = omega arith
+length-without n (x ∷ xs) once = cond_both (x == n) true false (λ b. (x == n) ≡ b → length (x ∷ xs) ≤ length (without n (x ∷ xs)) + 1)
+    (λ is _. let same : x ≡ n = grind (arith, nat_tests) in
+    let out : without n (x ∷ xs) ≡ without n xs = grind (arith) in
+    let all : without n xs ≡ xs = absent n xs (subst (λ k. member k xs ≡ false) same once.0) in omega (arith, ap length out, ap length all))
+    (λ other _. let kept : without n (x ∷ xs) ≡ x ∷ without n xs = grind (arith) in omega (arith, ap length kept, length-without n xs once.1)) (grind (arith))
+  where
+    absent : (k : ℕ) (ys : List ℕ) → member k ys ≡ false → without k ys ≡ ys
+    absent k [] away = refl
+    absent k (y ∷ ys) away = grind (arith, nat_tests, absent k ys)
+
+below-without : (n : ℕ) (xs : List ℕ) → AllByRecursion (λ x. x < suc n) xs → AllByRecursion (λ x. x < n) (without n xs)
+below-without n [] below = tt
+below-without n (x ∷ xs) below = cond_both (not (x == n)) (x ∷ without n xs) (without n xs) (AllByRecursion (λ y. y < n))
+    (λ other. (let here : x < suc n = below.0 in grind (arith, nat_tests), below-without n xs below.1)) (λ _. below-without n xs below.1)
+
+at-most : (n : ℕ) (xs : List ℕ) → Distinct xs → AllByRecursion (λ x. x < n) xs → length xs ≤ n
+at-most n [] once below = omega arith
+at-most zero (x ∷ xs) once below = absurd (omega (arith, below.0))
+at-most (suc n) (x ∷ xs) once below =
+    omega (arith, length-without n (x ∷ xs) once, at-most n (without n (x ∷ xs)) (Distinct-filter (λ want. not (want == n)) (x ∷ xs) once) (below-without n (x ∷ xs) below))
+
+few-wants : (plant : List Actuator) (s : State) → IsSound plant s → length s.wants ≤ length plant
+few-wants plant s sound = at-most (length plant) s.wants sound.once
+    (each-map (IsWant s.proxies) (λ k. k < length plant) (λ k is. let known : k < length s.proxies = is.known in omega (arith, sound.proxies)) s.wants sound.wants)
+
+member-without : (n : ℕ) (xs : List ℕ) → member n (without n xs) ≡ false
+member-without n [] = refl
+member-without n (x ∷ xs) = cond_both (not (x == n)) (x ∷ without n xs) (without n xs) (λ ys. member n ys ≡ false)
+    (λ other. grind (arith, nat_tests, member-without n xs)) (λ _. member-without n xs)
+
+-- ---- the want that is handed out
+
+find-some : {X : Type 0} (test : X → Bool) (xs : List X) → list_any test xs ≡ true → (x : X) × (find test xs ≡ Some x)
+find-some test [] some = cc
+find-some {X = X} test (x ∷ xs) some = cond_both (test x) (Some x) (find test xs) (λ f. test x ≡ test x → (y : X) × (f ≡ Some y)) (λ _ _. (x, refl)) (λ no _. find-some test xs (grind (arith))) refl
+
+find-member : (test : ℕ → Bool) (xs : List ℕ) (x : ℕ) → find test xs ≡ Some x → list_any (λ y. y == x) xs ≡ true
+find-member test [] x found = cc
+find-member test (y ∷ ys) x found = cond_both (test y) (Some y) (find test ys) (λ f. f ≡ Some x → list_any (λ z. z == x) (y ∷ ys) ≡ true)
+    (λ _ e. let same : y ≡ x = cc in grind (arith, nat_tests)) (λ _ e. grind (arith, find-member test ys x e)) found
+
+any-mapped : {X Y : Type 0} (test : Y → Bool) (f : X → Y) (xs : List X) → list_any test (map f xs) ≡ list_any (λ x. test (f x)) xs
+any-mapped test f [] = refl
+any-mapped test f (x ∷ xs) = ap (λ b. test (f x) || b) (any-mapped test f xs)
+
+-- a driver that wants has a want
+wanted-point : (plant : List Actuator) (s : State) (driver : ℕ) → wanting plant s ≡ Some driver → (point : ℕ) × (find (λ p. driver_of plant p == driver) s.wants ≡ Some point)
+wanted-point plant s driver is = find-some (λ p. driver_of plant p == driver) s.wants
+    (sym (any-mapped (λ d. d == driver) (driver_of plant) s.wants)
+    ∙ least-of (λ d. list_any (λ y. y == d) (map (driver_of plant) s.wants) ≡ true) (λ d. d) (map (driver_of plant) s.wants) driver
+    (some-of (λ d y. y == d) (λ d. grind (arith, nat_tests)) (map (driver_of plant) s.wants)) is)
+
+none-wanted : (plant : List Actuator) (wants : List ℕ) → least (λ d. d) (map (driver_of plant) wants) ≡ None → wants ≡ []
+none-wanted plant [] none = refl
+none-wanted plant (w ∷ ws) none = cc
+
+-- ---- one round
+
+-- how much there is to do at most: each lease that ends may make every point wanted
+abbrev pub load : List Actuator → State → ℕ
+load plant s = length s.durable.leases * suc (length plant) + length s.wants
+
+module _ (plant : List Actuator) (m n : ℕ) (small : m ≤ 2 ^ 60) where
+  -- the state whose want is handed out
+  handed : ℕ → State → State
+  handed point s = record s { wants = without point s.wants }
+
+  hand-step : (s : State) (driver point : ℕ) → IsResting plant m n s → find (λ p. driver_of plant p == driver) s.wants ≡ Some point →
+      step plant 0 (command.Next driver) m s
+      ≡ record { answer = answer.Want point (proxy_of s.proxies point).version (proxy_of s.proxies point).commanded; state = record s { wants = without point s.wants } }
+  unfolding step
+  hand-step s driver point rests found =
+      (λ i. settle_after plant (next plant driver (pass_time plant (rests.moment i) s)))
+      ∙ ap (λ t. settle_after plant (next plant driver t)) (pass-resting plant m n s rests)
+      ∙ ap (λ f. settle_after plant (hand_out f s)) found
+      ∙ ap (λ t. record { answer = answer.Want point (proxy_of s.proxies point).version (proxy_of s.proxies point).commanded; state = t })
+      (settle-none plant (record s { wants = without point s.wants })
+      (λ k within. settled-at plant s.durable 0 s.proxies rests.sound.commanded k within ∙ ap (target plant s.durable) (zero-add k)))
+
+  hand-waits : (found : Option ℕ) (s : State) → ((k : ℕ) → k < length s.proxies → IsWaiting n (proxy_of s.proxies k)) →
+      (k : ℕ) → k < length (hand_out found s).state.proxies → IsWaiting n (proxy_of (hand_out found s).state.proxies k)
+  hand-waits None s waits = waits
+  hand-waits (Some p) s waits = waits
+
+  hand-rests : (s : State) (driver : ℕ) → IsResting plant m n s → IsResting plant m n (step plant 0 (command.Next driver) m s).state
+  hand-rests s driver rests = resting-step plant 0 (command.Next driver) m n s rests.sound tt small rests.moment
+      (subst (λ t. (k : ℕ) → k < length (next plant driver t).state.proxies → IsWaiting n (proxy_of (next plant driver t).state.proxies k)) (sym (pass-resting plant m n s rests))
+      (hand-waits (find (λ p. driver_of plant p == driver) s.wants) s rests.waiting))
+
+  set-waits : (ps : List Proxy) (point : ℕ) (q : Proxy) → IsWaiting n q → ((k : ℕ) → k < length ps → IsWaiting n (proxy_of ps k)) →
+      (j : ℕ) → j < length (set ps point q) → IsWaiting n (proxy_of (set ps point q) j)
+  set-waits ps point q here waits j known = cond_both (j == point) true false (λ b. (j == point) ≡ b → IsWaiting n (proxy_of (set ps point q) j))
+      (λ is _. let same : j ≡ point = grind (arith, nat_tests) in
+      subst (λ i. IsWaiting n (proxy_of (set ps point q) i)) (sym same) (subst (IsWaiting n) (sym (proxy_of-set ps point q (omega (arith, length-set ps point q)))) here))
+      (λ other _. subst (IsWaiting n) (sym (proxy_of-other ps point j q other)) (waits j (omega (arith, length-set ps point q)))) (grind (arith))
+
+  heard-waits : (point : ℕ) (ok : Bool) (s : State) → ((k : ℕ) → k < length s.proxies → IsWaiting n (proxy_of s.proxies k)) →
+      (k : ℕ) → k < length (heard n point ok s).proxies → IsWaiting n (proxy_of (heard n point ok s).proxies k)
+  heard-waits point true s waits = set-waits s.proxies point (taken (proxy_of s.proxies point)) (λ failed. cc) waits
+  heard-waits point false s waits = set-waits s.proxies point (not_taken n (proxy_of s.proxies point)) (λ failed. omega arith) waits
+
+  report-waits : (point version : ℕ) (ok : Bool) (s : State) → ((k : ℕ) → k < length s.proxies → IsWaiting n (proxy_of s.proxies k)) →
+      (k : ℕ) → k < length (report n point version ok s).state.proxies → IsWaiting n (proxy_of (report n point version ok s).state.proxies k)
+  report-waits point version ok s waits = cond_both {A = Reply} (is_current point version s) (record { answer = answer.Noted true; state = heard n point ok s }) (record { answer = answer.Noted false; state = s })
+      (λ reply. (k : ℕ) → k < length reply.state.proxies → IsWaiting n (proxy_of reply.state.proxies k)) (λ _. heard-waits point ok s waits) (λ _. waits)
+
+  report-rests : (s : State) (point version : ℕ) (ok : Bool) → point < length plant → IsResting plant m n s → IsResting plant m n (step plant 0 (command.Report point version ok) m s).state
+  report-rests s point version ok known rests = resting-step plant 0 (command.Report point version ok) m n s rests.sound known small rests.moment
+      (subst (λ t. (k : ℕ) → k < length (report n point version ok t).state.proxies → IsWaiting n (proxy_of (report n point version ok t).state.proxies k)) (sym (pass-resting plant m n s rests))
+      (report-waits point version ok s rests.waiting))
+
+  report-step : (s : State) (point version : ℕ) (ok : Bool) → IsResting plant m n s → is_current point version s ≡ true →
+      (step plant 0 (command.Report point version ok) m s).state ≡ settle plant (heard n point ok s)
+  unfolding step
+  report-step s point version ok rests current =
+      (λ i. settle plant (report (rests.moment i) point version ok (pass_time plant (rests.moment i) s)).state)
+      ∙ ap (λ t. settle plant (report n point version ok t).state) (pass-resting plant m n s rests)
+      ∙ ap (λ b. settle plant (cond {A = Reply} b (record { answer = answer.Noted true; state = heard n point ok s }) (record { answer = answer.Noted false; state = s })).state) current
+
+  -- a device's report that leaves the targets leaves the wants
+  marked-stays : (s : State) (d : Durable) (point : ℕ) (q : Proxy) → IsResting plant m n s → point < length s.proxies → q.commanded ≡ (proxy_of s.proxies point).commanded →
+      ((k : ℕ) → target plant d k ≡ target plant s.durable k) → settle plant (record s { durable = d; proxies = set s.proxies point q }) ≡ record s { durable = d; proxies = set s.proxies point q }
+  marked-stays s d point q rests known same targets = settle-none plant (record s { durable = d; proxies = set s.proxies point q }) (λ k within.
+      let before : (proxy_of s.proxies k).commanded ≡ target plant s.durable k =
+      settled-at plant s.durable 0 s.proxies rests.sound.commanded k (omega (arith, length-set s.proxies point q)) ∙ ap (target plant s.durable) (zero-add k) in
+      cond_both (k == point) true false (λ b. (k == point) ≡ b → (proxy_of (set s.proxies point q) k).commanded ≡ target plant d k)
+      (λ is _. let here : k ≡ point = grind (arith, nat_tests) in
+      ap (λ j. (proxy_of (set s.proxies point q) j).commanded) here ∙ ap (λ p. p.commanded) (proxy_of-set s.proxies point q known) ∙ same
+      ∙ ap (λ j. (proxy_of s.proxies j).commanded) (sym here) ∙ before ∙ sym (targets k))
+      (λ other _. ap (λ p. p.commanded) (proxy_of-other s.proxies point k q other) ∙ before ∙ sym (targets k)) (grind (arith)))
+
+  -- a lighter load: no more leases and fewer wants, or fewer leases
+  fewer-wants : (a b w v : ℕ) → a ≡ b → w < v → a * suc (length plant) + w < b * suc (length plant) + v
+  fewer-wants a b w v same less = let products : a * suc (length plant) ≡ b * suc (length plant) = ap (λ k. k * suc (length plant)) same in omega arith
+
+  fewer-leases : (a b w v : ℕ) → a < b → w ≤ length plant → a * suc (length plant) + w < b * suc (length plant) + v
+  fewer-leases a b w v less few =
+      let product : suc a * suc (length plant) ≤ b * suc (length plant) = mul-le-mul_right (suc (length plant)) (let next : suc a ≤ b = omega arith in next) in
+      let one_more : suc a * suc (length plant) ≡ a * suc (length plant) + suc (length plant) = omega arith in
+      omega arith
+
+  module _ (s : State) (point : ℕ) (rests : IsResting plant m n s) (known : point < length s.proxies) (wanted : list_any (λ y. y == point) s.wants ≡ true)
+      (rests1 : IsResting plant m n (record s { wants = without point s.wants })) where
+    abbrev s1 : State
+    s1 = record s { wants = without point s.wants }
+
+    less : length (without point s.wants) < length s.wants
+    less = shorter (λ y. y == point) s.wants wanted
+
+    -- a mark that leaves leases and targets
+    lighter-mark : (d : Durable) (q : Proxy) → q.commanded ≡ (proxy_of s.proxies point).commanded → length d.leases ≡ length s.durable.leases →
+        ((k : ℕ) → target plant d k ≡ target plant s.durable k) → load plant (settle plant (record s1 { durable = d; proxies = set s.proxies point q })) < load plant s
+    lighter-mark d q same leases targets = subst (λ t. load plant t < load plant s) (sym (marked-stays s1 d point q rests1 known same targets))
+        (fewer-wants (length d.leases) (length s.durable.leases) (length (without point s.wants)) (length s.wants) leases less)
+
+    within : s.durable.now ≤ n
+    within = let moment : max s.durable.now m ≡ n = rests.moment in omega arith
+
+    all-live : AllByRecursion (λ lease. n < lease.until) s.durable.leases
+    all-live = subst (AllByRecursion (λ lease. n < lease.until)) (ap (λ d. d.leases) (nothing-due plant s.durable n rests.sound.durable within rests.nothing))
+        (each-passed (λ lease. n < lease.until) (λ lease. nat_lt n lease.until) (λ lease passed. grind (arith, nat_tests)) s.durable.leases)
+
+    lighter-fault : (policy : Policy) (lease : Lease) (q : Proxy) → q.commanded ≡ (proxy_of s.proxies point).commanded → list_any (is_of lease.txn) s.durable.leases ≡ true →
+        length (settle plant (record s1 { durable = faulted_under policy lease n s.durable; proxies = set s.proxies point q })).wants ≤ length plant →
+        load plant (settle plant (record s1 { durable = faulted_under policy lease n s.durable; proxies = set s.proxies point q })) < load plant s
+    lighter-fault Keep lease q same held few = lighter-mark (faulted_under Keep lease n s.durable) q same refl
+        (λ k. target-stays plant s.durable n k rests.sound.durable within rests.nothing)
+    lighter-fault Abort lease q same held few =
+        let w = length (settle plant (record s1 { durable = faulted_under Abort lease n s.durable; proxies = set s.proxies point q })).wants in
+        let fewer : length (live n (map (shortened_if (is_of lease.txn) n) s.durable.leases)) < length s.durable.leases =
+        subst (λ ls. length ls < length s.durable.leases) (sym (left-live (is_of lease.txn) n s.durable.leases all-live)) (shorter (is_of lease.txn) s.durable.leases held) in
+        fewer-leases (length (live n (map (shortened_if (is_of lease.txn) n) s.durable.leases))) (length s.durable.leases) w (length s.wants) fewer few
+
+    lighter-found : (found : Option Lease) (q : Proxy) → in_force s.durable.leases point ≡ found → q.commanded ≡ (proxy_of s.proxies point).commanded →
+        length (settle plant (record s1 { durable = faulted found n s.durable; proxies = set s.proxies point q })).wants ≤ length plant →
+        load plant (settle plant (record s1 { durable = faulted found n s.durable; proxies = set s.proxies point q })) < load plant s
+    lighter-found None q is same few = lighter-mark s.durable q same refl (λ k. refl)
+    lighter-found (Some lease) q is same few = lighter-fault lease.policy lease q same
+        (least-of (λ l. list_any (is_of l.txn) s.durable.leases ≡ true) (λ l. l.priority) (filter (λ l. l.point == point) s.durable.leases) lease
+        (each-filter (λ l. list_any (is_of l.txn) s.durable.leases ≡ true) (λ l. l.point == point) s.durable.leases (some-of (λ x y. y.txn == x.txn) (λ x. grind (arith, nat_tests)) s.durable.leases)) is) few
+
+    lighter-heard : (ok : Bool) → length (settle plant (heard n point ok s1)).wants ≤ length plant → load plant (settle plant (heard n point ok s1)) < load plant s
+    lighter-heard true few = lighter-mark s.durable (taken (proxy_of s.proxies point)) refl refl (λ k. refl)
+    lighter-heard false few = by (proxy_of s.proxies point).failed few
+      where
+        by : (failed : Bool) →
+            length (settle plant (record s1 { durable = faulted_first failed point n s.durable; proxies = set s.proxies point (not_taken n (proxy_of s.proxies point)) })).wants ≤ length plant →
+            load plant (settle plant (record s1 { durable = faulted_first failed point n s.durable; proxies = set s.proxies point (not_taken n (proxy_of s.proxies point)) })) < load plant s
+        by true few_wants = lighter-mark s.durable (not_taken n (proxy_of s.proxies point)) refl refl (λ k. refl)
+        by false few_wants = lighter-found (in_force s.durable.leases point) (not_taken n (proxy_of s.proxies point)) refl refl few_wants
+
+  -- a served want leaves a state at rest with a lighter load
+  served : (s : State) (driver : ℕ) (ok : Bool) → IsResting plant m n s → wanting plant s ≡ Some driver → IsResting plant m n (serve plant m ok driver s) × (load plant (serve plant m ok driver s) < load plant s)
+  served s driver ok rests wants =
+      let found = wanted-point plant s driver wants in
+      let point = found.0 in
+      let version = (proxy_of s.proxies point).version in
+      let s1 : State = record s { wants = without point s.wants } in
+      let asked = hand-step s driver point rests found.1 in
+      let rests1 : IsResting plant m n s1 = subst (IsResting plant m n) (ap (λ r. r.state) asked) (hand-rests s driver rests) in
+      let wanted : list_any (λ y. y == point) s.wants ≡ true = find-member (λ p. driver_of plant p == driver) s.wants point found.1 in
+      let known : point < length s.proxies = (member-each (IsWant s.proxies) point s.wants rests.sound.wants wanted).known in
+      let there : point < length plant = omega (arith, rests.sound.proxies) in
+      let current : is_current point version s1 ≡ true = grind (arith, nat_tests, member-without point s.wants) in
+      let whole : serve plant m ok driver s ≡ (step plant 0 (command.Report point version ok) m s1).state = ap (λ r. reported plant m ok r.answer r.state) asked in
+      let rests2 : IsResting plant m n (step plant 0 (command.Report point version ok) m s1).state = report-rests s1 point version ok there rests1 in
+      let step2 : (step plant 0 (command.Report point version ok) m s1).state ≡ settle plant (heard n point ok s1) = report-step s1 point version ok rests1 current in
+      let few : length (settle plant (heard n point ok s1)).wants ≤ length plant = subst (λ t. length t.wants ≤ length plant) step2 (few-wants plant (step plant 0 (command.Report point version ok) m s1).state rests2.sound) in (
+        subst (IsResting plant m n) (sym whole) rests2,
+        subst (λ t. load plant t < load plant s) (sym (whole ∙ step2)) (lighter-heard s point rests known wanted rests1 ok few),
+      )
+
+  drained : (results : List Bool) (s : State) → IsResting plant m n s → load plant s ≤ length results → (drain plant m results s).wants ≡ []
+  drained [] s rests light = no-wants s.wants (omega arith)
+    where
+      no-wants : (ws : List ℕ) → length ws ≤ 0 → ws ≡ []
+      no-wants [] none = refl
+      no-wants (w ∷ ws) none = absurd (omega arith)
+  drained (ok ∷ results) s rests light = round (wanting plant s) refl (λ t next smaller. drained results t next smaller)
+    where
+      stays : (rest : List Bool) (t : State) → wanting plant t ≡ None → (drain plant m rest t).wants ≡ t.wants
+      stays [] t none = refl
+      stays (x ∷ rest) t none = ap (λ w. (drain plant m rest (serve_if plant m x w t)).wants) none ∙ stays rest t none
+
+      round : (driver : Option ℕ) → wanting plant s ≡ driver → ((t : State) → IsResting plant m n t → load plant t ≤ length results → (drain plant m results t).wants ≡ []) →
+          (drain plant m results (serve_if plant m ok (wanting plant s) s)).wants ≡ []
+      round None is go = ap (λ w. (drain plant m results (serve_if plant m ok w s)).wants) is ∙ stays results s is ∙ none-wanted plant s.wants is
+      round (Some driver) is go =
+          let after = served s driver ok rests is in
+          ap (λ w. (drain plant m results (serve_if plant m ok w s)).wants) is ∙ go (serve plant m ok driver s) after.0 (omega (arith, after.1))
+
+  stays-drained : (rest : List Bool) (t : State) → wanting plant t ≡ None → (drain plant m rest t).wants ≡ t.wants
+  stays-drained [] t none = refl
+  stays-drained (x ∷ rest) t none = ap (λ w. (drain plant m rest (serve_if plant m x w t)).wants) none ∙ stays-drained rest t none
+
+  -- the first round brings any sound state to rest
+  asked-answer : (s : State) (driver : ℕ) → moment_of s.durable m ≡ n →
+      (step plant 0 (command.Next driver) m s).answer ≡ (hand_out (find (λ p. driver_of plant p == driver) (pass_time plant n s).wants) (pass_time plant n s)).answer
+  unfolding step
+  asked-answer s driver moment = λ i. (next plant driver (pass_time plant (moment i) s)).answer
+
+  first-served : (s : State) (driver : ℕ) (ok : Bool) → IsSound plant s → moment_of s.durable m ≡ n → IsResting plant m n (serve plant m ok driver s)
+  first-served s driver ok sound moment =
+      let passed = pass_time plant n s in
+      let now : s.durable.now ≤ 2 ^ 60 = sound.durable.now in
+      let time : max s.durable.now m ≡ n = moment in
+      let passed_sound : IsSound plant passed = passed-sound plant n s (omega arith) (omega arith) sound in
+      let asked = step plant 0 (command.Next driver) m s in
+      let rests : IsResting plant m n asked.state = resting-step plant 0 (command.Next driver) m n s sound tt small moment
+      (hand-waits (find (λ p. driver_of plant p == driver) passed.wants) passed (waiting-passed plant n s)) in
+      by passed passed_sound asked.state rests (find (λ p. driver_of plant p == driver) passed.wants) asked.answer refl (asked-answer s driver moment)
+    where
+      by : (passed : State) → IsSound plant passed → (t : State) → IsResting plant m n t → (found : Option ℕ) (given : Answer) → find (λ p. driver_of plant p == driver) passed.wants ≡ found →
+          given ≡ (hand_out (find (λ p. driver_of plant p == driver) passed.wants) passed).answer → IsResting plant m n (reported plant m ok given t)
+      by passed good t rests None given is same =
+          subst (λ a. IsResting plant m n (reported plant m ok a t)) (sym (same ∙ ap (λ f. (hand_out f passed).answer) is)) rests
+      by passed good t rests (Some p) given is same =
+          let wanted : list_any (λ y. y == p) passed.wants ≡ true = find-member (λ q. driver_of plant q == driver) passed.wants p is in
+          let known : p < length passed.proxies = (member-each (IsWant passed.proxies) p passed.wants good.wants wanted).known in
+          subst (λ a. IsResting plant m n (reported plant m ok a t)) (sym (same ∙ ap (λ f. (hand_out f passed).answer) is))
+          (report-rests t p (proxy_of passed.proxies p).version ok (omega (arith, good.proxies)) rests)
+
+  -- as many results as this are enough
+  abbrev pub enough : Option ℕ → State → ℕ
+  enough None s = 0
+  enough (Some driver) s = suc (load plant (serve plant m true driver s) + load plant (serve plant m false driver s))
+
+  pub drained-all : (s : State) → IsSound plant s → moment_of s.durable m ≡ n → (results : List Bool) → enough (wanting plant s) s ≤ length results → (drain plant m results s).wants ≡ []
+  drained-all s sound moment results many = by (wanting plant s) refl results (subst (λ k. k ≤ length results) refl many)
+    where
+      by : (driver : Option ℕ) → wanting plant s ≡ driver → (rs : List Bool) → enough driver s ≤ length rs → (drain plant m rs s).wants ≡ []
+      by None is rs few = stays-drained rs s is ∙ none-wanted plant s.wants is
+      by (Some driver) is [] few = absurd (omega arith)
+      by (Some driver) is (true ∷ rs) few = ap (λ w. (drain plant m rs (serve_if plant m true w s)).wants) is
+          ∙ drained rs (serve plant m true driver s) (first-served s driver true sound moment) (omega arith)
+      by (Some driver) is (false ∷ rs) few = ap (λ w. (drain plant m rs (serve_if plant m false w s)).wants) is
+          ∙ drained rs (serve plant m false driver s) (first-served s driver false sound moment) (omega arith)
+
+pub draining-ends : (plant : List Actuator) (s : State) (m : ℕ) → IsSound plant s → m ≤ 2 ^ 60 →
+    (count : ℕ) × ((results : List Bool) → count ≤ length results → (drain plant m results s).wants ≡ [])
+draining-ends plant s m sound small =
+    (enough plant m (moment_of s.durable m) small (wanting plant s) s, drained-all plant m (moment_of s.durable m) small s sound refl)

@@ -1,0 +1,84 @@
+-- A new process keeps a sound durable part sound.
+use Rattle.std.proofs.Common.{◌≡◌, ℕ, ◌+◌, ◌^◌, ◌<◌, ◌≤◌, nat_eq, List, [], ◌∷◌, ◌++◌, length, map, Bool, true, false, ◌||◌, None, refl, arith, length-append}
+use Rattle.std.specs.List.{AllByRecursion, list_any}
+use Rattle.std.specs.Cmp.Lexicographic.{pointwise}
+use Rattle.std.proofs.lemmas.Bool.Decides.{nat_tests}
+use Rattle.boss_machine.specs.declared.state.Actuator.{Actuator}
+use Rattle.boss_machine.specs.Names.{is_name}
+use Rattle.boss_machine.specs.Processes.{process_named, is_full, enrolled}
+use Rattle.boss_machine.specs.Sound.{DistinctNames, IsTransaction, IsProcess, IsSoundDurable}
+use Rattle.boss_machine.specs.State.{Process, Durable}
+use Rattle.boss_laws.proofs.EndSound.{IsAt}
+use Rattle.boss_laws.proofs.Orders.{each-map, each-append}
+use Rattle.boss_laws.proofs.NotRefused.{none-found}
+use Rattle.boss_laws.proofs.RenewSound.{later-sound}
+
+same-turned : (xs ys : List ℕ) → pointwise nat_eq xs ys ≡ pointwise nat_eq ys xs
+same-turned [] [] = refl
+same-turned [] (y ∷ ys) = refl
+same-turned (x ∷ xs) [] = refl
+same-turned (x ∷ xs) (y ∷ ys) = grind (arith, nat_tests, same-turned xs ys)
+
+any-snoc : {X : Type 0} (test : X → Bool) (xs : List X) (x : X) → list_any test (xs ++ x ∷ []) ≡ (list_any test xs || test x)
+any-snoc test [] x = grind (arith)
+any-snoc test (y ∷ ys) x = grind (arith, any-snoc test ys x)
+
+names-snoc : (ps : List Process) (p : Process) → DistinctNames (map (λ q. q.name) ps) → AllByRecursion (λ q. pointwise nat_eq q.name p.name ≡ false) ps →
+    DistinctNames (map (λ q. q.name) (ps ++ p ∷ []))
+names-snoc [] p distinct new = (refl, tt)
+names-snoc (q ∷ qs) p distinct new = (others qs distinct.0, names-snoc qs p distinct.1 new.1)
+  where
+    others : (rs : List Process) → list_any (λ other. pointwise nat_eq other q.name) (map (λ x. x.name) rs) ≡ false →
+        list_any (λ other. pointwise nat_eq other q.name) (map (λ x. x.name) (rs ++ p ∷ [])) ≡ false
+    others [] none = grind (arith, same-turned p.name q.name, new.0)
+    others (r ∷ rs) none = grind (arith, others rs)
+
+pub enrolled-sound : (plant : List Actuator) (name : List ℕ) (n : ℕ) (d : Durable) → IsSoundDurable plant d → IsAt n d → n ≤ 2 ^ 60 → is_name name ≡ true →
+    process_named d.processes name ≡ None → is_full d.processes ≡ false → IsSoundDurable plant (enrolled name n d)
+enrolled-sound plant name n d sound at small named none room =
+    let new : Process = record { name = name; count = 0; kept = [] } in
+    let s = later-sound plant n d sound at small in
+    let more : length (d.processes ++ new ∷ []) ≡ length d.processes + 1 = length-append d.processes (new ∷ []) in
+    let few : length d.processes < 256 = grind (arith, nat_tests) in
+    record {
+      now = s.now;
+      first = s.first;
+      next = s.next;
+      lease_slots = s.lease_slots;
+      pending_slots = s.pending_slots;
+      slots = s.slots;
+      leases = s.leases;
+      pending = s.pending;
+      numbers = s.numbers;
+      txns = each-map (IsTransaction plant (record d { now = n })) (IsTransaction plant (enrolled name n d)) (λ t is. record {
+        numbered = is.numbered;
+        given = is.given;
+        some_part = is.some_part;
+        few_parts = is.few_parts;
+        points = is.points;
+        owned = is.owned;
+        policies = is.policies;
+        parts = is.parts;
+        owner = let known : t.owner < length d.processes = is.owner in omega arith;
+      }) d.txns s.txns;
+      open_parts = s.open_parts;
+      ended_parts = s.ended_parts;
+      done = s.done;
+      few_done = s.few_done;
+      done_once = s.done_once;
+      done_known = s.done_known;
+      few_processes = omega arith;
+      names = names-snoc d.processes new s.names (none-found (λ p. pointwise nat_eq p.name name) d.processes none);
+      processes = each-append (IsProcess plant n) d.processes (new ∷ []) s.processes (
+        record {
+          name = named;
+          count = omega arith;
+          few = omega arith;
+          sent = omega arith;
+          numbers = tt;
+          past = tt;
+          known = tt;
+        },
+        tt,
+      );
+    }

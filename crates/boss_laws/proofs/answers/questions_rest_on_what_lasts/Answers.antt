@@ -1,0 +1,8 @@
+use Rattle.boss_laws.proofs.Commands.{question-same, reading-same}
+use Rattle.boss_laws.proofs.answers.questions_rest_on_what_lasts.Goals as goal
+
+pub returns-clause-question : goal.returns-clause-question
+returns-clause-question c plant s t session other command m same question = question-same plant s t session other command m same question
+
+pub returns-clause-reading : goal.returns-clause-reading
+returns-clause-reading c plant s t session other point m same = reading-same plant s t session other point m same

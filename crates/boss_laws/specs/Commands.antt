@@ -1,0 +1,26 @@
+use Rattle.std.specs.Prelude.{Bool, true, false, Some}
+use Rattle.boss_machine.specs.declared.answer.Answer.{Answer}
+use Rattle.boss_machine.specs.declared.answer.Answer.TheVariants as answer
+use Rattle.boss_machine.specs.declared.answer.Mark.TheVariants as mark
+use Rattle.boss_machine.specs.declared.command.Command.{Command}
+use Rattle.boss_machine.specs.declared.command.Command.TheVariants as command
+
+-- commands that look at no device's mark and at no want
+abbrev pub is_apart_from_devices : Command → Bool
+is_apart_from_devices (command.Next driver) = false
+is_apart_from_devices (command.Report point version ok) = false
+is_apart_from_devices (command.Read point) = false
+is_apart_from_devices c = true
+
+-- commands that look at what outlasts a stop, and change no more than time does: they are the same for every session
+abbrev pub is_question : Command → Bool
+is_question command.Tick = true
+is_question (command.Array point) = true
+is_question (command.Status txn) = true
+is_question (command.Notices (Some name) from most) = true
+is_question c = false
+
+-- a reading without its mark; every other answer as it is
+abbrev pub unmarked : Answer → Answer
+unmarked (answer.Reading point value basis stands) = answer.Reading point value basis mark.Pending
+unmarked given = given

@@ -1,0 +1,4 @@
+pub mod Commands
+pub mod Heard
+pub mod Ended
+pub mod Draining

@@ -1,0 +1,29 @@
+ghost use Rattle.std.specs.Prelude.{◌≡◌, ℕ, ◌≤◌, ◌^◌, List};
+ghost use Rattle.boss_machine.specs.declared.answer.Answer.TheVariants as answer;
+ghost use Rattle.boss_machine.specs.declared.answer.Refusal.{Refusal};
+ghost use Rattle.boss_machine.specs.declared.answer.Refusal.TheVariants as refusal;
+ghost use Rattle.boss_machine.specs.declared.command.Command.{Command};
+ghost use Rattle.boss_machine.specs.declared.command.Command.TheVariants as command;
+ghost use Rattle.boss_machine.specs.declared.notice.Cause.{Cause};
+ghost use Rattle.boss_machine.specs.declared.state.Actuator.{Actuator};
+ghost use Rattle.boss_machine.specs.Machine.{step};
+ghost use Rattle.boss_machine.specs.Sound.{IsSoundDurable};
+ghost use Rattle.boss_machine.specs.State.{State};
+ghost use Rattle.boss_machine.specs.Time.{moment_of};
+ghost use Rattle.boss_laws.specs.Ended.{IsKeptEnd};
+
+/// A refused command is its tick, its retries and its settling: the whole state after it is that after a tick at its moment.
+pub fn a_refused_command_is_its_tick()
+    ensures { (plant : List Actuator) (s : State) (session other : ℕ) (c : Command) (m : ℕ) (why : Refusal) →
+        (step plant session c m s).answer ≡ answer.Refused why →
+        (step plant session c m s).state ≡ (step plant other command.Tick m s).state }
+{}
+
+/// Every refusal that tells of an end is a renewal's, and tells the end that is kept of the first part it meant whose lease
+/// has ended. That end is no later than the moment that the refusal shows, which is that of the step.
+pub fn an_ended_refusal_tells_the_kept_end()
+    ensures { (plant : List Actuator) (s : State) (session : ℕ) (c : Command) (m : ℕ) (cause : Cause) (at moment : ℕ) →
+        IsSoundDurable plant s.durable → m ≤ 2 ^ 60 →
+        (step plant session c m s).answer ≡ answer.Refused (refusal.Ended cause at moment) →
+        IsKeptEnd c (moment_of s.durable m) (step plant session c m s).state.durable cause at moment }
+{}

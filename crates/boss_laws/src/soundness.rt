@@ -1,0 +1,19 @@
+ghost use Rattle.std.specs.Prelude.{◌≡◌, ℕ, ◌≤◌, ◌^◌, List};
+ghost use Rattle.boss_machine.specs.declared.command.Command.{Command};
+ghost use Rattle.boss_machine.specs.declared.state.Actuator.{Actuator};
+ghost use Rattle.boss_machine.specs.Machine.{step};
+ghost use Rattle.boss_machine.specs.Settle.{opened};
+ghost use Rattle.boss_machine.specs.Sound.{IsAllowed, IsSound, IsSoundDurable};
+ghost use Rattle.boss_machine.specs.State.{first_durable, Durable, State};
+
+/// A step keeps a sound state sound, whoever sends the command and whatever it asks within its limits.
+pub fn a_step_keeps_a_sound_state_sound()
+    ensures { (plant : List Actuator) (session : ℕ) (c : Command) (m : ℕ) (s : State) → IsAllowed plant c → m ≤ 2 ^ 60 → IsSound plant s →
+        IsSound plant (step plant session c m s).state }
+{}
+
+/// What outlasts a stop is sound before anything is done, and the state that a sound one opens to is sound.
+pub fn an_opened_state_is_sound()
+    ensures first { (plant : List Actuator) → IsSoundDurable plant first_durable }
+    ensures opened { (plant : List Actuator) (d : Durable) → IsSoundDurable plant d → IsSound plant (opened plant d) }
+{}

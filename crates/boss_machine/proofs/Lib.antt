@@ -1,0 +1,8 @@
+pub mod Building
+pub mod LeaseRows
+pub mod ReversionRows
+pub mod ProcessRows
+pub mod DeviceRows
+pub mod RefusalRows
+pub mod FullRows
+pub mod EventRows

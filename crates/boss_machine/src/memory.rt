@@ -1,0 +1,17 @@
+use std::alloc::{AllocError, AllocFailed};
+
+/// No memory was to be had. The call that answers it has changed nothing, unless its own text says otherwise.
+#[derive(Clone, Copy, Debug, PartialEq, Eq)]
+pub struct NoMemory;
+
+impl From<AllocError> for NoMemory {
+    fn from(_error: AllocError) -> Self {
+        NoMemory
+    }
+}
+
+impl<T: Drop> From<AllocFailed<T>> for NoMemory {
+    fn from(_failed: AllocFailed<T>) -> Self {
+        NoMemory
+    }
+}
