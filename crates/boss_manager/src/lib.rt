@@ -14,7 +14,7 @@ mod texts;
 mod top_call;
 mod wants;
 
-pub use ending::Ending;
+use ending::Ending;
 pub use script::script_run;
 pub use status::Status;
 pub use top_call::boss;

@@ -1,12 +1,12 @@
 ghost use Rattle.std.specs.Prelude.{◌≡◌, ◌<◌, ◌≤◌, ◌^◌, true, length, IfOk, IfSome, option_map};
 ghost use Rattle.serde_json.specs.Read.{read};
 ghost use Rattle.serde_json.specs.View.{items_view, view};
-ghost use Rattle.boss_model.specs.Catalogue.{actuators, fits, fits_at};
+ghost use Rattle.boss_model.specs.Catalogue.{actuators, fits_at};
 ghost use Rattle.boss_model.specs.Requests.{asked, command_of, is_level, is_write, moment_at, only, only_write_of, point_at, read_of, request_of, submit_of, value_in, whole_at, whole_or, write_of};
 ghost use Rattle.boss_model.specs.Sound.{IsAllowed};
 ghost use Rattle.boss_manager.specs.Served.{IsServed};
 
-use boss_model::{Command, Items, Kind, NoMemory, PointId, Policy, Setting};
+use boss_model::{Command, Items, NoMemory, PointId, Policy, Setting};
 use boss_points::Catalogue;
 use serde_json::Value;
 use std::alloc::Global;
@@ -204,18 +204,7 @@ fn takes(catalogue: &Catalogue, point: PointId, value: i64) -> bool
     requires { point < length catalogue.now.points }
     ensures { result ≡ fits_at (actuators catalogue.now) point value }
 {
-    fits(catalogue.point(point).kind, value)
-}
-
-/// A value that a point of this kind takes.
-fn fits(kind: Kind, value: i64) -> bool
-    ensures { result ≡ fits kind value }
-{
-    match kind {
-        Kind::Analog { min, max } => min <= value && value <= max,
-        Kind::Binary => 0 <= value && value <= 1,
-        Kind::Multi { states } => 1 <= value && value <= states,
-    }
+    catalogue.point(point).kind.fits(value)
 }
 
 /// A level of the priority array at which a control process may write.

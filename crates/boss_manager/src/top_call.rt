@@ -1,7 +1,5 @@
-ghost use Rattle.std.specs.Prelude.{◌≡◌, ◌≢◌, ◌⊎◌, ◌++◌, [], map, None, Some, OnOk, OnErr, vec_len, IfOk};
+ghost use Rattle.std.specs.Prelude.{◌≡◌, ◌≢◌, ◌⊎◌, ◌++◌, [], map, None, Some, vec_len, IfOk};
 ghost use Rattle.std.specs.List.{AllByRecursion};
-ghost use Rattle.boss_model.specs.Catalogue.{actuators};
-ghost use Rattle.boss_outside.specs.Counts.{Rose};
 ghost use Rattle.boss_words.specs.Words.{texts};
 ghost use Rattle.boss_manager.specs.Programs.{catalogue_word, refusal_line, script_of_words, usage_line};
 ghost use Rattle.boss_manager.specs.Causes.{Tells};
@@ -35,24 +33,25 @@ pub fn boss<F: Files, S: Source, K: Sink, A: Actuators>(
         (AllByRecursion A.whole devices.old.items) (AllByRecursion A.whole devices.new.items) }
     ensures read { result.0 ≡ 0 → S.tells → S.left source.new ≡ [] }
 
-    // Status 2: the words ask for nothing that is served. One line tells it, and no device is called.
+    // Status 2: the words ask for nothing that is served. One line tells it, and nothing is read and no device called.
     ensures usage { result.0 ≡ 2 → script_of_words (texts words.now.items) ≡ None }
-    ensures usage_told { result.0 ≡ 2 → (K.tells → K.taken sink.new ≡ K.taken sink.old ++ usage_line) × (devices.new ≡ devices.old) }
+    ensures usage_told { result.0 ≡ 2 → K.tells → K.taken sink.new ≡ K.taken sink.old ++ usage_line }
+    ensures usage_silent { result.0 ≡ 2 → (files.new ≡ files.old) × (source.new ≡ source.old) × (devices.new ≡ devices.old) }
     ensures usage_only { script_of_words (texts words.now.items) ≡ None → (result.0 ≡ 2) ⊎ MayYield result.0 }
 
-    // Status 3: the catalogue is refused, or a point's driver has no device. One line tells it, and no device is called.
+    // Status 3: the catalogue is refused, or a point's driver has no device. One line tells it, and no line is read and no
+    // device called.
     ensures catalogue { result.0 ≡ 3 → F.tells → Refuses (script_of_words (texts words.now.items)) (F.holds files.old)
         (vec_len devices.old) (λ refusal. K.tells → K.taken sink.new ≡ K.taken sink.old ++ refusal_line refusal) }
-    ensures catalogue_silent { result.0 ≡ 3 → devices.new ≡ devices.old }
+    ensures catalogue_silent { result.0 ≡ 3 → (source.new ≡ source.old) × (devices.new ≡ devices.old) }
     ensures catalogue_only { F.tells → Refuses (script_of_words (texts words.now.items)) (F.holds files.old) (vec_len devices.old)
         (λ refusal. Unit {0}) → (result.0 ≡ 3) ⊎ (result.0 ≡ 5) ⊎ MayYield result.0 }
 
-    // Status 6 comes exactly where a read of the source failed, and status 7 exactly where a write to the sink did.
+    // Status 5 comes exactly where a file failed, 6 exactly where a read of the source did, and 7 exactly where a write to
+    // the sink did.
+    ensures file_fault { Tells result.0 5 (F.faults files.old) (F.faults files.new) }
     ensures read_fault { Tells result.0 6 (S.faults source.old) (S.faults source.new) }
     ensures write_fault { Tells result.0 7 (K.faults sink.old) (K.faults sink.new) }
-
-    // Status 5: a file failed.
-    ensures file_fault { result.0 ≡ 5 → Rose (F.faults files.old) (F.faults files.new) }
 {
     let word = match asked_catalogue(alloc, words) {
         Ok(word) => word,
@@ -134,12 +133,12 @@ fn run_script<F: Files, S: Source, K: Sink, A: Actuators>(
     ensures other { result.0 ≢ 2 }
     ensures catalogue { result.0 ≡ 3 → F.tells → Refuses (Some word.now) (F.holds files.old)
         (vec_len devices.old) (λ refusal. K.tells → K.taken sink.new ≡ K.taken sink.old ++ refusal_line refusal) }
-    ensures catalogue_silent { result.0 ≡ 3 → devices.new ≡ devices.old }
+    ensures catalogue_silent { result.0 ≡ 3 → (source.new ≡ source.old) × (devices.new ≡ devices.old) }
     ensures catalogue_only { F.tells → Refuses (Some word.now) (F.holds files.old) (vec_len devices.old)
         (λ refusal. Unit {0}) → (result.0 ≡ 3) ⊎ (result.0 ≡ 5) ⊎ MayYield result.0 }
     ensures read_fault { Tells result.0 6 (S.faults source.old) (S.faults source.new) }
     ensures write_fault { Tells result.0 7 (K.faults sink.old) (K.faults sink.new) }
-    ensures file_fault { result.0 ≡ 5 → Rose (F.faults files.old) (F.faults files.new) }
+    ensures file_fault { Tells result.0 5 (F.faults files.old) (F.faults files.new) }
 {
     match load(alloc, files, word.text(), devices.len()) {
         Ok(catalogue) => script_run(alloc, &catalogue, source, sink, devices),
