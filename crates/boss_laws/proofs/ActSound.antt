@@ -2,22 +2,22 @@
 use Rattle.std.proofs.Common.{◌≡◌, ℕ, ◌^◌, ◌<◌, ◌≤◌, ◌==◌, ℤ, List, [], ◌∷◌, length, true, false, cond, Option, Some, None, refl, arith}
 use Rattle.std.specs.List.{filter, AllByRecursion, list_any}
 use Rattle.std.proofs.lemmas.Bool.{cond_both}
-use Rattle.boss_machine.specs.declared.answer.Refusal.TheVariants as refusal
-use Rattle.boss_machine.specs.declared.command.Policy.{Policy}
-use Rattle.boss_machine.specs.declared.command.Policy.TheVariants.{Abort, Keep}
-use Rattle.boss_machine.specs.declared.command.Setting.{Setting}
-use Rattle.boss_machine.specs.declared.notice.Cause.TheVariants as cause
-use Rattle.boss_machine.specs.declared.state.Actuator.{Actuator}
-use Rattle.boss_machine.specs.declared.state.Lease.{Lease}
-use Rattle.boss_machine.specs.Ends.{end_leases, is_of, is_owned_by, lost, fault, faulted_under, faulted}
-use Rattle.boss_machine.specs.Names.{is_name}
-use Rattle.boss_machine.specs.Processes.{process_named, is_full, enrolled}
-use Rattle.boss_machine.specs.Renew.{renewed, renew_refused}
-use Rattle.boss_machine.specs.Sound.{IsLease, IsSoundDurable}
-use Rattle.boss_machine.specs.State.{Durable}
-use Rattle.boss_machine.specs.Submit.{is_length, submitted, submit_refused}
-use Rattle.boss_machine.specs.Target.{in_force}
-use Rattle.boss_machine.specs.Time.{tick_to, due}
+use Rattle.boss_model.specs.declared.answer.Refusal.TheVariants as refusal
+use Rattle.boss_model.specs.declared.command.Policy.{Policy}
+use Rattle.boss_model.specs.declared.command.Policy.TheVariants.{Abort, Keep}
+use Rattle.boss_model.specs.declared.command.Setting.{Setting}
+use Rattle.boss_model.specs.declared.notice.Cause.TheVariants as cause
+use Rattle.boss_model.specs.declared.state.Actuator.{Actuator}
+use Rattle.boss_model.specs.declared.state.Lease.{Lease}
+use Rattle.boss_model.specs.Ends.{end_leases, is_of, is_owned_by, lost, fault, faulted_under, faulted}
+use Rattle.boss_model.specs.Names.{is_name}
+use Rattle.boss_model.specs.Processes.{process_named, is_full, enrolled}
+use Rattle.boss_model.specs.Renew.{renewed, renew_refused}
+use Rattle.boss_model.specs.Sound.{IsLease, IsSoundDurable}
+use Rattle.boss_model.specs.State.{Durable}
+use Rattle.boss_model.specs.Submit.{is_length, submitted, submit_refused}
+use Rattle.boss_model.specs.Target.{in_force}
+use Rattle.boss_model.specs.Time.{tick_to, due}
 use Rattle.boss_laws.proofs.ConcludeSound.{IsNews, IsNext}
 use Rattle.boss_laws.proofs.EndSound.{IsAt, end_leases-sound, no-news}
 use Rattle.boss_laws.proofs.EnrolSound.{enrolled-sound}

@@ -3,12 +3,12 @@ use Rattle.std.proofs.Common.{◌≡◌, ℕ, ◌<◌, ◌≤◌, max, nat_lt, n
 use Rattle.std.specs.List.{filter, fold, flat_map, AllByRecursion}
 use Rattle.std.proofs.lemmas.Bool.{cond_both}
 use Rattle.std.proofs.lemmas.Bool.Decides.{nat_tests}
-use Rattle.boss_machine.specs.declared.state.Pending.{Pending}
-use Rattle.boss_machine.specs.Happenings.{Happening, rank, happenings, lives, last_end, done_last, coming, later}
-use Rattle.boss_machine.specs.Order.{in_order}
-use Rattle.boss_machine.specs.Records.{Transaction}
-use Rattle.boss_machine.specs.Reversions.{end_of}
-use Rattle.boss_machine.specs.Time.{left}
+use Rattle.boss_model.specs.declared.state.Pending.{Pending}
+use Rattle.boss_model.specs.Happenings.{Happening, rank, happenings, lives, last_end, done_last, coming, later}
+use Rattle.boss_model.specs.Order.{in_order}
+use Rattle.boss_model.specs.Records.{Transaction}
+use Rattle.boss_model.specs.Reversions.{end_of}
+use Rattle.boss_model.specs.Time.{left}
 use Rattle.boss_laws.proofs.Courses.{happenings-within, last_end-left, lives-last_end}
 use Rattle.boss_laws.proofs.Filters.{filter-filter, filter-same, filter-append, filter-none, each-unfilter}
 use Rattle.boss_laws.proofs.Orders.{each-front, each-back, each-map, each-passed, each-unordered, filter-in_order}

@@ -1,22 +1,22 @@
 -- Commands that look at no device act on what outlasts a stop and on who is attached, and on nothing else.
 use Rattle.std.proofs.Common.{◌≡◌, ℕ, ◌≤◌, max, List, [], true, Option, Some, None, refl, ap, sym, ◌∙◌, arith}
-use Rattle.boss_machine.specs.declared.answer.Answer.{Answer}
-use Rattle.boss_machine.specs.declared.answer.Mark.TheVariants as mark
-use Rattle.boss_machine.specs.declared.command.Command.{Command}
-use Rattle.boss_machine.specs.declared.command.Command.TheVariants as command
-use Rattle.boss_machine.specs.declared.state.Actuator.{Actuator}
-use Rattle.boss_machine.specs.Devices.{Reply}
-use Rattle.boss_machine.specs.Ends.{cancel, gone}
-use Rattle.boss_machine.specs.Machine.{answered, after, if_attached, joined, parted, notices_asked, act, pass_time, step}
-use Rattle.boss_machine.specs.Outcomes.{Outcome, refused, did}
-use Rattle.boss_machine.specs.Processes.{process_of, process_named, number_of, attach}
-use Rattle.boss_machine.specs.Queries.{reading, notices}
-use Rattle.boss_machine.specs.Renew.{renew}
-use Rattle.boss_machine.specs.Sound.{IsSoundDurable}
-use Rattle.boss_machine.specs.State.{Durable, Attachment, State}
-use Rattle.boss_machine.specs.Submit.{submit}
-use Rattle.boss_machine.specs.Time.{due, moment_of, tick_to}
-use Rattle.boss_machine.specs.Reversions.{courses}
+use Rattle.boss_model.specs.declared.answer.Answer.{Answer}
+use Rattle.boss_model.specs.declared.answer.Mark.TheVariants as mark
+use Rattle.boss_model.specs.declared.command.Command.{Command}
+use Rattle.boss_model.specs.declared.command.Command.TheVariants as command
+use Rattle.boss_model.specs.declared.state.Actuator.{Actuator}
+use Rattle.boss_model.specs.Devices.{Reply}
+use Rattle.boss_model.specs.Ends.{cancel, gone}
+use Rattle.boss_model.specs.Machine.{answered, after, if_attached, joined, parted, notices_asked, act, pass_time, step}
+use Rattle.boss_model.specs.Outcomes.{Outcome, refused, did}
+use Rattle.boss_model.specs.Processes.{process_of, process_named, number_of, attach}
+use Rattle.boss_model.specs.Queries.{reading, notices}
+use Rattle.boss_model.specs.Renew.{renew}
+use Rattle.boss_model.specs.Sound.{IsSoundDurable}
+use Rattle.boss_model.specs.State.{Durable, Attachment, State}
+use Rattle.boss_model.specs.Submit.{submit}
+use Rattle.boss_model.specs.Time.{due, moment_of, tick_to}
+use Rattle.boss_model.specs.Reversions.{courses}
 use Rattle.boss_laws.specs.Commands.{is_apart_from_devices, is_question, unmarked}
 use Rattle.boss_laws.proofs.Coming.{now_after-within, later-first}
 use Rattle.boss_laws.proofs.NothingDue.{sound-timed}

@@ -3,17 +3,17 @@ use Rattle.std.proofs.Common.{◌≡◌, ℕ, ◌==◌, List, [], ◌∷◌, ◌
 use Rattle.std.specs.List.{filter, AllByRecursion}
 use Rattle.std.proofs.lemmas.Bool.{cond_both}
 use Rattle.std.proofs.lemmas.Bool.Decides.{nat_tests}
-use Rattle.boss_machine.specs.declared.state.Actuator.{Actuator}
-use Rattle.boss_machine.specs.declared.state.Lease.{Lease}
-use Rattle.boss_machine.specs.declared.state.Pending.{Pending}
-use Rattle.boss_machine.specs.Groups.{courses_of, conclude}
-use Rattle.boss_machine.specs.Happenings.{Happening, rank, lives, done_at, is_done}
-use Rattle.boss_machine.specs.Lists.{member}
-use Rattle.boss_machine.specs.Order.{comes_before, in_order}
-use Rattle.boss_machine.specs.Records.{Transaction}
-use Rattle.boss_machine.specs.Reversions.{courses}
-use Rattle.boss_machine.specs.Sound.{Rising, is_kept, number_rank, IsSoundDurable}
-use Rattle.boss_machine.specs.State.{Durable}
+use Rattle.boss_model.specs.declared.state.Actuator.{Actuator}
+use Rattle.boss_model.specs.declared.state.Lease.{Lease}
+use Rattle.boss_model.specs.declared.state.Pending.{Pending}
+use Rattle.boss_model.specs.Groups.{courses_of, conclude}
+use Rattle.boss_model.specs.Happenings.{Happening, rank, lives, done_at, is_done}
+use Rattle.boss_model.specs.Lists.{member}
+use Rattle.boss_model.specs.Order.{comes_before, in_order}
+use Rattle.boss_model.specs.Records.{Transaction}
+use Rattle.boss_model.specs.Reversions.{courses}
+use Rattle.boss_model.specs.Sound.{Rising, is_kept, number_rank, IsSoundDurable}
+use Rattle.boss_model.specs.State.{Durable}
 use Rattle.boss_laws.proofs.Filters.{each-mapped, each-always}
 use Rattle.boss_laws.proofs.GroupSound.{IsNewlyDone, IsTidings, IsChange, group-sound, tell-length}
 use Rattle.boss_laws.proofs.Orders.{each-map, each-filter, each-passed, each-both, each-append, each-in_order, Rising-filter}

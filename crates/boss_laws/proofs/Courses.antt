@@ -2,15 +2,15 @@
 use Rattle.std.proofs.Common.{◌≡◌, ℕ, ◌+◌, ◌<◌, ◌≤◌, nat_lt, nat_le, List, [], ◌∷◌, ◌++◌, true, false, ◌&&◌, cond, map, ap, sym, ◌∙◌, arith}
 use Rattle.std.specs.List.{filter, AllByRecursion}
 use Rattle.std.proofs.lemmas.Bool.Decides.{nat_tests}
-use Rattle.boss_machine.specs.declared.command.Step.{Step}
-use Rattle.boss_machine.specs.Happenings.{turned, reverted, happenings, lives, last_end}
-use Rattle.boss_machine.specs.Order.{put, in_order}
-use Rattle.boss_machine.specs.Reversions.{hold, over, turns, end_of, reversion_of, courses}
-use Rattle.boss_machine.specs.Sound.{Rising}
-use Rattle.boss_machine.specs.declared.state.Lease.{Lease}
-use Rattle.boss_machine.specs.declared.state.Pending.{Pending}
-use Rattle.boss_machine.specs.State.{pending_slot}
-use Rattle.boss_machine.specs.Time.{live, under_way, left}
+use Rattle.boss_model.specs.declared.command.Step.{Step}
+use Rattle.boss_model.specs.Happenings.{turned, reverted, happenings, lives, last_end}
+use Rattle.boss_model.specs.Order.{put, in_order}
+use Rattle.boss_model.specs.Reversions.{hold, over, turns, end_of, reversion_of, courses}
+use Rattle.boss_model.specs.Sound.{Rising}
+use Rattle.boss_model.specs.declared.state.Lease.{Lease}
+use Rattle.boss_model.specs.declared.state.Pending.{Pending}
+use Rattle.boss_model.specs.State.{pending_slot}
+use Rattle.boss_model.specs.Time.{live, under_way, left}
 use Rattle.boss_laws.proofs.Filters.{filter-append, filter-none, filter-map, each-mapped, rejoin}
 use Rattle.boss_laws.proofs.Orders.{each-append, each-map, in_order-Ordered, Ordered-in_order, filter-in_order}
 

@@ -5,25 +5,25 @@ use Rattle.std.proofs.Math.ListN.{length-set}
 use Rattle.std.proofs.Math.Nat.{mul-le-mul_right}
 use Rattle.std.proofs.lemmas.Bool.{cond_both}
 use Rattle.std.proofs.lemmas.Bool.Decides.{nat_tests}
-use Rattle.boss_machine.specs.declared.answer.Answer.{Answer}
-use Rattle.boss_machine.specs.declared.answer.Answer.TheVariants as answer
-use Rattle.boss_machine.specs.declared.command.Command.TheVariants as command
-use Rattle.boss_machine.specs.declared.command.Policy.{Policy}
-use Rattle.boss_machine.specs.declared.command.Policy.TheVariants.{Abort, Keep}
-use Rattle.boss_machine.specs.declared.state.Actuator.{Actuator}
-use Rattle.boss_machine.specs.declared.state.Lease.{Lease}
-use Rattle.boss_machine.specs.declared.state.Proxy.{Proxy}
-use Rattle.boss_machine.specs.Catalogue.{driver_of}
-use Rattle.boss_machine.specs.Devices.{Reply, proxy_of, hand_out, next, wanting, is_current, taken, not_taken, faulted_first, heard, report}
-use Rattle.boss_machine.specs.Ends.{is_of, shortened_if, faulted_under, faulted}
-use Rattle.boss_machine.specs.Lists.{member, without}
-use Rattle.boss_machine.specs.Machine.{pass_time, settle_after, step}
-use Rattle.boss_machine.specs.Order.{least}
-use Rattle.boss_machine.specs.Settle.{settle}
-use Rattle.boss_machine.specs.Sound.{Distinct, IsWant, IsSound}
-use Rattle.boss_machine.specs.State.{Durable, State}
-use Rattle.boss_machine.specs.Target.{in_force, target}
-use Rattle.boss_machine.specs.Time.{live, moment_of}
+use Rattle.boss_model.specs.declared.answer.Answer.{Answer}
+use Rattle.boss_model.specs.declared.answer.Answer.TheVariants as answer
+use Rattle.boss_model.specs.declared.command.Command.TheVariants as command
+use Rattle.boss_model.specs.declared.command.Policy.{Policy}
+use Rattle.boss_model.specs.declared.command.Policy.TheVariants.{Abort, Keep}
+use Rattle.boss_model.specs.declared.state.Actuator.{Actuator}
+use Rattle.boss_model.specs.declared.state.Lease.{Lease}
+use Rattle.boss_model.specs.declared.state.Proxy.{Proxy}
+use Rattle.boss_model.specs.Catalogue.{driver_of}
+use Rattle.boss_model.specs.Devices.{Reply, proxy_of, hand_out, next, wanting, is_current, taken, not_taken, faulted_first, heard, report}
+use Rattle.boss_model.specs.Ends.{is_of, shortened_if, faulted_under, faulted}
+use Rattle.boss_model.specs.Lists.{member, without}
+use Rattle.boss_model.specs.Machine.{pass_time, settle_after, step}
+use Rattle.boss_model.specs.Order.{least}
+use Rattle.boss_model.specs.Settle.{settle}
+use Rattle.boss_model.specs.Sound.{Distinct, IsWant, IsSound}
+use Rattle.boss_model.specs.State.{Durable, State}
+use Rattle.boss_model.specs.Target.{in_force, target}
+use Rattle.boss_model.specs.Time.{live, moment_of}
 use Rattle.boss_laws.specs.Draining.{reported, serve, serve_if, drain}
 use Rattle.boss_laws.proofs.NothingDue.{nothing-due}
 use Rattle.boss_laws.proofs.Orders.{each-map, each-filter, each-passed, least-of}

@@ -3,18 +3,18 @@ use Rattle.std.proofs.Common.{◌≡◌, ℕ, ◌^◌, ◌<◌, ◌≤◌, nat_l
 use Rattle.std.specs.List.{filter, AllByRecursion}
 use Rattle.std.proofs.lemmas.Bool.{cond_both}
 use Rattle.std.proofs.lemmas.Bool.Decides.{nat_tests}
-use Rattle.boss_machine.specs.declared.notice.Cause.{Cause}
-use Rattle.boss_machine.specs.declared.notice.What.TheVariants as what
-use Rattle.boss_machine.specs.declared.state.Actuator.{Actuator}
-use Rattle.boss_machine.specs.declared.state.Lease.{Lease}
-use Rattle.boss_machine.specs.Ends.{shortened, shortened_if, end_if, end_leases}
-use Rattle.boss_machine.specs.Groups.{courses_of}
-use Rattle.boss_machine.specs.Happenings.{Happening, ended, lives}
-use Rattle.boss_machine.specs.Lists.{member}
-use Rattle.boss_machine.specs.Reversions.{end_of, reversion_of, courses}
-use Rattle.boss_machine.specs.Sound.{IsLease, is_superseded, IsSoundDurable}
-use Rattle.boss_machine.specs.State.{Durable}
-use Rattle.boss_machine.specs.Time.{live, under_way, record_after, tick_to}
+use Rattle.boss_model.specs.declared.notice.Cause.{Cause}
+use Rattle.boss_model.specs.declared.notice.What.TheVariants as what
+use Rattle.boss_model.specs.declared.state.Actuator.{Actuator}
+use Rattle.boss_model.specs.declared.state.Lease.{Lease}
+use Rattle.boss_model.specs.Ends.{shortened, shortened_if, end_if, end_leases}
+use Rattle.boss_model.specs.Groups.{courses_of}
+use Rattle.boss_model.specs.Happenings.{Happening, ended, lives}
+use Rattle.boss_model.specs.Lists.{member}
+use Rattle.boss_model.specs.Reversions.{end_of, reversion_of, courses}
+use Rattle.boss_model.specs.Sound.{IsLease, is_superseded, IsSoundDurable}
+use Rattle.boss_model.specs.State.{Durable}
+use Rattle.boss_model.specs.Time.{live, under_way, record_after, tick_to}
 use Rattle.boss_laws.proofs.Coming.{now_after-within}
 use Rattle.boss_laws.proofs.ConcludeSound.{IsNews, IsNext, conclude-sound}
 use Rattle.boss_laws.proofs.Endings.{IsEnding, IsReverting, ending-change}

@@ -3,30 +3,30 @@ use Rattle.std.proofs.Common.{◌≡◌, ℕ, ◌^◌, ◌≤◌, ◌==◌, max,
 use Rattle.std.specs.Option.{option_map}
 use Rattle.std.specs.List.{find, filter_map, cons_option, AllByRecursion, list_any, position}
 use Rattle.std.proofs.lemmas.Bool.{cond_both}
-use Rattle.boss_machine.specs.declared.answer.Answer.{Answer}
-use Rattle.boss_machine.specs.declared.answer.Answer.TheVariants as answer
-use Rattle.boss_machine.specs.declared.answer.Refusal.{Refusal}
-use Rattle.boss_machine.specs.declared.answer.Refusal.TheVariants as refusal
-use Rattle.boss_machine.specs.declared.command.Command.{Command}
-use Rattle.boss_machine.specs.declared.command.Command.TheVariants as command
-use Rattle.boss_machine.specs.declared.command.Setting.{Setting}
-use Rattle.boss_machine.specs.declared.notice.Cause.{Cause}
-use Rattle.boss_machine.specs.declared.state.Actuator.{Actuator}
-use Rattle.boss_machine.specs.Catalogue.{fits_at, driver_of}
-use Rattle.boss_machine.specs.Devices.{Reply, hand_out, is_current, heard, report}
-use Rattle.boss_machine.specs.Ends.{is_of, last_part_end, cancel, cancel_refused, gone}
-use Rattle.boss_machine.specs.Lists.{first_some}
-use Rattle.boss_machine.specs.Machine.{answered, after, if_attached, joined, parted, notices_asked, act, pass_time, step}
-use Rattle.boss_machine.specs.Outcomes.{unless}
-use Rattle.boss_machine.specs.Processes.{process_of, session_of, process_named, name_of, is_full, process_refused, attach_refused}
-use Rattle.boss_machine.specs.Queries.{notices, notices_of, named, status_of}
-use Rattle.boss_machine.specs.Records.{End, Part, Transaction}
-use Rattle.boss_machine.specs.Renew.{transaction_of, if_own, part_on, wrote, named_parts, ended_at, renew, renew_refused}
-use Rattle.boss_machine.specs.Reversions.{courses}
-use Rattle.boss_machine.specs.Sound.{IsPast, IsPart, IsTransaction, IsSoundDurable}
-use Rattle.boss_machine.specs.State.{Process, Durable, Attachment, State}
-use Rattle.boss_machine.specs.Submit.{is_level, is_length, is_reversion, repeated, submit, submit_refused}
-use Rattle.boss_machine.specs.Time.{moment_of}
+use Rattle.boss_model.specs.declared.answer.Answer.{Answer}
+use Rattle.boss_model.specs.declared.answer.Answer.TheVariants as answer
+use Rattle.boss_model.specs.declared.answer.Refusal.{Refusal}
+use Rattle.boss_model.specs.declared.answer.Refusal.TheVariants as refusal
+use Rattle.boss_model.specs.declared.command.Command.{Command}
+use Rattle.boss_model.specs.declared.command.Command.TheVariants as command
+use Rattle.boss_model.specs.declared.command.Setting.{Setting}
+use Rattle.boss_model.specs.declared.notice.Cause.{Cause}
+use Rattle.boss_model.specs.declared.state.Actuator.{Actuator}
+use Rattle.boss_model.specs.Catalogue.{fits_at, driver_of}
+use Rattle.boss_model.specs.Devices.{Reply, hand_out, is_current, heard, report}
+use Rattle.boss_model.specs.Ends.{is_of, last_part_end, cancel, cancel_refused, gone}
+use Rattle.boss_model.specs.Lists.{first_some}
+use Rattle.boss_model.specs.Machine.{answered, after, if_attached, joined, parted, notices_asked, act, pass_time, step}
+use Rattle.boss_model.specs.Outcomes.{unless}
+use Rattle.boss_model.specs.Processes.{process_of, session_of, process_named, name_of, is_full, process_refused, attach_refused}
+use Rattle.boss_model.specs.Queries.{notices, notices_of, named, status_of}
+use Rattle.boss_model.specs.Records.{End, Part, Transaction}
+use Rattle.boss_model.specs.Renew.{transaction_of, if_own, part_on, wrote, named_parts, ended_at, renew, renew_refused}
+use Rattle.boss_model.specs.Reversions.{courses}
+use Rattle.boss_model.specs.Sound.{IsPast, IsPart, IsTransaction, IsSoundDurable}
+use Rattle.boss_model.specs.State.{Process, Durable, Attachment, State}
+use Rattle.boss_model.specs.Submit.{is_level, is_length, is_reversion, repeated, submit, submit_refused}
+use Rattle.boss_model.specs.Time.{moment_of}
 use Rattle.boss_laws.specs.Ended.{IsKeptEnd}
 use Rattle.boss_laws.proofs.Coming.{now_after-within}
 use Rattle.boss_laws.proofs.Orders.{each-map}

@@ -4,17 +4,17 @@ use Rattle.std.specs.List.{AllByRecursion}
 use Rattle.std.proofs.lemmas.List.{length-map}
 use Rattle.std.proofs.lemmas.Bool.{cond_both}
 use Rattle.std.proofs.lemmas.Bool.Decides.{nat_tests}
-use Rattle.boss_machine.specs.declared.state.Actuator.{Actuator}
-use Rattle.boss_machine.specs.declared.state.Lease.{Lease}
-use Rattle.boss_machine.specs.declared.state.Pending.{Pending}
-use Rattle.boss_machine.specs.Happenings.{lives}
-use Rattle.boss_machine.specs.Lists.{member}
-use Rattle.boss_machine.specs.Records.{End, Part, Transaction}
-use Rattle.boss_machine.specs.Reversions.{end_of, reversion_of, courses}
-use Rattle.boss_machine.specs.Sound.{Rising, Distinct, holds, IsLease, IsPending, IsPast, IsPart, IsTransaction, has_part, is_kept, is_superseded, is_start, number_rank, IsProcess, IsSoundDurable}
-use Rattle.boss_machine.specs.State.{lease_slot, pending_slot, Durable}
-use Rattle.boss_machine.specs.Submit.{is_level, is_reversion}
-use Rattle.boss_machine.specs.Time.{live, under_way, left, lease_of_part, end_after, part_after, record_after}
+use Rattle.boss_model.specs.declared.state.Actuator.{Actuator}
+use Rattle.boss_model.specs.declared.state.Lease.{Lease}
+use Rattle.boss_model.specs.declared.state.Pending.{Pending}
+use Rattle.boss_model.specs.Happenings.{lives}
+use Rattle.boss_model.specs.Lists.{member}
+use Rattle.boss_model.specs.Records.{End, Part, Transaction}
+use Rattle.boss_model.specs.Reversions.{end_of, reversion_of, courses}
+use Rattle.boss_model.specs.Sound.{Rising, Distinct, holds, IsLease, IsPending, IsPast, IsPart, IsTransaction, has_part, is_kept, is_superseded, is_start, number_rank, IsProcess, IsSoundDurable}
+use Rattle.boss_model.specs.State.{lease_slot, pending_slot, Durable}
+use Rattle.boss_model.specs.Submit.{is_level, is_reversion}
+use Rattle.boss_model.specs.Time.{live, under_way, left, lease_of_part, end_after, part_after, record_after}
 use Rattle.boss_laws.proofs.Courses.{courses-after}
 use Rattle.boss_laws.proofs.Filters.{each-mapped, each-unmapped}
 use Rattle.boss_laws.proofs.GroupSound.{IsChange}

@@ -3,11 +3,11 @@ use Rattle.std.proofs.Common.{◌≡◌, ℕ, ◌+◌, ◌^◌, ◌<◌, ◌≤�
 use Rattle.std.specs.List.{AllByRecursion, list_any}
 use Rattle.std.specs.Cmp.Lexicographic.{pointwise}
 use Rattle.std.proofs.lemmas.Bool.Decides.{nat_tests}
-use Rattle.boss_machine.specs.declared.state.Actuator.{Actuator}
-use Rattle.boss_machine.specs.Names.{is_name}
-use Rattle.boss_machine.specs.Processes.{process_named, is_full, enrolled}
-use Rattle.boss_machine.specs.Sound.{DistinctNames, IsTransaction, IsProcess, IsSoundDurable}
-use Rattle.boss_machine.specs.State.{Process, Durable}
+use Rattle.boss_model.specs.declared.state.Actuator.{Actuator}
+use Rattle.boss_model.specs.Names.{is_name}
+use Rattle.boss_model.specs.Processes.{process_named, is_full, enrolled}
+use Rattle.boss_model.specs.Sound.{DistinctNames, IsTransaction, IsProcess, IsSoundDurable}
+use Rattle.boss_model.specs.State.{Process, Durable}
 use Rattle.boss_laws.proofs.EndSound.{IsAt}
 use Rattle.boss_laws.proofs.Orders.{each-map, each-append}
 use Rattle.boss_laws.proofs.NotRefused.{none-found}

@@ -3,8 +3,8 @@ use Rattle.std.proofs.Common.{◌≡◌, ℕ, List, [], ◌∷◌, ◌++◌, Boo
 use Rattle.std.specs.List.{filter, flat_map, AllByRecursion}
 use Rattle.std.proofs.lemmas.Bool.{cond_both}
 use Rattle.std.proofs.lemmas.Bool.Decides.{nat_tests}
-use Rattle.boss_machine.specs.Order.{comes_before, put, in_order}
-use Rattle.boss_machine.specs.Sound.{Rising}
+use Rattle.boss_model.specs.Order.{comes_before, put, in_order}
+use Rattle.boss_model.specs.Sound.{Rising}
 use Rattle.boss_laws.proofs.Orders.{before-total, before-trans, each-map, each-filter, put-first, Ordered}
 
 -- ---- tests

@@ -5,17 +5,17 @@ use Rattle.std.specs.List.{filter, fold, AllByRecursion, slice_get}
 use Rattle.std.proofs.lemmas.List.{length-map}
 use Rattle.std.proofs.lemmas.Bool.{cond_both}
 use Rattle.std.proofs.lemmas.Bool.Decides.{nat_tests}
-use Rattle.boss_machine.specs.declared.notice.Notice.{Notice}
-use Rattle.boss_machine.specs.declared.notice.What.{What}
-use Rattle.boss_machine.specs.declared.state.Actuator.{Actuator}
-use Rattle.boss_machine.specs.declared.state.Pending.{Pending}
-use Rattle.boss_machine.specs.Happenings.{Happening, lives, is_done, finish, posted, post, tell_of, tell}
-use Rattle.boss_machine.specs.Lists.{member, keep_last}
-use Rattle.boss_machine.specs.Records.{End, Transaction}
-use Rattle.boss_machine.specs.Reversions.{courses}
-use Rattle.boss_machine.specs.Sound.{Rising, Distinct, DistinctNames, NumberedFrom, IsKnown, IsLease, IsPending, IsTransaction, has_part, is_kept, is_start, number_rank, IsProcess, IsSoundDurable}
-use Rattle.boss_machine.specs.State.{lease_slot, pending_slot, Process, Durable}
-use Rattle.boss_machine.specs.Time.{kept}
+use Rattle.boss_model.specs.declared.notice.Notice.{Notice}
+use Rattle.boss_model.specs.declared.notice.What.{What}
+use Rattle.boss_model.specs.declared.state.Actuator.{Actuator}
+use Rattle.boss_model.specs.declared.state.Pending.{Pending}
+use Rattle.boss_model.specs.Happenings.{Happening, lives, is_done, finish, posted, post, tell_of, tell}
+use Rattle.boss_model.specs.Lists.{member, keep_last}
+use Rattle.boss_model.specs.Records.{End, Transaction}
+use Rattle.boss_model.specs.Reversions.{courses}
+use Rattle.boss_model.specs.Sound.{Rising, Distinct, DistinctNames, NumberedFrom, IsKnown, IsLease, IsPending, IsTransaction, has_part, is_kept, is_start, number_rank, IsProcess, IsSoundDurable}
+use Rattle.boss_model.specs.State.{lease_slot, pending_slot, Process, Durable}
+use Rattle.boss_model.specs.Time.{kept}
 use Rattle.boss_laws.proofs.Orders.{each-map, each-filter, each-passed, each-both, each-append, Rising-filter}
 use Rattle.boss_laws.proofs.NothingDue.{of-pending, of-leases}
 use Rattle.boss_laws.proofs.Places.{each-member, member-each}

@@ -4,30 +4,30 @@ use Rattle.std.specs.List.{find, range_with_len}
 use Rattle.std.proofs.Math.ListN.{length-set}
 use Rattle.std.proofs.lemmas.Bool.{cond_both}
 use Rattle.std.proofs.lemmas.Bool.Decides.{nat_tests, Decides-int_eq}
-use Rattle.boss_machine.specs.declared.answer.Answer.{Answer}
-use Rattle.boss_machine.specs.declared.answer.Answer.TheVariants as answer
-use Rattle.boss_machine.specs.declared.answer.Mark.TheVariants as mark
-use Rattle.boss_machine.specs.declared.answer.Refusal.{Refusal}
-use Rattle.boss_machine.specs.declared.command.Command.{Command}
-use Rattle.boss_machine.specs.declared.command.Command.TheVariants as command
-use Rattle.boss_machine.specs.declared.state.Actuator.{Actuator}
-use Rattle.boss_machine.specs.declared.state.Proxy.{Proxy}
-use Rattle.boss_machine.specs.Catalogue.{driver_of}
-use Rattle.boss_machine.specs.Devices.{Reply, proxy_of, hand_out, is_current, taken, not_taken, heard, report}
-use Rattle.boss_machine.specs.Ends.{cancel, gone}
-use Rattle.boss_machine.specs.Lists.{member, without}
-use Rattle.boss_machine.specs.Machine.{answered, after, if_attached, joined, parted, notices_asked, act, ticked, pass_time, step}
-use Rattle.boss_machine.specs.Outcomes.{unless}
-use Rattle.boss_machine.specs.Processes.{process_of, process_named}
-use Rattle.boss_machine.specs.Queries.{notices, notices_of, named, status_of}
-use Rattle.boss_machine.specs.Records.{Transaction}
-use Rattle.boss_machine.specs.Renew.{renew, transaction_of}
-use Rattle.boss_machine.specs.Run.{Call, run}
-use Rattle.boss_machine.specs.Settle.{fresh, opened, places, changed_if, wanted_anew, is_retried, retried, is_moved, recommanded, settle}
-use Rattle.boss_machine.specs.State.{Process, Durable, State}
-use Rattle.boss_machine.specs.Submit.{submit}
-use Rattle.boss_machine.specs.Target.{target}
-use Rattle.boss_machine.specs.Time.{moment_of}
+use Rattle.boss_model.specs.declared.answer.Answer.{Answer}
+use Rattle.boss_model.specs.declared.answer.Answer.TheVariants as answer
+use Rattle.boss_model.specs.declared.answer.Mark.TheVariants as mark
+use Rattle.boss_model.specs.declared.answer.Refusal.{Refusal}
+use Rattle.boss_model.specs.declared.command.Command.{Command}
+use Rattle.boss_model.specs.declared.command.Command.TheVariants as command
+use Rattle.boss_model.specs.declared.state.Actuator.{Actuator}
+use Rattle.boss_model.specs.declared.state.Proxy.{Proxy}
+use Rattle.boss_model.specs.Catalogue.{driver_of}
+use Rattle.boss_model.specs.Devices.{Reply, proxy_of, hand_out, is_current, taken, not_taken, heard, report}
+use Rattle.boss_model.specs.Ends.{cancel, gone}
+use Rattle.boss_model.specs.Lists.{member, without}
+use Rattle.boss_model.specs.Machine.{answered, after, if_attached, joined, parted, notices_asked, act, ticked, pass_time, step}
+use Rattle.boss_model.specs.Outcomes.{unless}
+use Rattle.boss_model.specs.Processes.{process_of, process_named}
+use Rattle.boss_model.specs.Queries.{notices, notices_of, named, status_of}
+use Rattle.boss_model.specs.Records.{Transaction}
+use Rattle.boss_model.specs.Renew.{renew, transaction_of}
+use Rattle.boss_model.specs.Run.{Call, run}
+use Rattle.boss_model.specs.Settle.{fresh, opened, places, changed_if, wanted_anew, is_retried, retried, is_moved, recommanded, settle}
+use Rattle.boss_model.specs.State.{Process, Durable, State}
+use Rattle.boss_model.specs.Submit.{submit}
+use Rattle.boss_model.specs.Target.{target}
+use Rattle.boss_model.specs.Time.{moment_of}
 use Rattle.boss_laws.specs.Heard.{Sent, Heard, nothing_heard, asked_by, took_by, heard_after, last_heard}
 use Rattle.boss_laws.proofs.Places.{member-filter, member-wanted_anew, length-changed, proxy_of-changed, change_at, member-places, proxy_of-set, proxy_of-other}
 

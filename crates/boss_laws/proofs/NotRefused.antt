@@ -4,14 +4,14 @@ use Rattle.std.specs.Option.{option_map}
 use Rattle.std.specs.List.{AllByRecursion, position, position_or_len}
 use Rattle.std.proofs.lemmas.Bool.{cond_both}
 use Rattle.std.proofs.lemmas.Bool.Decides.{nat_tests}
-use Rattle.boss_machine.specs.declared.answer.Refusal.TheVariants as refusal
-use Rattle.boss_machine.specs.declared.command.Setting.{Setting}
-use Rattle.boss_machine.specs.declared.state.Actuator.{Actuator}
-use Rattle.boss_machine.specs.Catalogue.{fits_at}
-use Rattle.boss_machine.specs.Lists.{member, first_some}
-use Rattle.boss_machine.specs.Sound.{Distinct}
-use Rattle.boss_machine.specs.State.{Durable}
-use Rattle.boss_machine.specs.Submit.{is_level, is_length, is_reversion, repeated, submit_refused}
+use Rattle.boss_model.specs.declared.answer.Refusal.TheVariants as refusal
+use Rattle.boss_model.specs.declared.command.Setting.{Setting}
+use Rattle.boss_model.specs.declared.state.Actuator.{Actuator}
+use Rattle.boss_model.specs.Catalogue.{fits_at}
+use Rattle.boss_model.specs.Lists.{member, first_some}
+use Rattle.boss_model.specs.Sound.{Distinct}
+use Rattle.boss_model.specs.State.{Durable}
+use Rattle.boss_model.specs.Submit.{is_level, is_length, is_reversion, repeated, submit_refused}
 use Rattle.boss_laws.proofs.Orders.{each-map, each-both}
 
 pub none-of-first : {X : Type 0} (x : Option X) (xs : List (Option X)) → first_some (x ∷ xs) ≡ None → (x ≡ None) × (first_some xs ≡ None)

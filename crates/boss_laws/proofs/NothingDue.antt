@@ -2,18 +2,18 @@
 use Rattle.std.proofs.Common.{◌≡◌, ℕ, ◌<◌, ◌≤◌, nat_lt, nat_le, List, [], ◌∷◌, ◌++◌, true, false, not, ◌&&◌, ◌||◌, map, Option, Some, None, refl, ap, sym, ◌∙◌, subst, arith, append-nil}
 use Rattle.std.specs.List.{fold, flat_map, AllByRecursion}
 use Rattle.std.proofs.lemmas.Bool.Decides.{nat_tests}
-use Rattle.boss_machine.specs.declared.command.Step.{Step}
-use Rattle.boss_machine.specs.declared.state.Actuator.{Actuator}
-use Rattle.boss_machine.specs.declared.state.Lease.{Lease}
-use Rattle.boss_machine.specs.declared.state.Pending.{Pending}
-use Rattle.boss_machine.specs.Happenings.{turned, reverted, happenings, lives, done_last, finish, tell, later}
-use Rattle.boss_machine.specs.Lists.{member}
-use Rattle.boss_machine.specs.Order.{in_order}
-use Rattle.boss_machine.specs.Records.{End, Part, Transaction}
-use Rattle.boss_machine.specs.Reversions.{turns, end_of, reversion_of, courses}
-use Rattle.boss_machine.specs.Sound.{IsSoundDurable, IsLease, IsPending}
-use Rattle.boss_machine.specs.State.{pending_slot, Durable}
-use Rattle.boss_machine.specs.Time.{live, under_way, left, due, kept, lease_of_part, end_after, part_after, record_after, expired, tick_to}
+use Rattle.boss_model.specs.declared.command.Step.{Step}
+use Rattle.boss_model.specs.declared.state.Actuator.{Actuator}
+use Rattle.boss_model.specs.declared.state.Lease.{Lease}
+use Rattle.boss_model.specs.declared.state.Pending.{Pending}
+use Rattle.boss_model.specs.Happenings.{turned, reverted, happenings, lives, done_last, finish, tell, later}
+use Rattle.boss_model.specs.Lists.{member}
+use Rattle.boss_model.specs.Order.{in_order}
+use Rattle.boss_model.specs.Records.{End, Part, Transaction}
+use Rattle.boss_model.specs.Reversions.{turns, end_of, reversion_of, courses}
+use Rattle.boss_model.specs.Sound.{IsSoundDurable, IsLease, IsPending}
+use Rattle.boss_model.specs.State.{pending_slot, Durable}
+use Rattle.boss_model.specs.Time.{live, under_way, left, due, kept, lease_of_part, end_after, part_after, record_after, expired, tick_to}
 use Rattle.boss_laws.proofs.Coming.{now_after, quiet}
 use Rattle.boss_laws.proofs.Courses.{end-later}
 use Rattle.boss_laws.proofs.Filters.{filter-append, filter-none, filter-all, filter-map, each-mapped, each-unmapped}

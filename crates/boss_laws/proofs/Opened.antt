@@ -1,11 +1,11 @@
 -- The state that a sound durable part opens to is sound, and so is the first one.
 use Rattle.std.proofs.Common.{◌≡◌, ℕ, zero, suc, ◌+◌, ◌<◌, ◌≤◌, List, length, map, refl, ap, sym, subst, arith}
 use Rattle.std.specs.List.{AllByRecursion, range_with_len}
-use Rattle.boss_machine.specs.declared.state.Actuator.{Actuator}
-use Rattle.boss_machine.specs.Settle.{fresh, opened}
-use Rattle.boss_machine.specs.Sound.{Distinct, Settled, IsWant, IsSoundDurable, IsSound}
-use Rattle.boss_machine.specs.State.{first_durable, Durable}
-use Rattle.boss_machine.specs.Target.{target}
+use Rattle.boss_model.specs.declared.state.Actuator.{Actuator}
+use Rattle.boss_model.specs.Settle.{fresh, opened}
+use Rattle.boss_model.specs.Sound.{Distinct, Settled, IsWant, IsSoundDurable, IsSound}
+use Rattle.boss_model.specs.State.{first_durable, Durable}
+use Rattle.boss_model.specs.Target.{target}
 use Rattle.boss_laws.proofs.Heard.{fresh-at, length-range}
 use Rattle.boss_laws.proofs.Places.{member-above}
 

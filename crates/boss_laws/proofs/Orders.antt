@@ -3,8 +3,8 @@ use Rattle.std.proofs.Common.{◌≡◌, ℕ, ◌≤◌, nat_lt, List, [], ◌�
 use Rattle.std.specs.List.{filter, AllByRecursion}
 use Rattle.std.proofs.lemmas.Bool.{cond_both}
 use Rattle.std.proofs.lemmas.Bool.Decides.{nat_tests}
-use Rattle.boss_machine.specs.Order.{comes_before, put, in_order, lesser, least}
-use Rattle.boss_machine.specs.Sound.{Rising}
+use Rattle.boss_model.specs.Order.{comes_before, put, in_order, lesser, least}
+use Rattle.boss_model.specs.Sound.{Rising}
 
 -- ---- ranks
 

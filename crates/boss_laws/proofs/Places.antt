@@ -3,11 +3,11 @@ use Rattle.std.proofs.Common.{◌≡◌, ℕ, zero, suc, ◌+◌, ◌<◌, ◌�
 use Rattle.std.specs.List.{filter, enumerate_from, AllByRecursion}
 use Rattle.std.proofs.lemmas.Bool.{cond_both}
 use Rattle.std.proofs.lemmas.Bool.Decides.{nat_tests}
-use Rattle.boss_machine.specs.declared.state.Proxy.{Proxy}
-use Rattle.boss_machine.specs.Devices.{proxy_of}
-use Rattle.boss_machine.specs.Lists.{member}
-use Rattle.boss_machine.specs.Settle.{places, changed_if, wanted_anew}
-use Rattle.boss_machine.specs.Sound.{Distinct}
+use Rattle.boss_model.specs.declared.state.Proxy.{Proxy}
+use Rattle.boss_model.specs.Devices.{proxy_of}
+use Rattle.boss_model.specs.Lists.{member}
+use Rattle.boss_model.specs.Settle.{places, changed_if, wanted_anew}
+use Rattle.boss_model.specs.Sound.{Distinct}
 
 -- ---- numbers in a list
 

@@ -3,14 +3,14 @@ use Rattle.std.proofs.Common.{◌≡◌, ℕ, zero, suc, ◌-◌, ◌<◌, ◌==
 use Rattle.std.specs.List.{filter, fold, flat_map, AllByRecursion}
 use Rattle.std.proofs.lemmas.Bool.{cond_both}
 use Rattle.std.proofs.lemmas.Bool.Decides.{nat_tests}
-use Rattle.boss_machine.specs.declared.command.Step.{Step}
-use Rattle.boss_machine.specs.declared.state.Lease.{Lease}
-use Rattle.boss_machine.specs.declared.state.Pending.{Pending}
-use Rattle.boss_machine.specs.Happenings.{Happening, rank, turned, reverted, happenings, lives, done_last, coming, is_done, finish}
-use Rattle.boss_machine.specs.Lists.{member, keep_last}
-use Rattle.boss_machine.specs.Records.{End, Part, Transaction}
-use Rattle.boss_machine.specs.Reversions.{turns}
-use Rattle.boss_machine.specs.Time.{live, left, lease_of_part, end_after, part_after, record_after, expired}
+use Rattle.boss_model.specs.declared.command.Step.{Step}
+use Rattle.boss_model.specs.declared.state.Lease.{Lease}
+use Rattle.boss_model.specs.declared.state.Pending.{Pending}
+use Rattle.boss_model.specs.Happenings.{Happening, rank, turned, reverted, happenings, lives, done_last, coming, is_done, finish}
+use Rattle.boss_model.specs.Lists.{member, keep_last}
+use Rattle.boss_model.specs.Records.{End, Part, Transaction}
+use Rattle.boss_model.specs.Reversions.{turns}
+use Rattle.boss_model.specs.Time.{live, left, lease_of_part, end_after, part_after, record_after, expired}
 use Rattle.boss_laws.proofs.Courses.{lives-last_end}
 use Rattle.boss_laws.proofs.Filters.{each-mapped, each-always}
 use Rattle.boss_laws.proofs.Orders.{each-append, each-map, each-filter, each-passed, each-in_order, each-both}

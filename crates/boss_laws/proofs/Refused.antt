@@ -1,23 +1,23 @@
 -- A refused command is its tick, its retries and its settling.
 use Rattle.std.proofs.Common.{◌≡◌, ℕ, List, Bool, true, false, Option, Some, None, refl, ap}
 use Rattle.std.proofs.lemmas.Bool.{cond_both}
-use Rattle.boss_machine.specs.declared.answer.Answer.{Answer}
-use Rattle.boss_machine.specs.declared.answer.Answer.TheVariants as answer
-use Rattle.boss_machine.specs.declared.answer.Refusal.{Refusal}
-use Rattle.boss_machine.specs.declared.command.Command.{Command}
-use Rattle.boss_machine.specs.declared.command.Command.TheVariants as command
-use Rattle.boss_machine.specs.declared.state.Actuator.{Actuator}
-use Rattle.boss_machine.specs.Devices.{Reply, hand_out, is_current, heard, report}
-use Rattle.boss_machine.specs.Ends.{cancel, gone}
-use Rattle.boss_machine.specs.Machine.{answered, after, if_attached, joined, parted, notices_asked, act, pass_time, step}
-use Rattle.boss_machine.specs.Outcomes.{unless}
-use Rattle.boss_machine.specs.Processes.{process_of}
-use Rattle.boss_machine.specs.Queries.{notices}
-use Rattle.boss_machine.specs.Renew.{renew}
-use Rattle.boss_machine.specs.Settle.{settle}
-use Rattle.boss_machine.specs.State.{Durable, State}
-use Rattle.boss_machine.specs.Submit.{submit}
-use Rattle.boss_machine.specs.Time.{moment_of}
+use Rattle.boss_model.specs.declared.answer.Answer.{Answer}
+use Rattle.boss_model.specs.declared.answer.Answer.TheVariants as answer
+use Rattle.boss_model.specs.declared.answer.Refusal.{Refusal}
+use Rattle.boss_model.specs.declared.command.Command.{Command}
+use Rattle.boss_model.specs.declared.command.Command.TheVariants as command
+use Rattle.boss_model.specs.declared.state.Actuator.{Actuator}
+use Rattle.boss_model.specs.Devices.{Reply, hand_out, is_current, heard, report}
+use Rattle.boss_model.specs.Ends.{cancel, gone}
+use Rattle.boss_model.specs.Machine.{answered, after, if_attached, joined, parted, notices_asked, act, pass_time, step}
+use Rattle.boss_model.specs.Outcomes.{unless}
+use Rattle.boss_model.specs.Processes.{process_of}
+use Rattle.boss_model.specs.Queries.{notices}
+use Rattle.boss_model.specs.Renew.{renew}
+use Rattle.boss_model.specs.Settle.{settle}
+use Rattle.boss_model.specs.State.{Durable, State}
+use Rattle.boss_model.specs.Submit.{submit}
+use Rattle.boss_model.specs.Time.{moment_of}
 
 -- a reply that is a refusal leaves the state
 abbrev pub Leaves : State → Reply → Type 0

@@ -3,18 +3,18 @@ use Rattle.std.proofs.Common.{◌≡◌, ℕ, ◌+◌, ◌^◌, ◌<◌, ◌≤�
 use Rattle.std.specs.Prelude.{int_le}
 use Rattle.std.specs.List.{AllByRecursion}
 use Rattle.std.proofs.lemmas.Bool.Decides.{nat_tests}
-use Rattle.boss_machine.specs.declared.state.Actuator.{Actuator}
-use Rattle.boss_machine.specs.declared.state.Lease.{Lease}
-use Rattle.boss_machine.specs.declared.state.Pending.{Pending}
-use Rattle.boss_machine.specs.Groups.{conclude}
-use Rattle.boss_machine.specs.Happenings.{Happening, lives}
-use Rattle.boss_machine.specs.Lists.{member}
-use Rattle.boss_machine.specs.Records.{End, Part}
-use Rattle.boss_machine.specs.Renew.{is_meant, extended, extended_if, renewed}
-use Rattle.boss_machine.specs.Reversions.{end_of, reversion_of, courses}
-use Rattle.boss_machine.specs.Sound.{holds, IsLease, IsPending, IsPast, IsPart, IsTransaction, has_part, IsProcess, IsSoundDurable}
-use Rattle.boss_machine.specs.State.{lease_slot, pending_slot, Process, Durable}
-use Rattle.boss_machine.specs.Submit.{is_length}
+use Rattle.boss_model.specs.declared.state.Actuator.{Actuator}
+use Rattle.boss_model.specs.declared.state.Lease.{Lease}
+use Rattle.boss_model.specs.declared.state.Pending.{Pending}
+use Rattle.boss_model.specs.Groups.{conclude}
+use Rattle.boss_model.specs.Happenings.{Happening, lives}
+use Rattle.boss_model.specs.Lists.{member}
+use Rattle.boss_model.specs.Records.{End, Part}
+use Rattle.boss_model.specs.Renew.{is_meant, extended, extended_if, renewed}
+use Rattle.boss_model.specs.Reversions.{end_of, reversion_of, courses}
+use Rattle.boss_model.specs.Sound.{holds, IsLease, IsPending, IsPast, IsPart, IsTransaction, has_part, IsProcess, IsSoundDurable}
+use Rattle.boss_model.specs.State.{lease_slot, pending_slot, Process, Durable}
+use Rattle.boss_model.specs.Submit.{is_length}
 use Rattle.boss_laws.proofs.ConcludeSound.{IsNews, IsNext, conclude-sound}
 use Rattle.boss_laws.proofs.EndSound.{IsAt, alive-not-done, no-news}
 use Rattle.boss_laws.proofs.Filters.{each-mapped}

@@ -5,45 +5,45 @@ use Rattle.std.specs.Option.{option_map}
 use Rattle.std.specs.List.{filter, find, fold, AllByRecursion, list_any, list_all, cons_option}
 use Rattle.std.proofs.lemmas.Bool.{cond_both}
 use Rattle.std.proofs.lemmas.Bool.Decides.{nat_tests}
-use Rattle.boss_machine.specs.declared.answer.Answer.{Answer}
-use Rattle.boss_machine.specs.declared.answer.Answer.TheVariants as answer
-use Rattle.boss_machine.specs.declared.answer.Refusal.{Refusal}
-use Rattle.boss_machine.specs.declared.answer.Refusal.TheVariants as refusal
-use Rattle.boss_machine.specs.declared.command.Command.{Command}
-use Rattle.boss_machine.specs.declared.command.Command.TheVariants as command
-use Rattle.boss_machine.specs.declared.command.Setting.{Setting}
-use Rattle.boss_machine.specs.declared.command.Policy.{Policy}
-use Rattle.boss_machine.specs.declared.command.Policy.TheVariants.{Abort, Keep}
-use Rattle.boss_machine.specs.declared.event.Act.{Act}
-use Rattle.boss_machine.specs.declared.event.Act.TheVariants as act
-use Rattle.boss_machine.specs.declared.event.Effect.{Effect}
-use Rattle.boss_machine.specs.declared.event.Effect.TheVariants as effect
-use Rattle.boss_machine.specs.declared.event.Event.{Event}
-use Rattle.boss_machine.specs.declared.notice.Cause.TheVariants as cause
-use Rattle.boss_machine.specs.declared.state.Actuator.{Actuator}
-use Rattle.boss_machine.specs.declared.state.Lease.{Lease}
-use Rattle.boss_machine.specs.declared.state.Proxy.{Proxy}
-use Rattle.boss_machine.specs.Acts.{is_known_process, is_known_point, by_process, enrol_if, act_on, effective, replay, replay_next}
-use Rattle.boss_machine.specs.Catalogue.{driver_of}
-use Rattle.boss_machine.specs.Devices.{Reply, proxy_of, hand_out, is_current, heard, report}
-use Rattle.boss_machine.specs.Effects.{concerned, effect_of, step_effect, act_of, event_of}
-use Rattle.boss_machine.specs.Ends.{is_of, is_owned_by, end_leases, cancel, cancel_refused, gone, lost, faulted_under, faulted}
-use Rattle.boss_machine.specs.Lists.{first_some}
-use Rattle.boss_machine.specs.Machine.{answered, after, if_attached, joined, parted, notices_asked, pass_time, step}
-use Rattle.boss_machine.specs.Machine as machine
-use Rattle.boss_machine.specs.Outcomes.{unless}
-use Rattle.boss_machine.specs.Processes.{process_of, process_named, number_of, name_of, next_notice, session_of, is_full, process_refused, enrolled, enrol_unless}
-use Rattle.boss_machine.specs.Queries.{notices}
-use Rattle.boss_machine.specs.Renew.{renew, renew_refused, renewed}
-use Rattle.boss_machine.specs.Reversions.{courses}
-use Rattle.boss_machine.specs.Happenings.{Happening, rank, coming}
-use Rattle.boss_machine.specs.Run.{Call, stepped, run, events, replay_all}
-use Rattle.boss_machine.specs.Same.{same_durable}
-use Rattle.boss_machine.specs.Sound.{IsAllowed, IsSoundDurable, IsSound}
-use Rattle.boss_machine.specs.State.{Durable, State}
-use Rattle.boss_machine.specs.Submit.{submit, submit_refused, submitted}
-use Rattle.boss_machine.specs.Target.{in_force}
-use Rattle.boss_machine.specs.Time.{due, moment_of, tick_to}
+use Rattle.boss_model.specs.declared.answer.Answer.{Answer}
+use Rattle.boss_model.specs.declared.answer.Answer.TheVariants as answer
+use Rattle.boss_model.specs.declared.answer.Refusal.{Refusal}
+use Rattle.boss_model.specs.declared.answer.Refusal.TheVariants as refusal
+use Rattle.boss_model.specs.declared.command.Command.{Command}
+use Rattle.boss_model.specs.declared.command.Command.TheVariants as command
+use Rattle.boss_model.specs.declared.command.Setting.{Setting}
+use Rattle.boss_model.specs.declared.command.Policy.{Policy}
+use Rattle.boss_model.specs.declared.command.Policy.TheVariants.{Abort, Keep}
+use Rattle.boss_model.specs.declared.event.Act.{Act}
+use Rattle.boss_model.specs.declared.event.Act.TheVariants as act
+use Rattle.boss_model.specs.declared.event.Effect.{Effect}
+use Rattle.boss_model.specs.declared.event.Effect.TheVariants as effect
+use Rattle.boss_model.specs.declared.event.Event.{Event}
+use Rattle.boss_model.specs.declared.notice.Cause.TheVariants as cause
+use Rattle.boss_model.specs.declared.state.Actuator.{Actuator}
+use Rattle.boss_model.specs.declared.state.Lease.{Lease}
+use Rattle.boss_model.specs.declared.state.Proxy.{Proxy}
+use Rattle.boss_model.specs.Acts.{is_known_process, is_known_point, by_process, enrol_if, act_on, effective, replay, replay_next}
+use Rattle.boss_model.specs.Catalogue.{driver_of}
+use Rattle.boss_model.specs.Devices.{Reply, proxy_of, hand_out, is_current, heard, report}
+use Rattle.boss_model.specs.Effects.{concerned, effect_of, step_effect, act_of, event_of}
+use Rattle.boss_model.specs.Ends.{is_of, is_owned_by, end_leases, cancel, cancel_refused, gone, lost, faulted_under, faulted}
+use Rattle.boss_model.specs.Lists.{first_some}
+use Rattle.boss_model.specs.Machine.{answered, after, if_attached, joined, parted, notices_asked, pass_time, step}
+use Rattle.boss_model.specs.Machine as machine
+use Rattle.boss_model.specs.Outcomes.{unless}
+use Rattle.boss_model.specs.Processes.{process_of, process_named, number_of, name_of, next_notice, session_of, is_full, process_refused, enrolled, enrol_unless}
+use Rattle.boss_model.specs.Queries.{notices}
+use Rattle.boss_model.specs.Renew.{renew, renew_refused, renewed}
+use Rattle.boss_model.specs.Reversions.{courses}
+use Rattle.boss_model.specs.Happenings.{Happening, rank, coming}
+use Rattle.boss_model.specs.Run.{Call, stepped, run, events, replay_all}
+use Rattle.boss_model.specs.Same.{same_durable}
+use Rattle.boss_model.specs.Sound.{IsAllowed, IsSoundDurable, IsSound}
+use Rattle.boss_model.specs.State.{Durable, State}
+use Rattle.boss_model.specs.Submit.{submit, submit_refused, submitted}
+use Rattle.boss_model.specs.Target.{in_force}
+use Rattle.boss_model.specs.Time.{due, moment_of, tick_to}
 use Rattle.boss_laws.proofs.ActSound.{tick-length}
 use Rattle.boss_laws.proofs.Coming.{all_of, now_after, now_after-within, quiet, later-first}
 use Rattle.boss_laws.proofs.Filters.{filter-filter, filter-none}

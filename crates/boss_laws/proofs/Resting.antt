@@ -4,22 +4,22 @@ use Rattle.std.specs.List.{filter, enumerate_from, AllByRecursion}
 use Rattle.std.specs.Ordering.{int_eq}
 use Rattle.std.proofs.lemmas.Bool.{cond_both}
 use Rattle.std.proofs.lemmas.Bool.Decides.{nat_tests, Decides-int_eq}
-use Rattle.boss_machine.specs.declared.answer.Mark.TheVariants as mark
-use Rattle.boss_machine.specs.declared.command.Command.{Command}
-use Rattle.boss_machine.specs.declared.state.Actuator.{Actuator}
-use Rattle.boss_machine.specs.declared.state.Proxy.{Proxy}
-use Rattle.boss_machine.specs.Devices.{proxy_of}
-use Rattle.boss_machine.specs.Happenings.{Happening, coming, rank}
-use Rattle.boss_machine.specs.Lists.{member}
-use Rattle.boss_machine.specs.Machine.{ticked, pass_time, settle_after, step}
-use Rattle.boss_machine.specs.Machine as machine
-use Rattle.boss_machine.specs.Reversions.{courses}
-use Rattle.boss_machine.specs.Same.{same_durable}
-use Rattle.boss_machine.specs.Settle.{places, changed_if, wanted_anew, is_failed, is_retried, retried, retry, is_moved, recommanded, settle}
-use Rattle.boss_machine.specs.Sound.{Settled, IsAllowed, IsSound}
-use Rattle.boss_machine.specs.State.{Durable, State}
-use Rattle.boss_machine.specs.Target.{target}
-use Rattle.boss_machine.specs.Time.{due, moment_of, tick_to}
+use Rattle.boss_model.specs.declared.answer.Mark.TheVariants as mark
+use Rattle.boss_model.specs.declared.command.Command.{Command}
+use Rattle.boss_model.specs.declared.state.Actuator.{Actuator}
+use Rattle.boss_model.specs.declared.state.Proxy.{Proxy}
+use Rattle.boss_model.specs.Devices.{proxy_of}
+use Rattle.boss_model.specs.Happenings.{Happening, coming, rank}
+use Rattle.boss_model.specs.Lists.{member}
+use Rattle.boss_model.specs.Machine.{ticked, pass_time, settle_after, step}
+use Rattle.boss_model.specs.Machine as machine
+use Rattle.boss_model.specs.Reversions.{courses}
+use Rattle.boss_model.specs.Same.{same_durable}
+use Rattle.boss_model.specs.Settle.{places, changed_if, wanted_anew, is_failed, is_retried, retried, retry, is_moved, recommanded, settle}
+use Rattle.boss_model.specs.Sound.{Settled, IsAllowed, IsSound}
+use Rattle.boss_model.specs.State.{Durable, State}
+use Rattle.boss_model.specs.Target.{target}
+use Rattle.boss_model.specs.Time.{due, moment_of, tick_to}
 use Rattle.boss_laws.proofs.ActSound.{tick-length}
 use Rattle.boss_laws.proofs.Coming.{all_of, now_after-within, later-first}
 use Rattle.boss_laws.proofs.Filters.{filter-all, filter-none, each-always}

@@ -2,19 +2,19 @@
 use Rattle.std.proofs.Common.{◌≡◌, ℕ, ◌==◌, nat_eq, List, [], ◌∷◌, Bool, true, cond, Option, Some, None, refl, ap, sym, ◌∙◌, arith}
 use Rattle.std.specs.Cmp.Lexicographic.{pointwise}
 use Rattle.std.proofs.lemmas.Bool.Decides.{nat_tests, Decides-int_eq}
-use Rattle.boss_machine.specs.declared.command.Policy.{Policy}
-use Rattle.boss_machine.specs.declared.command.Policy.TheVariants.{Abort, Keep}
-use Rattle.boss_machine.specs.declared.command.Step.{Step}
-use Rattle.boss_machine.specs.declared.notice.Cause.{Cause}
-use Rattle.boss_machine.specs.declared.notice.Cause.TheVariants as cause
-use Rattle.boss_machine.specs.declared.notice.Notice.{Notice}
-use Rattle.boss_machine.specs.declared.notice.What.{What}
-use Rattle.boss_machine.specs.declared.notice.What.TheVariants as what
-use Rattle.boss_machine.specs.declared.state.Lease.{Lease}
-use Rattle.boss_machine.specs.declared.state.Pending.{Pending}
-use Rattle.boss_machine.specs.Records.{End, Part, Transaction}
-use Rattle.boss_machine.specs.Same.{same_policy, cause_numbers, same_cause, what_numbers, same_what, same_step, same_lease, same_pending, same_end, same_part, same_transaction, same_notice, same_process, same_durable}
-use Rattle.boss_machine.specs.State.{Process, Durable}
+use Rattle.boss_model.specs.declared.command.Policy.{Policy}
+use Rattle.boss_model.specs.declared.command.Policy.TheVariants.{Abort, Keep}
+use Rattle.boss_model.specs.declared.command.Step.{Step}
+use Rattle.boss_model.specs.declared.notice.Cause.{Cause}
+use Rattle.boss_model.specs.declared.notice.Cause.TheVariants as cause
+use Rattle.boss_model.specs.declared.notice.Notice.{Notice}
+use Rattle.boss_model.specs.declared.notice.What.{What}
+use Rattle.boss_model.specs.declared.notice.What.TheVariants as what
+use Rattle.boss_model.specs.declared.state.Lease.{Lease}
+use Rattle.boss_model.specs.declared.state.Pending.{Pending}
+use Rattle.boss_model.specs.Records.{End, Part, Transaction}
+use Rattle.boss_model.specs.Same.{same_policy, cause_numbers, same_cause, what_numbers, same_what, same_step, same_lease, same_pending, same_end, same_part, same_transaction, same_notice, same_process, same_durable}
+use Rattle.boss_model.specs.State.{Process, Durable}
 
 module _ {X : Type 0} (same : X → X → Bool) where
   pub lists-equal : ((x y : X) → same x y ≡ true → x ≡ y) → (xs ys : List X) → pointwise same xs ys ≡ true → xs ≡ ys

@@ -3,15 +3,15 @@ use Rattle.std.proofs.Common.{◌≡◌, ℕ, ◌==◌, List, [], ◌∷◌, ◌
 use Rattle.std.specs.List.{AllByRecursion, list_any}
 use Rattle.std.proofs.lemmas.Bool.{cond_both}
 use Rattle.std.proofs.lemmas.Bool.Decides.{nat_tests}
-use Rattle.boss_machine.specs.declared.state.Lease.{Lease}
-use Rattle.boss_machine.specs.declared.state.Pending.{Pending}
-use Rattle.boss_machine.specs.Happenings.{lives}
-use Rattle.boss_machine.specs.Order.{comes_before, put, in_order}
-use Rattle.boss_machine.specs.Records.{End, Part, Transaction}
-use Rattle.boss_machine.specs.Reversions.{reversion_of, courses}
-use Rattle.boss_machine.specs.Sound.{Rising, holds, has_part, is_kept}
-use Rattle.boss_machine.specs.State.{lease_slot, pending_slot}
-use Rattle.boss_machine.specs.Time.{lease_of_part, end_after, part_after, record_after}
+use Rattle.boss_model.specs.declared.state.Lease.{Lease}
+use Rattle.boss_model.specs.declared.state.Pending.{Pending}
+use Rattle.boss_model.specs.Happenings.{lives}
+use Rattle.boss_model.specs.Order.{comes_before, put, in_order}
+use Rattle.boss_model.specs.Records.{End, Part, Transaction}
+use Rattle.boss_model.specs.Reversions.{reversion_of, courses}
+use Rattle.boss_model.specs.Sound.{Rising, holds, has_part, is_kept}
+use Rattle.boss_model.specs.State.{lease_slot, pending_slot}
+use Rattle.boss_model.specs.Time.{lease_of_part, end_after, part_after, record_after}
 use Rattle.boss_laws.proofs.Orders.{each-map, each-append, each-in_order}
 use Rattle.boss_laws.proofs.Filters.{each-mapped}
 

@@ -6,31 +6,31 @@ use Rattle.std.specs.Cmp.Lexicographic.{pointwise}
 use Rattle.std.proofs.Math.ListN.{length-set}
 use Rattle.std.proofs.lemmas.Bool.{cond_both}
 use Rattle.std.proofs.lemmas.Bool.Decides.{nat_tests}
-use Rattle.boss_machine.specs.declared.answer.Answer.{Answer}
-use Rattle.boss_machine.specs.declared.answer.Answer.TheVariants as answer
-use Rattle.boss_machine.specs.declared.answer.Mark.TheVariants as mark
-use Rattle.boss_machine.specs.declared.answer.Refusal.{Refusal}
-use Rattle.boss_machine.specs.declared.answer.Refusal.TheVariants as refusal
-use Rattle.boss_machine.specs.declared.command.Command.{Command}
-use Rattle.boss_machine.specs.declared.command.Command.TheVariants as command
-use Rattle.boss_machine.specs.declared.state.Actuator.{Actuator}
-use Rattle.boss_machine.specs.declared.state.Proxy.{Proxy}
-use Rattle.boss_machine.specs.Catalogue.{driver_of}
-use Rattle.boss_machine.specs.Devices.{Reply, proxy_of, hand_out, next, is_current, taken, not_taken, faulted_first, heard, report}
-use Rattle.boss_machine.specs.Ends.{cancel, cancel_refused, gone, lost, faulted}
-use Rattle.boss_machine.specs.Lists.{member, first_some}
-use Rattle.boss_machine.specs.Machine.{answered, after, if_attached, joined, parted, notices_asked, act, ticked, pass_time, step}
-use Rattle.boss_machine.specs.Names.{is_name}
-use Rattle.boss_machine.specs.Outcomes.{unless}
-use Rattle.boss_machine.specs.Processes.{process_of, session_of, process_named, number_of, name_of, is_full, process_refused, enrol_unless, attached_too, next_notice}
-use Rattle.boss_machine.specs.Queries.{notices}
-use Rattle.boss_machine.specs.Renew.{renew, renew_refused}
-use Rattle.boss_machine.specs.Settle.{places, changed_if, wanted_anew, is_retried, retried, retry, is_moved, recommanded, settle}
-use Rattle.boss_machine.specs.Sound.{Distinct, Settled, IsWant, IsSoundDurable, IsSound, IsAllowed}
-use Rattle.boss_machine.specs.State.{Durable, Attachment, State}
-use Rattle.boss_machine.specs.Submit.{submit, submit_refused}
-use Rattle.boss_machine.specs.Target.{target, in_force}
-use Rattle.boss_machine.specs.Time.{tick_to}
+use Rattle.boss_model.specs.declared.answer.Answer.{Answer}
+use Rattle.boss_model.specs.declared.answer.Answer.TheVariants as answer
+use Rattle.boss_model.specs.declared.answer.Mark.TheVariants as mark
+use Rattle.boss_model.specs.declared.answer.Refusal.{Refusal}
+use Rattle.boss_model.specs.declared.answer.Refusal.TheVariants as refusal
+use Rattle.boss_model.specs.declared.command.Command.{Command}
+use Rattle.boss_model.specs.declared.command.Command.TheVariants as command
+use Rattle.boss_model.specs.declared.state.Actuator.{Actuator}
+use Rattle.boss_model.specs.declared.state.Proxy.{Proxy}
+use Rattle.boss_model.specs.Catalogue.{driver_of}
+use Rattle.boss_model.specs.Devices.{Reply, proxy_of, hand_out, next, is_current, taken, not_taken, faulted_first, heard, report}
+use Rattle.boss_model.specs.Ends.{cancel, cancel_refused, gone, lost, faulted}
+use Rattle.boss_model.specs.Lists.{member, first_some}
+use Rattle.boss_model.specs.Machine.{answered, after, if_attached, joined, parted, notices_asked, act, ticked, pass_time, step}
+use Rattle.boss_model.specs.Names.{is_name}
+use Rattle.boss_model.specs.Outcomes.{unless}
+use Rattle.boss_model.specs.Processes.{process_of, session_of, process_named, number_of, name_of, is_full, process_refused, enrol_unless, attached_too, next_notice}
+use Rattle.boss_model.specs.Queries.{notices}
+use Rattle.boss_model.specs.Renew.{renew, renew_refused}
+use Rattle.boss_model.specs.Settle.{places, changed_if, wanted_anew, is_retried, retried, retry, is_moved, recommanded, settle}
+use Rattle.boss_model.specs.Sound.{Distinct, Settled, IsWant, IsSoundDurable, IsSound, IsAllowed}
+use Rattle.boss_model.specs.State.{Durable, Attachment, State}
+use Rattle.boss_model.specs.Submit.{submit, submit_refused}
+use Rattle.boss_model.specs.Target.{target, in_force}
+use Rattle.boss_model.specs.Time.{tick_to}
 use Rattle.boss_laws.proofs.ActSound.{tick-length, submit-next, renew-next, cancel-next, lost-next, faulted-next, enrol-sound}
 use Rattle.boss_laws.proofs.ConcludeSound.{IsNext}
 use Rattle.boss_laws.proofs.EndSound.{IsAt, at-tick}

@@ -4,24 +4,24 @@ use Rattle.std.specs.List.{filter, AllByRecursion, list_any}
 use Rattle.std.proofs.lemmas.List.{length-map}
 use Rattle.std.proofs.lemmas.Bool.{cond_both}
 use Rattle.std.proofs.lemmas.Bool.Decides.{nat_tests}
-use Rattle.boss_machine.specs.declared.command.Policy.{Policy}
-use Rattle.boss_machine.specs.declared.command.Setting.{Setting}
-use Rattle.boss_machine.specs.declared.notice.Cause.TheVariants as cause
-use Rattle.boss_machine.specs.declared.notice.What.TheVariants as what
-use Rattle.boss_machine.specs.declared.state.Actuator.{Actuator}
-use Rattle.boss_machine.specs.declared.state.Lease.{Lease}
-use Rattle.boss_machine.specs.declared.state.Pending.{Pending}
-use Rattle.boss_machine.specs.Ends.{shortened_if}
-use Rattle.boss_machine.specs.Groups.{courses_of}
-use Rattle.boss_machine.specs.Happenings.{lives}
-use Rattle.boss_machine.specs.Lists.{member}
-use Rattle.boss_machine.specs.Order.{comes_before, in_order}
-use Rattle.boss_machine.specs.Records.{End, Transaction}
-use Rattle.boss_machine.specs.Reversions.{reversion_of, courses}
-use Rattle.boss_machine.specs.Sound.{Distinct, holds, IsLease, IsPending, IsPast, IsPart, IsTransaction, has_part, is_kept, is_start, number_rank, IsSoundDurable}
-use Rattle.boss_machine.specs.State.{lease_slot, pending_slot, Durable}
-use Rattle.boss_machine.specs.Submit.{lease_of, granted, part_of, begun, is_taken, superseded, cut, superseded_end, submitted}
-use Rattle.boss_machine.specs.Time.{lease_of_part, part_after, record_after}
+use Rattle.boss_model.specs.declared.command.Policy.{Policy}
+use Rattle.boss_model.specs.declared.command.Setting.{Setting}
+use Rattle.boss_model.specs.declared.notice.Cause.TheVariants as cause
+use Rattle.boss_model.specs.declared.notice.What.TheVariants as what
+use Rattle.boss_model.specs.declared.state.Actuator.{Actuator}
+use Rattle.boss_model.specs.declared.state.Lease.{Lease}
+use Rattle.boss_model.specs.declared.state.Pending.{Pending}
+use Rattle.boss_model.specs.Ends.{shortened_if}
+use Rattle.boss_model.specs.Groups.{courses_of}
+use Rattle.boss_model.specs.Happenings.{lives}
+use Rattle.boss_model.specs.Lists.{member}
+use Rattle.boss_model.specs.Order.{comes_before, in_order}
+use Rattle.boss_model.specs.Records.{End, Transaction}
+use Rattle.boss_model.specs.Reversions.{reversion_of, courses}
+use Rattle.boss_model.specs.Sound.{Distinct, holds, IsLease, IsPending, IsPast, IsPart, IsTransaction, has_part, is_kept, is_start, number_rank, IsSoundDurable}
+use Rattle.boss_model.specs.State.{lease_slot, pending_slot, Durable}
+use Rattle.boss_model.specs.Submit.{lease_of, granted, part_of, begun, is_taken, superseded, cut, superseded_end, submitted}
+use Rattle.boss_model.specs.Time.{lease_of_part, part_after, record_after}
 use Rattle.boss_laws.proofs.ConcludeSound.{IsNews, IsNext, conclude-sound}
 use Rattle.boss_laws.proofs.Endings.{IsEnding, part-open-after, past-after, past-ending, points-same, numbers-same, part-open-stays, start-stays}
 use Rattle.boss_laws.proofs.EndSound.{IsAt, alive-not-done, news-append, ending-if}

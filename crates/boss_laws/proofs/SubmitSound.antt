@@ -3,21 +3,21 @@ use Rattle.std.proofs.Common.{◌≡◌, ℕ, ◌<◌, ◌≤◌, ◌==◌, List
 use Rattle.std.specs.List.{filter, AllByRecursion, list_any}
 use Rattle.std.proofs.lemmas.Bool.{cond_both}
 use Rattle.std.proofs.lemmas.Bool.Decides.{nat_tests}
-use Rattle.boss_machine.specs.declared.command.Policy.{Policy}
-use Rattle.boss_machine.specs.declared.command.Setting.{Setting}
-use Rattle.boss_machine.specs.declared.state.Actuator.{Actuator}
-use Rattle.boss_machine.specs.declared.state.Lease.{Lease}
-use Rattle.boss_machine.specs.declared.state.Pending.{Pending}
-use Rattle.boss_machine.specs.Ends.{shortened_if}
-use Rattle.boss_machine.specs.Happenings.{lives}
-use Rattle.boss_machine.specs.Lists.{member}
-use Rattle.boss_machine.specs.Order.{comes_before, put, in_order}
-use Rattle.boss_machine.specs.Records.{End, Transaction}
-use Rattle.boss_machine.specs.Reversions.{reversion_of}
-use Rattle.boss_machine.specs.Sound.{Rising, Distinct, holds, IsLease, has_part, is_kept}
-use Rattle.boss_machine.specs.State.{lease_slot, pending_slot}
-use Rattle.boss_machine.specs.Submit.{lease_of, part_of, is_taken}
-use Rattle.boss_machine.specs.Time.{live}
+use Rattle.boss_model.specs.declared.command.Policy.{Policy}
+use Rattle.boss_model.specs.declared.command.Setting.{Setting}
+use Rattle.boss_model.specs.declared.state.Actuator.{Actuator}
+use Rattle.boss_model.specs.declared.state.Lease.{Lease}
+use Rattle.boss_model.specs.declared.state.Pending.{Pending}
+use Rattle.boss_model.specs.Ends.{shortened_if}
+use Rattle.boss_model.specs.Happenings.{lives}
+use Rattle.boss_model.specs.Lists.{member}
+use Rattle.boss_model.specs.Order.{comes_before, put, in_order}
+use Rattle.boss_model.specs.Records.{End, Transaction}
+use Rattle.boss_model.specs.Reversions.{reversion_of}
+use Rattle.boss_model.specs.Sound.{Rising, Distinct, holds, IsLease, has_part, is_kept}
+use Rattle.boss_model.specs.State.{lease_slot, pending_slot}
+use Rattle.boss_model.specs.Submit.{lease_of, part_of, is_taken}
+use Rattle.boss_model.specs.Time.{live}
 use Rattle.boss_laws.proofs.Filters.{each-mapped, Apart}
 use Rattle.boss_laws.proofs.NotRefused.{IsWrite, level-number}
 use Rattle.boss_laws.proofs.Orders.{before-trans, each-map, each-both, each-append, each-put, each-in_order, each-unput, each-unordered, each-front, each-back}

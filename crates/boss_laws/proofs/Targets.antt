@@ -3,18 +3,18 @@ use Rattle.std.proofs.Common.{◌≡◌, ℕ, ◌+◌, ◌^◌, ◌≤◌, ◌==
 use Rattle.std.specs.Prelude.{unwrap_or}
 use Rattle.std.specs.List.{filter, fold, flat_map, AllByRecursion}
 use Rattle.std.proofs.lemmas.Bool.Decides.{nat_tests}
-use Rattle.boss_machine.specs.declared.command.Step.{Step}
-use Rattle.boss_machine.specs.declared.state.Actuator.{Actuator}
-use Rattle.boss_machine.specs.declared.state.Lease.{Lease}
-use Rattle.boss_machine.specs.declared.state.Pending.{Pending}
-use Rattle.boss_machine.specs.Catalogue.{default_of}
-use Rattle.boss_machine.specs.Happenings.{turned, reverted, happenings, done_last, coming, later}
-use Rattle.boss_machine.specs.Records.{Transaction}
-use Rattle.boss_machine.specs.Reversions.{hold, turns, value_from, value_at, courses}
-use Rattle.boss_machine.specs.Sound.{IsPending, IsSoundDurable}
-use Rattle.boss_machine.specs.State.{Durable}
-use Rattle.boss_machine.specs.Target.{in_force, playing, value_of, target_at, target}
-use Rattle.boss_machine.specs.Time.{due, tick_to}
+use Rattle.boss_model.specs.declared.command.Step.{Step}
+use Rattle.boss_model.specs.declared.state.Actuator.{Actuator}
+use Rattle.boss_model.specs.declared.state.Lease.{Lease}
+use Rattle.boss_model.specs.declared.state.Pending.{Pending}
+use Rattle.boss_model.specs.Catalogue.{default_of}
+use Rattle.boss_model.specs.Happenings.{turned, reverted, happenings, done_last, coming, later}
+use Rattle.boss_model.specs.Records.{Transaction}
+use Rattle.boss_model.specs.Reversions.{hold, turns, value_from, value_at, courses}
+use Rattle.boss_model.specs.Sound.{IsPending, IsSoundDurable}
+use Rattle.boss_model.specs.State.{Durable}
+use Rattle.boss_model.specs.Target.{in_force, playing, value_of, target_at, target}
+use Rattle.boss_model.specs.Time.{due, tick_to}
 use Rattle.boss_laws.proofs.Coming.{now_after, now_after-within, quiet}
 use Rattle.boss_laws.proofs.Filters.{each-unmapped, filter-filter, filter-none, each-always}
 use Rattle.boss_laws.proofs.NothingDue.{sound-timed, of-pending}

@@ -4,15 +4,15 @@ use Rattle.std.specs.List.{filter, fold, flat_map, AllByRecursion}
 use Rattle.std.proofs.lemmas.Grind.{fold-append}
 use Rattle.std.proofs.lemmas.Bool.{cond_both}
 use Rattle.std.proofs.lemmas.Bool.Decides.{nat_tests}
-use Rattle.boss_machine.specs.declared.state.Pending.{Pending}
-use Rattle.boss_machine.specs.declared.notice.Cause.TheVariants as cause
-use Rattle.boss_machine.specs.Happenings.{Happening, ended, rank, rank_of, happenings, lives, done_last, coming, finish, tell, later}
-use Rattle.boss_machine.specs.Lists.{member}
-use Rattle.boss_machine.specs.Records.{Transaction}
-use Rattle.boss_machine.specs.Reversions.{end_of, courses}
-use Rattle.boss_machine.specs.Sound.{Rising}
-use Rattle.boss_machine.specs.State.{pending_slot, Durable}
-use Rattle.boss_machine.specs.Time.{live, under_way, left, due, kept, record_after, expired, tick_to, tick}
+use Rattle.boss_model.specs.declared.state.Pending.{Pending}
+use Rattle.boss_model.specs.declared.notice.Cause.TheVariants as cause
+use Rattle.boss_model.specs.Happenings.{Happening, ended, rank, rank_of, happenings, lives, done_last, coming, finish, tell, later}
+use Rattle.boss_model.specs.Lists.{member}
+use Rattle.boss_model.specs.Records.{Transaction}
+use Rattle.boss_model.specs.Reversions.{end_of, courses}
+use Rattle.boss_model.specs.Sound.{Rising}
+use Rattle.boss_model.specs.State.{pending_slot, Durable}
+use Rattle.boss_model.specs.Time.{live, under_way, left, due, kept, record_after, expired, tick_to, tick}
 use Rattle.boss_laws.proofs.Coming.{all_of, now_after, now_after-within, quiet, coming-after}
 use Rattle.boss_laws.proofs.Courses.{courses-after}
 use Rattle.boss_laws.proofs.Filters.{filter-filter, filter-same, split}

@@ -3,22 +3,22 @@ use Rattle.std.proofs.Common.{◌≡◌, ℕ, ℤ, zero, suc, ◌^◌, ◌<◌, 
 use Rattle.std.specs.List.{filter, fold, flat_map, AllByRecursion}
 use Rattle.std.proofs.lemmas.Bool.{cond_both}
 use Rattle.std.proofs.lemmas.Bool.Decides.{nat_tests}
-use Rattle.boss_machine.specs.declared.command.Step.{Step}
-use Rattle.boss_machine.specs.declared.notice.Cause.TheVariants as cause
-use Rattle.boss_machine.specs.declared.notice.What.{What}
-use Rattle.boss_machine.specs.declared.state.Actuator.{Actuator}
-use Rattle.boss_machine.specs.declared.state.Lease.{Lease}
-use Rattle.boss_machine.specs.declared.state.Pending.{Pending}
-use Rattle.boss_machine.specs.Catalogue.{fits_at}
-use Rattle.boss_machine.specs.Happenings.{Happening, rank, turned, reverted, happenings, lives, last_end, done_last, coming, is_done, finish, tell, later}
-use Rattle.boss_machine.specs.Lists.{member}
-use Rattle.boss_machine.specs.Order.{comes_before, put, in_order}
-use Rattle.boss_machine.specs.Records.{Transaction}
-use Rattle.boss_machine.specs.Reversions.{over, turns, end_of, courses}
-use Rattle.boss_machine.specs.Sound.{Rising, is_superseded, IsLease, IsPending, IsKnown, is_kept, number_rank, IsSoundDurable}
-use Rattle.boss_machine.specs.State.{Durable}
-use Rattle.boss_machine.specs.Submit.{is_reversion}
-use Rattle.boss_machine.specs.Time.{live, under_way, left, due, kept, record_after, expired, tick_to}
+use Rattle.boss_model.specs.declared.command.Step.{Step}
+use Rattle.boss_model.specs.declared.notice.Cause.TheVariants as cause
+use Rattle.boss_model.specs.declared.notice.What.{What}
+use Rattle.boss_model.specs.declared.state.Actuator.{Actuator}
+use Rattle.boss_model.specs.declared.state.Lease.{Lease}
+use Rattle.boss_model.specs.declared.state.Pending.{Pending}
+use Rattle.boss_model.specs.Catalogue.{fits_at}
+use Rattle.boss_model.specs.Happenings.{Happening, rank, turned, reverted, happenings, lives, last_end, done_last, coming, is_done, finish, tell, later}
+use Rattle.boss_model.specs.Lists.{member}
+use Rattle.boss_model.specs.Order.{comes_before, put, in_order}
+use Rattle.boss_model.specs.Records.{Transaction}
+use Rattle.boss_model.specs.Reversions.{over, turns, end_of, courses}
+use Rattle.boss_model.specs.Sound.{Rising, is_superseded, IsLease, IsPending, IsKnown, is_kept, number_rank, IsSoundDurable}
+use Rattle.boss_model.specs.State.{Durable}
+use Rattle.boss_model.specs.Submit.{is_reversion}
+use Rattle.boss_model.specs.Time.{live, under_way, left, due, kept, record_after, expired, tick_to}
 use Rattle.boss_laws.proofs.Coming.{all_of, due_of, now_after, now_after-within, later-first, later-each}
 use Rattle.boss_laws.proofs.Courses.{courses-after, lives-last_end}
 use Rattle.boss_laws.proofs.Endings.{IsEnding, IsReverting, after_ending, ending-change}

@@ -1,9 +1,9 @@
 use Rattle.std.specs.Prelude.{Bool, true, false, Some}
-use Rattle.boss_machine.specs.declared.answer.Answer.{Answer}
-use Rattle.boss_machine.specs.declared.answer.Answer.TheVariants as answer
-use Rattle.boss_machine.specs.declared.answer.Mark.TheVariants as mark
-use Rattle.boss_machine.specs.declared.command.Command.{Command}
-use Rattle.boss_machine.specs.declared.command.Command.TheVariants as command
+use Rattle.boss_model.specs.declared.answer.Answer.{Answer}
+use Rattle.boss_model.specs.declared.answer.Answer.TheVariants as answer
+use Rattle.boss_model.specs.declared.answer.Mark.TheVariants as mark
+use Rattle.boss_model.specs.declared.command.Command.{Command}
+use Rattle.boss_model.specs.declared.command.Command.TheVariants as command
 
 -- commands that look at no device's mark and at no want
 abbrev pub is_apart_from_devices : Command → Bool

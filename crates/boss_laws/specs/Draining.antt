@@ -1,11 +1,11 @@
 use Rattle.std.specs.Prelude.{ℕ, Bool, List, [], ◌∷◌, Option, Some, None}
-use Rattle.boss_machine.specs.declared.answer.Answer.{Answer}
-use Rattle.boss_machine.specs.declared.answer.Answer.TheVariants as answer
-use Rattle.boss_machine.specs.declared.command.Command.TheVariants as command
-use Rattle.boss_machine.specs.declared.state.Actuator.{Actuator}
-use Rattle.boss_machine.specs.Devices.{wanting}
-use Rattle.boss_machine.specs.Machine.{step}
-use Rattle.boss_machine.specs.State.{State}
+use Rattle.boss_model.specs.declared.answer.Answer.{Answer}
+use Rattle.boss_model.specs.declared.answer.Answer.TheVariants as answer
+use Rattle.boss_model.specs.declared.command.Command.TheVariants as command
+use Rattle.boss_model.specs.declared.state.Actuator.{Actuator}
+use Rattle.boss_model.specs.Devices.{wanting}
+use Rattle.boss_model.specs.Machine.{step}
+use Rattle.boss_model.specs.State.{State}
 
 -- what follows an answer to Next: the device is written, and whether it took the value is reported at the same moment
 abbrev pub reported : List Actuator → ℕ → Bool → Answer → State → State

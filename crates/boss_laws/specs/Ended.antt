@@ -1,11 +1,11 @@
 use Rattle.std.specs.Prelude.{◌≡◌, ℕ, ◌≤◌, ℤ, List, map, Some}
-use Rattle.boss_machine.specs.declared.command.Command.{Command}
-use Rattle.boss_machine.specs.declared.command.Command.TheVariants as command
-use Rattle.boss_machine.specs.declared.notice.Cause.{Cause}
-use Rattle.boss_machine.specs.Lists.{first_some}
-use Rattle.boss_machine.specs.Records.{Transaction}
-use Rattle.boss_machine.specs.Renew.{transaction_of, named_parts}
-use Rattle.boss_machine.specs.State.{Durable}
+use Rattle.boss_model.specs.declared.command.Command.{Command}
+use Rattle.boss_model.specs.declared.command.Command.TheVariants as command
+use Rattle.boss_model.specs.declared.notice.Cause.{Cause}
+use Rattle.boss_model.specs.Lists.{first_some}
+use Rattle.boss_model.specs.Records.{Transaction}
+use Rattle.boss_model.specs.Renew.{transaction_of, named_parts}
+use Rattle.boss_model.specs.State.{Durable}
 
 -- The cause and the moment of the end that is kept, after a step at moment n, of the first of the parts that a renewal
 -- meant whose lease has ended; and that moment is no later than the one that is told, which is n.

@@ -1,12 +1,12 @@
 use Rattle.std.specs.Prelude.{ℕ, ◌==◌, ℤ, true, if◌then◌else◌, List, [], ◌∷◌, Option, Some, None}
-use Rattle.boss_machine.specs.declared.answer.Answer.{Answer}
-use Rattle.boss_machine.specs.declared.answer.Answer.TheVariants as answer
-use Rattle.boss_machine.specs.declared.command.Command.{Command}
-use Rattle.boss_machine.specs.declared.command.Command.TheVariants as command
-use Rattle.boss_machine.specs.declared.state.Actuator.{Actuator}
-use Rattle.boss_machine.specs.Machine.{step}
-use Rattle.boss_machine.specs.Run.{Call}
-use Rattle.boss_machine.specs.State.{State}
+use Rattle.boss_model.specs.declared.answer.Answer.{Answer}
+use Rattle.boss_model.specs.declared.answer.Answer.TheVariants as answer
+use Rattle.boss_model.specs.declared.command.Command.{Command}
+use Rattle.boss_model.specs.declared.command.Command.TheVariants as command
+use Rattle.boss_model.specs.declared.state.Actuator.{Actuator}
+use Rattle.boss_model.specs.Machine.{step}
+use Rattle.boss_model.specs.Run.{Call}
+use Rattle.boss_model.specs.State.{State}
 
 -- a value that was commanded, and its version
 pub record Sent : Type 0 where

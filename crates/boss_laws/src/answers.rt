@@ -1,9 +1,9 @@
 ghost use Rattle.std.specs.Prelude.{◌≡◌, ℕ, List, true};
-ghost use Rattle.boss_machine.specs.declared.command.Command.{Command};
-ghost use Rattle.boss_machine.specs.declared.command.Command.TheVariants as command;
-ghost use Rattle.boss_machine.specs.declared.state.Actuator.{Actuator};
-ghost use Rattle.boss_machine.specs.Machine.{step};
-ghost use Rattle.boss_machine.specs.State.{State};
+ghost use Rattle.boss_model.specs.declared.command.Command.{Command};
+ghost use Rattle.boss_model.specs.declared.command.Command.TheVariants as command;
+ghost use Rattle.boss_model.specs.declared.state.Actuator.{Actuator};
+ghost use Rattle.boss_model.specs.Machine.{step};
+ghost use Rattle.boss_model.specs.State.{State};
 ghost use Rattle.boss_laws.specs.Commands.{is_question, unmarked};
 
 /// What a question answers is a function of what outlasts a stop, of the question and of the moment: two states that agree

@@ -1,9 +1,9 @@
 ghost use Rattle.std.specs.Prelude.{◌≡◌, ℕ, ◌≤◌, ◌^◌, Bool, List, [], length};
-ghost use Rattle.boss_machine.specs.declared.state.Actuator.{Actuator};
-ghost use Rattle.boss_machine.specs.Sound.{IsSound, IsSoundDurable};
-ghost use Rattle.boss_machine.specs.State.{Durable, State};
-ghost use Rattle.boss_machine.specs.Target.{target, target_at};
-ghost use Rattle.boss_machine.specs.Time.{due, moment_of, tick, tick_to};
+ghost use Rattle.boss_model.specs.declared.state.Actuator.{Actuator};
+ghost use Rattle.boss_model.specs.Sound.{IsSound, IsSoundDurable};
+ghost use Rattle.boss_model.specs.State.{Durable, State};
+ghost use Rattle.boss_model.specs.Target.{target, target_at};
+ghost use Rattle.boss_model.specs.Time.{due, moment_of, tick, tick_to};
 ghost use Rattle.boss_laws.specs.Draining.{drain};
 
 /// Where nothing is due up to a moment, time changes nothing.

@@ -1,11 +1,11 @@
 ghost use Rattle.std.specs.Prelude.{◌≡◌, ℕ, ◌<◌, List, length, Some};
-ghost use Rattle.boss_machine.specs.declared.answer.Mark.TheVariants as mark;
-ghost use Rattle.boss_machine.specs.declared.state.Actuator.{Actuator};
-ghost use Rattle.boss_machine.specs.Devices.{proxy_of};
-ghost use Rattle.boss_machine.specs.Run.{Call, run};
-ghost use Rattle.boss_machine.specs.Settle.{opened};
-ghost use Rattle.boss_machine.specs.State.{Durable};
-ghost use Rattle.boss_machine.specs.Target.{target};
+ghost use Rattle.boss_model.specs.declared.answer.Mark.TheVariants as mark;
+ghost use Rattle.boss_model.specs.declared.state.Actuator.{Actuator};
+ghost use Rattle.boss_model.specs.Devices.{proxy_of};
+ghost use Rattle.boss_model.specs.Run.{Call, run};
+ghost use Rattle.boss_model.specs.Settle.{opened};
+ghost use Rattle.boss_model.specs.State.{Durable};
+ghost use Rattle.boss_model.specs.Target.{target};
 ghost use Rattle.boss_laws.specs.Heard.{last_heard, nothing_heard};
 
 /// In every run from an opened state, a point that is marked as settled has as its target the value that its device last

@@ -1,15 +1,15 @@
 ghost use Rattle.std.specs.Prelude.{◌≡◌, ℕ, ◌≤◌, ◌^◌, List, Some};
 ghost use Rattle.std.specs.List.{AllByRecursion};
-ghost use Rattle.boss_machine.specs.declared.command.Command.{Command};
-ghost use Rattle.boss_machine.specs.declared.event.Effect.TheVariants as effect;
-ghost use Rattle.boss_machine.specs.declared.event.Event.{Event};
-ghost use Rattle.boss_machine.specs.declared.state.Actuator.{Actuator};
-ghost use Rattle.boss_machine.specs.Acts.{replay};
-ghost use Rattle.boss_machine.specs.Effects.{event_of, step_effect};
-ghost use Rattle.boss_machine.specs.Machine.{step};
-ghost use Rattle.boss_machine.specs.Run.{Call, events, replay_all, run};
-ghost use Rattle.boss_machine.specs.Sound.{IsAllowed, IsSound};
-ghost use Rattle.boss_machine.specs.State.{State};
+ghost use Rattle.boss_model.specs.declared.command.Command.{Command};
+ghost use Rattle.boss_model.specs.declared.event.Effect.TheVariants as effect;
+ghost use Rattle.boss_model.specs.declared.event.Event.{Event};
+ghost use Rattle.boss_model.specs.declared.state.Actuator.{Actuator};
+ghost use Rattle.boss_model.specs.Acts.{replay};
+ghost use Rattle.boss_model.specs.Effects.{event_of, step_effect};
+ghost use Rattle.boss_model.specs.Machine.{step};
+ghost use Rattle.boss_model.specs.Run.{Call, events, replay_all, run};
+ghost use Rattle.boss_model.specs.Sound.{IsAllowed, IsSound};
+ghost use Rattle.boss_model.specs.State.{State};
 
 /// The effect of a step is `Unchanged` exactly where what outlasts a stop is as before. Else the step has an event, and
 /// this event, done again, makes of it what the step made.

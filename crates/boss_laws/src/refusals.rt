@@ -1,15 +1,15 @@
 ghost use Rattle.std.specs.Prelude.{◌≡◌, ℕ, ◌≤◌, ◌^◌, List};
-ghost use Rattle.boss_machine.specs.declared.answer.Answer.TheVariants as answer;
-ghost use Rattle.boss_machine.specs.declared.answer.Refusal.{Refusal};
-ghost use Rattle.boss_machine.specs.declared.answer.Refusal.TheVariants as refusal;
-ghost use Rattle.boss_machine.specs.declared.command.Command.{Command};
-ghost use Rattle.boss_machine.specs.declared.command.Command.TheVariants as command;
-ghost use Rattle.boss_machine.specs.declared.notice.Cause.{Cause};
-ghost use Rattle.boss_machine.specs.declared.state.Actuator.{Actuator};
-ghost use Rattle.boss_machine.specs.Machine.{step};
-ghost use Rattle.boss_machine.specs.Sound.{IsSoundDurable};
-ghost use Rattle.boss_machine.specs.State.{State};
-ghost use Rattle.boss_machine.specs.Time.{moment_of};
+ghost use Rattle.boss_model.specs.declared.answer.Answer.TheVariants as answer;
+ghost use Rattle.boss_model.specs.declared.answer.Refusal.{Refusal};
+ghost use Rattle.boss_model.specs.declared.answer.Refusal.TheVariants as refusal;
+ghost use Rattle.boss_model.specs.declared.command.Command.{Command};
+ghost use Rattle.boss_model.specs.declared.command.Command.TheVariants as command;
+ghost use Rattle.boss_model.specs.declared.notice.Cause.{Cause};
+ghost use Rattle.boss_model.specs.declared.state.Actuator.{Actuator};
+ghost use Rattle.boss_model.specs.Machine.{step};
+ghost use Rattle.boss_model.specs.Sound.{IsSoundDurable};
+ghost use Rattle.boss_model.specs.State.{State};
+ghost use Rattle.boss_model.specs.Time.{moment_of};
 ghost use Rattle.boss_laws.specs.Ended.{IsKeptEnd};
 
 /// A refused command is its tick, its retries and its settling: the whole state after it is that after a tick at its moment.

@@ -1,10 +1,10 @@
 ghost use Rattle.std.specs.Prelude.{◌≡◌, ℕ, ◌≤◌, ◌^◌, List};
-ghost use Rattle.boss_machine.specs.declared.command.Command.{Command};
-ghost use Rattle.boss_machine.specs.declared.state.Actuator.{Actuator};
-ghost use Rattle.boss_machine.specs.Machine.{step};
-ghost use Rattle.boss_machine.specs.Settle.{opened};
-ghost use Rattle.boss_machine.specs.Sound.{IsAllowed, IsSound, IsSoundDurable};
-ghost use Rattle.boss_machine.specs.State.{first_durable, Durable, State};
+ghost use Rattle.boss_model.specs.declared.command.Command.{Command};
+ghost use Rattle.boss_model.specs.declared.state.Actuator.{Actuator};
+ghost use Rattle.boss_model.specs.Machine.{step};
+ghost use Rattle.boss_model.specs.Settle.{opened};
+ghost use Rattle.boss_model.specs.Sound.{IsAllowed, IsSound, IsSoundDurable};
+ghost use Rattle.boss_model.specs.State.{first_durable, Durable, State};
 
 /// A step keeps a sound state sound, whoever sends the command and whatever it asks within its limits.
 pub fn a_step_keeps_a_sound_state_sound()

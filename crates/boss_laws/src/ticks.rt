@@ -1,11 +1,11 @@
 ghost use Rattle.std.specs.Prelude.{◌≡◌, ℕ, ◌≤◌, max, List, true};
-ghost use Rattle.boss_machine.specs.declared.command.Command.{Command};
-ghost use Rattle.boss_machine.specs.declared.command.Command.TheVariants as command;
-ghost use Rattle.boss_machine.specs.declared.state.Actuator.{Actuator};
-ghost use Rattle.boss_machine.specs.Machine.{step};
-ghost use Rattle.boss_machine.specs.Sound.{IsSoundDurable};
-ghost use Rattle.boss_machine.specs.State.{Durable, State};
-ghost use Rattle.boss_machine.specs.Time.{tick};
+ghost use Rattle.boss_model.specs.declared.command.Command.{Command};
+ghost use Rattle.boss_model.specs.declared.command.Command.TheVariants as command;
+ghost use Rattle.boss_model.specs.declared.state.Actuator.{Actuator};
+ghost use Rattle.boss_model.specs.Machine.{step};
+ghost use Rattle.boss_model.specs.Sound.{IsSoundDurable};
+ghost use Rattle.boss_model.specs.State.{Durable, State};
+ghost use Rattle.boss_model.specs.Time.{tick};
 ghost use Rattle.boss_laws.specs.Commands.{is_apart_from_devices, unmarked};
 
 /// Time may pass in turns: a tick after a tick is one tick to the later moment, for all that outlasts a stop.

@@ -1,160 +1,83 @@
-use Rattle.std.specs.Prelude.{ℕ, ◌+◌, ◌%◌, ◌^◌, max, ℤ, pos, unsigned_abs, Bool, true, false, not, ◌&&◌, ◌==◌, if◌then◌else◌, List, ◌++◌, map, filter, find, slice_get, slice_set, Option, Some, None, unwrap_or}
-use Rattle.std.specs.Option.{option_map_or}
-use Rattle.std.specs.List.{enumerate_from, list_any}
-use Rattle.std.specs.Ordering.{int_eq}
+use Rattle.std.specs.Prelude.{ℕ, List, Option, Some, None}
 use Rattle.boss_model.specs.declared.answer.Answer.{Answer}
 use Rattle.boss_model.specs.declared.answer.Answer.TheVariants as answer
 use Rattle.boss_model.specs.declared.answer.Refusal.TheVariants as refusal
-use Rattle.boss_model.specs.declared.answer.Mark.TheVariants.{Settled, Pending, Failed}
 use Rattle.boss_model.specs.declared.command.Command.{Command}
 use Rattle.boss_model.specs.declared.command.Command.TheVariants as command
-use Rattle.boss_model.specs.declared.command.Setting.{Setting}
-use Rattle.boss_model.specs.Catalogue.{Actuator, driver_of}
-use Rattle.boss_model.specs.Order.{in_order, least}
-use Rattle.boss_model.specs.State.{Lease, slot, Durable, Proxy, State, fresh}
-use Rattle.boss_model.specs.Target.{in_force, target, basis_of}
-use Rattle.boss_model.specs.Time.{tick}
+use Rattle.boss_model.specs.Catalogue.{Actuator}
+use Rattle.boss_model.specs.Devices.{Reply, proxy_of, next, report}
+use Rattle.boss_model.specs.Ends.{cancel, gone}
+use Rattle.boss_model.specs.Outcomes.{Outcome, refused, did}
+use Rattle.boss_model.specs.Processes.{process_of, attached_too, detached, process_named, number_of, attach}
+use Rattle.boss_model.specs.Queries.{reading, array, status, notices, notices_named}
+use Rattle.boss_model.specs.Renew.{renew}
+use Rattle.boss_model.specs.Settle.{retry, settle}
+use Rattle.boss_model.specs.State.{State}
+use Rattle.boss_model.specs.Submit.{submit}
+use Rattle.boss_model.specs.Time.{moment_of, tick_to}
 
--- an answer, and the state after it
-pub record Step : Type 0 where
-  pub answer : Answer
-  pub state : State
+-- ---- the commands, at a moment n up to which time has passed
 
-abbrev pub member : ℕ → List ℕ → Bool
-member point points = list_any (λ other. other == point) points
+abbrev pub answered : Answer → State → Reply
+answered given s = record { answer = given; state = s }
 
--- the list without a point
-abbrev pub without : ℕ → List ℕ → List ℕ
-without point points = filter (λ other. not (other == point)) points
+abbrev pub after : State → Outcome → Reply
+after s (refused why) = answered (answer.Refused why) s
+after s (did given d) = record { answer = given; state = record s { durable = d } }
 
--- ---- settling: what has to be told to the devices
+-- by the process that the session holds
+abbrev pub if_attached : Option ℕ → (ℕ → Reply) → State → Reply
+if_attached None go s = answered (answer.Refused refusal.NotAttached) s
+if_attached (Some process) go s = go process
 
--- the point's target is no longer the value that its device was last told
-abbrev pub is_moved : List Actuator → List Lease → (ℕ × Proxy) → Bool
-is_moved plant leases place = not (int_eq (target plant leases place.0) place.1.commanded)
+abbrev pub as_process : ℕ → State → (ℕ → Reply) → Reply
+as_process session s go = if_attached (process_of s.attached session) go s
 
--- a new version of the point, with its target as the commanded value
-abbrev pub recommand : ℤ → Proxy → Proxy
-recommand value proxy = record { version = (proxy.version + 1) % 2 ^ 64; commanded = value; mark = Pending }
+-- an attach that is not refused attaches the session to the process
+abbrev pub joined : ℕ → ℕ → State → Outcome → Reply
+joined session process s (refused why) = answered (answer.Refused why) s
+joined session process s (did given d) =
+    record { answer = given; state = record s { durable = d; attached = attached_too session process s.attached } }
 
-abbrev pub settled_proxy : List Actuator → List Lease → (ℕ × Proxy) → Proxy
-settled_proxy plant leases place = if is_moved plant leases place then recommand (target plant leases place.0) place.1 else place.1
+-- a process that is lost is held by no session
+abbrev pub parted : ℕ → State → Outcome → Reply
+parted session s (refused why) = answered (answer.Refused why) s
+parted session s (did given d) =
+    record { answer = given; state = record s { durable = d; attached = detached session s.attached } }
 
--- the points that moved, rising
-abbrev pub moved : List Actuator → List Lease → List Proxy → List ℕ
-moved plant leases proxies = map (λ place. place.0) (filter (is_moved plant leases) (enumerate_from 0 proxies))
+-- the notices of the process of a name, or of the session's own
+abbrev pub notices_asked : Option (List ℕ) → ℕ → ℕ → ℕ → State → Reply
+notices_asked (Some name) session from most s = answered (notices_named name from most s.durable) s
+notices_asked None session from most s = as_process session s (λ process. answered (notices (Some process) from most s.durable) s)
 
--- these points stand last among the wants; an older want of theirs is taken out
-abbrev pub wanted_anew : List ℕ → List ℕ → List ℕ
-wanted_anew points wants = filter (λ want. not (member want points)) wants ++ points
+abbrev pub act : List Actuator → ℕ → ℕ → Command → State → Reply
+act plant session n (command.Attach name) s =
+    joined session (number_of s.durable.processes (process_named s.durable.processes name)) s (attach session name s.attached n s.durable)
+act plant session n (command.Submit writes policy) s =
+    as_process session s (λ owner. after s (submit plant owner policy writes n s.durable))
+act plant session n (command.Renew txn length points) s =
+    as_process session s (λ owner. after s (renew owner txn length points n s.durable))
+act plant session n (command.Cancel txn) s = as_process session s (λ owner. after s (cancel owner txn n s.durable))
+act plant session n command.Gone s = as_process session s (λ owner. parted session s (gone owner n s.durable))
+act plant session n command.Tick s = answered (answer.Ticked s.durable.now) s
+act plant session n (command.Next driver) s = next plant driver s
+act plant session n (command.Report point version ok) s = report n point version ok s
+act plant session n (command.Read point) s = answered (reading plant point (proxy_of s.proxies point).mark s.durable) s
+act plant session n (command.Array point) s = answered (array point s.durable) s
+act plant session n (command.Status txn) s = answered (status txn s.durable) s
+act plant session n (command.Notices name from most) s = notices_asked name session from most s
 
--- every point is compared, and those that moved want their device to be written
-abbrev pub settle : List Actuator → State → State
-settle plant s = record s {
-  proxies = map (settled_proxy plant s.durable.leases) (enumerate_from 0 s.proxies);
-  wants = wanted_anew (moved plant s.durable.leases s.proxies) s.wants;
-}
+-- ---- a step: time passes, failed devices are tried again, the points settle, the command acts, and the points settle again
 
--- ---- the commands, at moment n
-
--- the lease that a write gets. (In a write that is allowed, neither number is negative.)
-abbrev pub lease_of : ℕ → ℕ → Setting → Lease
-lease_of txn n setting = record {
-  txn = txn;
-  point = setting.point;
-  priority = unsigned_abs setting.priority;
-  value = setting.value;
-  until = n + unsigned_abs setting.lease;
-}
-
-abbrev pub granted : ℕ → ℕ → List Setting → List Lease
-granted txn n writes = map (lease_of txn n) writes
-
--- one of the new leases takes this lease's slot
-abbrev pub is_superseded : List Lease → Lease → Bool
-is_superseded new lease = list_any (λ other. (other.point == lease.point) && (other.priority == lease.priority)) new
-
--- the new leases take their slots, and whatever lease stood there is gone
-abbrev pub supersede : List Lease → List Lease → List Lease
-supersede new leases = in_order slot (new ++ filter (λ lease. not (is_superseded new lease)) leases)
-
--- the first moment at which one of these leases ends
-abbrev pub first_end : List Lease → ℕ
-first_end leases = option_map_or (λ lease. lease.until) (least (λ lease. lease.until) leases) 0
-
-abbrev pub submitted : ℕ → List Setting → Durable → Durable
-submitted n writes durable = record {
-  now = n;
-  next = durable.next + 1;
-  leases = supersede (granted durable.next n writes) durable.leases;
-}
-
-abbrev pub submit : ℕ → List Setting → State → Step
-submit n writes s = if s.durable.next == 2 ^ 62
-    then record { answer = answer.Refused refusal.Spent; state = s }
-    else record {
-      answer = answer.Accepted s.durable.next (first_end (granted s.durable.next n writes));
-      state = record s { durable = submitted n writes s.durable };
-    }
-
--- where a point's device stands; an unknown point has none, and no command of an unknown point is allowed
-abbrev pub proxy_of : List Proxy → ℕ → Proxy
-proxy_of proxies point = unwrap_or (slice_get proxies point) (fresh (pos 0))
-
--- the driver's first want is handed out
-abbrev pub hand_out : Option ℕ → State → Step
-hand_out None s = record { answer = answer.Nothing; state = s }
-hand_out (Some point) s = record {
-  answer = answer.Want point (proxy_of s.proxies point).version (proxy_of s.proxies point).commanded;
-  state = record s { wants = without point s.wants };
-}
-
-abbrev pub next : List Actuator → ℕ → State → Step
-next plant driver s = hand_out (find (λ point. driver_of plant point == driver) s.wants) s
-
--- a report counts if it is of the present version, and the point does not want to be written anew
-abbrev pub is_current : ℕ → ℕ → State → Bool
-is_current point version s = ((proxy_of s.proxies point).version == version) && not (member point s.wants)
-
-abbrev pub marked : Bool → Proxy → Proxy
-marked ok proxy = record proxy { mark = if ok then Settled else Failed }
-
-abbrev pub report : ℕ → ℕ → Bool → State → Step
-report point version ok s = if is_current point version s
-    then record {
-      answer = answer.Noted true;
-      state = record s { proxies = slice_set s.proxies point (marked ok (proxy_of s.proxies point)) };
-    }
-    else record { answer = answer.Noted false; state = s }
-
-abbrev pub read : List Actuator → ℕ → State → Step
-read plant point s = record {
-  answer = answer.Reading point (target plant s.durable.leases point) (basis_of (in_force s.durable.leases point)) (proxy_of s.proxies point).mark;
-  state = s;
-}
-
-abbrev pub act : List Actuator → ℕ → Command → State → Step
-act plant n (command.Submit writes policy) s = submit n writes s
-act plant n (command.Next driver) s = next plant driver s
-act plant n (command.Report point version ok) s = report point version ok s
-act plant n (command.Read point) s = read plant point s
-
--- ---- a step: time passes, the points settle, the command acts, and the points settle again
-
--- moments never go back
-abbrev pub moment_of : State → ℕ → ℕ
-moment_of s moment = max s.durable.now moment
+abbrev pub ticked : ℕ → State → State
+ticked n s = record s { durable = tick_to n s.durable }
 
 abbrev pub pass_time : List Actuator → ℕ → State → State
-pass_time plant n s = settle plant (record s { durable = tick n s.durable })
+pass_time plant n s = settle plant (retry n (ticked n s))
 
-abbrev pub settle_after : List Actuator → Step → Step
-settle_after plant done = record done { state = settle plant done.state }
+abbrev pub settle_after : List Actuator → Reply → Reply
+settle_after plant reply = record reply { state = settle plant reply.state }
 
-unfoldable pub step : List Actuator → ℕ → Command → ℕ → State → Step
+unfoldable pub step : List Actuator → ℕ → Command → ℕ → State → Reply
 step plant session command moment s =
-    let n = moment_of s moment in settle_after plant (act plant n command (pass_time plant n s))
-
--- the least driver that has a want
-abbrev pub wanting : List Actuator → State → Option ℕ
-wanting plant s = least (λ driver. driver) (map (driver_of plant) s.wants)
+    let n = moment_of s.durable moment in settle_after plant (act plant session n command (pass_time plant n s))

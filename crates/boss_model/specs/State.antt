@@ -1,41 +1,52 @@
-use Rattle.std.specs.Prelude.{ℕ, ℤ, List, [], ◌∷◌, map, length}
-use Rattle.std.specs.List.{range_with_len}
-use Rattle.boss_model.specs.declared.answer.Mark.TheVariants.{Pending}
-use Rattle.boss_model.specs.Catalogue.{Actuator}
--- a lease: transaction `txn` holds the slot (point, priority) at this value as long as the moment is before `until`
+use Rattle.std.specs.Prelude.{ℕ, List, [], ◌∷◌}
+use Rattle.boss_model.specs.declared.notice.Notice.{Notice}
+use Rattle.boss_model.specs.Records.{Transaction}
+-- a lease: the transaction holds the slot (point, priority) at this value as long as the moment is before `until`
 pub use Rattle.boss_model.specs.declared.state.Lease.{Lease}
--- where a point's device stands: the version of its commanded value, that value, and how far the device has come
+-- a reversion under way: it keeps the slot of the lease whose end was its start
+pub use Rattle.boss_model.specs.declared.state.Pending.{Pending}
+-- where a point's device stands: the version of its commanded value, that value, how far the device has come, whether it
+-- has failed to take this version, and when it is written again if it failed
 pub use Rattle.boss_model.specs.declared.state.Proxy.{Proxy}
 
--- a slot of a priority array, in the order of points and then of priorities
-abbrev pub slot : Lease → List ℕ
-slot lease = lease.point ∷ lease.priority ∷ []
+-- a control process: its name, how many notices it was sent, and the last 1,024 of them. Processes go by their places.
+pub record Process : Type 0 where
+  pub name : List ℕ
+  pub count : ℕ
+  pub kept : List Notice
 
--- what outlasts a stop: the moment of the last change, the next transaction's number, and the leases in order of slots
+-- What outlasts a stop. `now` is the moment of the last change, `next` the number of the next transaction; leases and
+-- pending reversions stand in order of slots, transactions in order of number; `done` has the last 1,024 transactions that
+-- became done, in the order of becoming done.
 pub record Durable : Type 0 where
   pub now : ℕ
   pub next : ℕ
   pub leases : List Lease
+  pub pending : List Pending
+  pub txns : List Transaction
+  pub done : List ℕ
+  pub processes : List Process
 
--- the whole state: beside the durable part one proxy a point, and the points that want their device to be written, in
--- order of arrival
+-- a session that holds a process
+pub record Attachment : Type 0 where
+  pub session : ℕ
+  pub process : ℕ
+
+-- the whole state: beside the durable part who is attached, one proxy a point, and the points that want their device to be
+-- written, in order of arrival
 pub record State : Type 0 where
   pub durable : Durable
+  pub attached : List Attachment
   pub proxies : List Proxy
   pub wants : List ℕ
 
+-- slots of priority arrays, in the order of points and then of priorities
+abbrev pub lease_slot : Lease → List ℕ
+lease_slot lease = lease.point ∷ lease.priority ∷ []
+
+abbrev pub pending_slot : Pending → List ℕ
+pending_slot reversion = reversion.point ∷ reversion.priority ∷ []
+
 -- before anything was done
 abbrev pub first_durable : Durable
-first_durable = record { now = 0; next = 1; leases = [] }
-
--- a point whose device has not been told anything yet
-abbrev pub fresh : ℤ → Proxy
-fresh value = record { version = 1; commanded = value; mark = Pending }
-
--- the first state: every point wants its default
-abbrev pub first_state : List Actuator → State
-first_state plant = record {
-  durable = first_durable;
-  proxies = map (λ actuator. fresh actuator.default) plant;
-  wants = range_with_len 0 (length plant);
-}
+first_durable = record { now = 0; next = 1; leases = []; pending = []; txns = []; done = []; processes = [] }

@@ -1,6 +1,7 @@
-use crate::{DriverId, Items, PointId};
+use crate::{DriverId, Items, Name, PointId, Txn};
 
-/// A step of a reversion: what a point is set to, and for how long.
+/// A step of a reversion: what a point is set to, and for how long. Reversion sequences are those of BOSS
+/// (Dawson-Haggerty et al., NSDI 2013); their form as values that are held in turn is this machine's own.
 #[derive(Clone, Copy, Debug, PartialEq, Eq)]
 pub struct Step {
     /// The set-point, as for a write.
@@ -21,27 +22,47 @@ pub struct Setting {
     pub priority: i64,
     /// How long the write holds its slot unless it is renewed, in milliseconds: 1 to 604,800,000.
     pub lease: i64,
-    /// What is played when the lease ends otherwise than by supersession; empty for nothing.
+    /// What is played when the lease ends otherwise than by supersession: at most 8 steps, none for nothing.
     pub revert: Items<Step>,
 }
 
-/// What becomes of a transaction when a device refuses the value of one of its leases that is in force.
+/// What becomes of a transaction when a device refuses the value of one of its leases that is in force: the error
+/// policy of BOSS (Dawson-Haggerty et al., NSDI 2013).
 #[derive(Clone, Copy, Debug, PartialEq, Eq)]
 pub enum Policy {
-    /// All its live leases end.
+    /// Its owner is told, and all its live leases end.
     Abort,
     /// Its owner is told, and it goes on.
     Keep,
 }
 
-/// What the transaction manager may be asked.
+/// What the transaction manager may be asked, by a session and at a moment.
 #[derive(Debug, Drop)]
 pub enum Command {
-    /// Write set-points on several points, all or none.
+    /// Become the control process of this name; a name that is not known yet is that of a new process.
+    Attach {
+        name: Name,
+    },
+    /// Write set-points on several points, all or none, as a transaction of the session's process: 1 to 32 writes.
     Submit {
         writes: Items<Setting>,
         policy: Policy,
     },
+    /// Keep leases of a transaction for at least `length` more milliseconds, 1 to 604,800,000: those on the named
+    /// points, at most 32, or all its leases where none is named. All of them or none.
+    Renew {
+        txn: Txn,
+        length: i64,
+        points: Items<PointId>,
+    },
+    /// End all live leases of a transaction of the session's process.
+    Cancel {
+        txn: Txn,
+    },
+    /// The session's process is lost: all its live leases end, and the session no longer holds it.
+    Gone,
+    /// Let time pass up to the moment, and do no more.
+    Tick,
     /// Tell a driver's next want.
     Next {
         driver: DriverId,
@@ -52,8 +73,23 @@ pub enum Command {
         version: u64,
         ok: bool,
     },
-    /// Read the value that a point is commanded to.
+    /// Read the value that a point is to have: its Present_Value (ASHRAE 135, clause 19.2).
     Read {
         point: PointId,
+    },
+    /// Read the sixteen slots of a point: its Priority_Array (ASHRAE 135, clause 19.2).
+    Array {
+        point: PointId,
+    },
+    /// Ask how far a transaction has come.
+    Status {
+        txn: Txn,
+    },
+    /// Ask for notices of the process of this name, or of the session's own where none is given: at most `max` of them,
+    /// 1 to 64, from the number `from` on, which is at least 1.
+    Notices {
+        name: Option<Name>,
+        from: u64,
+        max: u64,
     },
 }

@@ -1,9 +1,11 @@
-//! What `bossd` speaks of: points, priorities, leases, commands and answers, and in `specs/` what they mean.
+//! What `bossd` speaks of: points, priorities, leases, commands, answers and notices, and in `specs/` the whole lease machine
+//! in definitions. `proofs/` computes worked timelines from them.
 #![tactic(auto)]
 
 mod answer;
 mod buffer;
 mod command;
+mod event;
 mod items;
 mod memory;
 mod name;
@@ -11,16 +13,18 @@ mod notice;
 mod numbers;
 mod point;
 mod state;
+
 #[cfg(test)]
 mod tests;
 
-pub use answer::{Answer, Basis, Mark, Refusal};
+pub use answer::{Answer, Basis, Mark, Refusal, Slot, Slots};
 pub use buffer::Buffer;
 pub use command::{Command, Policy, Setting, Step};
+pub use event::{Act, Effect, Event};
 pub use items::Items;
 pub use memory::NoMemory;
 pub use name::Name;
 pub use notice::{Cause, Notice, Stage, What};
 pub use numbers::{DriverId, PointId, Priority, ProcId, SessionId, Txn};
 pub use point::Kind;
-pub use state::{Actuator, Lease, Proxy};
+pub use state::{Actuator, Lease, Pending, Proxy};

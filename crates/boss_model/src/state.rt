@@ -1,4 +1,4 @@
-use crate::{DriverId, Kind, Mark, PointId, Priority, Txn};
+use crate::{DriverId, Items, Kind, Mark, PointId, Policy, Priority, ProcId, Step, Txn};
 
 /// What the transaction manager knows of a point, apart from its name.
 #[derive(Clone, Copy, Debug, PartialEq, Eq)]
@@ -11,11 +11,14 @@ pub struct Actuator {
     pub driver: DriverId,
 }
 
-/// A slot of a point's priority array that a transaction holds until its lease ends.
-#[derive(Clone, Copy, Debug, PartialEq, Eq)]
+/// A slot of a point's priority array that a transaction holds until its lease ends. (Leases on actuators are those of
+/// BOSS: Dawson-Haggerty et al., NSDI 2013; the slot is that of ASHRAE 135, clause 19.2.)
+#[derive(Debug, Drop)]
 pub struct Lease {
     /// The transaction that holds the slot.
     pub txn: Txn,
+    /// The process that submitted the transaction.
+    pub owner: ProcId,
     /// The slot's point.
     pub point: PointId,
     /// The slot's level.
@@ -24,6 +27,27 @@ pub struct Lease {
     pub value: i64,
     /// The lease is live at each moment before this one, in milliseconds.
     pub until: u64,
+    /// What is played from the moment at which the lease ends, unless it is superseded: at most 8 steps.
+    pub revert: Items<Step>,
+    /// The error policy of the transaction.
+    pub policy: Policy,
+}
+
+/// A reversion under way: it keeps the slot of its lease, and ranks below every live lease of the point.
+#[derive(Debug, Drop)]
+pub struct Pending {
+    /// The transaction whose lease held the slot.
+    pub txn: Txn,
+    /// The process that submitted the transaction.
+    pub owner: ProcId,
+    /// The slot's point.
+    pub point: PointId,
+    /// The slot's level.
+    pub priority: Priority,
+    /// What is played, one step after another from `start` on: 1 to 8 steps.
+    pub steps: Items<Step>,
+    /// The moment at which the lease ended, in milliseconds.
+    pub start: u64,
 }
 
 /// Where a point's device stands.
@@ -35,4 +59,8 @@ pub struct Proxy {
     pub commanded: i64,
     /// How far the device has come.
     pub mark: Mark,
+    /// Whether the device has failed to take the commanded value since it was commanded.
+    pub failed: bool,
+    /// The first moment at which a device that failed is written again, in milliseconds.
+    pub retry_at: u64,
 }

@@ -1,6 +1,6 @@
 use Rattle.std.proofs.Common.{arith, ◌≤◌}
-use Rattle.boss_machine.specs.Reversions.{courses}
-use Rattle.boss_machine.specs.Time.{tick_to}
+use Rattle.boss_model.specs.Reversions.{courses}
+use Rattle.boss_model.specs.Time.{tick_to}
 use Rattle.boss_laws.proofs.Coming.{now_after-within}
 use Rattle.boss_laws.proofs.NothingDue.{sound-timed}
 use Rattle.boss_laws.proofs.Targets.{none-due}

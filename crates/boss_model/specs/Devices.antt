@@ -1,0 +1,68 @@
+use Rattle.std.specs.Prelude.{ℕ, ◌+◌, ◌==◌, pos, Bool, true, false, not, ◌&&◌, if◌then◌else◌, List, map, find, Option, Some, None, slice_get, slice_set, unwrap_or}
+use Rattle.boss_model.specs.declared.answer.Answer.{Answer}
+use Rattle.boss_model.specs.declared.answer.Answer.TheVariants as answer
+use Rattle.boss_model.specs.declared.answer.Mark.TheVariants as mark
+use Rattle.boss_model.specs.Catalogue.{Actuator, driver_of}
+use Rattle.boss_model.specs.Ends.{faulted}
+use Rattle.boss_model.specs.Lists.{member, without}
+use Rattle.boss_model.specs.Order.{least}
+use Rattle.boss_model.specs.Settle.{fresh}
+use Rattle.boss_model.specs.State.{Proxy, Durable, State}
+use Rattle.boss_model.specs.Target.{in_force}
+
+-- an answer, and the state after it
+pub record Reply : Type 0 where
+  pub answer : Answer
+  pub state : State
+
+-- where a point's device stands; an unknown point has none, and no command of an unknown point is allowed
+abbrev pub proxy_of : List Proxy → ℕ → Proxy
+proxy_of proxies point = unwrap_or (slice_get proxies point) (fresh (pos 0))
+
+-- ---- the driver's first want is handed out
+
+abbrev pub hand_out : Option ℕ → State → Reply
+hand_out None s = record { answer = answer.Nothing; state = s }
+hand_out (Some point) s = record {
+  answer = answer.Want point (proxy_of s.proxies point).version (proxy_of s.proxies point).commanded;
+  state = record s { wants = without point s.wants };
+}
+
+abbrev pub next : List Actuator → ℕ → State → Reply
+next plant driver s = hand_out (find (λ point. driver_of plant point == driver) s.wants) s
+
+-- the least driver that has a want
+abbrev pub wanting : List Actuator → State → Option ℕ
+wanting plant s = least (λ driver. driver) (map (driver_of plant) s.wants)
+
+-- ---- reports
+
+-- a report counts if it is of the present version, and the point does not want to be written anew
+abbrev pub is_current : ℕ → ℕ → State → Bool
+is_current point version s = ((proxy_of s.proxies point).version == version) && not (member point s.wants)
+
+-- in milliseconds, the time after which a device that failed is written again
+abbrev pub retry_after : ℕ
+retry_after = 5000
+
+abbrev pub taken : Proxy → Proxy
+taken proxy = record proxy { mark = mark.Settled }
+
+abbrev pub not_taken : ℕ → Proxy → Proxy
+not_taken n proxy = record proxy { mark = mark.Failed; failed = true; retry_at = n + retry_after }
+
+-- only the first failure of a version concerns a process
+abbrev pub faulted_first : Bool → ℕ → ℕ → Durable → Durable
+faulted_first failed point n d = if failed then d else faulted (in_force d.leases point) n d
+
+abbrev pub heard : ℕ → ℕ → Bool → State → State
+heard n point true s = record s { proxies = slice_set s.proxies point (taken (proxy_of s.proxies point)) }
+heard n point false s = record s {
+  durable = faulted_first (proxy_of s.proxies point).failed point n s.durable;
+  proxies = slice_set s.proxies point (not_taken n (proxy_of s.proxies point));
+}
+
+abbrev pub report : ℕ → ℕ → ℕ → Bool → State → Reply
+report n point version ok s = if is_current point version s
+    then record { answer = answer.Noted true; state = heard n point ok s }
+    else record { answer = answer.Noted false; state = s }
