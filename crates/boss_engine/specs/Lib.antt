@@ -1,5 +1,2 @@
-pub mod Inside
-pub mod Machine
-pub mod Running
-pub mod Wants
-pub mod Writes
+pub mod Playing
+pub mod Slots

@@ -1,14 +1,6 @@
-//! The transaction manager's machine: leases on the slots of priority arrays, and what the devices have to be told.
+//! The transaction manager's machine: leases on the slots of priority arrays, the reversions that follow them, what processes
+//! are told, and what the devices have to be told.
 #![tactic(auto)]
 
-mod engine;
-mod machine;
-mod settling;
-mod slots;
+mod reversions;
 mod target;
-mod time;
-
-pub use engine::Engine;
-
-#[cfg(test)]
-mod tests;

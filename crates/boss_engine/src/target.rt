@@ -1,64 +1,152 @@
-ghost use Rattle.std.specs.Prelude.{◌≡◌, ◌<◌, ◌==◌, if◌then◌else◌, length};
-ghost use Rattle.boss_model.specs.Catalogue.{default_of, driver_of};
-ghost use Rattle.boss_model.specs.Order.{kept};
-ghost use Rattle.boss_model.specs.Target.{in_force, target, basis_of};
+ghost use Rattle.std.specs.Prelude.{◌≡◌, ◌<◌, length, option_copied, Some};
+ghost use Rattle.std.specs.List.{AllByRecursion};
+ghost use Rattle.boss_model.specs.Catalogue.{default_of};
+ghost use Rattle.boss_model.specs.Queries.{playing_slot};
+ghost use Rattle.boss_model.specs.Target.{basis_of, in_force, playing, value_of};
+ghost use Rattle.boss_engine.specs.Playing.{IsPlayable};
+ghost use Rattle.boss_engine.specs.Slots.{slot_in, slots_in};
 
-use boss_model::{Actuator, Basis, DriverId, Lease, PointId};
+use crate::reversions::{end_of, value_at};
+use boss_model::{Actuator, Basis, Lease, Pending, PointId, Priority, Slot, Slots};
 
 /// The lease in force on a point.
-pub fn lease_in_force(leases: &[Lease], point: PointId) -> Option<Lease>
-    ensures { result ≡ in_force leases.now point }
+pub fn in_force(leases: &[Lease], point: PointId) -> Option<&Lease>
+    ensures { option_copied result ≡ in_force leases.now point }
 {
     let mut found = None;
     for lease in leases {
-        found = stronger_on(point, found, *lease);
+        if lease.point == point {
+            found = Some(stronger_lease(found, lease));
+        }
     }
     found
 }
 
-/// Of the lease found so far and a further one, the one that counts on a point.
-fn stronger_on(point: PointId, found: Option<Lease>, lease: Lease) -> Option<Lease>
-    ensures { result ≡ (if lease.point == point then Some (kept (λ x. x.priority) found lease) else found) }
-{
-    if lease.point != point {
-        return found;
-    }
+/// Of the lease found so far and a further one, the one that counts.
+fn stronger_lease<'a>(found: Option<&'a Lease>, lease: &'a Lease) -> &'a Lease {
     match found {
-        Some(first) if first.priority <= lease.priority => Some(first),
-        _ => Some(lease),
+        Some(first) if first.priority <= lease.priority => first,
+        _ => lease,
     }
 }
 
-/// The value that the point is to have.
-pub fn target_of(plant: &[Actuator], leases: &[Lease], point: PointId) -> i64
-    requires { point < length plant.now }
-    ensures { result ≡ target plant.now leases.now point }
+/// Of the reversions under way on a point the one that counts where there is no lease.
+pub fn playing(pending: &[Pending], point: PointId) -> Option<&Pending>
+    ensures { option_copied result ≡ playing pending.now point }
 {
-    match lease_in_force(leases, point) {
-        Some(lease) => lease.value,
-        None => plant[point.0 as usize].default,
+    let mut found = None;
+    for reversion in pending {
+        if reversion.point == point {
+            found = Some(stronger_reversion(found, reversion));
+        }
+    }
+    found
+}
+
+/// Of the reversion found so far and a further one, the one that counts.
+fn stronger_reversion<'a>(found: Option<&'a Pending>, reversion: &'a Pending) -> &'a Pending {
+    match found {
+        Some(first) if first.priority <= reversion.priority => first,
+        _ => reversion,
+    }
+}
+
+/// The value that a point is to have at a moment up to which nothing more is due.
+pub fn target_of(
+    plant: &[Actuator],
+    leases: &[Lease],
+    pending: &[Pending],
+    now: u64,
+    point: PointId,
+) -> i64
+    requires point { point < length plant.now }
+    requires pending { AllByRecursion IsPlayable pending.now }
+    ensures { result ≡ value_of (default_of plant.now point) now (in_force leases.now point) (playing pending.now point) }
+{
+    let default = plant[point.0 as usize].default;
+    if let Some(lease) = in_force(leases, point) {
+        return lease.value;
+    }
+    match playing(pending, point) {
+        Some(reversion) => value_or(reversion, now, default),
+        None => default,
+    }
+}
+
+/// The reversion's value, or the default where it has none.
+fn value_or(reversion: &Pending, now: u64, default: i64) -> i64 {
+    match value_at(reversion, now) {
+        Some(value) => value,
+        None => default,
     }
 }
 
 /// What that value rests on.
-pub fn basis(leases: &[Lease], point: PointId) -> Basis
-    ensures { result ≡ basis_of (in_force leases.now point) }
+pub fn basis_of(leases: &[Lease], pending: &[Pending], point: PointId) -> Basis
+    ensures { result ≡ basis_of (in_force leases.now point) (playing pending.now point) }
 {
-    match lease_in_force(leases, point) {
-        Some(lease) => Basis::Lease {
+    if let Some(lease) = in_force(leases, point) {
+        return Basis::Lease {
             priority: lease.priority,
             txn: lease.txn,
+        };
+    }
+    match playing(pending, point) {
+        Some(reversion) => Basis::Pending {
+            priority: reversion.priority,
+            txn: reversion.txn,
         },
         None => Basis::Default,
     }
 }
 
-/// The driver of a point's device; 0 for a point that is not there.
-pub fn driver_at(plant: &[Actuator], point: PointId) -> DriverId
-    ensures { result ≡ driver_of plant.now point }
+/// The sixteen slots of a point.
+pub fn slots_of(leases: &[Lease], pending: &[Pending], now: u64, point: PointId) -> Slots
+    requires { AllByRecursion IsPlayable pending.now }
+    ensures { result.at ≡ slots_in leases.now pending.now now point }
 {
-    match plant.get(point.0 as usize) {
-        Some(actuator) => actuator.driver,
-        None => DriverId(0),
+    let mut at = [Slot::Empty; 16];
+    for place in 0..16 {
+        at[place] = slot_in(leases, pending, now, point, Priority(place as u8 + 1));
+    }
+    Slots { at }
+}
+
+/// A slot of a point.
+fn slot_in(leases: &[Lease], pending: &[Pending], now: u64, point: PointId, priority: Priority) -> Slot
+    requires { AllByRecursion IsPlayable pending.now }
+    ensures { result ≡ slot_in leases.now pending.now now point priority }
+{
+    let lease = leases
+        .iter()
+        .find(|lease| lease.point == point && lease.priority == priority);
+    if let Some(lease) = lease {
+        return Slot::Lease {
+            value: lease.value,
+            txn: lease.txn,
+            until: lease.until,
+        };
+    }
+    let reversion = pending
+        .iter()
+        .find(|reversion| reversion.point == point && reversion.priority == priority);
+    match reversion {
+        Some(reversion) => playing_slot(reversion, now),
+        None => Slot::Empty,
+    }
+}
+
+/// The slot that a reversion under way keeps.
+fn playing_slot(reversion: &Pending, now: u64) -> Slot
+    requires { IsPlayable reversion.now }
+    ensures { result ≡ playing_slot now (Some reversion.now) }
+{
+    match value_at(reversion, now) {
+        Some(value) => Slot::Pending {
+            value,
+            txn: reversion.txn,
+            end: end_of(reversion),
+        },
+        None => Slot::Empty,
     }
 }

@@ -1,4 +1,0 @@
-pub mod Found
-pub mod Leases
-pub mod SettlingLemmas
-pub mod Steps

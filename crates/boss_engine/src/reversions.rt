@@ -1,0 +1,61 @@
+ghost use Rattle.std.specs.Prelude.{◌≡◌, ◌≤◌, ◌+◌, ◌^◌};
+ghost use Rattle.boss_model.specs.Reversions.{end_of, over, value_at, value_from};
+ghost use Rattle.boss_engine.specs.Playing.{CanPlay, IsPlayable, last_turn};
+
+use boss_model::{Pending, Step};
+
+/// The moment at which steps that start at this one are over, in milliseconds.
+pub fn over(start: u64, steps: &[Step]) -> u64
+    requires start { start ≤ 2 ^ 61 }
+    requires steps { CanPlay steps.now }
+    ensures { result ≡ over start steps.now }
+{
+    let mut moment = start;
+    for step in steps {
+        moment += step.hold.unsigned_abs();
+    }
+    moment
+}
+
+/// The moment at which a reversion is over, in milliseconds.
+pub fn end_of(reversion: &Pending) -> u64
+    requires { IsPlayable reversion.now }
+    ensures { result ≡ end_of reversion.now }
+{
+    over(reversion.start, reversion.steps.slice())
+}
+
+/// The value of the step that holds at a moment; none before the first and after the last.
+pub fn value_at(reversion: &Pending, moment: u64) -> Option<i64>
+    requires { IsPlayable reversion.now }
+    ensures { result ≡ value_at reversion.now moment }
+{
+    if moment < reversion.start {
+        return None;
+    }
+    let mut end = reversion.start;
+    for step in reversion.steps.slice() {
+        end += step.hold.unsigned_abs();
+        if moment < end {
+            return Some(step.value);
+        }
+    }
+    None
+}
+
+/// The last moment after `now`, up to and with `n`, at which one of these steps ends, or `now` where there is none.
+pub fn last_turn(start: u64, steps: &[Step], now: u64, n: u64) -> u64
+    requires start { start ≤ 2 ^ 61 }
+    requires steps { CanPlay steps.now }
+    ensures { result ≡ last_turn start steps.now now n }
+{
+    let mut last = now;
+    let mut end = start;
+    for step in steps {
+        end += step.hold.unsigned_abs();
+        if now < end && end <= n {
+            last = last.max(end);
+        }
+    }
+    last
+}
