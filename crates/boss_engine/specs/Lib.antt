@@ -1,2 +1,4 @@
 pub mod Playing
 pub mod Slots
+pub mod Processes
+pub mod Telling

@@ -2,5 +2,10 @@
 //! are told, and what the devices have to be told.
 #![tactic(auto)]
 
+mod happening;
+mod lasting;
+mod processes;
+mod records;
 mod reversions;
+mod settling;
 mod target;
