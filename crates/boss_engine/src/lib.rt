@@ -2,10 +2,4 @@
 //! are told, and what the devices have to be told.
 #![tactic(auto)]
 
-mod happening;
-mod lasting;
-mod processes;
-mod records;
 mod reversions;
-mod settling;
-mod target;
