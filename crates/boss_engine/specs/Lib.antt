@@ -4,3 +4,4 @@ pub mod Processes
 pub mod Telling
 pub mod Due
 pub mod Concluding
+pub mod Books
