@@ -4,7 +4,9 @@ use Rattle.boss_model.specs.declared.notice.What.{What}
 use Rattle.boss_model.specs.Happenings.{Happening, ended, reverted, done_last, last_end}
 use Rattle.boss_model.specs.Records.{Transaction}
 use Rattle.boss_model.specs.Reversions.{end_of, reversion_of, courses}
-use Rattle.boss_model.specs.State.{Lease, Pending, Durable}
+use Rattle.boss_model.specs.declared.state.Lease.{Lease}
+use Rattle.boss_model.specs.declared.state.Pending.{Pending}
+use Rattle.boss_model.specs.State.{Durable}
 use Rattle.boss_engine.specs.Playing.{last_turn}
 
 -- What is told as time passes to n, in the order in which it is found: the leases that end and the reversions of these that

@@ -1,5 +1,5 @@
 use Rattle.std.specs.Prelude.{◌≡◌, ℕ, ◌≤◌, ◌+◌, ◌*◌, List, fold, vec_len, vec_capacity}
-use Rattle.boss_model.specs.Catalogue.{Actuator}
+use Rattle.boss_model.specs.declared.state.Actuator.{Actuator}
 use Rattle.boss_model.specs.Groups.{courses_of}
 use Rattle.boss_model.specs.Happenings.{Happening, finish, tell}
 use Rattle.boss_model.specs.Sound.{IsSoundDurable}

@@ -1,7 +1,11 @@
-pub mod Playing
-pub mod Slots
-pub mod Processes
-pub mod Telling
-pub mod Due
 pub mod Concluding
-pub mod Books
+pub mod Due
+pub mod Endings
+pub mod Lasting
+pub mod Meant
+pub mod Playing
+pub mod Processes
+pub mod Settling
+pub mod Slots
+pub mod Telling
+pub mod Writing

@@ -2,7 +2,8 @@ use Rattle.std.specs.Prelude.{ℕ, ◌≤◌, ◌^◌, nat_lt, nat_le, ◌&&◌,
 use Rattle.std.specs.List.{AllByRecursion}
 use Rattle.boss_model.specs.declared.command.Step.{Step}
 use Rattle.boss_model.specs.Reversions.{hold, turns}
-use Rattle.boss_model.specs.State.{Lease, Pending}
+use Rattle.boss_model.specs.declared.state.Lease.{Lease}
+use Rattle.boss_model.specs.declared.state.Pending.{Pending}
 
 -- the moments of these steps stay far from the end of their type
 abbrev pub CanPlay : List Step → Type 0

@@ -2,7 +2,8 @@ use Rattle.std.specs.Prelude.{ℕ, ◌==◌, ◌&&◌, List, map, find}
 use Rattle.std.specs.List.{range_with_len}
 use Rattle.boss_model.specs.declared.answer.Slot.{Slot}
 use Rattle.boss_model.specs.Queries.{slot_of}
-use Rattle.boss_model.specs.State.{Lease, Pending}
+use Rattle.boss_model.specs.declared.state.Lease.{Lease}
+use Rattle.boss_model.specs.declared.state.Pending.{Pending}
 
 -- what stands in a slot of a point
 abbrev pub slot_in : List Lease → List Pending → ℕ → ℕ → ℕ → Slot

@@ -17,6 +17,8 @@ impl Model for Attachment {
     ghost Value = { Holding };
 
     ghost view = { λ a. record { session = a.session; process = a.process } };
+
+    ghost inverse = { λ a. record { session = a.session; process = a.process } };
 }
 
 /// The process that the session holds.

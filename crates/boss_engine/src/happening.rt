@@ -1,6 +1,7 @@
-ghost use Rattle.std.specs.Prelude.{◌≡◌, vec_capacity};
+ghost use Rattle.std.specs.Prelude.{◌≡◌, not, vec_capacity};
+ghost use Rattle.std.specs.Ordering.{is_lt};
 ghost use Rattle.boss_model.specs.Happenings.{rank, sort_number, point_of};
-ghost use Rattle.boss_model.specs.Order.{in_order};
+ghost use Rattle.boss_model.specs.Order.{comes_before, in_order};
 ghost use Rattle.boss_engine.specs.Telling.{AreToldApart};
 
 use boss_model::{PointId, ProcId, Txn, What};
@@ -20,10 +21,24 @@ pub struct Happening {
 impl Model for Happening {
     ghost use Rattle.std.specs.Prelude.{Some};
     ghost use Rattle.boss_model.specs.Happenings.{Happening as Told};
+    ghost use Rattle.boss_engine.specs.Telling.{what_told};
 
     ghost Value = { Told };
 
     ghost view = { λ h. record { at = h.at; txn = h.txn; owner = h.owner; told = Some h.what } };
+
+    ghost inverse = { λ t. record { at = t.at; txn = t.txn; owner = t.owner; what = what_told t.told } };
+}
+
+impl Happening {
+    ghost use Rattle.boss_model.specs.Happenings.{is_done};
+
+    /// Whether the transaction became done.
+    pub fn is_done(&self) -> bool
+        ensures { result ≡ is_done self.now.told }
+    {
+        matches!(self.what, What::Done)
+    }
 }
 
 /// Puts happenings in the order in which they are told: by moment, by transaction, by kind of notice, by point.
@@ -35,8 +50,10 @@ pub fn put_in_order(happenings: &mut Vec<Happening>)
     happenings.sort_unstable_by(|one, other| compare(one, other));
 }
 
-/// How two happenings are told, one after the other.
-fn compare(one: &Happening, other: &Happening) -> Ordering {
+/// Whether the first is told before the second: by moment, by transaction, by kind of notice, by point.
+fn compare(one: &Happening, other: &Happening) -> Ordering
+    ensures { is_lt result ≡ not (comes_before (rank other.now) (rank one.now)) }
+{
     one.at
         .cmp(&other.at)
         .then(one.txn.cmp(&other.txn))

@@ -7,16 +7,15 @@ ghost use Rattle.boss_model.specs.Submit.{submitted};
 ghost use Rattle.boss_model.specs.Time.{tick_to};
 ghost use Rattle.boss_engine.specs.Concluding.{concluded, group_told};
 ghost use Rattle.boss_engine.specs.Due.{due_told};
-ghost use Rattle.boss_engine.specs.Lasting.{HasRoom, IsSoundOfSome, durable_of, first_told, most_told};
+ghost use Rattle.boss_engine.specs.Lasting.{HasRoom, IsSoundOfSome, durable_of, handed_out, most_told};
 ghost use Rattle.boss_engine.specs.Telling.{AreToldApart};
-ghost use Rattle.boss_engine.specs.Which.{is_meant};
+ghost use Rattle.boss_engine.specs.Meant.{is_meant};
 
 use crate::endings::{Ending, end_parts};
 use crate::happening::{Happening, put_in_order};
 use crate::processes::Processes;
 use crate::records::{self, Transaction};
-use crate::slots::{cut_slots, end_some, pass_on, take_slots};
-use crate::which::Which;
+use crate::slots::{Which, cut_slots, end_some, pass_on, take_slots};
 use crate::telling::{gather_due, gather_ends, gather_over, gather_replaced, last_due};
 use boss_model::{Cause, Lease, NoMemory, Pending, Txn};
 use std::alloc::Global;
@@ -102,7 +101,7 @@ impl Lasting {
     {
         gather_ends(&self.leases, which, cause, n, told);
         end_parts(&mut self.txns, &self.leases, &Ending::Early { which, cause, n });
-        end_some(&mut self.leases, &mut self.pending, which, n);
+        end_some(&mut self.leases, &mut self.pending, n, which);
         gather_over(self, n, told);
         put_in_order(told);
         self.conclude(n, told);

@@ -2,4 +2,14 @@
 //! are told, and what the devices have to be told.
 #![tactic(auto)]
 
+mod attached;
+mod endings;
+mod happening;
+mod lasting;
+mod processes;
+mod records;
 mod reversions;
+mod settling;
+mod slots;
+mod target;
+mod telling;

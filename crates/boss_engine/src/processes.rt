@@ -94,13 +94,18 @@ impl Processes {
         requires { happening.now.owner < length self.old }
         ensures { self.new ≡ tell self.old happening.now }
     {
-        self.rings
-            .post(happening.owner, happening.at, happening.txn, happening.what);
+        self.rings.post(happening.owner, happening.at, happening.txn, happening.what);
     }
 
     /// The notices of a process from a number on, at most `max` of them, are left in `into`. The answer is the least number
     /// that is kept, or the next one where none is, and the number to ask for next.
-    pub fn notices(&self, process: ProcId, from: u64, max: u64, into: &mut Vec<Notice>) -> (u64, u64)
+    pub fn notices(
+        &self,
+        process: ProcId,
+        from: u64,
+        max: u64,
+        into: &mut Vec<Notice>,
+    ) -> (u64, u64)
         requires process { process < length self.now }
         requires room { max ≤ vec_capacity into.old }
         ensures first { result.0 ≡ first_kept (process_at self.now process) }

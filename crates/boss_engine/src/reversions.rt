@@ -1,8 +1,15 @@
-ghost use Rattle.std.specs.Prelude.{◌≡◌, ◌≤◌, ◌+◌, ◌^◌};
-ghost use Rattle.boss_model.specs.Reversions.{end_of, over, value_at, value_from};
+ghost use Rattle.std.specs.Prelude.{◌≡◌, ◌≤◌, ◌+◌, ◌^◌, nat_lt};
+ghost use Rattle.boss_model.specs.Reversions.{end_of, hold, over, value_at, value_from};
 ghost use Rattle.boss_engine.specs.Playing.{CanPlay, IsPlayable, last_turn};
 
 use boss_model::{Pending, Step};
+
+/// How long a step holds, in milliseconds.
+fn hold(step: &Step) -> u64
+    ensures { result ≡ hold step.now }
+{
+    step.hold.unsigned_abs()
+}
 
 /// The moment at which steps that start at this one are over, in milliseconds.
 pub fn over(start: u64, steps: &[Step]) -> u64
@@ -12,7 +19,7 @@ pub fn over(start: u64, steps: &[Step]) -> u64
 {
     let mut moment = start;
     for step in steps {
-        moment += step.hold.unsigned_abs();
+        moment += hold(step);
     }
     moment
 }
@@ -25,6 +32,24 @@ pub fn end_of(reversion: &Pending) -> u64
     over(reversion.start, reversion.steps.slice())
 }
 
+/// Whether a reversion is not over at a moment, however late it starts.
+pub fn outlasts(reversion: &Pending, moment: u64) -> bool
+    ensures { result ≡ nat_lt moment (end_of reversion.now) }
+{
+    if moment < reversion.start {
+        return true;
+    }
+    let mut played = moment - reversion.start;
+    for step in reversion.steps.slice() {
+        let length = hold(step);
+        if played < length {
+            return true;
+        }
+        played -= length;
+    }
+    false
+}
+
 /// The value of the step that holds at a moment; none before the first and after the last.
 pub fn value_at(reversion: &Pending, moment: u64) -> Option<i64>
     requires { IsPlayable reversion.now }
@@ -35,7 +60,7 @@ pub fn value_at(reversion: &Pending, moment: u64) -> Option<i64>
     }
     let mut end = reversion.start;
     for step in reversion.steps.slice() {
-        end += step.hold.unsigned_abs();
+        end += hold(step);
         if moment < end {
             return Some(step.value);
         }
@@ -52,7 +77,7 @@ pub fn last_turn(start: u64, steps: &[Step], now: u64, n: u64) -> u64
     let mut last = now;
     let mut end = start;
     for step in steps {
-        end += step.hold.unsigned_abs();
+        end += hold(step);
         if now < end && end <= n {
             last = last.max(end);
         }

@@ -1,6 +1,7 @@
-ghost use Rattle.std.specs.Prelude.{◌≡◌, ◌≤◌, ◌^◌, length};
+ghost use Rattle.std.specs.Prelude.{◌≡◌, length};
 ghost use Rattle.std.specs.List.{AllByRecursion};
 ghost use Rattle.boss_engine.specs.Playing.{IsPlayable};
+ghost use Rattle.boss_engine.specs.Lasting.{durable_of};
 ghost use Rattle.boss_engine.specs.Settling.{settled_by};
 
 use crate::lasting::Lasting;
@@ -11,11 +12,20 @@ use boss_model::{Actuator, PointId};
 /// Compares every point's target with its commanded value, and lets those that differ want their devices to be written.
 pub fn settle(plant: &[Actuator], lasting: &Lasting, marks: &mut Marks)
     requires number { length marks.old.proxies ≡ length plant.now }
-    requires pending { AllByRecursion IsPlayable lasting.now.pending }
-    ensures { marks.new ≡ settled_by plant.now lasting.now marks.old }
+    requires pending { AllByRecursion IsPlayable lasting.now.pending.items }
+    ensures { marks.new ≡ settled_by plant.now (durable_of lasting.now) marks.old }
 {
-    for place in 0..plant.len() {
+    for place in 0..marks.count() {
         let point = PointId(place as u32);
-        marks.settle(point, target_of(plant, &lasting.leases, &lasting.pending, lasting.moment, point));
+        marks.settle(
+            point,
+            target_of(
+                plant,
+                &lasting.leases,
+                &lasting.pending,
+                lasting.moment,
+                point,
+            ),
+        );
     }
 }

@@ -1,7 +1,9 @@
-ghost use Rattle.std.specs.Prelude.{◌≡◌, ◌<◌, length, option_copied, Some};
+ghost use Rattle.std.specs.Prelude.{◌≡◌, ◌<◌, ◌==◌, ◌&&◌, length, find, option_copied, unwrap_or, Some, None};
 ghost use Rattle.std.specs.List.{AllByRecursion};
 ghost use Rattle.boss_model.specs.Catalogue.{default_of};
+ghost use Rattle.boss_model.specs.Order.{kept};
 ghost use Rattle.boss_model.specs.Queries.{playing_slot};
+ghost use Rattle.boss_model.specs.Reversions.{value_at};
 ghost use Rattle.boss_model.specs.Target.{basis_of, in_force, playing, value_of};
 ghost use Rattle.boss_engine.specs.Playing.{IsPlayable};
 ghost use Rattle.boss_engine.specs.Slots.{slot_in, slots_in};
@@ -23,7 +25,9 @@ pub fn in_force(leases: &[Lease], point: PointId) -> Option<&Lease>
 }
 
 /// Of the lease found so far and a further one, the one that counts.
-fn stronger_lease<'a>(found: Option<&'a Lease>, lease: &'a Lease) -> &'a Lease {
+fn stronger_lease<'a>(found: Option<&'a Lease>, lease: &'a Lease) -> &'a Lease
+    ensures { result.now ≡ kept (λ x. x.priority) (option_copied found.entry) lease.now }
+{
     match found {
         Some(first) if first.priority <= lease.priority => first,
         _ => lease,
@@ -44,7 +48,9 @@ pub fn playing(pending: &[Pending], point: PointId) -> Option<&Pending>
 }
 
 /// Of the reversion found so far and a further one, the one that counts.
-fn stronger_reversion<'a>(found: Option<&'a Pending>, reversion: &'a Pending) -> &'a Pending {
+fn stronger_reversion<'a>(found: Option<&'a Pending>, reversion: &'a Pending) -> &'a Pending
+    ensures { result.now ≡ kept (λ x. x.priority) (option_copied found.entry) reversion.now }
+{
     match found {
         Some(first) if first.priority <= reversion.priority => first,
         _ => reversion,
@@ -64,9 +70,17 @@ pub fn target_of(
     ensures { result ≡ value_of (default_of plant.now point) now (in_force leases.now point) (playing pending.now point) }
 {
     let default = plant[point.0 as usize].default;
-    if let Some(lease) = in_force(leases, point) {
-        return lease.value;
+    match in_force(leases, point) {
+        Some(lease) => lease.value,
+        None => value_without_lease(pending, now, point, default),
     }
+}
+
+/// The value that a point without a lease is to have.
+fn value_without_lease(pending: &[Pending], now: u64, point: PointId, default: i64) -> i64
+    requires { AllByRecursion IsPlayable pending.now }
+    ensures { result ≡ value_of default now None (playing pending.now point) }
+{
     match playing(pending, point) {
         Some(reversion) => value_or(reversion, now, default),
         None => default,
@@ -74,7 +88,10 @@ pub fn target_of(
 }
 
 /// The reversion's value, or the default where it has none.
-fn value_or(reversion: &Pending, now: u64, default: i64) -> i64 {
+fn value_or(reversion: &Pending, now: u64, default: i64) -> i64
+    requires { IsPlayable reversion.now }
+    ensures { result ≡ unwrap_or (value_at reversion.now now) default }
+{
     match value_at(reversion, now) {
         Some(value) => value,
         None => default,
@@ -85,12 +102,19 @@ fn value_or(reversion: &Pending, now: u64, default: i64) -> i64 {
 pub fn basis_of(leases: &[Lease], pending: &[Pending], point: PointId) -> Basis
     ensures { result ≡ basis_of (in_force leases.now point) (playing pending.now point) }
 {
-    if let Some(lease) = in_force(leases, point) {
-        return Basis::Lease {
+    match in_force(leases, point) {
+        Some(lease) => Basis::Lease {
             priority: lease.priority,
             txn: lease.txn,
-        };
+        },
+        None => basis_without_lease(pending, point),
     }
+}
+
+/// What the value of a point without a lease rests on.
+fn basis_without_lease(pending: &[Pending], point: PointId) -> Basis
+    ensures { result ≡ basis_of None (playing pending.now point) }
+{
     match playing(pending, point) {
         Some(reversion) => Basis::Pending {
             priority: reversion.priority,
@@ -105,35 +129,78 @@ pub fn slots_of(leases: &[Lease], pending: &[Pending], now: u64, point: PointId)
     requires { AllByRecursion IsPlayable pending.now }
     ensures { result.at ≡ slots_in leases.now pending.now now point }
 {
-    let mut at = [Slot::Empty; 16];
-    for place in 0..16 {
-        at[place] = slot_in(leases, pending, now, point, Priority(place as u8 + 1));
-    }
+    let at = std::array::from_fn(|place| slot_in(
+        leases,
+        pending,
+        now,
+        point,
+        Priority(place as u8 + 1),
+    ));
     Slots { at }
 }
 
 /// A slot of a point.
-fn slot_in(leases: &[Lease], pending: &[Pending], now: u64, point: PointId, priority: Priority) -> Slot
+fn slot_in(
+    leases: &[Lease],
+    pending: &[Pending],
+    now: u64,
+    point: PointId,
+    priority: Priority,
+) -> Slot
     requires { AllByRecursion IsPlayable pending.now }
     ensures { result ≡ slot_in leases.now pending.now now point priority }
 {
-    let lease = leases
-        .iter()
-        .find(|lease| lease.point == point && lease.priority == priority);
-    if let Some(lease) = lease {
-        return Slot::Lease {
+    match lease_at(leases, point, priority) {
+        Some(lease) => Slot::Lease {
             value: lease.value,
             txn: lease.txn,
             until: lease.until,
-        };
+        },
+        None => slot_without_lease(pending, now, point, priority),
     }
-    let reversion = pending
-        .iter()
-        .find(|reversion| reversion.point == point && reversion.priority == priority);
-    match reversion {
+}
+
+/// A slot of a point that no lease holds.
+fn slot_without_lease(pending: &[Pending], now: u64, point: PointId, priority: Priority) -> Slot
+    requires { AllByRecursion IsPlayable pending.now }
+    ensures { result ≡ playing_slot now (find (λ reversion. (reversion.point == point) && (reversion.priority == priority)) pending.now) }
+{
+    match reversion_at(pending, point, priority) {
         Some(reversion) => playing_slot(reversion, now),
         None => Slot::Empty,
     }
+}
+
+/// The lease that holds a slot.
+fn lease_at(leases: &[Lease], point: PointId, priority: Priority) -> Option<&Lease>
+    ensures { option_copied result ≡ find (λ lease. (lease.point == point) && (lease.priority == priority)) leases.now }
+{
+    leases
+        .iter()
+        .find(|lease| lease_holds(lease, point, priority))
+}
+
+/// Whether the lease holds the slot.
+pub fn lease_holds(lease: &Lease, point: PointId, priority: Priority) -> bool
+    ensures { result ≡ (lease.now.point == point) && (lease.now.priority == priority) }
+{
+    lease.point == point && lease.priority == priority
+}
+
+/// The reversion that keeps a slot.
+fn reversion_at(pending: &[Pending], point: PointId, priority: Priority) -> Option<&Pending>
+    ensures { option_copied result ≡ find (λ reversion. (reversion.point == point) && (reversion.priority == priority)) pending.now }
+{
+    pending
+        .iter()
+        .find(|reversion| reversion_keeps(reversion, point, priority))
+}
+
+/// Whether the reversion keeps the slot.
+fn reversion_keeps(reversion: &Pending, point: PointId, priority: Priority) -> bool
+    ensures { result ≡ (reversion.now.point == point) && (reversion.now.priority == priority) }
+{
+    reversion.point == point && reversion.priority == priority
 }
 
 /// The slot that a reversion under way keeps.

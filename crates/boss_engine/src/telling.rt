@@ -8,14 +8,13 @@ ghost use Rattle.boss_engine.specs.Concluding.{is_over};
 ghost use Rattle.boss_engine.specs.Due.{done_told, due_told, is_done_by, last_of_lease, last_of_pending, lease_told, reverted_by};
 ghost use Rattle.boss_engine.specs.Lasting.{durable_of};
 ghost use Rattle.boss_engine.specs.Playing.{IsEndable, IsPlayable};
-ghost use Rattle.boss_engine.specs.Which.{is_meant};
+ghost use Rattle.boss_engine.specs.Meant.{is_meant};
 
 use crate::happening::Happening;
 use crate::lasting::Lasting;
 use crate::records::{Transaction, last_end, lives};
 use crate::reversions::{end_of, last_turn, over};
-use crate::slots::is_taken;
-use crate::which::Which;
+use crate::slots::{Which, is_meant, is_taken};
 use boss_model::{Cause, Lease, Pending, PointId, ProcId, Txn, What};
 
 /// The last moment up to `n` at which something is due, or `now` where nothing is.
@@ -166,7 +165,7 @@ pub fn gather_ends(
     ensures room { vec_capacity told.new ≡ vec_capacity told.old }
 {
     for lease in leases {
-        if which.means(lease) {
+        if is_meant(&which, lease) {
             told.push_reserved(ended(lease, cause, n));
         }
     }

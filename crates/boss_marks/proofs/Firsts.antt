@@ -3,7 +3,9 @@ use Rattle.std.proofs.Common.{◌≡◌, ℕ, ◌==◌, Bool, true, false, List,
 use Rattle.std.specs.Prelude.{find, slice_get, unwrap_or}
 use Rattle.std.proofs.lemmas.Bool.{cases_eq, cases_Bool}
 use Rattle.std.proofs.lemmas.Grind.{common_steps}
-use Rattle.boss_marks.specs.Line.{member, without, behind, Once}
+use Rattle.boss_model.specs.Lists.{member, without}
+use Rattle.boss_model.specs.Sound.{Distinct}
+use Rattle.boss_marks.specs.Line.{behind}
 use Rattle.boss_marks.proofs.Members.{without_outside}
 
 -- a point, and those that stand behind it
@@ -26,7 +28,7 @@ member-first point (x ∷ xs) first = grind (arith, common_steps)
 pub member-next : (point other : ℕ) (points : List ℕ) → slice_get (behind point points) 0 ≡ Some other → member other points ≡ true
 member-next point other points next = member-behind point other points (member-first other (behind point points) next)
 
-pub onward-behind : (point : ℕ) (points : List ℕ) → Once points → onward (slice_get (behind point points) 0) points ≡ behind point points
+pub onward-behind : (point : ℕ) (points : List ℕ) → Distinct points → onward (slice_get (behind point points) 0) points ≡ behind point points
 onward-behind point [] once = refl
 onward-behind point (x ∷ xs) once =
     ⊎_elim
@@ -62,7 +64,7 @@ module _ (test : ℕ → Bool) where
       (λ fails. let rest : find test (without point xs) ≡ find test xs = find-without_other point xs (λ found. other (grind (arith, common_steps))) in grind (arith, common_steps))
       (cases_Bool (test x))
 
-  pub find-without_first : (point : ℕ) (points : List ℕ) → Once points → find test points ≡ Some point → find test (without point points) ≡ find test (behind point points)
+  pub find-without_first : (point : ℕ) (points : List ℕ) → Distinct points → find test points ≡ Some point → find test (without point points) ≡ find test (behind point points)
   find-without_first point [] once found = refl
   find-without_first point (x ∷ xs) once found =
       ⊎_elim

@@ -5,7 +5,7 @@ use Rattle.std.specs.List.{position_from}
 use Rattle.std.proofs.lemmas.Bool.{cases_eq, cases_lt}
 use Rattle.std.proofs.lemmas.Grind.{common_steps}
 use Rattle.boss_model.specs.Order.{least, lesser}
-use Rattle.boss_marks.specs.Line.{member}
+use Rattle.boss_model.specs.Lists.{member}
 
 -- the number is one of these, and none of them is less
 pub record IsLeast (values : List ℕ) (value : ℕ) : Type 0 where

@@ -6,8 +6,10 @@ use Rattle.std.proofs.lemmas.Grind.{common_steps}
 use Rattle.std.specs.Prelude.{Vec}
 use Rattle.std.specs.Vec.{with_items}
 use Rattle.std.proofs.lemmas.List.{with_items_is, length-set, length-replicate, get_or-set_same, get_or-set_other, get_or_read, reverse-append, reverse-reverse, append_assoc}
-use Rattle.boss_marks.specs.Line.{Line, member, without, behind, Once, link_of, Leads, walk, IsLine, linked, started}
-use Rattle.boss_marks.proofs.Members.{member-append, member-reverse, reverse_cons, Once-push, Once-reverse, Once-ahead, member-without, Once-without, ahead, around, without_is, length-le_from_Once}
+use Rattle.boss_model.specs.Lists.{member, without}
+use Rattle.boss_model.specs.Sound.{Distinct}
+use Rattle.boss_marks.specs.Line.{Line, behind, link_of, Leads, walk, IsLine, linked, started}
+use Rattle.boss_marks.proofs.Members.{member-append, member-reverse, reverse_cons, Distinct-push, Distinct-reverse, Distinct-ahead, member-without, Distinct-without, ahead, around, without_is, length-le_from_Distinct}
 
 -- the last of these points, and `from` where there is none
 abbrev pub last_or : Option ℕ → List ℕ → Option ℕ
@@ -71,7 +73,7 @@ linked-other : (links : List (Option ℕ)) (to : Option ℕ) (point x : ℕ) (xs
 linked-other links to point x [] outside = grind (arith, common_steps, get_or-set_other links x point to None)
 linked-other links to point x (y ∷ ys) outside = linked-other links to point y ys (grind (arith, common_steps))
 
-unlinked_from : (links : List (Option ℕ)) (from : ℕ) (xs : List ℕ) (point : ℕ) (ys : List ℕ) → member from (xs ++ point ∷ ys) ≡ false → Once (xs ++ point ∷ ys) → from < length links
+unlinked_from : (links : List (Option ℕ)) (from : ℕ) (xs : List ℕ) (point : ℕ) (ys : List ℕ) → member from (xs ++ point ∷ ys) ≡ false → Distinct (xs ++ point ∷ ys) → from < length links
     → Leads links (link_of links from) (xs ++ point ∷ ys)
     → Leads (linked (last_or (Some from) xs) (link_of links point) links) (link_of (linked (last_or (Some from) xs) (link_of links point) links) from) (xs ++ ys)
 unlinked_from links from [] point ys outside once known leads =
@@ -88,7 +90,7 @@ started-other : (x : ℕ) (xs : List ℕ) (to start : Option ℕ) → started (l
 started-other x [] to start = refl
 started-other x (y ∷ ys) to start = started-other y ys to start
 
-pub Leads-unlinked : (links : List (Option ℕ)) (start : Option ℕ) (xs : List ℕ) (point : ℕ) (ys : List ℕ) → Once (xs ++ point ∷ ys) → Leads links start (xs ++ point ∷ ys)
+pub Leads-unlinked : (links : List (Option ℕ)) (start : Option ℕ) (xs : List ℕ) (point : ℕ) (ys : List ℕ) → Distinct (xs ++ point ∷ ys) → Leads links start (xs ++ point ∷ ys)
     → Leads (linked (last_or None xs) (link_of links point) links) (started (last_or None xs) (link_of links point) start) (xs ++ ys)
 Leads-unlinked links start [] point ys once leads = leads.2
 Leads-unlinked links start (x ∷ xs) point ys once leads = (
@@ -99,7 +101,7 @@ Leads-unlinked links start (x ∷ xs) point ys once leads = (
 
 -- ---- a point takes its place at the end
 
-pushed_from : (links : List (Option ℕ)) (from : ℕ) (xs : List ℕ) (point : ℕ) → member from (xs ++ point ∷ []) ≡ false → Once (xs ++ point ∷ []) → from < length links → point < length links
+pushed_from : (links : List (Option ℕ)) (from : ℕ) (xs : List ℕ) (point : ℕ) → member from (xs ++ point ∷ []) ≡ false → Distinct (xs ++ point ∷ []) → from < length links → point < length links
     → Leads links (link_of links from) xs
     → Leads (set (linked (last_or (Some from) xs) (Some point) links) point None) (link_of (set (linked (last_or (Some from) xs) (Some point) links) point None) from) (xs ++ point ∷ [])
 pushed_from links from [] point outside once known room leads =
@@ -117,7 +119,7 @@ pushed_from links from (x ∷ xs) point outside once known room leads =
       pushed_from links x xs point once.0 once.1 leads.1 room leads.2,
     )
 
-pub Leads-pushed : (links : List (Option ℕ)) (start : Option ℕ) (xs : List ℕ) (point : ℕ) → Once (xs ++ point ∷ []) → point < length links → Leads links start xs
+pub Leads-pushed : (links : List (Option ℕ)) (start : Option ℕ) (xs : List ℕ) (point : ℕ) → Distinct (xs ++ point ∷ []) → point < length links → Leads links start xs
     → Leads (set (linked (last_or None xs) (Some point) links) point None) (started (last_or None xs) (Some point) start) (xs ++ point ∷ [])
 Leads-pushed links start [] point once room leads = (refl, rw length-set room, get_or-set_same links point None None room)
 Leads-pushed links start (x ∷ xs) point once room leads = (
@@ -139,7 +141,7 @@ IsLine-known {after} {before} {stands} {first} {last} {points} line point inside
 
 pub IsLine-walk : {after before : List (Option ℕ)} {stands : List Bool} {first last : Option ℕ} {points : List ℕ} → IsLine after before stands first last points → walk after (length stands) first ≡ points
 IsLine-walk {after} {before} {stands} {first} {last} {points} line =
-    walk-Leads after (length stands) first points line.forwards (length-le_from_Once points (length stands) line.once (IsLine-known line))
+    walk-Leads after (length stands) first points line.forwards (length-le_from_Distinct points (length stands) line.once (IsLine-known line))
 
 -- the last point of a line, of which its last link tells
 pub IsLine-last : {after before : List (Option ℕ)} {stands : List Bool} {first last : Option ℕ} {points : List ℕ} → IsLine after before stands first last points → last ≡ last_or None points
@@ -156,7 +158,7 @@ known_pushed stands points point other room known =
 pub IsLine-pushed : {after before : List (Option ℕ)} {stands : List Bool} {first last : Option ℕ} {points : List ℕ} → IsLine after before stands first last points → (point : ℕ) → point < length stands → member point points ≡ false
     → IsLine (set (linked last (Some point) after) point None) (set before point last) (set stands point true) (started last (Some point) first) (Some point) (points ++ point ∷ [])
 IsLine-pushed {after} {before} {stands} {first} {last} {points} line point room outside =
-    let once : Once (points ++ point ∷ []) = Once-push points point line.once outside in
+    let once : Distinct (points ++ point ∷ []) = Distinct-push points point line.once outside in
     record {
       forwards = rw (IsLine-last line) (Leads-pushed after first points point once (rw line.afters room) line.forwards);
       backwards = rw reverse-append (Leads-first before last point (reverse points) (member-reverse point points ∙ outside) (rw line.befores room) line.backwards);
@@ -186,8 +188,8 @@ pub IsLine-removed_between : {after before : List (Option ℕ)} {stands : List B
 IsLine-removed_between {after} {before} {stands} {first} {last} xs point ys line here is_here =
     let back : reverse (xs ++ point ∷ ys) ≡ reverse ys ++ point ∷ reverse xs = rw (reverse-append xs (point ∷ ys), reverse_cons point ys, append_assoc) refl in
     let backwards : Leads before last (reverse ys ++ point ∷ reverse xs) = subst (Leads before last) back line.backwards in
-    let once_back : Once (reverse ys ++ point ∷ reverse xs) = subst Once back (Once-reverse (xs ++ point ∷ ys) line.once) in
-    let apart : member point xs ≡ false = Once-ahead xs point ys line.once in
+    let once_back : Distinct (reverse ys ++ point ∷ reverse xs) = subst Distinct back (Distinct-reverse (xs ++ point ∷ ys) line.once) in
+    let apart : member point xs ≡ false = Distinct-ahead xs point ys line.once in
     let is_before : link_of before point ≡ last_or None xs = Leads-link before last (reverse ys) point (reverse xs) backwards ∙ (sym (last_or-reverse (reverse xs)) ∙ ap (last_or None) (reverse-reverse xs)) in
     let is_after : link_of after point ≡ last_or None (reverse ys) = Leads-link after first xs point ys line.forwards ∙ sym (last_or-reverse ys) in
     let stays : here ≡ link_of after point = is_here ∙ (ap (λ b. link_of (linked b (link_of after point) after) point) is_before ∙ linked_none-other after (link_of after point) point xs apart) in (
@@ -207,7 +209,7 @@ IsLine-removed {after} {before} {stands} {first} {last} {points} line point insi
       forwards = rw left between.1;
       backwards = rw left between.2;
       known = λ other. known_removed stands points point other (IsLine-known line point inside) (line.known other);
-      once = Once-without point points line.once;
+      once = Distinct-without point points line.once;
       afters = linked-length (link_of before point) (link_of after point) after ∙ (line.afters ∙ sym (length-set stands point false));
       befores = linked-length _ (link_of before point) before ∙ (line.befores ∙ sym (length-set stands point false));
     }

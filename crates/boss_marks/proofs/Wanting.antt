@@ -1,13 +1,14 @@
 -- Wants with each driver's first one: what is read from them, and what they are after a want was taken out or put last.
 use Rattle.std.proofs.Common.{◌≡◌, ◌≢◌, ℕ, ◌-◌, ◌<◌, ◌==◌, Bool, true, false, List, [], ◌∷◌, ◌++◌, length, map, set, get_or, Option, Some, None, sym, ◌∙◌, ap, ⊎_elim, arith}
 use Rattle.std.specs.Prelude.{is_some, unwrap_or, slice_get, slice_index, IfSome}
-use Rattle.std.specs.List.{position_from}
+use Rattle.std.specs.List.{position_from, AllByRecursion}
 use Rattle.std.proofs.lemmas.Bool.{cases_eq}
 use Rattle.std.proofs.lemmas.Grind.{common_steps}
 use Rattle.std.proofs.lemmas.List.{length-set, get_or_read, get_or-set_same, get_or-set_other}
-use Rattle.boss_marks.specs.Line.{Line, member, without, behind}
+use Rattle.boss_model.specs.Lists.{member, without}
+use Rattle.boss_marks.specs.Line.{Line, behind}
 use Rattle.boss_marks.specs.Wants.{first_of, least_wanting, IsWants}
-use Rattle.boss_marks.proofs.Members.{member-append, member-without, Once-push, Once-without}
+use Rattle.boss_marks.proofs.Members.{member-append, member-without, Distinct-push, Distinct-without}
 use Rattle.boss_marks.proofs.Firsts.{onward, onward-behind, member-next, find-member, find-without_other, find-without_first, find-push_yes, find-push_no}
 use Rattle.boss_marks.proofs.Least.{position-least, is_some-find}
 
@@ -70,7 +71,7 @@ module _ {drivers : List ℕ} {line : Line} {firsts : List (Option ℕ)} (wants 
       let here : get_or (set firsts driver first) driver None ≡ first_of drivers driver (without point line.points) = get_or-set_same firsts driver first None room ∙ is_first in
       record {
         sized = wants.sized;
-        once = Once-without point line.points wants.once;
+        once = Distinct-without point line.points wants.once;
         known = λ other stays. wants.known other (grind (arith, common_steps, member-without other point line.points));
         served = λ other known. rw length-set (wants.served other known);
         few = rw length-set wants.few;
@@ -92,7 +93,7 @@ module _ {drivers : List ℕ} {line : Line} {firsts : List (Option ℕ)} (wants 
       let other_test : (other : ℕ) → (other ≡ driver → ⊥) → is_of drivers other point ≡ false = λ other apart. grind (arith, common_steps, is_driver, apart) in
       record {
         sized = wants.sized;
-        once = Once-push line.points point wants.once outside;
+        once = Distinct-push line.points point wants.once outside;
         known = λ other stays. grind (arith, common_steps, member-append other line.points (point ∷ []), wants.known other, known);
         served = λ other known. rw length-set (wants.served other known);
         few = rw length-set wants.few;
@@ -108,3 +109,11 @@ module _ {drivers : List ℕ} {line : Line} {firsts : List (Option ℕ)} (wants 
       let same : driver - 0 ≡ driver = omega arith in
       rw same (ap (λ o. is_some o) (wants.kept driver) ∙ is_some-find (λ point. slice_index drivers point) driver line.points))
       (λ driver inside. omega arith)
+
+  -- every want is a point, and stands once
+  pub wants_known : AllByRecursion (λ want. want < length drivers) line.points
+  wants_known = all_below line.points wants.known
+    where
+      all_below : (points : List ℕ) → ((point : ℕ) → member point points ≡ true → point < length drivers) → AllByRecursion (λ want. want < length drivers) points
+      all_below [] known = tt
+      all_below (x ∷ xs) known = (known x (grind (arith, common_steps)), all_below xs (λ point inside. known point (grind (arith, common_steps))))

@@ -1,26 +1,16 @@
-use Rattle.std.specs.Prelude.{◌≡◌, ℕ, zero, suc, ◌<◌, ◌==◌, Bool, false, not, if◌then◌else◌, List, [], ◌∷◌, length, filter, Option, Some, None, slice_index_or, slice_set, reverse}
-use Rattle.std.specs.List.{list_any}
+use Rattle.std.specs.Prelude.{◌≡◌, ℕ, zero, suc, ◌<◌, ◌==◌, Bool, false, if◌then◌else◌, List, [], ◌∷◌, length, Option, Some, None, slice_index_or, slice_set, reverse}
+use Rattle.boss_model.specs.Lists.{member}
+use Rattle.boss_model.specs.Sound.{Distinct}
 
 -- points in a line, of which each is below `room`
 pub record Line : Type 0 where
   pub room : ℕ
   pub points : List ℕ
 
-abbrev pub member : ℕ → List ℕ → Bool
-member point points = list_any (λ other. other == point) points
-
-abbrev pub without : ℕ → List ℕ → List ℕ
-without point points = filter (λ other. not (other == point)) points
-
 -- those that stand behind the point
 abbrev pub behind : ℕ → List ℕ → List ℕ
 behind point [] = []
 behind point (other ∷ points) = if other == point then points else behind point points
-
--- no point twice
-abbrev pub Once : List ℕ → Type 0
-Once [] = Unit {0}
-Once (point ∷ points) = (member point points ≡ false) × Once points
 
 -- ---- how a line is kept: each point has a link to the next one, and a link to the one before it
 
@@ -42,7 +32,7 @@ pub record IsLine (after before : List (Option ℕ)) (stands : List Bool) (first
   pub forwards : Leads after first points
   pub backwards : Leads before last (reverse points)
   pub known : (point : ℕ) → slice_index_or stands point false ≡ member point points
-  pub once : Once points
+  pub once : Distinct points
   pub afters : length after ≡ length stands
   pub befores : length before ≡ length stands
 

@@ -1,13 +1,16 @@
-use Rattle.std.specs.Prelude.{ℕ, ◌==◌, ℤ, pos, Bool, not, ◌&&◌, if◌then◌else◌, List, [], ◌∷◌, ◌++◌, map, filter, length, Option, slice_get, slice_set, unwrap_or}
-use Rattle.std.specs.List.{enumerate_from, range_with_len}
+use Rattle.std.specs.Prelude.{ℕ, ◌==◌, ℤ, Bool, not, ◌&&◌, if◌then◌else◌, List, [], ◌∷◌, ◌++◌, map, length, Option, slice_set}
+use Rattle.std.specs.List.{range_with_len}
 use Rattle.std.specs.Option.{option_map_or}
 use Rattle.std.specs.Ordering.{int_eq}
+use Rattle.boss_model.specs.Devices.{proxy_of}
+use Rattle.boss_model.specs.Lists.{member, without}
+use Rattle.boss_model.specs.Settle.{fresh, wanted_anew, places, changed_if, is_retried, retried}
+use Rattle.boss_model.specs.declared.state.Proxy.{Proxy}
 use Rattle.boss_marks.specs.declared.proxy.Reported.{Reported}
 use Rattle.boss_marks.specs.declared.proxy.Reported.TheVariants as reported
 use Rattle.boss_marks.specs.declared.marks.Want.{Want}
-use Rattle.boss_marks.specs.Line.{member, without}
 use Rattle.boss_marks.specs.Wants.{first_of}
-use Rattle.boss_marks.specs.Proxy.{Proxy, fresh, recommand, report_of, after_report, is_due, pending, retried}
+use Rattle.boss_marks.specs.Proxy.{recommand, report_of, after_report}
 
 -- each point's driver and where its device stands, and the points that want their device to be written, in order of
 -- arrival
@@ -15,9 +18,6 @@ pub record Marks : Type 0 where
   pub drivers : List ℕ
   pub proxies : List Proxy
   pub wants : List ℕ
-
-abbrev pub proxy_of : Marks → ℕ → Proxy
-proxy_of marks point = unwrap_or (slice_get marks.proxies point) (fresh (pos 0))
 
 abbrev pub with_proxy : ℕ → Proxy → Marks → Marks
 with_proxy point proxy marks = record marks { proxies = slice_set marks.proxies point proxy }
@@ -43,13 +43,13 @@ started point target marks = wanted point (fresh target) marks
 
 -- the point is told its target where that is not what its device was last told
 abbrev pub settled : ℕ → ℤ → Marks → Marks
-settled point target marks = if int_eq target (proxy_of marks point).commanded
+settled point target marks = if int_eq target (proxy_of marks.proxies point).commanded
     then marks
-    else wanted point (recommand target (proxy_of marks point)) marks
+    else wanted point (recommand target (proxy_of marks.proxies point)) marks
 
 -- what the driver of the point is to write
 abbrev pub want_of : Marks → ℕ → Want
-want_of marks point = record { point = point; version = (proxy_of marks point).version; value = (proxy_of marks point).commanded }
+want_of marks point = record { point = point; version = (proxy_of marks.proxies point).version; value = (proxy_of marks.proxies point).commanded }
 
 abbrev pub first_want : ℕ → Marks → Option ℕ
 first_want driver marks = first_of marks.drivers driver marks.wants
@@ -60,26 +60,24 @@ handed_out driver marks = option_map_or (λ point. record marks { wants = withou
 
 -- a report counts if it is of the present version, and the point does not want to be written anew
 abbrev pub is_current : ℕ → ℕ → Marks → Bool
-is_current point version marks = ((proxy_of marks point).version == version) && not (member point marks.wants)
+is_current point version marks = ((proxy_of marks.proxies point).version == version) && not (member point marks.wants)
 
 abbrev pub answer_to : ℕ → ℕ → Bool → Marks → Reported
-answer_to point version ok marks = if is_current point version marks then report_of ok (proxy_of marks point) else reported.Old
+answer_to point version ok marks = if is_current point version marks then report_of ok (proxy_of marks.proxies point) else reported.Old
 
 abbrev pub after_reporting : ℕ → ℕ → Bool → ℕ → Marks → Marks
 after_reporting point version ok n marks = if is_current point version marks
-    then with_proxy point (after_report ok n (proxy_of marks point)) marks
+    then with_proxy point (after_report ok n (proxy_of marks.proxies point)) marks
     else marks
 
--- the points whose failed write is to be tried again at moment n, rising
-abbrev pub due : ℕ → List Proxy → List ℕ
-due n proxies = map (λ place. place.0) (filter (λ place. is_due n place.1) (enumerate_from 0 proxies))
-
--- these points stand last among the wants; an older want of theirs is taken out
-abbrev pub wanted_anew : List ℕ → List ℕ → List ℕ
-wanted_anew points wants = filter (λ want. not (member want points)) wants ++ points
-
+-- the point's device is written again where its failed write is to be tried again at moment n
 abbrev pub retried_at : ℕ → ℕ → Marks → Marks
-retried_at point n marks = if is_due n (proxy_of marks point) then wanted point (pending (proxy_of marks point)) marks else marks
+retried_at point n marks = if is_retried n (point, proxy_of marks.proxies point)
+    then wanted point (retried (point, proxy_of marks.proxies point)) marks
+    else marks
 
 abbrev pub retried_all : ℕ → Marks → Marks
-retried_all n marks = record marks { proxies = map (retried n) marks.proxies; wants = wanted_anew (due n marks.proxies) marks.wants }
+retried_all n marks = record marks {
+  proxies = changed_if (is_retried n) retried marks.proxies;
+  wants = wanted_anew (places (is_retried n) marks.proxies) marks.wants;
+}

@@ -1,6 +1,7 @@
 ghost use Rattle.std.specs.Prelude.{◌≡◌, ◌<◌, ◌++◌, ◌∷◌, [], true, false, length, slice_get, IfOk};
 ghost use Rattle.std.specs.Option.{ForSome};
-ghost use Rattle.boss_marks.specs.Line.{member, without, behind, linked, started};
+ghost use Rattle.boss_model.specs.Lists.{member, without};
+ghost use Rattle.boss_marks.specs.Line.{behind, linked, started};
 
 use boss_model::{NoMemory, PointId};
 use std::alloc::Global;

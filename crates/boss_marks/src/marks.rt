@@ -1,11 +1,14 @@
 ghost use Rattle.std.specs.Prelude.{◌≡◌, ◌<◌, ◌≤◌, ◌^◌, length, IfOk};
+ghost use Rattle.std.specs.List.{AllByRecursion};
 ghost use Rattle.std.specs.Option.{option_map};
+ghost use Rattle.boss_model.specs.Devices.{proxy_of};
+ghost use Rattle.boss_model.specs.Sound.{Distinct};
 ghost use Rattle.boss_marks.specs.Wants.{least_wanting};
-ghost use Rattle.boss_marks.specs.Marks.{proxy_of, opened, started, settled, want_of, first_want, handed_out, answer_to, after_reporting, retried_at, retried_all};
+ghost use Rattle.boss_marks.specs.Marks.{opened, started, settled, want_of, first_want, handed_out, answer_to, after_reporting, retried_at, retried_all};
 
-use crate::proxy::{Proxy, Reported};
+use crate::proxy::{Reported, fresh, is_due, recommand, report};
 use crate::wants::Wants;
-use boss_model::{DriverId, Items, Mark, NoMemory, PointId};
+use boss_model::{DriverId, Items, Mark, NoMemory, PointId, Proxy};
 use std::alloc::Global;
 use std::marker::Model;
 
@@ -29,9 +32,9 @@ pub struct Marks {
 
 impl Model for Marks {
     ghost use Rattle.std.specs.Prelude.{◌≡◌, ◌≤◌, ◌^◌, length};
-    ghost use Rattle.boss_marks.specs.Marks.{Marks as Devices};
+    ghost use Rattle.boss_marks.specs.Marks.{Marks as Standing};
 
-    ghost Value = { Devices };
+    ghost Value = { Standing };
 
     ghost view = { λ m. record { drivers = m.wants.drivers; proxies = m.proxies.items; wants = m.wants.points } };
 
@@ -50,7 +53,7 @@ impl Marks {
         let mut proxies = Vec::with_capacity(alloc, count)?;
         for (driver, default) in points.slice() {
             drivers.push_reserved(*driver);
-            proxies.push_reserved(Proxy::new(*default));
+            proxies.push_reserved(fresh(*default));
         }
         let mut wants = Wants::new(alloc, drivers)?;
         for point in 0..count {
@@ -59,13 +62,24 @@ impl Marks {
         Ok(Marks { proxies, wants })
     }
 
+    /// The number of points. Each has a driver, and wants its device to be written at most once.
+    pub fn count(&self) -> usize
+        ensures number { result ≡ length self.now.proxies }
+        ensures served { length self.now.drivers ≡ length self.now.proxies }
+        ensures few { length self.now.proxies ≤ 2 ^ 32 }
+        ensures known { AllByRecursion (λ want. want < length self.now.proxies) self.now.wants }
+        ensures once { Distinct self.now.wants }
+    {
+        self.wants.points()
+    }
+
     /// The point's device is to be told this target as if it had not been told anything yet: as version 1, which has not
     /// failed. It takes no memory.
     pub fn start(&mut self, point: PointId, target: i64)
         requires { point < length self.old.drivers }
         ensures { self.new ≡ started point target self.old }
     {
-        self.proxies[point.0 as usize] = Proxy::new(target);
+        self.proxies[point.0 as usize] = fresh(target);
         self.wants.put_last(point);
     }
 
@@ -77,10 +91,10 @@ impl Marks {
         ensures drivers { self.new.drivers ≡ self.old.drivers }
     {
         let place = point.0 as usize;
-        if self.proxies[place].commanded() == target {
+        if self.proxies[place].commanded == target {
             return;
         }
-        self.proxies[place].command(target);
+        recommand(&mut self.proxies[place], target);
         self.wants.put_last(point);
     }
 
@@ -95,8 +109,8 @@ impl Marks {
         let proxy = &self.proxies[point.0 as usize];
         Some(Want {
             point,
-            version: proxy.version(),
-            value: proxy.commanded(),
+            version: proxy.version,
+            value: proxy.commanded,
         })
     }
 
@@ -111,10 +125,10 @@ impl Marks {
         ensures drivers { self.new.drivers ≡ self.old.drivers }
     {
         let place = point.0 as usize;
-        if self.proxies[place].version() != version || self.wants.contains(point) {
+        if self.proxies[place].version != version || self.wants.contains(point) {
             return Reported::Old;
         }
-        self.proxies[place].report(ok, n)
+        report(&mut self.proxies[place], ok, n)
     }
 
     /// The points whose failed write is due at moment `n` want their devices to be written again, by rising point. It
@@ -133,8 +147,8 @@ impl Marks {
         ensures { self.new ≡ retried_at point n self.old }
     {
         let place = point.0 as usize;
-        if self.proxies[place].is_due(n) {
-            self.proxies[place].retry();
+        if is_due(&self.proxies[place], n) {
+            self.proxies[place].mark = Mark::Pending;
             self.wants.put_last(point);
         }
     }
@@ -142,9 +156,9 @@ impl Marks {
     /// How far the point's device has come.
     pub fn mark(&self, point: PointId) -> Mark
         requires { point < length self.now.drivers }
-        ensures { result ≡ (proxy_of self.now point).mark }
+        ensures { result ≡ (proxy_of self.now.proxies point).mark }
     {
-        self.proxies[point.0 as usize].mark()
+        self.proxies[point.0 as usize].mark
     }
 
     /// The least driver that has a want.

@@ -1,6 +1,8 @@
 ghost use Rattle.std.specs.Prelude.{◌≡◌, ℕ, ◌<◌, ◌≤◌, ◌^◌, ◌∷◌, [], true, length, slice_index, is_some, IfOk, IfSome};
-ghost use Rattle.std.specs.List.{position_from};
-ghost use Rattle.boss_marks.specs.Line.{member, without, behind};
+ghost use Rattle.std.specs.List.{position_from, AllByRecursion};
+ghost use Rattle.boss_model.specs.Lists.{member, without};
+ghost use Rattle.boss_model.specs.Sound.{Distinct};
+ghost use Rattle.boss_marks.specs.Line.{behind};
 ghost use Rattle.boss_marks.specs.Wants.{first_of, least_wanting};
 ghost use Rattle.boss_marks.specs.Marks.{wanted_last};
 
@@ -40,6 +42,15 @@ impl Wants {
             line,
             firsts,
         })
+    }
+
+    /// The number of points. Each wants its device to be written at most once.
+    pub fn points(&self) -> usize
+        ensures number { result ≡ length self.now.drivers }
+        ensures known { AllByRecursion (λ want. want < length self.now.drivers) self.now.points }
+        ensures once { Distinct self.now.points }
+    {
+        self.drivers.len()
     }
 
     /// Whether the point wants its device to be written.

@@ -4,4 +4,5 @@
 mod ring;
 mod rings;
 
+pub use ring::Ring;
 pub use rings::Rings;

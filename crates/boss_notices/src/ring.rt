@@ -39,6 +39,14 @@ impl Ring {
         Ok(Ring { count: 0, kept })
     }
 
+    /// How many notices there were in all, kept or not.
+    pub fn count(&self) -> u64
+        ensures number { result ≡ self.now.count }
+        ensures few { result ≤ 2 ^ 62 }
+    {
+        self.count
+    }
+
     /// One notice more. It takes no memory.
     pub fn post(&mut self, at: u64, txn: Txn, what: What)
         ensures { self.new ≡ posted at txn what self.old }

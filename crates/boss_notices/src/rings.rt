@@ -1,4 +1,4 @@
-ghost use Rattle.std.specs.Prelude.{◌≡◌, ◌+◌, ◌<◌, ◌≤◌, [], ◌∷◌, ◌++◌, length, slice_set, vec_capacity, IfOk, OnOk, OnErr};
+ghost use Rattle.std.specs.Prelude.{◌≡◌, ◌+◌, ◌^◌, ◌<◌, ◌≤◌, [], ◌∷◌, ◌++◌, length, slice_set, vec_capacity, IfOk, OnOk, OnErr};
 ghost use Rattle.boss_notices.specs.Rings.{ring_of, no_notices, posted, first_kept, start, notices_from};
 
 use crate::ring::Ring;
@@ -36,6 +36,23 @@ impl Rings {
         })
     }
 
+    /// How many notices this process was told.
+    pub fn count(&self, owner: ProcId) -> u64
+        requires { owner < length self.now }
+        ensures number { result ≡ (ring_of self.now owner).count }
+        ensures few { result ≤ 2 ^ 62 }
+    {
+        self.rings[owner.0 as usize].count()
+    }
+
+    /// A process more, which was told what this ring has. There may be 256. It takes no memory.
+    pub fn add(&mut self, ring: Ring)
+        requires { length self.old < 256 }
+        ensures { self.new ≡ self.old ++ ring ∷ [] }
+    {
+        self.rings.push_reserved(ring);
+    }
+
     /// A process more, which has been told nothing. There may be 256.
     pub fn add_process(&mut self, alloc: Global) -> Result<ProcId, NoMemory>
         requires { length self.old < 256 }
@@ -45,7 +62,7 @@ impl Rings {
     {
         let process = ProcId(self.rings.len() as u16);
         let ring = Ring::new(alloc)?;
-        self.rings.push_reserved(ring);
+        self.add(ring);
         Ok(process)
     }
 

@@ -1,6 +1,6 @@
 use Rattle.std.proofs.Common.{◌≡◌, ◌≤◌, map, take, vec_capacity}
 use Rattle.std.specs.List.{range_with_len}
-use Rattle.boss_marks.specs.Proxy.{fresh}
+use Rattle.boss_model.specs.Settle.{fresh}
 use Rattle.boss_marks.proofs.marks.Marks.new.Given as goal
 
 abbrev pub invariant-loop-driver : goal.invariant-loop-driver

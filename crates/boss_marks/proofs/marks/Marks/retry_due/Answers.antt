@@ -1,13 +1,16 @@
 use Rattle.std.proofs.Common.{◌≡◌, ◌<◌, length, sym, ◌∙◌, ap, arith}
+use Rattle.boss_model.specs.Settle.{is_retried, retried}
 use Rattle.boss_marks.specs.Marks.{retried_at}
-use Rattle.boss_marks.proofs.Rounds.{retried_below-none, retried_below-more}
+use Rattle.boss_marks.proofs.Rounds.{turned_below-none, turned_below-more}
 use Rattle.boss_marks.proofs.marks.Marks.retry_due.Goals as goal
 
 pub loop-point-init : goal.loop-point-init
-loop-point-init c = sym (retried_below-none c.args.n c.args.self.now)
+loop-point-init c = sym (turned_below-none (is_retried c.args.n) retried c.args.self.now)
 
 pub loop-point-preserved : goal.loop-point-preserved
 loop-point-preserved c =
     let all : length c.self.inside.proxies.items ≡ length c.args.self.now.proxies = ap (λ marks. length marks.proxies) c.self.view_is in
     let more : c.loop-point.point < length c.args.self.now.proxies = omega arith in
-    c.retry_if_due.ensures ∙ (ap (λ marks. retried_at c.loop-point.point c.args.n marks) c.loop-point.invariant ∙ retried_below-more c.loop-point.point c.args.n c.args.self.now more)
+    c.retry_if_due.ensures
+    ∙ (ap (λ marks. retried_at c.loop-point.point c.args.n marks) c.loop-point.invariant
+    ∙ turned_below-more (is_retried c.args.n) retried c.loop-point.point c.args.self.now more)

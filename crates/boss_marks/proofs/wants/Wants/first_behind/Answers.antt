@@ -1,5 +1,5 @@
 use Rattle.std.proofs.Common.{◌≡◌, ◌<◌, length, true, false, sym, ◌∙◌, ap, arith}
-use Rattle.boss_marks.specs.Line.{member}
+use Rattle.boss_model.specs.Lists.{member}
 use Rattle.boss_marks.specs.Wants.{first_of}
 use Rattle.boss_marks.proofs.Firsts.{onward}
 use Rattle.boss_marks.proofs.Wanting.{is_of, read_at, next_known, next_left, next_first, next_further, next_smaller}

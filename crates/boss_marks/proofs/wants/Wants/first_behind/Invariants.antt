@@ -1,5 +1,6 @@
 use Rattle.std.proofs.Common.{◌≡◌, ℕ, true, Some, length}
-use Rattle.boss_marks.specs.Line.{member, behind}
+use Rattle.boss_model.specs.Lists.{member}
+use Rattle.boss_marks.specs.Line.{behind}
 use Rattle.boss_marks.specs.Wants.{first_of}
 use Rattle.boss_marks.proofs.Firsts.{onward}
 use Rattle.boss_marks.proofs.wants.Wants.first_behind.Given as goal

@@ -1,6 +1,6 @@
 use Rattle.std.proofs.Common.{◌≡◌, true, Some, sym, ◌∙◌, arith}
 use Rattle.std.proofs.lemmas.Grind.{common_steps}
-use Rattle.boss_marks.specs.Line.{member}
+use Rattle.boss_model.specs.Lists.{member}
 use Rattle.boss_marks.proofs.Wanting.{read_first, first_without_first, first_without_other}
 use Rattle.boss_marks.proofs.wants.Wants.first_without.Goals as goal
 

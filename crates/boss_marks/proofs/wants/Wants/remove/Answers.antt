@@ -1,5 +1,5 @@
 use Rattle.std.proofs.Common.{◌≡◌, false, sym, ◌∙◌}
-use Rattle.boss_marks.specs.Line.{member}
+use Rattle.boss_model.specs.Lists.{member}
 use Rattle.boss_marks.proofs.Members.{without_outside}
 use Rattle.boss_marks.proofs.Wanting.{read_at, IsWants-removed}
 use Rattle.boss_marks.proofs.wants.Wants.remove.Goals as goal

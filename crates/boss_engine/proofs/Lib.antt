@@ -1,0 +1,16 @@
+pub mod Concluded
+pub mod DueLemmas
+pub mod Firsts
+pub mod Found
+pub mod Holders
+pub mod Living
+pub mod Ordering
+pub mod Passing
+pub mod Playable
+pub mod Playing
+pub mod Shortened
+pub mod Side
+pub mod Taking
+pub mod ToldApart
+pub mod Turns
+pub mod Waiting
