@@ -3,18 +3,15 @@ use Rattle.std.proofs.Common.{◌≡◌, ℕ, zero, suc, ◌==◌, Bool, true, f
 use Rattle.std.specs.Prelude.{find, slice_index}
 use Rattle.std.specs.Option.{option_map, option_map_or}
 use Rattle.std.proofs.lemmas.Grind.{common_steps}
-use Rattle.std.proofs.lemmas.List.{length-set}
-use Rattle.boss_model.specs.declared.answer.Answer.{Answer}
+use Rattle.std.proofs.lemmas.List.{length-map, length-set}
 use Rattle.boss_model.specs.declared.answer.Answer.TheVariants as answer
 use Rattle.boss_model.specs.declared.state.Actuator.{Actuator}
 use Rattle.boss_model.specs.Catalogue.{driver_of}
 use Rattle.boss_model.specs.Devices.{Reply, next, report, wanting, proxy_of, heard, hand_out}
-use Rattle.boss_model.specs.Ends.{faulted}
 use Rattle.boss_model.specs.Lists.{without}
 use Rattle.boss_model.specs.Order.{least}
 use Rattle.boss_model.specs.Settle.{retry, settle, is_retried, retried, is_moved, recommanded}
 use Rattle.boss_model.specs.State.{Durable, Attachment, State}
-use Rattle.boss_model.specs.Target.{in_force}
 use Rattle.boss_marks.specs.declared.marks.Want.{Want}
 use Rattle.boss_marks.specs.declared.proxy.Reported.{Reported}
 use Rattle.boss_marks.specs.declared.proxy.Reported.TheVariants as reported
@@ -23,16 +20,9 @@ use Rattle.boss_marks.specs.Proxy.{report_of, after_report}
 use Rattle.boss_marks.specs.Wants.{first_of, least_wanting}
 use Rattle.boss_marks.proofs.Rounds.{length-changed_if}
 use Rattle.boss_engine.specs.Settling.{settled_by}
-
--- the machine's state, of which the marks keep the part that tells of devices
-abbrev pub state_of : Durable → List Attachment → Marks → State
-state_of d attached marks = record { durable = d; attached = attached; proxies = marks.proxies; wants = marks.wants }
+use Rattle.boss_engine.specs.Waiting.{drivers_of, state_of, want_answer, is_noted, durable_heard}
 
 -- ---- drivers
-
--- the driver of each point, in their order
-abbrev pub drivers_of : List Actuator → List ℕ
-drivers_of plant = map (λ actuator. actuator.driver) plant
 
 pub driver-read : (plant : List Actuator) (point : ℕ) → slice_index (drivers_of plant) point ≡ driver_of plant point
 driver-read [] point = refl
@@ -47,27 +37,11 @@ pub wants-drivers : (plant : List Actuator) (wants : List ℕ) → map (λ point
 wants-drivers plant [] = refl
 wants-drivers plant (w ∷ ws) = grind (arith, common_steps, driver-read plant w, wants-drivers plant ws)
 
--- ---- what is handed out, and who has a want
+-- where each point has its driver, there are as many of both
+pub length-drivers : (plant : List Actuator) (marks : Marks) → drivers_of plant ≡ marks.drivers → length marks.drivers ≡ length plant
+length-drivers plant marks served = rw (← served) (length-map plant (λ actuator. actuator.driver))
 
-abbrev pub want_answer : Option Want → Answer
-want_answer None = answer.Nothing
-want_answer (Some want) = answer.Want want.point want.version want.value
-
--- ---- what a report comes to
-
--- it was of the version that counts
-abbrev pub is_noted : Reported → Bool
-is_noted reported.Old = false
-is_noted reported.Settled = true
-is_noted reported.FirstFailure = true
-is_noted reported.LaterFailure = true
-
--- only the first failure of a version concerns a process
-abbrev pub durable_heard : Reported → ℕ → ℕ → Durable → Durable
-durable_heard reported.Old point n d = d
-durable_heard reported.Settled point n d = d
-durable_heard reported.FirstFailure point n d = faulted (in_force d.leases point) n d
-durable_heard reported.LaterFailure point n d = d
+-- ---- what is handed out, and what a report comes to
 
 abbrev pub noted : Bool → State → Reply
 noted current s = record { answer = answer.Noted current; state = s }
@@ -122,8 +96,8 @@ module _ (plant : List Actuator) (d : Durable) (attached : List Attachment) (mar
 
 -- ---- each point keeps its driver and its place
 
-pub handed_out-served : (driver : ℕ) (marks : Marks) → (handed_out driver marks).proxies ≡ marks.proxies
-handed_out-served driver marks = found (first_want driver marks)
+pub proxies-handed_out : (driver : ℕ) (marks : Marks) → (handed_out driver marks).proxies ≡ marks.proxies
+proxies-handed_out driver marks = found (first_want driver marks)
   where
     found : (first : Option ℕ) → (option_map_or (λ point. record marks { wants = without point marks.wants }) first marks).proxies ≡ marks.proxies
     found None = refl

@@ -1,14 +1,13 @@
-ghost use Rattle.std.specs.Prelude.{◌≡◌, ◌≤◌, ◌<◌, ◌+◌, ◌^◌, length, fold, vec_len, vec_capacity, IfOk};
+ghost use Rattle.std.specs.Prelude.{◌≡◌, ℕ, List, ◌≤◌, ◌<◌, ◌+◌, ◌*◌, ◌^◌, length, fold, vec_len, vec_capacity, IfOk};
 ghost use Rattle.std.specs.List.{AllByRecursion};
+ghost use Rattle.boss_model.specs.declared.command.Policy.{Policy};
+ghost use Rattle.boss_model.specs.declared.command.Setting.{Setting};
 ghost use Rattle.boss_model.specs.Ends.{end_leases};
 ghost use Rattle.boss_model.specs.Happenings.{finish, tell};
 ghost use Rattle.boss_model.specs.State.{first_durable};
 ghost use Rattle.boss_model.specs.Submit.{submitted};
 ghost use Rattle.boss_model.specs.Time.{tick_to};
-ghost use Rattle.boss_engine.specs.Concluding.{concluded, group_told};
-ghost use Rattle.boss_engine.specs.Due.{due_told};
-ghost use Rattle.boss_engine.specs.Lasting.{HasRoom, IsSoundOfSome, durable_of, handed_out, most_told};
-ghost use Rattle.boss_engine.specs.Telling.{AreToldApart};
+ghost use Rattle.boss_engine.specs.Lasting.{HasRoom, IsFirstTold, IsSomeSubmit, IsSoundOfSome, IsSubmit, durable_of, handed_out, most_told};
 ghost use Rattle.boss_engine.specs.Meant.{is_meant};
 
 use crate::endings::{Ending, end_parts};
@@ -93,7 +92,7 @@ impl Lasting {
         requires sound { IsSoundOfSome (durable_of self.old) }
         requires moment { ((durable_of self.old).now ≤ n) × (n ≤ 2 ^ 60) }
         requires room { HasRoom self.old }
-        requires first { first_told (durable_of self.old) told.old.items }
+        requires first { IsFirstTold cause n (durable_of self.old) told.old.items }
         requires told { most_told self.old ≤ vec_capacity told.old }
         ensures after { durable_of self.new ≡ end_leases (is_meant which) cause n told.old.items (durable_of self.old) }
         ensures room { HasRoom self.new }
@@ -114,7 +113,22 @@ impl Lasting {
         new: Vec<Lease>,
         n: u64,
         told: &mut Vec<Happening>,
-    ) {
+    )
+        requires sound { IsSoundOfSome (durable_of self.old) }
+        requires submit { IsSomeSubmit n transaction new.items (durable_of self.old) }
+        requires next { self.old.next_txn < 2 ^ 62 }
+        requires done { 1025 ≤ vec_capacity self.old.done }
+        requires leases { vec_len self.old.leases + vec_len new ≤ vec_capacity self.old.leases }
+        requires pending { vec_len self.old.leases + vec_len self.old.pending + vec_len new ≤ vec_capacity self.old.pending }
+        requires txns { vec_len self.old.txns < vec_capacity self.old.txns }
+        requires told { most_told self.old ≤ vec_capacity told.old }
+        ensures after { (owner : ℕ) (policy : Policy) (writes : List Setting) →
+            IsSubmit n transaction new.items (durable_of self.old) owner policy writes →
+            durable_of self.new ≡ submitted owner policy writes n (durable_of self.old) }
+        ensures room { HasRoom self.new }
+        ensures few { most_told self.new ≤ most_told self.old + 2 * vec_len new + 1 }
+        ensures told { vec_capacity told.new ≡ vec_capacity told.old }
+    {
         let by = transaction.txn;
         gather_replaced(self, &new, by, n, told);
         end_parts(

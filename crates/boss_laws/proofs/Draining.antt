@@ -1,11 +1,10 @@
--- Draining ends: each want that is served takes a want away, or leases.
+-- A want that is served takes a want away, or leases.
 use Rattle.std.proofs.Common.{◌≡◌, ℕ, zero, suc, ◌+◌, ◌*◌, ◌^◌, ◌<◌, ◌≤◌, ◌==◌, max, nat_lt, List, [], ◌∷◌, length, map, set, Bool, true, false, not, ◌||◌, cond, Option, Some, None, refl, ap, sym, ◌∙◌, subst, arith, zero-add}
 use Rattle.std.specs.List.{filter, find, AllByRecursion, list_any}
 use Rattle.std.proofs.Math.ListN.{length-set}
 use Rattle.std.proofs.Math.Nat.{mul-le-mul_right}
 use Rattle.std.proofs.lemmas.Bool.{cond_both}
 use Rattle.std.proofs.lemmas.Bool.Decides.{nat_tests}
-use Rattle.boss_model.specs.declared.answer.Answer.{Answer}
 use Rattle.boss_model.specs.declared.answer.Answer.TheVariants as answer
 use Rattle.boss_model.specs.declared.command.Command.TheVariants as command
 use Rattle.boss_model.specs.declared.command.Policy.{Policy}
@@ -23,13 +22,12 @@ use Rattle.boss_model.specs.Settle.{settle}
 use Rattle.boss_model.specs.Sound.{Distinct, IsWant, IsSound}
 use Rattle.boss_model.specs.State.{Durable, State}
 use Rattle.boss_model.specs.Target.{in_force, target}
-use Rattle.boss_model.specs.Time.{live, moment_of}
-use Rattle.boss_laws.specs.Draining.{reported, serve, serve_if, drain}
+use Rattle.boss_model.specs.Time.{live}
+use Rattle.boss_laws.specs.Draining.{reported, serve, load}
 use Rattle.boss_laws.proofs.NothingDue.{nothing-due}
 use Rattle.boss_laws.proofs.Orders.{each-map, each-filter, each-passed, least-of}
 use Rattle.boss_laws.proofs.Places.{member-each, Distinct-filter, proxy_of-set, proxy_of-other}
-use Rattle.boss_laws.proofs.Resting.{IsResting, IsWaiting, settled-at, settle-none, pass-resting, waiting-passed, resting-step}
-use Rattle.boss_laws.proofs.StepSound.{passed-sound}
+use Rattle.boss_laws.proofs.Resting.{IsResting, IsWaiting, settled-at, settle-none, pass-resting, resting-step}
 use Rattle.boss_laws.proofs.SubmitSound.{left-live}
 use Rattle.boss_laws.proofs.Targets.{target-stays}
 
@@ -87,11 +85,11 @@ member-without n (x ∷ xs) = cond_both (not (x == n)) (x ∷ without n xs) (wit
 
 -- ---- the want that is handed out
 
-find-some : {X : Type 0} (test : X → Bool) (xs : List X) → list_any test xs ≡ true → (x : X) × (find test xs ≡ Some x)
+pub find-some : {X : Type 0} (test : X → Bool) (xs : List X) → list_any test xs ≡ true → (x : X) × (find test xs ≡ Some x)
 find-some test [] some = cc
 find-some {X = X} test (x ∷ xs) some = cond_both (test x) (Some x) (find test xs) (λ f. test x ≡ test x → (y : X) × (f ≡ Some y)) (λ _ _. (x, refl)) (λ no _. find-some test xs (grind (arith))) refl
 
-find-member : (test : ℕ → Bool) (xs : List ℕ) (x : ℕ) → find test xs ≡ Some x → list_any (λ y. y == x) xs ≡ true
+pub find-member : (test : ℕ → Bool) (xs : List ℕ) (x : ℕ) → find test xs ≡ Some x → list_any (λ y. y == x) xs ≡ true
 find-member test [] x found = cc
 find-member test (y ∷ ys) x found = cond_both (test y) (Some y) (find test ys) (λ f. f ≡ Some x → list_any (λ z. z == x) (y ∷ ys) ≡ true)
     (λ _ e. let same : y ≡ x = cc in grind (arith, nat_tests)) (λ _ e. grind (arith, find-member test ys x e)) found
@@ -101,21 +99,17 @@ any-mapped test f [] = refl
 any-mapped test f (x ∷ xs) = ap (λ b. test (f x) || b) (any-mapped test f xs)
 
 -- a driver that wants has a want
-wanted-point : (plant : List Actuator) (s : State) (driver : ℕ) → wanting plant s ≡ Some driver → (point : ℕ) × (find (λ p. driver_of plant p == driver) s.wants ≡ Some point)
+pub wanted-point : (plant : List Actuator) (s : State) (driver : ℕ) → wanting plant s ≡ Some driver → (point : ℕ) × (find (λ p. driver_of plant p == driver) s.wants ≡ Some point)
 wanted-point plant s driver is = find-some (λ p. driver_of plant p == driver) s.wants
     (sym (any-mapped (λ d. d == driver) (driver_of plant) s.wants)
     ∙ least-of (λ d. list_any (λ y. y == d) (map (driver_of plant) s.wants) ≡ true) (λ d. d) (map (driver_of plant) s.wants) driver
     (some-of (λ d y. y == d) (λ d. grind (arith, nat_tests)) (map (driver_of plant) s.wants)) is)
 
-none-wanted : (plant : List Actuator) (wants : List ℕ) → least (λ d. d) (map (driver_of plant) wants) ≡ None → wants ≡ []
+pub none-wanted : (plant : List Actuator) (wants : List ℕ) → least (λ d. d) (map (driver_of plant) wants) ≡ None → wants ≡ []
 none-wanted plant [] none = refl
 none-wanted plant (w ∷ ws) none = cc
 
 -- ---- one round
-
--- how much there is to do at most: each lease that ends may make every point wanted
-abbrev pub load : List Actuator → State → ℕ
-load plant s = length s.durable.leases * suc (length plant) + length s.wants
 
 module _ (plant : List Actuator) (m n : ℕ) (small : m ≤ 2 ^ 60) where
   -- the state whose want is handed out
@@ -247,15 +241,14 @@ module _ (plant : List Actuator) (m n : ℕ) (small : m ≤ 2 ^ 60) where
         by false few_wants = lighter-found (in_force s.durable.leases point) (not_taken n (proxy_of s.proxies point)) refl refl few_wants
 
   -- a served want leaves a state at rest with a lighter load
-  served : (s : State) (driver : ℕ) (ok : Bool) → IsResting plant m n s → wanting plant s ≡ Some driver → IsResting plant m n (serve plant m ok driver s) × (load plant (serve plant m ok driver s) < load plant s)
-  served s driver ok rests wants =
-      let found = wanted-point plant s driver wants in
-      let point = found.0 in
+  pub served-found : (s : State) (driver point : ℕ) (ok : Bool) → IsResting plant m n s → find (λ p. driver_of plant p == driver) s.wants ≡ Some point →
+      IsResting plant m n (serve plant m ok driver s) × (load plant (serve plant m ok driver s) < load plant s)
+  served-found s driver point ok rests found =
       let version = (proxy_of s.proxies point).version in
       let s1 : State = record s { wants = without point s.wants } in
-      let asked = hand-step s driver point rests found.1 in
+      let asked = hand-step s driver point rests found in
       let rests1 : IsResting plant m n s1 = subst (IsResting plant m n) (ap (λ r. r.state) asked) (hand-rests s driver rests) in
-      let wanted : list_any (λ y. y == point) s.wants ≡ true = find-member (λ p. driver_of plant p == driver) s.wants point found.1 in
+      let wanted : list_any (λ y. y == point) s.wants ≡ true = find-member (λ p. driver_of plant p == driver) s.wants point found in
       let known : point < length s.proxies = (member-each (IsWant s.proxies) point s.wants rests.sound.wants wanted).known in
       let there : point < length plant = omega (arith, rests.sound.proxies) in
       let current : is_current point version s1 ≡ true = grind (arith, nat_tests, member-without point s.wants) in
@@ -266,74 +259,3 @@ module _ (plant : List Actuator) (m n : ℕ) (small : m ≤ 2 ^ 60) where
         subst (IsResting plant m n) (sym whole) rests2,
         subst (λ t. load plant t < load plant s) (sym (whole ∙ step2)) (lighter-heard s point rests known wanted rests1 ok few),
       )
-
-  drained : (results : List Bool) (s : State) → IsResting plant m n s → load plant s ≤ length results → (drain plant m results s).wants ≡ []
-  drained [] s rests light = no-wants s.wants (omega arith)
-    where
-      no-wants : (ws : List ℕ) → length ws ≤ 0 → ws ≡ []
-      no-wants [] none = refl
-      no-wants (w ∷ ws) none = absurd (omega arith)
-  drained (ok ∷ results) s rests light = round (wanting plant s) refl (λ t next smaller. drained results t next smaller)
-    where
-      stays : (rest : List Bool) (t : State) → wanting plant t ≡ None → (drain plant m rest t).wants ≡ t.wants
-      stays [] t none = refl
-      stays (x ∷ rest) t none = ap (λ w. (drain plant m rest (serve_if plant m x w t)).wants) none ∙ stays rest t none
-
-      round : (driver : Option ℕ) → wanting plant s ≡ driver → ((t : State) → IsResting plant m n t → load plant t ≤ length results → (drain plant m results t).wants ≡ []) →
-          (drain plant m results (serve_if plant m ok (wanting plant s) s)).wants ≡ []
-      round None is go = ap (λ w. (drain plant m results (serve_if plant m ok w s)).wants) is ∙ stays results s is ∙ none-wanted plant s.wants is
-      round (Some driver) is go =
-          let after = served s driver ok rests is in
-          ap (λ w. (drain plant m results (serve_if plant m ok w s)).wants) is ∙ go (serve plant m ok driver s) after.0 (omega (arith, after.1))
-
-  stays-drained : (rest : List Bool) (t : State) → wanting plant t ≡ None → (drain plant m rest t).wants ≡ t.wants
-  stays-drained [] t none = refl
-  stays-drained (x ∷ rest) t none = ap (λ w. (drain plant m rest (serve_if plant m x w t)).wants) none ∙ stays-drained rest t none
-
-  -- the first round brings any sound state to rest
-  asked-answer : (s : State) (driver : ℕ) → moment_of s.durable m ≡ n →
-      (step plant 0 (command.Next driver) m s).answer ≡ (hand_out (find (λ p. driver_of plant p == driver) (pass_time plant n s).wants) (pass_time plant n s)).answer
-  unfolding step
-  asked-answer s driver moment = λ i. (next plant driver (pass_time plant (moment i) s)).answer
-
-  first-served : (s : State) (driver : ℕ) (ok : Bool) → IsSound plant s → moment_of s.durable m ≡ n → IsResting plant m n (serve plant m ok driver s)
-  first-served s driver ok sound moment =
-      let passed = pass_time plant n s in
-      let now : s.durable.now ≤ 2 ^ 60 = sound.durable.now in
-      let time : max s.durable.now m ≡ n = moment in
-      let passed_sound : IsSound plant passed = passed-sound plant n s (omega arith) (omega arith) sound in
-      let asked = step plant 0 (command.Next driver) m s in
-      let rests : IsResting plant m n asked.state = resting-step plant 0 (command.Next driver) m n s sound tt small moment
-      (hand-waits (find (λ p. driver_of plant p == driver) passed.wants) passed (waiting-passed plant n s)) in
-      by passed passed_sound asked.state rests (find (λ p. driver_of plant p == driver) passed.wants) asked.answer refl (asked-answer s driver moment)
-    where
-      by : (passed : State) → IsSound plant passed → (t : State) → IsResting plant m n t → (found : Option ℕ) (given : Answer) → find (λ p. driver_of plant p == driver) passed.wants ≡ found →
-          given ≡ (hand_out (find (λ p. driver_of plant p == driver) passed.wants) passed).answer → IsResting plant m n (reported plant m ok given t)
-      by passed good t rests None given is same =
-          subst (λ a. IsResting plant m n (reported plant m ok a t)) (sym (same ∙ ap (λ f. (hand_out f passed).answer) is)) rests
-      by passed good t rests (Some p) given is same =
-          let wanted : list_any (λ y. y == p) passed.wants ≡ true = find-member (λ q. driver_of plant q == driver) passed.wants p is in
-          let known : p < length passed.proxies = (member-each (IsWant passed.proxies) p passed.wants good.wants wanted).known in
-          subst (λ a. IsResting plant m n (reported plant m ok a t)) (sym (same ∙ ap (λ f. (hand_out f passed).answer) is))
-          (report-rests t p (proxy_of passed.proxies p).version ok (omega (arith, good.proxies)) rests)
-
-  -- as many results as this are enough
-  abbrev pub enough : Option ℕ → State → ℕ
-  enough None s = 0
-  enough (Some driver) s = suc (load plant (serve plant m true driver s) + load plant (serve plant m false driver s))
-
-  pub drained-all : (s : State) → IsSound plant s → moment_of s.durable m ≡ n → (results : List Bool) → enough (wanting plant s) s ≤ length results → (drain plant m results s).wants ≡ []
-  drained-all s sound moment results many = by (wanting plant s) refl results (subst (λ k. k ≤ length results) refl many)
-    where
-      by : (driver : Option ℕ) → wanting plant s ≡ driver → (rs : List Bool) → enough driver s ≤ length rs → (drain plant m rs s).wants ≡ []
-      by None is rs few = stays-drained rs s is ∙ none-wanted plant s.wants is
-      by (Some driver) is [] few = absurd (omega arith)
-      by (Some driver) is (true ∷ rs) few = ap (λ w. (drain plant m rs (serve_if plant m true w s)).wants) is
-          ∙ drained rs (serve plant m true driver s) (first-served s driver true sound moment) (omega arith)
-      by (Some driver) is (false ∷ rs) few = ap (λ w. (drain plant m rs (serve_if plant m false w s)).wants) is
-          ∙ drained rs (serve plant m false driver s) (first-served s driver false sound moment) (omega arith)
-
-pub draining-ends : (plant : List Actuator) (s : State) (m : ℕ) → IsSound plant s → m ≤ 2 ^ 60 →
-    (count : ℕ) × ((results : List Bool) → count ≤ length results → (drain plant m results s).wants ≡ [])
-draining-ends plant s m sound small =
-    (enough plant m (moment_of s.durable m) small (wanting plant s) s, drained-all plant m (moment_of s.durable m) small s sound refl)

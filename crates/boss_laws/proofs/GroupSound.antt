@@ -140,7 +140,7 @@ map-set f [] place x y found same = refl
 map-set f (z ∷ zs) zero x y found same = let here : z ≡ y = cc in λ i. (same ∙ ap f (sym here)) i ∷ map f zs
 map-set f (z ∷ zs) (suc place) x y found same = ap (λ ys. f z ∷ ys) (map-set f zs place x y found same)
 
-got : {X : Type 0} (P : X → Type 0) (xs : List X) (place : ℕ) (x : X) → slice_get xs place ≡ Some x → AllByRecursion P xs → P x
+pub got : {X : Type 0} (P : X → Type 0) (xs : List X) (place : ℕ) (x : X) → slice_get xs place ≡ Some x → AllByRecursion P xs → P x
 got P [] place x found all = cc
 got P (y ∷ ys) zero x found all = let here : y ≡ x = cc in subst P here all.0
 got P (y ∷ ys) (suc place) x found all = got P ys place x found all.1

@@ -29,3 +29,5 @@ pub mod SameDecides
 pub mod Replay
 pub mod Resting
 pub mod Draining
+pub mod Tellable
+pub mod Weighing

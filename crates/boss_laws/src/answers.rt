@@ -1,9 +1,12 @@
-ghost use Rattle.std.specs.Prelude.{◌≡◌, ℕ, List, true};
+ghost use Rattle.std.specs.Prelude.{◌≡◌, ℕ, ◌≤◌, ◌^◌, List, true};
 ghost use Rattle.boss_model.specs.declared.command.Command.{Command};
 ghost use Rattle.boss_model.specs.declared.command.Command.TheVariants as command;
 ghost use Rattle.boss_model.specs.declared.state.Actuator.{Actuator};
+ghost use Rattle.boss_model.specs.Catalogue.{actuators, Catalogue};
 ghost use Rattle.boss_model.specs.Machine.{step};
+ghost use Rattle.boss_model.specs.Sound.{IsAllowed, IsSound};
 ghost use Rattle.boss_model.specs.State.{State};
+ghost use Rattle.boss_model.specs.Tellable.{IsTellable};
 ghost use Rattle.boss_laws.specs.Commands.{is_question, unmarked};
 
 /// What a question answers is a function of what outlasts a stop, of the question and of the moment: two states that agree
@@ -13,4 +16,11 @@ pub fn questions_rest_on_what_lasts()
         is_question c ≡ true → (step plant session c m s).answer ≡ (step plant other c m t).answer }
     ensures reading { (plant : List Actuator) (s t : State) (session other point m : ℕ) → s.durable ≡ t.durable →
         unmarked (step plant session (command.Read point) m s).answer ≡ unmarked (step plant other (command.Read point) m t).answer }
+{}
+
+/// Every answer to an allowed command in a sound state can be told: its points are the catalogue's, and of notices there
+/// are at most as many as a text has room for.
+pub fn an_answer_can_be_told()
+    ensures { (catalogue : Catalogue) (s : State) (session : ℕ) (c : Command) (m : ℕ) → IsSound (actuators catalogue) s →
+        IsAllowed (actuators catalogue) c → m ≤ 2 ^ 60 → IsTellable catalogue (step (actuators catalogue) session c m s).answer }
 {}

@@ -10,7 +10,7 @@ mod refusals;
 mod soundness;
 mod ticks;
 
-pub use answers::questions_rest_on_what_lasts;
+pub use answers::{an_answer_can_be_told, questions_rest_on_what_lasts};
 pub use bridges::{
     draining_ends, nothing_due_changes_nothing, targets_change_at_due_moments,
     time_may_pass_in_turns,

@@ -110,7 +110,7 @@ module _ {drivers : List ℕ} {line : Line} {firsts : List (Option ℕ)} (wants 
       rw same (ap (λ o. is_some o) (wants.kept driver) ∙ is_some-find (λ point. slice_index drivers point) driver line.points))
       (λ driver inside. omega arith)
 
-  -- every want is a point, and stands once
+  -- every want is a point
   pub wants_known : AllByRecursion (λ want. want < length drivers) line.points
   wants_known = all_below line.points wants.known
     where

@@ -1,7 +1,7 @@
-use Rattle.std.specs.Prelude.{ℕ, ◌+◌, ◌%◌, ◌^◌, ℤ, nat_le, Bool, false, ◌&&◌, if◌then◌else◌}
+use Rattle.std.specs.Prelude.{ℕ, ◌+◌, ◌%◌, ◌^◌, ℤ, Bool, false, if◌then◌else◌}
 use Rattle.boss_model.specs.declared.answer.Mark.TheVariants as mark
 use Rattle.boss_model.specs.Devices.{taken, not_taken}
-use Rattle.boss_model.specs.Settle.{is_failed}
+use Rattle.boss_model.specs.Settle.{is_retried}
 use Rattle.boss_model.specs.declared.state.Proxy.{Proxy}
 use Rattle.boss_marks.specs.declared.proxy.Reported.{Reported}
 use Rattle.boss_marks.specs.declared.proxy.Reported.TheVariants as reported
@@ -22,6 +22,6 @@ report_of ok proxy = if ok then reported.Settled else (if proxy.failed then repo
 abbrev pub after_report : Bool → ℕ → Proxy → Proxy
 after_report ok n proxy = if ok then taken proxy else not_taken n proxy
 
--- the device's write failed, and is to be tried again at moment n
+-- the device's write failed, and is to be tried again at moment n: whatever the place of its point
 abbrev pub is_due : ℕ → Proxy → Bool
-is_due n proxy = is_failed proxy.mark && nat_le proxy.retry_at n
+is_due n proxy = is_retried n (0, proxy)

@@ -203,6 +203,7 @@ mod tests {
     #[test]
     fn points_want_their_defaults_at_first(rt: HostRuntime) -> Result<(), Fail> {
         let mut marks = plant(rt.alloc())?;
+        assert_eq!(rt; marks.count(), 3);
         assert_eq!(rt; marks.report(DAMPER, 1, true, 0), Reported::Old);
         assert_eq!(rt; marks.mark(DAMPER), Mark::Pending);
         assert_eq!(rt; marks.wanting(), Some(FIELD));

@@ -1,4 +1,4 @@
-ghost use Rattle.std.specs.Prelude.{◌≡◌, ℕ, ◌≤◌, ◌<◌, List, [], ◌∷◌, ◌++◌, length, IfOk};
+ghost use Rattle.std.specs.Prelude.{◌≡◌, ℕ, ◌+◌, ◌≤◌, ◌<◌, List, [], ◌∷◌, ◌++◌, length, IfOk};
 ghost use Rattle.boss_model.specs.Held.{Held};
 
 use crate::NoMemory;
@@ -38,6 +38,16 @@ impl Buffer {
         ensures { self.new ≡ record self.old { bytes = self.old.bytes ++ byte ∷ [] } }
     {
         self.bytes.push_reserved(byte);
+    }
+
+    /// These bytes more, at the end.
+    pub fn extend(&mut self, bytes: &[u8])
+        requires { length self.old.bytes + length bytes.now ≤ self.old.capacity }
+        ensures { self.new ≡ record self.old { bytes = self.old.bytes ++ bytes.now } }
+    {
+        for byte in bytes {
+            self.push(*byte);
+        }
     }
 
     /// Takes all bytes out. The room stays.

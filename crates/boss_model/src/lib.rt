@@ -13,7 +13,6 @@ mod notice;
 mod numbers;
 mod point;
 mod state;
-
 #[cfg(test)]
 mod tests;
 

@@ -23,6 +23,8 @@ fn a_buffer_and_a_list_take_what_they_are_given(rt: HostRuntime) -> Result<(), F
     assert_eq!(rt; buffer.bytes(), b"ok".as_slice());
     buffer.clear();
     assert_eq!(rt; buffer.bytes(), b"".as_slice());
+    buffer.extend(b"no");
+    assert_eq!(rt; buffer.bytes(), b"no".as_slice());
     let mut items = Items::new(rt.alloc());
     assert!(rt; items.try_push(7u8).is_ok());
     assert_eq!(rt; items.slice(), [7].as_slice());

@@ -1,4 +1,4 @@
-use Rattle.boss_laws.proofs.Draining.{draining-ends}
+use Rattle.boss_laws.proofs.Weighing.{draining-ends}
 use Rattle.boss_laws.proofs.bridges.draining_ends.Goals as goal
 
 pub returns : goal.returns

@@ -1,0 +1,31 @@
+/// Where a line stands, which decides what it may ask and what it may say of itself.
+#[derive(Clone, Copy, Debug, PartialEq, Eq)]
+pub enum Form {
+    /// A line of a script: it may say which session it is of, and at which moment.
+    Script,
+}
+
+/// What a line may ask for, by the text under its key `op`.
+#[derive(Clone, Copy, Debug, PartialEq, Eq)]
+pub enum Op {
+    /// `attach`: become a control process.
+    Attach,
+    /// `submit`: write set-points.
+    Submit,
+    /// `renew`: keep leases for longer.
+    Renew,
+    /// `cancel`: end the leases of a transaction.
+    Cancel,
+    /// `read`: read a point's value.
+    Read,
+    /// `array`: read a point's slots.
+    Array,
+    /// `status`: ask how far a transaction has come.
+    Status,
+    /// `notices`: ask for notices.
+    Notices,
+    /// `gone`: the session's process is lost.
+    Gone,
+    /// `tick`: let time pass.
+    Tick,
+}

@@ -1,0 +1,4 @@
+pub mod Each
+pub mod Formed
+pub mod Values
+pub mod Views

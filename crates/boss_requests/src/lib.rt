@@ -1,0 +1,19 @@
+//! Lines as requests: what a line of JSON asks of the transaction manager, or why it is refused.
+//! The definitions are in boss_model, `specs/Requests.antt` and `specs/Keys.antt`.
+#![tactic(auto)]
+
+mod blank;
+mod commands;
+mod keys;
+mod points;
+mod refusal;
+mod request;
+mod writes;
+
+pub use blank::is_blank;
+pub use boss_model::Form;
+pub use refusal::ReadRefusal;
+pub use request::{Ask, Request, read_request};
+
+#[cfg(test)]
+mod tests;

@@ -1,0 +1,81 @@
+ghost use Rattle.std.specs.Prelude.{◌≡◌, ◌≤◌, ◌<◌, is_some, length, All, IfOk};
+ghost use Rattle.std.specs.List.{list_all};
+ghost use Rattle.serde_json.specs.Find.{as_str};
+ghost use Rattle.serde_json.specs.View.{view};
+ghost use Rattle.boss_model.specs.Requests.{each_from, point_at, points_of};
+ghost use Rattle.boss_requests.specs.Given.{Gives};
+ghost use Rattle.boss_requests.specs.Seen.{point_in, views};
+
+use crate::ReadRefusal;
+use crate::refusal::MALFORMED;
+use boss_model::{Items, PointId, Refusal};
+use boss_points::Catalogue;
+use serde_json::Value;
+use std::alloc::Global;
+
+/// The point of this name, the one at this place among the names of the request, from 0.
+pub(crate) fn point_at(
+    catalogue: &Catalogue,
+    index: u32,
+    name: &str,
+) -> Result<PointId, ReadRefusal>
+    ensures point { Gives (λ point. point) result (point_at catalogue.now index name.now) }
+    ensures known { IfOk result (λ point. point < length catalogue.now.points) }
+{
+    match catalogue.find(name.as_bytes()) {
+        Some(point) => Ok(point),
+        None => Err(ReadRefusal::Refused(Refusal::UnknownPoint { index })),
+    }
+}
+
+/// The points that texts name.
+pub(crate) fn points_named(
+    alloc: Global,
+    catalogue: &Catalogue,
+    values: &[Value],
+) -> Result<Items<PointId>, ReadRefusal>
+    requires { length values.now ≤ 32 }
+    ensures points { Gives (λ points. points) result (points_of catalogue.now (views values.now)) }
+    ensures known { IfOk result (λ points. All (λ point. point < length catalogue.now.points) points) }
+    ensures few { IfOk result (λ points. length points ≤ 32) }
+{
+    if !are_texts(values) {
+        return Err(MALFORMED);
+    }
+    known_points(alloc, catalogue, values)
+}
+
+/// The points that values name, once each of them is known to be a text.
+fn known_points(
+    alloc: Global,
+    catalogue: &Catalogue,
+    values: &[Value],
+) -> Result<Items<PointId>, ReadRefusal>
+    requires { length values.now ≤ 32 }
+    ensures points { Gives (λ points. points) result (each_from (point_in catalogue.now) 0 (views values.now)) }
+    ensures known { IfOk result (λ points. All (λ point. point < length catalogue.now.points) points) }
+    ensures few { IfOk result (λ points. length points ≤ 32) }
+{
+    let mut points = Items::new(alloc);
+    for (at, value) in values.iter().enumerate() {
+        let point = point_in(catalogue, at as u32, value)?;
+        points.try_push(point)?;
+    }
+    Ok(points)
+}
+
+/// The point that a value names, the one at this place among the names of the request, from 0.
+fn point_in(catalogue: &Catalogue, index: u32, value: &Value) -> Result<PointId, ReadRefusal>
+    ensures point { Gives (λ point. point) result (point_in catalogue.now index (view value.now)) }
+    ensures known { IfOk result (λ point. point < length catalogue.now.points) }
+{
+    let name = value.as_str().ok_or(MALFORMED)?;
+    point_at(catalogue, index, name)
+}
+
+/// Whether each of the values is a text.
+fn are_texts(values: &[Value]) -> bool
+    ensures { result ≡ list_all (λ value. is_some (as_str (view value))) values.now }
+{
+    values.iter().all(Value::is_string)
+}

@@ -1,0 +1,41 @@
+ghost use Rattle.std.specs.Prelude.{◌≡◌};
+ghost use Rattle.boss_requests.specs.declared.refusal.ReadRefusal.TheVariants.{NoMemory as Memory};
+
+use boss_model::{NoMemory, Refusal};
+use std::alloc::{AllocError, AllocFailed};
+
+/// Why a line gives no request.
+#[derive(Debug, Drop)]
+pub enum ReadRefusal {
+    /// The line is refused, and this is the answer to it.
+    Refused(Refusal),
+    /// No memory was to be had. This says nothing of the line.
+    NoMemory,
+}
+
+/// The line spells no request.
+pub(crate) const MALFORMED: ReadRefusal = ReadRefusal::Refused(Refusal::Malformed);
+
+impl From<NoMemory> for ReadRefusal {
+    ghost from_gives = { λ _ refusal. refusal ≡ Memory };
+
+    fn from(_error: NoMemory) -> Self {
+        ReadRefusal::NoMemory
+    }
+}
+
+impl From<AllocError> for ReadRefusal {
+    ghost from_gives = { λ _ refusal. refusal ≡ Memory };
+
+    fn from(_error: AllocError) -> Self {
+        ReadRefusal::NoMemory
+    }
+}
+
+impl<T: Drop> From<AllocFailed<T>> for ReadRefusal {
+    ghost from_gives = { λ _ refusal. refusal ≡ Memory };
+
+    fn from(_failed: AllocFailed<T>) -> Self {
+        ReadRefusal::NoMemory
+    }
+}

@@ -1,0 +1,143 @@
+ghost use Rattle.std.specs.Prelude.{◌≡◌, ◌≤◌, ◌<◌, [], codes, is_some, length, All, IfOk};
+ghost use Rattle.std.specs.List.{list_all};
+ghost use Rattle.serde_json.specs.View.{view};
+ghost use Rattle.boss_model.specs.Keys.{all_of, step, steps, under_or, write};
+ghost use Rattle.boss_model.specs.Requests.{each_from, formed, settings_of};
+ghost use Rattle.boss_requests.specs.Given.{Gives};
+ghost use Rattle.boss_requests.specs.Seen.{setting_in, views};
+
+use crate::ReadRefusal;
+use crate::keys::{list_in, priority_of, step_in, text_under, whole_under};
+use crate::points::point_at;
+use crate::refusal::MALFORMED;
+use boss_model::{Items, Setting, Step};
+use boss_points::Catalogue;
+use serde_json::Value;
+use std::alloc::Global;
+
+/// The writes that values spell.
+pub(crate) fn settings_in(
+    alloc: Global,
+    catalogue: &Catalogue,
+    values: &[Value],
+) -> Result<Items<Setting>, ReadRefusal>
+    requires { length values.now ≤ 32 }
+    ensures settings { Gives (λ settings. settings) result (settings_of catalogue.now (views values.now)) }
+    ensures known { IfOk result (λ settings. All (λ setting. setting.point < length catalogue.now.points) settings) }
+    ensures count { IfOk result (λ settings. length settings ≡ length values.now) }
+{
+    if !are_writes(values) {
+        return Err(MALFORMED);
+    }
+    known_settings(alloc, catalogue, values)
+}
+
+/// The writes that values spell, once each is known to spell one.
+fn known_settings(
+    alloc: Global,
+    catalogue: &Catalogue,
+    values: &[Value],
+) -> Result<Items<Setting>, ReadRefusal>
+    requires { length values.now ≤ 32 }
+    ensures settings { Gives (λ settings. settings) result (each_from (setting_in catalogue.now) 0 (views values.now)) }
+    ensures known { IfOk result (λ settings. All (λ setting. setting.point < length catalogue.now.points) settings) }
+    ensures count { IfOk result (λ settings. length settings ≡ length values.now) }
+{
+    let mut settings = Items::new(alloc);
+    for (at, value) in values.iter().enumerate() {
+        let setting = setting_in(alloc, catalogue, at as u32, value)?;
+        settings.try_push(setting)?;
+    }
+    Ok(settings)
+}
+
+/// The write that a value spells, the one at this place among the writes of the request, from 0.
+fn setting_in(
+    alloc: Global,
+    catalogue: &Catalogue,
+    index: u32,
+    value: &Value,
+) -> Result<Setting, ReadRefusal>
+    ensures setting { Gives (λ setting. setting) result (setting_in catalogue.now index (view value.now)) }
+    ensures known { IfOk result (λ setting. setting.point < length catalogue.now.points) }
+{
+    let name = text_under(value, "point").ok_or(MALFORMED)?;
+    let set_point = whole_under(value, "value").ok_or(MALFORMED)?;
+    let priority = priority_of(value).ok_or(MALFORMED)?;
+    let lease = whole_under(value, "lease").ok_or(MALFORMED)?;
+    let revert = reversion_of(alloc, value)?;
+    let point = point_at(catalogue, index, name)?;
+    Ok(Setting {
+        point,
+        value: set_point,
+        priority,
+        lease,
+        revert,
+    })
+}
+
+/// Whether each of the values spells a write, whatever its point.
+fn are_writes(values: &[Value]) -> bool
+    ensures { result ≡ list_all (λ value. is_some (write (view value))) values.now }
+{
+    values.iter().all(is_write)
+}
+
+/// Whether a value spells a write, whatever its point.
+fn is_write(value: &Value) -> bool
+    ensures { result ≡ is_some (write (view value.now)) }
+{
+    text_under(value, "point").is_some()
+        && whole_under(value, "value").is_some()
+        && priority_of(value).is_some()
+        && whole_under(value, "lease").is_some()
+        && is_reversion(value)
+}
+
+/// Whether a write has a well spelled reversion, or none.
+fn is_reversion(value: &Value) -> bool
+    ensures { result ≡ is_some (under_or (codes "revert") steps [] (view value.now)) }
+{
+    match value.get("revert") {
+        Some(found) => are_steps(found),
+        None => true,
+    }
+}
+
+/// Whether a value is an array of steps.
+fn are_steps(value: &Value) -> bool
+    ensures { result ≡ is_some (steps (view value.now)) }
+{
+    match list_in(value) {
+        Some(items) => all_steps(items),
+        None => false,
+    }
+}
+
+/// Whether each of the values is a step.
+fn all_steps(values: &[Value]) -> bool
+    ensures { result ≡ list_all (λ value. is_some (step (view value))) values.now }
+{
+    values.iter().all(|value| step_in(value).is_some())
+}
+
+/// The reversion of a write.
+fn reversion_of(alloc: Global, value: &Value) -> Result<Items<Step>, ReadRefusal>
+    ensures { Gives (λ steps. steps) result (formed (under_or (codes "revert") steps [] (view value.now))) }
+{
+    match value.get("revert") {
+        Some(found) => steps_in(alloc, list_in(found).ok_or(MALFORMED)?),
+        None => Ok(Items::new(alloc)),
+    }
+}
+
+/// The steps that values spell.
+fn steps_in(alloc: Global, values: &[Value]) -> Result<Items<Step>, ReadRefusal>
+    ensures { Gives (λ steps. steps) result (formed (all_of step (views values.now))) }
+{
+    let mut steps = Items::new(alloc);
+    for value in values {
+        steps.try_push(step_in(value).ok_or(MALFORMED)?)?;
+    }
+    Ok(steps)
+}
