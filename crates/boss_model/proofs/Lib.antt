@@ -6,4 +6,3 @@ pub mod DeviceRows
 pub mod RefusalRows
 pub mod FullRows
 pub mod EventRows
-pub mod RequestRows

@@ -26,3 +26,8 @@ pub mod Machine
 pub mod Effects
 pub mod Run
 pub mod Sound
+pub mod Keys
+pub mod Requests
+pub mod Texts
+pub mod Tellable
+pub mod Script
