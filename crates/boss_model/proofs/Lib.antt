@@ -6,3 +6,4 @@ pub mod DeviceRows
 pub mod RefusalRows
 pub mod FullRows
 pub mod EventRows
+pub mod RequestRows
