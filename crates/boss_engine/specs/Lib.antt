@@ -1,11 +1,15 @@
 pub mod Concluding
 pub mod Due
 pub mod Endings
+pub mod Inside
 pub mod Lasting
 pub mod Meant
 pub mod Playing
 pub mod Processes
+pub mod Ready
+pub mod Running
 pub mod Settling
 pub mod Slots
 pub mod Telling
+pub mod Waiting
 pub mod Writing

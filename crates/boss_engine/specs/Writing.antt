@@ -4,3 +4,7 @@ use Rattle.boss_model.specs.declared.command.Setting.{Setting}
 -- a write at one of the sixteen levels of the priority array
 abbrev pub HasLevel : Setting → Type 0
 HasLevel write = (pos 1 ≤ℤ write.priority) × (write.priority ≤ℤ pos 16)
+
+-- and with a lease of at most a week
+abbrev pub IsWritable : Setting → Type 0
+IsWritable write = HasLevel write × (pos 1 ≤ℤ write.lease) × (write.lease ≤ℤ pos 604800000)

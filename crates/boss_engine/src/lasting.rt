@@ -88,19 +88,30 @@ impl Lasting {
 
     /// The leases concerned end at moment `n`, and start their reversions. `told` has what is told beside that. It takes no
     /// memory.
-    pub fn end_leases(&mut self, which: Which, cause: Cause, n: u64, told: &mut Vec<Happening>)
+    pub fn end_leases(
+        &mut self,
+        which: &Which,
+        cause: &Cause,
+        n: u64,
+        told: &mut Vec<Happening>,
+    )
         requires sound { IsSoundOfSome (durable_of self.old) }
         requires moment { ((durable_of self.old).now ≤ n) × (n ≤ 2 ^ 60) }
         requires room { HasRoom self.old }
-        requires first { IsFirstTold cause n (durable_of self.old) told.old.items }
+        requires first { IsFirstTold cause.now n (durable_of self.old) told.old.items }
         requires told { most_told self.old ≤ vec_capacity told.old }
-        ensures after { durable_of self.new ≡ end_leases (is_meant which) cause n told.old.items (durable_of self.old) }
+        ensures after { durable_of self.new ≡ end_leases (is_meant which.now) cause.now n told.old.items (durable_of self.old) }
         ensures room { HasRoom self.new }
         ensures told { vec_capacity told.new ≡ vec_capacity told.old }
     {
-        gather_ends(&self.leases, which, cause, n, told);
-        end_parts(&mut self.txns, &self.leases, &Ending::Early { which, cause, n });
-        end_some(&mut self.leases, &mut self.pending, n, which);
+        gather_ends(&self.leases, *which, *cause, n, told);
+        let ending = Ending::Early {
+            which: *which,
+            cause: *cause,
+            n,
+        };
+        end_parts(&mut self.txns, &self.leases, &ending);
+        end_some(&mut self.leases, &mut self.pending, n, *which);
         gather_over(self, n, told);
         put_in_order(told);
         self.conclude(n, told);

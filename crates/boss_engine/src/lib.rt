@@ -3,13 +3,22 @@
 #![tactic(auto)]
 
 mod attached;
+mod commands;
 mod endings;
+mod engine;
 mod happening;
 mod lasting;
+mod machine;
+mod preparing;
 mod processes;
+mod queries;
+mod ready;
 mod records;
+mod refusals;
 mod reversions;
 mod settling;
 mod slots;
 mod target;
 mod telling;
+
+pub use engine::Engine;

@@ -1,11 +1,11 @@
-ghost use Rattle.std.specs.Prelude.{◌≡◌, ◌≤◌, ◌<◌, ◌+◌, ◌*◌, ◌^◌, [], ◌∷◌, ◌++◌, length, map, filter, flat_map, fold, vec_len, vec_capacity};
+ghost use Rattle.std.specs.Prelude.{◌≡◌, ◌≤◌, ◌<◌, ◌+◌, ◌*◌, ◌++◌, length, map, filter, flat_map, fold, vec_len, vec_capacity};
 ghost use Rattle.std.specs.List.{AllByRecursion};
 ghost use Rattle.boss_model.specs.Ends.{shortened};
-ghost use Rattle.boss_model.specs.Happenings.{done_at, ended, lives};
+ghost use Rattle.boss_model.specs.Happenings.{done_at, ended};
 ghost use Rattle.boss_model.specs.Reversions.{courses, reversion_of};
 ghost use Rattle.boss_model.specs.Submit.{cut, is_taken, superseded};
 ghost use Rattle.boss_engine.specs.Concluding.{is_over};
-ghost use Rattle.boss_engine.specs.Due.{done_told, due_told, is_done_by, last_of_lease, last_of_pending, lease_told, reverted_by};
+ghost use Rattle.boss_engine.specs.Due.{done_told, due_told, last_of_lease, last_of_pending, lease_told, reverted_by};
 ghost use Rattle.boss_engine.specs.Lasting.{durable_of};
 ghost use Rattle.boss_engine.specs.Playing.{IsEndable, IsPlayable};
 ghost use Rattle.boss_engine.specs.Meant.{is_meant};
@@ -96,7 +96,7 @@ fn gather_lease(lease: &Lease, n: u64, told: &mut Vec<Happening>)
     if n < lease.until {
         return;
     }
-    told.push_reserved(ended(lease, Cause::Expired, lease.until));
+    told.push_reserved(ended(lease, &Cause::Expired, lease.until));
     let end = over(lease.until, lease.revert.slice());
     if end <= n && !lease.revert.slice().is_empty() {
         told.push_reserved(reverted(lease.txn, lease.owner, lease.point, end));
@@ -125,12 +125,7 @@ fn gather_reversion(reversion: &Pending, n: u64, told: &mut Vec<Happening>)
 {
     let end = end_of(reversion);
     if end <= n && !reversion.steps.slice().is_empty() {
-        told.push_reserved(reverted(
-            reversion.txn,
-            reversion.owner,
-            reversion.point,
-            end,
-        ));
+        told.push_reserved(reverted(reversion.txn, reversion.owner, reversion.point, end));
     }
 }
 
@@ -152,37 +147,27 @@ fn gather_done(lasting: &Lasting, n: u64, told: &mut Vec<Happening>)
 }
 
 /// The leases concerned end at `n`.
-pub fn gather_ends(
-    leases: &[Lease],
-    which: Which,
-    cause: Cause,
-    n: u64,
-    told: &mut Vec<Happening>,
-)
+pub fn gather_ends(leases: &[Lease], which: Which, cause: Cause, n: u64, told: &mut Vec<Happening>)
     requires room { vec_len told.old + length leases.now ≤ vec_capacity told.old }
     ensures told { told.new.items ≡ told.old.items
         ++ map (λ lease. ended cause (reversion_of (shortened n lease))) (filter (is_meant which) leases.now) }
+    ensures len { vec_len told.new ≤ vec_len told.old + length leases.now }
     ensures room { vec_capacity told.new ≡ vec_capacity told.old }
 {
     for lease in leases {
         if is_meant(&which, lease) {
-            told.push_reserved(ended(lease, cause, n));
+            told.push_reserved(ended(lease, &cause, n));
         }
     }
 }
 
 /// The leases and the reversions whose slots the new leases of the transaction `by` take at `n`.
-pub fn gather_replaced(
-    lasting: &Lasting,
-    new: &[Lease],
-    by: Txn,
-    n: u64,
-    told: &mut Vec<Happening>,
-)
+pub fn gather_replaced(lasting: &Lasting, new: &[Lease], by: Txn, n: u64, told: &mut Vec<Happening>)
     requires room { vec_len lasting.now.leases + vec_len lasting.now.pending ≤ vec_capacity told.old }
     ensures told { told.new.items ≡
         map (superseded by n) (filter (λ lease. is_taken new.now lease.point lease.priority) lasting.now.leases.items)
         ++ map (cut by n) (filter (λ reversion. is_taken new.now reversion.point reversion.priority) lasting.now.pending.items) }
+    ensures len { vec_len told.new ≤ vec_len lasting.now.leases + vec_len lasting.now.pending }
     ensures room { vec_capacity told.new ≡ vec_capacity told.old }
 {
     told.clear();
@@ -190,13 +175,7 @@ pub fn gather_replaced(
     gather_cut(&lasting.pending, new, by, n, told);
 }
 
-fn gather_superseded(
-    leases: &[Lease],
-    new: &[Lease],
-    by: Txn,
-    n: u64,
-    told: &mut Vec<Happening>,
-)
+fn gather_superseded(leases: &[Lease], new: &[Lease], by: Txn, n: u64, told: &mut Vec<Happening>)
     requires room { vec_len told.old + length leases.now ≤ vec_capacity told.old }
     ensures told { told.new.items ≡ told.old.items
         ++ map (superseded by n) (filter (λ lease. is_taken new.now lease.point lease.priority) leases.now) }
@@ -205,21 +184,16 @@ fn gather_superseded(
 {
     for lease in leases {
         if is_taken(new, lease.point, lease.priority) {
-            told.push_reserved(ended(lease, Cause::Superseded { by }, n));
+            told.push_reserved(ended(lease, &Cause::Superseded { by }, n));
         }
     }
 }
 
-fn gather_cut(
-    pending: &[Pending],
-    new: &[Lease],
-    by: Txn,
-    n: u64,
-    told: &mut Vec<Happening>,
-)
+fn gather_cut(pending: &[Pending], new: &[Lease], by: Txn, n: u64, told: &mut Vec<Happening>)
     requires room { vec_len told.old + length pending.now ≤ vec_capacity told.old }
     ensures told { told.new.items ≡ told.old.items
         ++ map (cut by n) (filter (λ reversion. is_taken new.now reversion.point reversion.priority) pending.now) }
+    ensures len { vec_len told.new ≤ vec_len told.old + length pending.now }
     ensures room { vec_capacity told.new ≡ vec_capacity told.old }
 {
     for reversion in pending {
@@ -250,8 +224,8 @@ fn is_over(lasting: &Lasting, transaction: &Transaction) -> bool
         && !lives(transaction.txn, &lasting.leases, &lasting.pending)
 }
 
-fn ended(lease: &Lease, cause: Cause, at: u64) -> Happening
-    ensures { result ≡ ended cause (reversion_of (shortened at lease.now)) }
+fn ended(lease: &Lease, cause: &Cause, at: u64) -> Happening
+    ensures { result ≡ ended cause.now (reversion_of (shortened at lease.now)) }
 {
     Happening {
         at,
@@ -259,7 +233,7 @@ fn ended(lease: &Lease, cause: Cause, at: u64) -> Happening
         owner: lease.owner,
         what: What::Ended {
             point: lease.point,
-            cause,
+            cause: *cause,
         },
     }
 }

@@ -1,0 +1,338 @@
+ghost use Rattle.std.specs.Prelude.{◌≡◌, ℕ, ◌≤◌, ◌<◌, ◌+◌, ◌^◌, if◌then◌else◌, List, [], ◌∷◌, length, filter, Some};
+ghost use Rattle.std.specs.List.{AllByRecursion};
+ghost use Rattle.boss_model.specs.declared.state.Actuator.{Actuator};
+ghost use Rattle.boss_model.specs.declared.command.Command.TheVariants as command;
+ghost use Rattle.boss_model.specs.declared.command.Policy.{Policy};
+ghost use Rattle.boss_model.specs.declared.command.Setting.{Setting};
+ghost use Rattle.boss_model.specs.declared.notice.Cause.TheVariants as cause;
+ghost use Rattle.boss_model.specs.declared.state.Lease.{Lease};
+ghost use Rattle.boss_model.specs.Ends.{end_leases, fault, faulted, is_of, is_owned_by};
+ghost use Rattle.boss_model.specs.Happenings.{tell};
+ghost use Rattle.boss_model.specs.Machine.{act};
+ghost use Rattle.boss_model.specs.Processes.{enrol, number_of, process_named, process_of};
+ghost use Rattle.boss_model.specs.Sound.{IsSoundDurable};
+ghost use Rattle.boss_model.specs.Target.{in_force};
+ghost use Rattle.boss_engine.specs.Inside.{CanRun, HasPlaces, state_of};
+ghost use Rattle.boss_engine.specs.Lasting.{durable_of};
+ghost use Rattle.boss_engine.specs.Playing.{IsPlayable};
+ghost use Rattle.boss_engine.specs.Ready.{CanTakeOn, HasRoomFor, IsReadyToAttach, IsReadyToList, IsReadyToSubmit};
+
+use crate::attached::{attach, detach, process_of};
+use crate::happening::Happening;
+use crate::machine::Machine;
+use crate::queries::{extend, first_until, first_until_of, notices};
+use crate::ready::Ready;
+use crate::records::Transaction;
+use crate::refusals::{cancel_refused, renew_refused};
+use crate::slots::Which;
+use crate::target::{basis_of, in_force, slots_of, target_of};
+use boss_marks::Reported;
+use boss_model::{
+    Actuator, Answer, Cause, DriverId, Lease, Name, PointId, ProcId, Refusal, SessionId, Txn, What,
+};
+use boss_policy::{Decision, on_fault};
+
+/// The commands, at a moment n up to which time has passed.
+impl Machine {
+    /// The session becomes the process of this name.
+    pub fn attach(&mut self, session: SessionId, name: &Name, n: u64, ready: Ready) -> Answer
+        requires can_run { (plant : List Actuator) × CanRun plant self.old }
+        requires ready { IsReadyToAttach session name.now ready (state_of self.old) }
+        ensures answer { (plant : List Actuator) → result ≡ (act plant session n (command.Attach name.now) (state_of self.old)).answer }
+        ensures state { (plant : List Actuator) → state_of self.new ≡ (act plant session n (command.Attach name.now) (state_of self.old)).state }
+        ensures places { (plant : List Actuator) → HasPlaces plant self.old → HasPlaces plant self.new }
+    {
+        if let Ready::Refused(why) = ready {
+            return Answer::Refused(why);
+        }
+        let process = self.process_for(name, n, ready);
+        attach(&mut self.attached, session, process);
+        Answer::Attached {
+            name: name.copied(),
+            next: self.lasting.processes.next_notice(process),
+        }
+    }
+
+    /// The process of this name, which is taken on if it is new.
+    fn process_for(&mut self, name: &Name, n: u64, ready: Ready) -> ProcId
+        requires few { length self.old.lasting.processes ≤ 256 }
+        requires ready { CanTakeOn name.now ready (state_of self.old) }
+        ensures process { result ≡ number_of self.old.lasting.processes (process_named self.old.lasting.processes name.now) }
+        ensures known { result < length self.new.lasting.processes }
+        ensures after { durable_of self.new.lasting ≡ enrol name.now n (durable_of self.old.lasting) }
+        ensures others { self.new ≡ record self.old { lasting = self.new.lasting } }
+    {
+        if let Some(process) = self.lasting.processes.named(name) {
+            return process;
+        }
+        let process = ProcId(self.lasting.processes.count() as u16);
+        if let Ready::Process(ring) = ready {
+            self.lasting.processes.enrol(name.copied(), ring);
+            self.lasting.moment = n;
+        }
+        process
+    }
+
+    /// The leases of a new transaction take their slots.
+    pub fn submit(&mut self, n: u64, ready: Ready) -> Answer
+        requires can_run { (plant : List Actuator) × CanRun plant self.old }
+        requires moment { (self.old.lasting.moment ≤ n) × (n ≤ 2 ^ 60) }
+        requires ready { (plant : List Actuator) × (session : ℕ) × (writes : List Setting) × (policy : Policy) × (1 ≤ length writes) × IsReadyToSubmit plant (process_of self.old.attached.items session) writes policy n ready (state_of self.old) }
+        requires room { HasRoomFor ready self.old }
+        ensures answer { (plant : List Actuator) (session : ℕ) (writes : List Setting) (policy : Policy) → 1 ≤ length writes →
+            IsReadyToSubmit plant (process_of self.old.attached.items session) writes policy n ready (state_of self.old) →
+            result ≡ (act plant session n (command.Submit writes policy) (state_of self.old)).answer }
+        ensures state { (plant : List Actuator) (session : ℕ) (writes : List Setting) (policy : Policy) → 1 ≤ length writes →
+            IsReadyToSubmit plant (process_of self.old.attached.items session) writes policy n ready (state_of self.old) →
+            state_of self.new ≡ (act plant session n (command.Submit writes policy) (state_of self.old)).state }
+        ensures places { (plant : List Actuator) → HasPlaces plant self.old → HasPlaces plant self.new }
+    {
+        match ready {
+            Ready::Submit {
+                transaction,
+                leases,
+            } => self.begin(transaction, leases, n),
+            Ready::Refused(why) => Answer::Refused(why),
+            _ => unreachable!(),
+        }
+    }
+
+    fn begin(&mut self, transaction: Transaction, leases: Vec<Lease>, n: u64) -> Answer {
+        let answer = Answer::Accepted {
+            txn: transaction.txn,
+            until: first_until(&leases),
+        };
+        self.lasting.submit(transaction, leases, n, &mut self.told);
+        answer
+    }
+
+    /// Leases of a transaction last longer.
+    pub fn renew(
+        &mut self,
+        session: SessionId,
+        txn: Txn,
+        duration: i64,
+        points: &[PointId],
+        n: u64,
+    ) -> Answer
+        requires can_run { (plant : List Actuator) × CanRun plant self.old }
+        requires moment { (self.old.lasting.moment ≤ n) × (n ≤ 2 ^ 60) }
+        requires points { length points.now ≤ 32 }
+        ensures answer { (plant : List Actuator) → result ≡ (act plant session n (command.Renew txn duration points.now) (state_of self.old)).answer }
+        ensures state { (plant : List Actuator) → state_of self.new ≡ (act plant session n (command.Renew txn duration points.now) (state_of self.old)).state }
+        ensures places { (plant : List Actuator) → HasPlaces plant self.old → HasPlaces plant self.new }
+    {
+        let Some(owner) = process_of(&self.attached, session) else {
+            return Answer::Refused(Refusal::NotAttached);
+        };
+        if let Some(why) = renew_refused(&self.lasting, owner, txn, duration, points, n) {
+            return Answer::Refused(why);
+        }
+        let until = n + duration.unsigned_abs();
+        extend(&mut self.lasting.leases, txn, points, until);
+        self.lasting.moment = n;
+        Answer::Renewed {
+            txn,
+            until: first_until_of(&self.lasting.leases, txn, points),
+        }
+    }
+
+    /// The live leases of a transaction end.
+    pub fn cancel(&mut self, session: SessionId, txn: Txn, n: u64) -> Answer
+        requires can_run { (plant : List Actuator) × CanRun plant self.old }
+        requires moment { (self.old.lasting.moment ≤ n) × (n ≤ 2 ^ 60) }
+        ensures answer { (plant : List Actuator) → result ≡ (act plant session n (command.Cancel txn) (state_of self.old)).answer }
+        ensures state { (plant : List Actuator) → state_of self.new ≡ (act plant session n (command.Cancel txn) (state_of self.old)).state }
+        ensures places { (plant : List Actuator) → HasPlaces plant self.old → HasPlaces plant self.new }
+    {
+        let Some(owner) = process_of(&self.attached, session) else {
+            return Answer::Refused(Refusal::NotAttached);
+        };
+        if let Some(why) = cancel_refused(&self.lasting, owner, txn) {
+            return Answer::Refused(why);
+        }
+        self.told.clear();
+        self.lasting
+            .end_leases(&Which::OfTransaction(txn), &Cause::Cancelled, n, &mut self.told);
+        Answer::Cancelled { txn, at: n }
+    }
+
+    /// The session's process is lost: its live leases end, and the session no longer holds it.
+    pub fn gone(&mut self, session: SessionId, n: u64) -> Answer
+        requires can_run { (plant : List Actuator) × CanRun plant self.old }
+        requires moment { (self.old.lasting.moment ≤ n) × (n ≤ 2 ^ 60) }
+        ensures answer { (plant : List Actuator) → result ≡ (act plant session n (command.Gone) (state_of self.old)).answer }
+        ensures state { (plant : List Actuator) → state_of self.new ≡ (act plant session n (command.Gone) (state_of self.old)).state }
+        ensures places { (plant : List Actuator) → HasPlaces plant self.old → HasPlaces plant self.new }
+    {
+        let Some(owner) = process_of(&self.attached, session) else {
+            return Answer::Refused(Refusal::NotAttached);
+        };
+        let ended = count_owned(&self.lasting.leases, owner);
+        if 0 < ended {
+            self.told.clear();
+            self.lasting
+                .end_leases(&Which::OfProcess(owner), &Cause::Died, n, &mut self.told);
+        }
+        detach(&mut self.attached, session);
+        Answer::Gone { ended }
+    }
+
+    /// Hands a driver's first want out.
+    pub fn next(&mut self, driver: DriverId) -> Answer
+        ensures answer { (plant : List Actuator) (session n : ℕ) → HasPlaces plant self.old → result ≡ (act plant session n (command.Next driver) (state_of self.old)).answer }
+        ensures state { (plant : List Actuator) (session n : ℕ) → HasPlaces plant self.old → state_of self.new ≡ (act plant session n (command.Next driver) (state_of self.old)).state }
+        ensures places { (plant : List Actuator) → HasPlaces plant self.old → HasPlaces plant self.new }
+    {
+        match self.marks.next(driver) {
+            Some(want) => Answer::Want {
+                point: want.point,
+                version: want.version,
+                value: want.value,
+            },
+            None => Answer::Nothing,
+        }
+    }
+
+    /// Takes a device's answer to a write down.
+    pub fn report(&mut self, point: PointId, version: u64, ok: bool, n: u64) -> Answer
+        requires can_run { (plant : List Actuator) × CanRun plant self.old × (point < length plant) }
+        requires moment { (self.old.lasting.moment ≤ n) × (n ≤ 2 ^ 60) }
+        ensures answer { (plant : List Actuator) (session : ℕ) → HasPlaces plant self.old → result ≡ (act plant session n (command.Report point version ok) (state_of self.old)).answer }
+        ensures state { (plant : List Actuator) (session : ℕ) → HasPlaces plant self.old → state_of self.new ≡ (act plant session n (command.Report point version ok) (state_of self.old)).state }
+        ensures places { (plant : List Actuator) → HasPlaces plant self.old → HasPlaces plant self.new }
+    {
+        let reported = self.marks.report(point, version, ok, n);
+        if reported == Reported::Old {
+            return Answer::Noted { current: false };
+        }
+        self.follow_up(point, reported == Reported::FirstFailure, n);
+        Answer::Noted { current: true }
+    }
+
+    /// What follows for the lease in force on a point, whose device has failed to take its value, for the first time or again.
+    fn follow_up(&mut self, point: PointId, first: bool, n: u64)
+        requires can_run { (plant : List Actuator) × IsSoundDurable plant (durable_of self.old.lasting) × HasPlaces plant self.old }
+        requires moment { (self.old.lasting.moment ≤ n) × (n ≤ 2 ^ 60) }
+        ensures after { durable_of self.new.lasting ≡ (if first then faulted (in_force (durable_of self.old.lasting).leases point) n (durable_of self.old.lasting) else durable_of self.old.lasting) }
+        ensures others { (self.new.marks ≡ self.old.marks) × (self.new.attached ≡ self.old.attached) }
+        ensures places { (plant : List Actuator) → HasPlaces plant self.old → HasPlaces plant self.new }
+    {
+        let Some(lease) = in_force(&self.lasting.leases, point) else {
+            return;
+        };
+        let happened = fault_of(lease, n);
+        match on_fault(Some(lease.policy), first) {
+            Decision::EndAll => self.abort(happened, n),
+            Decision::Tell => self.tell(happened, n),
+            Decision::Mark => {}
+        }
+    }
+
+    /// The owner is told of a fault, and all live leases of the transaction end.
+    fn abort(&mut self, happened: Happening, n: u64)
+        requires can_run { (plant : List Actuator) × IsSoundDurable plant (durable_of self.old.lasting) × HasPlaces plant self.old }
+        requires moment { (self.old.lasting.moment ≤ n) × (n ≤ 2 ^ 60) }
+        requires fault { (point : ℕ) × (lease : Lease) × (in_force (durable_of self.old.lasting).leases point ≡ Some lease) × (happened ≡ fault n lease) }
+        ensures after { durable_of self.new.lasting ≡ end_leases (is_of happened.txn) cause.Fault n (happened ∷ []) (durable_of self.old.lasting) }
+        ensures others { (self.new.marks ≡ self.old.marks) × (self.new.attached ≡ self.old.attached) }
+        ensures places { (plant : List Actuator) → HasPlaces plant self.old → HasPlaces plant self.new }
+    {
+        self.told.clear();
+        self.told.push_reserved(happened);
+        self.lasting
+            .end_leases(&Which::OfTransaction(happened.txn), &Cause::Fault, n, &mut self.told);
+    }
+
+    /// The owner is told of a fault.
+    fn tell(&mut self, happened: Happening, n: u64)
+        requires owner { happened.owner < length self.old.lasting.processes }
+        ensures after { durable_of self.new.lasting ≡ record (durable_of self.old.lasting) { now = n; processes = tell self.old.lasting.processes happened } }
+        ensures others { (self.new.marks ≡ self.old.marks) × (self.new.attached ≡ self.old.attached) }
+        ensures places { (plant : List Actuator) → HasPlaces plant self.old → HasPlaces plant self.new }
+    {
+        self.lasting.processes.tell(&happened);
+        self.lasting.moment = n;
+    }
+
+    /// Tells the value that a point is to have.
+    pub fn read(&self, plant: &[Actuator], point: PointId) -> Answer
+        requires can_run { CanRun plant.now self.now }
+        requires point { point < length plant.now }
+        ensures { (session n : ℕ) → result ≡ (act plant.now session n (command.Read point) (state_of self.now)).answer }
+    {
+        let leases = &self.lasting.leases;
+        let pending = &self.lasting.pending;
+        Answer::Reading {
+            point,
+            value: target_of(plant, leases, pending, self.lasting.moment, point),
+            basis: basis_of(leases, pending, point),
+            mark: self.marks.mark(point),
+        }
+    }
+
+    /// Tells the sixteen slots of a point.
+    pub fn array(&self, point: PointId) -> Answer
+        requires { AllByRecursion IsPlayable self.now.lasting.pending.items }
+        ensures { (plant : List Actuator) (session n : ℕ) → result ≡ (act plant session n (command.Array point) (state_of self.now)).answer }
+    {
+        Answer::Array {
+            point,
+            slots: slots_of(
+                &self.lasting.leases,
+                &self.lasting.pending,
+                self.lasting.moment,
+                point,
+            ),
+        }
+    }
+
+    /// Tells notices of the process of this name, or of the session's own.
+    pub fn notices(
+        &self,
+        session: SessionId,
+        name: &Option<Name>,
+        from: u64,
+        max: u64,
+        ready: Ready,
+    ) -> Answer
+        requires attached { AllByRecursion (λ attachment. attachment.process < length self.now.lasting.processes) self.now.attached.items }
+        requires ready { IsReadyToList name.now (process_of self.now.attached.items session) max ready }
+        ensures { (plant : List Actuator) (n : ℕ) → result ≡ (act plant session n (command.Notices name.now from max) (state_of self.now)).answer }
+    {
+        let process = match name {
+            Some(name) => self.lasting.processes.named(name),
+            None => process_of(&self.attached, session),
+        };
+        match ready {
+            Ready::List(list) => notices(&self.lasting, process, from, max, list),
+            Ready::Refused(why) => Answer::Refused(why),
+            _ => unreachable!(),
+        }
+    }
+}
+
+/// How many leases the process has.
+fn count_owned(leases: &[Lease], owner: ProcId) -> u64
+    ensures { result ≡ length (filter (is_owned_by owner) leases.now) }
+{
+    let mut count = 0;
+    for lease in leases {
+        if lease.owner == owner {
+            count += 1;
+        }
+    }
+    count
+}
+
+/// A device did not take the lease's value.
+fn fault_of(lease: &Lease, n: u64) -> Happening
+    ensures { result ≡ fault n lease.now }
+{
+    Happening {
+        at: n,
+        txn: lease.txn,
+        owner: lease.owner,
+        what: What::Fault { point: lease.point },
+    }
+}

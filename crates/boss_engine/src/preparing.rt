@@ -1,0 +1,180 @@
+ghost use Rattle.std.specs.Prelude.{◌≡◌, ◌≤◌, ◌<◌, ◌+◌, ◌^◌, List, length, None, IfOk, OnOk, OnErr};
+ghost use Rattle.std.specs.List.{AllByRecursion};
+ghost use Rattle.boss_model.specs.declared.state.Actuator.{Actuator};
+ghost use Rattle.boss_model.specs.Processes.{attach_refused, process_named, process_of};
+ghost use Rattle.boss_model.specs.Sound.{IsAllowed};
+ghost use Rattle.boss_model.specs.Submit.{granted, lease_of};
+ghost use Rattle.boss_engine.specs.Inside.{CanRun, HasPlaces, HasPlacesFor, state_of};
+ghost use Rattle.boss_engine.specs.Lasting.{durable_of};
+ghost use Rattle.boss_engine.specs.Ready.{HasRoomFor, IsReadyFor, IsReadyToAttach, IsReadyToList, IsReadyToSubmit, MayList, MaySubmit, MayTakeOn, MayWant};
+ghost use Rattle.boss_engine.specs.Writing.{IsWritable};
+
+use crate::attached::process_of;
+use crate::machine::Machine;
+use crate::ready::Ready;
+use crate::records::begun;
+use crate::refusals::{attach_refused, submit_refused};
+use boss_model::{
+    Actuator, Command, Items, Lease, Name, NoMemory, Policy, Priority, ProcId, Refusal, SessionId,
+    Setting, Step, Txn,
+};
+use boss_notices::Ring;
+use std::alloc::Global;
+
+/// The memory that a command wants is taken before time passes.
+impl Machine {
+    /// Takes the memory that a command will want, if it is not refused. It changes nothing else.
+    pub fn make_ready(
+        &mut self,
+        plant: &[Actuator],
+        session: SessionId,
+        command: &Command,
+        n: u64,
+    ) -> Result<Ready, NoMemory>
+        requires allowed { IsAllowed plant.now command.now }
+        requires ready { CanRun plant.now self.old }
+        requires moment { n ≤ 2 ^ 60 }
+        ensures state { state_of self.new ≡ state_of self.old }
+        ensures places { HasPlaces plant.now self.new }
+        ensures ready { IfOk result (λ ready. IsReadyFor plant.now session command.now n ready (state_of self.old)) }
+        ensures room { IfOk result (λ ready. HasRoomFor ready self.new) }
+        ensures want { OnErr result (MayWant plant.now session command.now (state_of self.old)) }
+    {
+        match command {
+            Command::Attach { name } => self.ready_process(session, name),
+            Command::Submit { writes, policy } => {
+                self.ready_submit(plant, session, writes.slice(), *policy, n)
+            }
+            Command::Notices { name, max, .. } => self.ready_list(session, name, *max),
+            _ => Ok(Ready::Nothing),
+        }
+    }
+
+    /// Makes the ring of a new process.
+    fn ready_process(&self, session: SessionId, name: &Name) -> Result<Ready, NoMemory>
+        requires { AllByRecursion (λ attachment. attachment.process < length self.now.lasting.processes) self.now.attached.items }
+        ensures ready { IfOk result (λ ready. IsReadyToAttach session name.now ready (state_of self.now)) }
+        ensures room { IfOk result (λ ready. HasRoomFor ready self.now) }
+        ensures want { OnErr result ((attach_refused session name.now self.now.attached.items (durable_of self.now.lasting) ≡ None) × MayTakeOn (process_named self.now.lasting.processes name.now)) }
+    {
+        if let Some(why) = attach_refused(&self.lasting, &self.attached, session, name) {
+            return Ok(Ready::Refused(why));
+        }
+        if self.lasting.processes.named(name).is_some() {
+            return Ok(Ready::Nothing);
+        }
+        Ok(Ready::Process(Ring::new(self.alloc)?))
+    }
+
+    /// Makes the record and the leases of a new transaction, and room for them.
+    fn ready_submit(
+        &mut self,
+        plant: &[Actuator],
+        session: SessionId,
+        writes: &[Setting],
+        policy: Policy,
+        n: u64,
+    ) -> Result<Ready, NoMemory>
+        requires writes { length writes.now ≤ 32 }
+        requires ready { CanRun plant.now self.old }
+        requires moment { n ≤ 2 ^ 60 }
+        ensures state { state_of self.new ≡ state_of self.old }
+        ensures places { HasPlaces plant.now self.new }
+        ensures ready { IfOk result (λ ready. IsReadyToSubmit plant.now (process_of self.old.attached.items session) writes.now policy n ready (state_of self.old)) }
+        ensures room { IfOk result (λ ready. HasRoomFor ready self.new) }
+        ensures want { OnErr result (MaySubmit plant.now writes.now (process_of self.old.attached.items session) (state_of self.old)) }
+    {
+        let Some(owner) = process_of(&self.attached, session) else {
+            return Ok(Ready::Refused(Refusal::NotAttached));
+        };
+        if let Some(why) = submit_refused(plant, writes, &self.lasting) {
+            return Ok(Ready::Refused(why));
+        }
+        self.make_room(writes.len())?;
+        let txn = Txn(self.lasting.next_txn);
+        Ok(Ready::Submit {
+            transaction: begun(self.alloc, owner, policy, txn, writes)?,
+            leases: granted(self.alloc, owner, policy, txn, n, writes)?,
+        })
+    }
+
+    /// Makes room for a transaction of so many writes.
+    fn make_room(&mut self, writes: usize) -> Result<(), NoMemory>
+        requires writes { writes ≤ 32 }
+        ensures state { state_of self.new ≡ state_of self.old }
+        ensures places { (plant : List Actuator) → HasPlaces plant self.old → HasPlaces plant self.new }
+        ensures room { OnOk result (HasPlacesFor writes self.new) }
+    {
+        let slots = self.lasting.leases.len() + self.lasting.pending.len() + writes;
+        self.lasting.leases.reserve(writes)?;
+        self.lasting.pending.reserve(slots)?;
+        self.lasting.txns.reserve(1)?;
+        self.told.reserve(2 * slots + self.lasting.txns.len() + 2)?;
+        Ok(())
+    }
+
+    /// Makes room for a list of notices.
+    fn ready_list(
+        &self,
+        session: SessionId,
+        name: &Option<Name>,
+        max: u64,
+    ) -> Result<Ready, NoMemory>
+        requires { max ≤ 64 }
+        ensures ready { IfOk result (IsReadyToList name.now (process_of self.now.attached.items session) max) }
+        ensures room { IfOk result (λ ready. HasRoomFor ready self.now) }
+        ensures want { OnErr result (MayList name.now (process_of self.now.attached.items session)) }
+    {
+        if name.is_none() && process_of(&self.attached, session).is_none() {
+            return Ok(Ready::Refused(Refusal::NotAttached));
+        }
+        Ok(Ready::List(Vec::with_capacity(self.alloc, max as usize)?))
+    }
+
+}
+
+/// The leases of these writes, at moment `n`.
+fn granted(
+    alloc: Global,
+    owner: ProcId,
+    policy: Policy,
+    txn: Txn,
+    n: u64,
+    writes: &[Setting],
+) -> Result<Vec<Lease>, NoMemory>
+    requires writes { AllByRecursion IsWritable writes.now }
+    requires moment { n ≤ 2 ^ 60 }
+    ensures { IfOk result (λ leases. leases.items ≡ granted owner policy txn n writes.now) }
+{
+    let mut leases = Vec::with_capacity(alloc, writes.len())?;
+    for write in writes {
+        leases.push_reserved(lease_of(alloc, owner, policy, txn, n, write)?);
+    }
+    Ok(leases)
+}
+
+/// The lease of a write, at moment `n`.
+fn lease_of(
+    alloc: Global,
+    owner: ProcId,
+    policy: Policy,
+    txn: Txn,
+    n: u64,
+    write: &Setting,
+) -> Result<Lease, NoMemory>
+    requires write { IsWritable write.now }
+    requires moment { n ≤ 2 ^ 60 }
+    ensures { IfOk result (λ lease. lease ≡ lease_of owner policy txn n write.now) }
+{
+    let revert = Vec::from_slice(alloc, write.revert.slice())?;
+    Ok(Lease {
+        txn,
+        owner,
+        point: write.point,
+        priority: Priority(write.priority as u8),
+        value: write.value,
+        until: n + write.lease.unsigned_abs(),
+        revert: Items::from_vec(revert),
+        policy,
+    })
+}

@@ -1,0 +1,22 @@
+use crate::records::Transaction;
+use boss_model::{Lease, Notice, Refusal};
+use boss_notices::Ring;
+
+/// What was taken for a command before time passes, so that it wants no memory when it acts. A command is refused before it
+/// takes any.
+#[derive(Drop)]
+pub enum Ready {
+    /// The command takes no memory.
+    Nothing,
+    /// The command is refused.
+    Refused(Refusal),
+    /// The ring of a new process.
+    Process(Ring),
+    /// The record of a new transaction, and its leases.
+    Submit {
+        transaction: Transaction,
+        leases: Vec<Lease>,
+    },
+    /// Room for a list of notices.
+    List(Vec<Notice>),
+}
