@@ -8,7 +8,7 @@ use Rattle.std.proofs.lemmas.Bool.{cond_both}
 use Rattle.std.proofs.lemmas.List.Sorted.{IsPermutation-keeps, IsPermutation-append_comm}
 use Rattle.boss_model.specs.Order.{comes_before, put, in_order}
 use Rattle.boss_laws.proofs.Filters.{put-put}
-use Rattle.boss_laws.proofs.Orders.{before-total, before-self, before-trans, before-both, each-map, each-front, each-back, each-in_order, Ordered, in_order-Ordered, filter-in_order}
+use Rattle.boss_laws.proofs.Orders.{before-total, before-self, before-trans, before-both, each-map, each-front, each-back, each-filter, each-in_order, Ordered, in_order-Ordered, filter-in_order}
 
 -- ---- members
 
@@ -119,14 +119,18 @@ AreApart rank xs = AllByRecursion (λ one. AllByRecursion (λ other. rank one �
 
 -- ---- items with Q are told apart by rank
 
+-- two items may be put in either first, if they are one and the same where their ranks are
+pub put-commutes : {X : Type 0} (rank : X → List ℕ) (x y : X) (zs : List X) → (rank x ≡ rank y → x ≡ y) → put rank x (put rank y zs) ≡ put rank y (put rank x zs)
+put-commutes rank x y zs apart = cond_both (comes_before (rank x) (rank y) && comes_before (rank y) (rank x)) true false
+    (λ b. (comes_before (rank x) (rank y) && comes_before (rank y) (rank x)) ≡ b → put rank x (put rank y zs) ≡ put rank y (put rank x zs))
+    (λ both _.
+    let same : x ≡ y = apart (before-both (rank x) (rank y) (grind arith) (grind arith)) in
+    subst (λ z. put rank x (put rank z zs) ≡ put rank z (put rank x zs)) same refl)
+    (λ one _. put-put rank x y zs one) (grind arith)
+
 module _ {X : Type 0} (rank : X → List ℕ) (Q : X → Type 0) (apart : (x y : X) → Q x → Q y → rank x ≡ rank y → x ≡ y) where
-  pub put-either : (x y : X) (zs : List X) → Q x → Q y → put rank x (put rank y zs) ≡ put rank y (put rank x zs)
-  put-either x y zs p q = cond_both (comes_before (rank x) (rank y) && comes_before (rank y) (rank x)) true false
-      (λ b. (comes_before (rank x) (rank y) && comes_before (rank y) (rank x)) ≡ b → put rank x (put rank y zs) ≡ put rank y (put rank x zs))
-      (λ both _.
-      let same : x ≡ y = apart x y p q (before-both (rank x) (rank y) (grind arith) (grind arith)) in
-      subst (λ z. put rank x (put rank z zs) ≡ put rank z (put rank x zs)) same refl)
-      (λ one _. put-put rank x y zs one) (grind arith)
+  put-either : (x y : X) (zs : List X) → Q x → Q y → put rank x (put rank y zs) ≡ put rank y (put rank x zs)
+  put-either x y zs p q = put-commutes rank x y zs (apart x y p q)
 
   -- an item in the middle might as well be the first
   pub in_order-middle : (x : X) (us xs : List X) → Q x → AllByRecursion Q us → in_order rank (us ++ x ∷ xs) ≡ put rank x (in_order rank (us ++ xs))
@@ -170,9 +174,14 @@ module _ {X : Type 0} (rank : X → List ℕ) (Q : X → Type 0) (apart : (x y :
   swapped zs (d ∷ ys) i j p q h = (all-swap (d ∷ ys) i j d h.0 p q, in_order-swap (d ∷ ys) i j d h.0 p q ∙ h.1)
 
   -- the same items in another order
+  moved-both : (xs ys : List X) → AllByRecursion Q xs → IsPermutation xs ys → AllByRecursion Q ys × (in_order rank ys ≡ in_order rank xs)
+  moved-both xs ys all moved = IsPermutation-keeps xs (λ l. AllByRecursion Q l × (in_order rank l ≡ in_order rank xs)) (all, refl) (swapped xs) ys moved
+
   pub in_order-moved : (xs ys : List X) → AllByRecursion Q xs → IsPermutation xs ys → in_order rank ys ≡ in_order rank xs
-  in_order-moved xs ys all moved =
-      (IsPermutation-keeps xs (λ l. AllByRecursion Q l × (in_order rank l ≡ in_order rank xs)) (all, refl) (swapped xs) ys moved).1
+  in_order-moved xs ys all moved = (moved-both xs ys all moved).1
+
+  pub each-moved : (xs ys : List X) → AllByRecursion Q xs → IsPermutation xs ys → AllByRecursion Q ys
+  each-moved xs ys all moved = (moved-both xs ys all moved).0
 
   -- what each of some things gives, where the things are put in order first
   flat_map-put : {Y : Type 0} (slot : Y → List ℕ) (f : Y → List X) (y : Y) (ys : List Y) → AllByRecursion Q (f y) → AllByRecursion (λ z. AllByRecursion Q (f z)) ys →
@@ -224,3 +233,17 @@ in_order-flat_map rank slot f ys apart = flat_map-moved rank (IsItem (flat_map f
 -- a test, before and after
 pub in_order-filter : {X : Type 0} (rank : X → List ℕ) (test : X → Bool) (xs : List X) → in_order rank (filter test xs) ≡ filter test (in_order rank xs)
 in_order-filter rank test xs = sym (filter-in_order rank test xs)
+
+-- ---- items that are told apart still are where some are left out, or stand elsewhere
+
+pub apart-front : {X : Type 0} (rank : X → List ℕ) (xs ys : List X) → AreApart rank (xs ++ ys) → AreApart rank xs
+apart-front rank xs ys apart = all-apart rank (IsItem (xs ++ ys)) (apart-items rank (xs ++ ys) apart) xs (each-front (IsItem (xs ++ ys)) xs ys (each-in (xs ++ ys)))
+
+pub apart-back : {X : Type 0} (rank : X → List ℕ) (xs ys : List X) → AreApart rank (xs ++ ys) → AreApart rank ys
+apart-back rank xs ys apart = all-apart rank (IsItem (xs ++ ys)) (apart-items rank (xs ++ ys) apart) ys (each-back (IsItem (xs ++ ys)) xs ys (each-in (xs ++ ys)))
+
+pub apart-filter : {X : Type 0} (rank : X → List ℕ) (test : X → Bool) (xs : List X) → AreApart rank xs → AreApart rank (filter test xs)
+apart-filter rank test xs apart = all-apart rank (IsItem xs) (apart-items rank xs apart) (filter test xs) (each-filter (IsItem xs) test xs (each-in xs))
+
+pub apart-permutation : {X : Type 0} (rank : X → List ℕ) (xs ys : List X) → AreApart rank xs → IsPermutation xs ys → AreApart rank ys
+apart-permutation rank xs ys apart moved = all-apart rank (IsItem xs) (apart-items rank xs apart) ys (each-moved rank (IsItem xs) (apart-items rank xs apart) xs ys (each-in xs) moved)

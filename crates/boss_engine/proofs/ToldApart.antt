@@ -1,5 +1,5 @@
 -- What happens is told apart by its rank, wherever each transaction has one owner and leases end for one cause.
-use Rattle.std.proofs.Common.{◌≡◌, ℕ, ◌<◌, ◌≤◌, ◌==◌, List, [], ◌∷◌, ◌++◌, Bool, true, false, map, Option, Some, None, is_none, refl, ap, sym, ◌∙◌, arith}
+use Rattle.std.proofs.Common.{cond, ◌≡◌, ℕ, ◌<◌, ◌≤◌, ◌==◌, List, [], ◌∷◌, ◌++◌, Bool, true, false, map, Option, Some, None, is_none, refl, ap, sym, ◌∙◌, arith}
 use Rattle.std.specs.List.{filter, flat_map, AllByRecursion}
 use Rattle.std.proofs.lemmas.Bool.Decides.{nat_tests}
 use Rattle.boss_model.specs.declared.state.Actuator.{Actuator}
@@ -205,12 +205,21 @@ module _ (plant : List Actuator) (d : Durable) (sound : IsSoundDurable plant d) 
   pub txns-owned : AllByRecursion (λ transaction. transaction.owner ≡ owner_of d.txns transaction.txn) d.txns
   txns-owned = own-records d.txns sound.numbers
 
+  -- ---- their numbers are below the next one
+
+  abbrev pub IsGiven : Pending → Type 0
+  IsGiven reversion = reversion.txn < d.next
+
+  pub txns-given : AllByRecursion (λ transaction. transaction.txn < d.next) d.txns
+  txns-given = each-map (IsTransaction plant d) (λ transaction. transaction.txn < d.next) (λ transaction is. is.given) d.txns sound.txns
+
+  pub courses-given : AllByRecursion IsGiven (courses d.pending d.leases)
+  courses-given = each-map (λ reversion. is_kept d.txns reversion.txn ≡ true) IsGiven
+      (λ reversion kept. given-below d.txns reversion.txn d.next txns-given kept) (courses d.pending d.leases) kept-courses
+
   -- the next transaction has nothing yet
   pub next-lives-not : lives d.next (courses d.pending d.leases) ≡ false
-  next-lives-not = none-lives d.next (courses d.pending d.leases)
-      (each-map (λ reversion. is_kept d.txns reversion.txn ≡ true) (λ reversion. reversion.txn < d.next)
-      (λ reversion kept. given-below d.txns reversion.txn d.next (each-map (IsTransaction plant d) (λ transaction. transaction.txn < d.next) (λ transaction is. is.given) d.txns sound.txns) kept)
-      (courses d.pending d.leases) kept-courses)
+  next-lives-not = none-lives d.next (courses d.pending d.leases) courses-given
 
   -- ---- what is told of them, and that it is told apart
 
@@ -255,16 +264,54 @@ module _ (plant : List Actuator) (d : Durable) (sound : IsSoundDurable plant d) 
             (map (done_at n) (filter test (map (record_after how d.leases) d.txns))) (ends-known which why 0 n) (done-known test how why 0 n),
       )
 
-  -- what is told where a new transaction takes slots
-  pub taken-apart : (gone : Lease → Bool) (broken : Pending → Bool) (by n : ℕ) (test : Transaction → Bool) (how : Lease → Option End) →
-      AreToldApart ((map (superseded by n) (filter gone d.leases) ++ map (cut by n) (filter broken d.pending)) ++ map (done_at n) (filter test (map (record_after how d.leases) d.txns)))
-  taken-apart gone broken by n test how =
-      let Q = IsToldOf (owner_of d.txns) (cause.Superseded by) by in
-      are-told-apart (owner_of d.txns) (cause.Superseded by) by
-      ((map (superseded by n) (filter gone d.leases) ++ map (cut by n) (filter broken d.pending)) ++ map (done_at n) (filter test (map (record_after how d.leases) d.txns)))
-      (each-append Q (map (superseded by n) (filter gone d.leases) ++ map (cut by n) (filter broken d.pending)) (map (done_at n) (filter test (map (record_after how d.leases) d.txns)))
-      (each-append Q (map (superseded by n) (filter gone d.leases)) (map (cut by n) (filter broken d.pending))
-      (supersessions-known gone by n) (cuts-known broken (cause.Superseded by) by n)) (done-known test how (cause.Superseded by) by n))
+  -- What is told where a new transaction takes slots. Its record may be among those of the transactions that become done.
+  module _ (new : Transaction) (next : new.txn ≡ d.next) where
+    abbrev pub owner_with : ℕ → ℕ
+    owner_with txn = cond (txn == d.next) new.owner (owner_of d.txns txn)
+
+    known-with : (txn owner : ℕ) → txn < d.next → owner ≡ owner_of d.txns txn → owner ≡ owner_with txn
+    known-with txn owner given owned = grind (arith, nat_tests)
+
+    new-with : new.owner ≡ owner_with new.txn
+    new-with = grind (arith, nat_tests)
+
+    courses-with : AllByRecursion (λ reversion. reversion.owner ≡ owner_with reversion.txn) (courses d.pending d.leases)
+    courses-with = each-map (λ reversion. IsGiven reversion × IsOwned reversion) (λ reversion. reversion.owner ≡ owner_with reversion.txn)
+        (λ reversion both. known-with reversion.txn reversion.owner both.0 both.1) (courses d.pending d.leases)
+        (each-both IsGiven IsOwned (courses d.pending d.leases) courses-given courses-owned)
+
+    unsorted-with : AllByRecursion (λ reversion. reversion.owner ≡ owner_with reversion.txn) (d.pending ++ map reversion_of d.leases)
+    unsorted-with = each-unordered (λ reversion. reversion.owner ≡ owner_with reversion.txn) pending_slot (d.pending ++ map reversion_of d.leases) courses-with
+
+    pending-with : AllByRecursion (λ reversion. reversion.owner ≡ owner_with reversion.txn) d.pending
+    pending-with = each-front (λ reversion. reversion.owner ≡ owner_with reversion.txn) d.pending (map reversion_of d.leases) unsorted-with
+
+    leases-with : AllByRecursion (λ lease. lease.owner ≡ owner_with lease.txn) d.leases
+    leases-with = each-unmapped (λ reversion. reversion.owner ≡ owner_with reversion.txn) reversion_of d.leases
+        (each-back (λ reversion. reversion.owner ≡ owner_with reversion.txn) d.pending (map reversion_of d.leases) unsorted-with)
+
+    txns-with : (how : Lease → Option End) → AllByRecursion (λ transaction. transaction.owner ≡ owner_with transaction.txn) (map (record_after how d.leases) d.txns ++ new ∷ [])
+    txns-with how =
+        let P = λ (transaction : Transaction). transaction.owner ≡ owner_with transaction.txn in
+        let old : AllByRecursion P d.txns = each-map (λ transaction. (transaction.txn < d.next) × (transaction.owner ≡ owner_of d.txns transaction.txn)) P
+        (λ transaction both. known-with transaction.txn transaction.owner both.0 both.1) d.txns
+        (each-both (λ transaction. transaction.txn < d.next) (λ transaction. transaction.owner ≡ owner_of d.txns transaction.txn) d.txns txns-given txns-owned) in
+        each-append P (map (record_after how d.leases) d.txns) (new ∷ []) (each-mapped P (record_after how d.leases) d.txns old) (new-with, tt)
+
+    pub taken-apart : (gone : Lease → Bool) (broken : Pending → Bool) (by n : ℕ) (test : Transaction → Bool) (how : Lease → Option End) →
+        AreToldApart ((map (superseded by n) (filter gone d.leases) ++ map (cut by n) (filter broken d.pending))
+        ++ map (done_at n) (filter test (map (record_after how d.leases) d.txns ++ new ∷ [])))
+    taken-apart gone broken by n test how =
+        let Q = IsToldOf owner_with (cause.Superseded by) by in
+        let txns = filter test (map (record_after how d.leases) d.txns ++ new ∷ []) in
+        are-told-apart owner_with (cause.Superseded by) by
+        ((map (superseded by n) (filter gone d.leases) ++ map (cut by n) (filter broken d.pending)) ++ map (done_at n) txns)
+        (each-append Q (map (superseded by n) (filter gone d.leases) ++ map (cut by n) (filter broken d.pending)) (map (done_at n) txns)
+        (each-append Q (map (superseded by n) (filter gone d.leases)) (map (cut by n) (filter broken d.pending))
+        (supersessions-told owner_with by n (filter gone d.leases) (each-filter (λ lease. lease.owner ≡ owner_with lease.txn) gone d.leases leases-with))
+        (cuts-told owner_with (cause.Superseded by) by n (filter broken d.pending) (each-filter (λ reversion. reversion.owner ≡ owner_with reversion.txn) broken d.pending pending-with)))
+        (done-told owner_with (cause.Superseded by) by n txns
+        (each-filter (λ transaction. transaction.owner ≡ owner_with transaction.txn) test (map (record_after how d.leases) d.txns ++ new ∷ []) (txns-with how))))
 
   -- all that time has in store, and what of it passes a test
   pub lasting-known : AllByRecursion (IsToldOf (owner_of d.txns) cause.Expired 0)

@@ -26,7 +26,11 @@ impl Ending<'_> {
             Ending::Expired { n } => end_if(lease.until <= *n, Cause::Expired, lease.until),
             Ending::Early { which, cause, n } => end_if(is_meant(which, lease), *cause, *n),
             Ending::Superseded { new, by, n } => {
-                end_if(is_taken(new, lease.point, lease.priority), Cause::Superseded { by: *by }, *n)
+                end_if(
+                    is_taken(new, lease.point, lease.priority),
+                    Cause::Superseded { by: *by },
+                    *n,
+                )
             }
         }
     }
@@ -75,4 +79,98 @@ fn lease_of_part(leases: &[Lease], txn: Txn, point: PointId, priority: Priority)
 {
     leases.iter().find(|lease| lease.txn == txn
         && (lease.point == point && lease.priority == priority))
+}
+
+#[cfg(test)]
+mod tests {
+    use super::*;
+    use boss_model::{Items, NoMemory, Policy, ProcId};
+    use std::alloc::Global;
+    use std::test::Fail;
+
+    const LEVEL: Priority = Priority(8);
+
+    const OWNER: ProcId = ProcId(0);
+
+    const POINT: PointId = PointId(3);
+
+    const TXN: Txn = Txn(7);
+
+    fn lease(alloc: Global, until: u64) -> Lease {
+        Lease {
+            txn: TXN,
+            owner: OWNER,
+            point: POINT,
+            priority: LEVEL,
+            value: 21_000,
+            until,
+            revert: Items::new(alloc),
+            policy: Policy::Keep,
+        }
+    }
+
+    fn recorded(alloc: Global) -> Result<Transaction, NoMemory> {
+        let live = Part {
+            point: POINT,
+            priority: LEVEL,
+            end: None,
+        };
+        Ok(Transaction {
+            txn: TXN,
+            owner: OWNER,
+            policy: Policy::Keep,
+            parts: vec![in alloc; live]?,
+        })
+    }
+
+    #[test]
+    fn leases_end_in_their_ways(rt: HostRuntime) -> Result<(), Fail> {
+        let ends = lease(rt.alloc(), 1000);
+        let expired = Ending::Expired { n: 1000 }.end_of(&ends);
+        assert_eq!(rt;
+            expired,
+            Some(End {
+                cause: Cause::Expired,
+                at: 1000
+            })
+        );
+        let early = Ending::Expired { n: 999 }.end_of(&ends);
+        assert_eq!(rt; early, None);
+        let lost = Ending::Early {
+            which: Which::OfProcess(OWNER),
+            cause: Cause::Died,
+            n: 500,
+        }
+        .end_of(&ends);
+        assert_eq!(rt;
+            lost,
+            Some(End {
+                cause: Cause::Died,
+                at: 500
+            })
+        );
+        Ok(())
+    }
+
+    #[test]
+    fn an_end_is_noted(rt: HostRuntime) -> Result<(), Fail> {
+        let leases = vec![in rt.alloc(); lease(rt.alloc(), 1000)]?;
+        let mut txns = vec![in rt.alloc(); recorded(rt.alloc())?]?;
+        let cancelled = Ending::Early {
+            which: Which::OfTransaction(TXN),
+            cause: Cause::Cancelled,
+            n: 500,
+        };
+        end_parts(&mut txns, &leases, &cancelled);
+        assert_eq!(rt; txns.len(), 1);
+        assert_eq!(rt; txns[0].parts.len(), 1);
+        assert_eq!(rt;
+            txns[0].parts[0].end,
+            Some(End {
+                cause: Cause::Cancelled,
+                at: 500
+            })
+        );
+        Ok(())
+    }
 }

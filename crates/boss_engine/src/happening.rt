@@ -86,3 +86,47 @@ fn point_of(what: &What) -> PointId
         What::Done => PointId(0),
     }
 }
+
+#[cfg(test)]
+mod tests {
+    use super::*;
+    use boss_model::Cause;
+    use std::test::Fail;
+
+    const OWNER: ProcId = ProcId(0);
+
+    fn done(at: u64, txn: u64) -> Happening
+        ensures { result ≡ record { at = at; txn = txn; owner = 0; told = Some What.Done } }
+    {
+        Happening {
+            at,
+            txn: Txn(txn),
+            owner: OWNER,
+            what: What::Done,
+        }
+    }
+
+    #[test]
+    fn earlier_happenings_come_first(rt: HostRuntime) -> Result<(), Fail> {
+        let later = done(2000, 1);
+        let mut told = vec![in rt.alloc(); later, done(1000, 2)]?;
+        put_in_order(&mut told);
+        assert_eq!(rt; told.len(), 2);
+        assert_eq!(rt; told[1], later);
+        Ok(())
+    }
+
+    #[test]
+    fn only_a_transaction_becomes_done(rt: HostRuntime) -> Result<(), Fail> {
+        let ended = Happening {
+            what: What::Ended {
+                point: PointId(3),
+                cause: Cause::Expired,
+            },
+            ..done(1000, 1)
+        };
+        assert!(rt; done(1000, 1).is_done());
+        assert!(rt; !ended.is_done());
+        Ok(())
+    }
+}

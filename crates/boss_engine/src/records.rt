@@ -205,3 +205,40 @@ pub fn finish(done: &mut Vec<Txn>, txn: Txn)
     }
     done.push_reserved(txn);
 }
+
+#[cfg(test)]
+mod tests {
+    use super::*;
+    use std::test::Fail;
+
+    const OWNER: ProcId = ProcId(0);
+
+    const TXN: Txn = Txn(7);
+
+    #[test]
+    fn a_done_transaction_is_kept(rt: HostRuntime) -> Result<(), Fail> {
+        let record = begun(rt.alloc(), OWNER, Policy::Keep, TXN, &[])?;
+        let mut txns = vec![in rt.alloc(); record]?;
+        assert!(rt; find(&txns, TXN).is_some());
+        keep_known(&mut txns, &[], &[], &[TXN]);
+        assert_eq!(rt; txns.len(), 1);
+        keep_known(&mut txns, &[], &[], &[]);
+        assert_eq!(rt; txns.len(), 0);
+        Ok(())
+    }
+
+    #[test]
+    fn a_transaction_becomes_done(rt: HostRuntime) -> Result<(), Fail> {
+        let mut done = Vec::with_capacity(rt.alloc(), DONE_KEPT + 1)?;
+        finish(&mut done, TXN);
+        assert!(rt; is_done(TXN, &done));
+        Ok(())
+    }
+
+    #[test]
+    fn nothing_lives_at_first(rt: HostRuntime) -> Result<(), Fail> {
+        assert!(rt; !lives(TXN, &[], &[]));
+        assert_eq!(rt; last_end(TXN, &[], &[]), 0);
+        Ok(())
+    }
+}
