@@ -4,6 +4,7 @@ pub mod Firsts
 pub mod Found
 pub mod Holders
 pub mod Living
+pub mod Names
 pub mod Ordering
 pub mod Passing
 pub mod Playable
@@ -13,4 +14,5 @@ pub mod Side
 pub mod Taking
 pub mod ToldApart
 pub mod Turns
+pub mod Untils
 pub mod Waiting

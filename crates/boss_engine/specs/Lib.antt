@@ -7,6 +7,7 @@ pub mod Meant
 pub mod Playing
 pub mod Processes
 pub mod Ready
+pub mod Refusals
 pub mod Running
 pub mod Settling
 pub mod Slots

@@ -61,3 +61,22 @@ pub fn detach(attached: &mut Vec<Attachment>, session: SessionId)
 {
     attached.retain(|attachment| attachment.session != session);
 }
+
+#[cfg(test)]
+mod tests {
+    use super::*;
+    use std::test::Fail;
+
+    #[test]
+    fn a_session_holds_a_process_until_it_is_detached(rt: HostRuntime) -> Result<(), Fail> {
+        let mut attached = Vec::with_capacity(rt.alloc(), 2)?;
+        attach(&mut attached, SessionId(5), ProcId(0));
+        attach(&mut attached, SessionId(9), ProcId(1));
+        assert_eq!(rt; process_of(&attached, SessionId(9)), Some(ProcId(1)));
+        assert_eq!(rt; session_of(&attached, ProcId(0)), Some(SessionId(5)));
+        detach(&mut attached, SessionId(5));
+        assert_eq!(rt; process_of(&attached, SessionId(5)), None);
+        assert_eq!(rt; process_of(&attached, SessionId(9)), Some(ProcId(1)));
+        Ok(())
+    }
+}

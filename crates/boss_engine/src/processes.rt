@@ -115,3 +115,47 @@ impl Processes {
         self.rings.from(process, from, max, into)
     }
 }
+
+#[cfg(test)]
+mod tests {
+    use super::*;
+    use boss_model::PointId;
+    use std::test::Fail;
+
+    const FAN: PointId = PointId(3);
+
+    fn name(bytes: &[u8]) -> Result<Name, Fail> {
+        let name = Name::new(bytes).ok_or("a name")?;
+        Ok(name)
+    }
+
+    #[test]
+    fn processes_go_by_their_names(rt: HostRuntime) -> Result<(), Fail> {
+        let mut processes = Processes::new(rt.alloc())?;
+        assert_eq!(rt; processes.named(&name(b"night")?), None);
+        processes.enrol(name(b"night")?, Ring::new(rt.alloc())?);
+        processes.enrol(name(b"day")?, Ring::new(rt.alloc())?);
+        assert_eq!(rt; processes.count(), 2);
+        assert_eq!(rt; processes.named(&name(b"day")?), Some(ProcId(1)));
+        assert_eq!(rt; processes.named(&name(b"days")?), None);
+        assert_eq!(rt; processes.name(ProcId(0)).bytes(), b"night".as_slice());
+        Ok(())
+    }
+
+    #[test]
+    fn a_process_has_the_notices_that_it_was_told(rt: HostRuntime) -> Result<(), Fail> {
+        let mut processes = Processes::new(rt.alloc())?;
+        processes.enrol(name(b"night")?, Ring::new(rt.alloc())?);
+        processes.tell(&Happening {
+            at: 7000,
+            txn: Txn(1),
+            owner: ProcId(0),
+            what: What::Reverted { point: FAN },
+        });
+        assert_eq!(rt; processes.next_notice(ProcId(0)), 2);
+        let mut list = Vec::with_capacity(rt.alloc(), 4)?;
+        assert_eq!(rt; processes.notices(ProcId(0), 1, 4, &mut list), (1, 2));
+        assert_eq!(rt; list.len(), 1);
+        Ok(())
+    }
+}

@@ -1,13 +1,13 @@
-ghost use Rattle.std.specs.Prelude.{◌≡◌, ◌≤◌, ◌<◌, ◌^◌, ◌==◌, [], ◌∷◌, not, if◌then◌else◌, length, map, position, Some, None, IfSome};
+ghost use Rattle.std.specs.Prelude.{◌≡◌, ◌≤◌, ◌<◌, ◌^◌, ◌==◌, [], not, if◌then◌else◌, length, map, position, Some, None, IfSome};
 ghost use Rattle.std.specs.List.{AllByRecursion, list_any};
 ghost use Rattle.std.specs.Option.{option_and_then, option_map};
 ghost use Rattle.boss_model.specs.Catalogue.{fits_at};
 ghost use Rattle.boss_model.specs.Ends.{cancel_refused, is_of, last_part_end};
 ghost use Rattle.boss_model.specs.Lists.{first_some};
 ghost use Rattle.boss_model.specs.Processes.{attach_refused, is_full, session_of};
-ghost use Rattle.boss_model.specs.Renew.{ended_at, named_parts, part_on, renew_refused, wrote};
+ghost use Rattle.boss_model.specs.Renew.{named_parts, part_on, renew_refused, wrote};
 ghost use Rattle.boss_model.specs.Submit.{is_length, is_level, is_reversion, is_step, repeated, submit_refused};
-
+ghost use Rattle.boss_engine.specs.Refusals.{parts_refused};
 ghost use Rattle.boss_engine.specs.Lasting.{durable_of};
 
 use crate::attached::{Attachment, process_of, session_of};
@@ -187,7 +187,7 @@ pub fn renew_refused(
 /// Why a renewal of these parts at moment `n` is refused, if it is.
 fn parts_refused(parts: &[Part], points: &[PointId], n: u64) -> Option<Refusal>
     requires { length points.now ≤ 32 }
-    ensures { result ≡ first_some (option_map Refusal.NotInTxn (position (λ point. not (wrote parts.now point)) points.now) ∷ option_map (ended_at n) (first_some (map (λ part. part.end) (named_parts points.now parts.now))) ∷ []) }
+    ensures { result ≡ parts_refused parts.now points.now n }
 {
     if let Some(index) = first_unwritten(parts, points) {
         return Some(Refusal::NotInTxn { index });

@@ -121,6 +121,7 @@ mod tests {
         let second = rings.add_process(rt.alloc())?;
         rings.post(first, 2000, Txn(1), superseded());
         rings.post(first, 2000, Txn(1), What::Done);
+        assert_eq!(rt; rings.count(first), 2);
 
         let mut list = Vec::with_capacity(rt.alloc(), 64)?;
         assert_eq!(rt; rings.from(first, 1, 64, &mut list), (1, 3));

@@ -1,14 +1,13 @@
-use Rattle.std.proofs.Common.{◌≡◌, ℕ, ◌==◌, List, [], ◌∷◌, Bool, true, not, map, Option, None, Some, if◌then◌else◌, refl, sym, ◌∙◌, ap, arith, w64}
-use Rattle.std.specs.Prelude.{position}
-use Rattle.std.specs.Option.{option_map}
+use Rattle.std.proofs.Common.{◌≡◌, ℕ, ◌==◌, [], ◌∷◌, Bool, true, Option, None, Some, if◌then◌else◌, refl, sym, ◌∙◌, ap, arith, w64}
 use Rattle.std.proofs.lemmas.Grind.{common_steps}
 use Rattle.std.proofs.lemmas.Int.{to_z-of_z}
 use Rattle.boss_model.specs.declared.answer.Refusal.{Refusal}
 use Rattle.boss_model.specs.declared.answer.Refusal.TheVariants as refusal
 use Rattle.boss_model.specs.Lists.{first_some}
-use Rattle.boss_model.specs.Records.{Part, Transaction}
-use Rattle.boss_model.specs.Renew.{transaction_of, if_own, wrote, named_parts, ended_at}
+use Rattle.boss_model.specs.Records.{Transaction}
+use Rattle.boss_model.specs.Renew.{transaction_of, if_own}
 use Rattle.boss_model.specs.Submit.{is_length}
+use Rattle.boss_engine.specs.Refusals.{parts_refused}
 use Rattle.boss_engine.proofs.refusals.renew_refused.Goals as goal
 
 alone : (why : Option Refusal) → first_some (why ∷ []) ≡ why
@@ -20,11 +19,6 @@ left_to : (owner : ℕ) (refused : Transaction → Option Refusal) (found : Opti
     fits ≡ true → found ≡ Some t → (t.owner == owner) ≡ true → first_some ((if fits then None else bad) ∷ if_own owner refused found ∷ []) ≡ refused t
 left_to owner refused found t fits bad is_fit is_found is_own = rw (is_fit, is_found, is_own) (alone (refused t))
 
-abbrev parts_refused : List ℕ → ℕ → List Part → Option Refusal
-parts_refused points n parts = first_some (
-    option_map refusal.NotInTxn (position (λ point. not (wrote parts point)) points) ∷
-    option_map (ended_at n) (first_some (map (λ part. part.end) (named_parts points parts))) ∷ [])
-
 pub returns : goal.returns
 returns c =
     let t = c.in-Some.transaction.now in
@@ -34,6 +28,6 @@ returns c =
     let owner : c.transaction.inside.owner ≡ t.owner = ap (λ t. t.owner) c.transaction.view_is in
     let own : (t.owner == c.args.owner) ≡ true = rw (← owner) (grind (arith, common_steps)) in
     let parts = c.deref-2.ensures.value ∙ ap (λ t. t.parts) c.transaction.view_is in
-    c.parts_refused.ensures ∙ (ap (parts_refused c.args.points.now c.args.n) parts
-    ∙ sym (left_to c.args.owner (λ transaction. parts_refused c.args.points.now c.args.n transaction.parts) (transaction_of c.args.lasting.now.txns.items c.args.txn) t
+    c.parts_refused.ensures ∙ (ap (λ parts. parts_refused parts c.args.points.now c.args.n) parts
+    ∙ sym (left_to c.args.owner (λ transaction. parts_refused transaction.parts c.args.points.now c.args.n) (transaction_of c.args.lasting.now.txns.items c.args.txn) t
     (is_length c.args.duration) (Some (refusal.BadLease 0)) fits found own))
