@@ -2,13 +2,9 @@
 //! command, behind each of the sixteen drivers.
 #![tactic(auto)]
 
-mod console;
-mod disk_files;
-
+use boss_adapters::{RealFiles, StdSink, StdSource};
 use boss_manager::{Status, boss};
 use boss_outside::IdleActuators;
-use console::{Input, Output};
-use disk_files::DiskFiles;
 use std::alloc::{AllocError, Global};
 use std::process::ExitCode;
 use std::{env, io};
@@ -43,9 +39,9 @@ fn devices(alloc: Global) -> Result<Vec<IdleActuators>, AllocError> {
 fn run(rt: HostRuntime) -> Result<Status, AllocError> {
     let words = words_of(&rt)?;
     let mut devices = devices(rt.alloc())?;
-    let mut input = Input::new(rt.stdin());
-    let mut output = Output::new(rt.stdout());
-    let mut files = DiskFiles::new(rt);
+    let mut input = StdSource::new(rt.stdin());
+    let mut output = StdSink::new(rt.stdout());
+    let mut files = RealFiles::new(rt);
     Ok(boss(
         rt.alloc(),
         &words,

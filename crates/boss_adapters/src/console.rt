@@ -11,14 +11,15 @@ const TRIES: u32 = 1_000;
 
 /// The standard input.
 #[derive(Drop)]
-pub struct Input {
+pub struct StdSource {
     stdin: Stdin,
     faults: u64,
 }
 
-impl Input {
-    pub fn new(stdin: Stdin) -> Input {
-        Input { stdin, faults: 0 }
+impl StdSource {
+    /// The standard input, of which no read has failed yet.
+    pub fn new(stdin: Stdin) -> StdSource {
+        StdSource { stdin, faults: 0 }
     }
 }
 
@@ -36,14 +37,14 @@ fn read_past_signals(stdin: &mut Stdin, into: &mut [u8]) -> Result<usize, Failed
     Err(Failed)
 }
 
-impl Source for Input {
+impl Source for StdSource {
     ghost tells = { ⊥ };
 
-    ghost left = { λ input. [] };
+    ghost left = { λ source. [] };
 
-    ghost held = { λ input. [] };
+    ghost held = { λ source. [] };
 
-    ghost faults = { λ input. input.faults };
+    ghost faults = { λ source. source.faults };
 
     ghost suffix = { λ source told. absurd told };
 
@@ -61,23 +62,24 @@ impl Source for Input {
 
 /// The standard output.
 #[derive(Drop)]
-pub struct Output {
+pub struct StdSink {
     stdout: Stdout,
     faults: u64,
 }
 
-impl Output {
-    pub fn new(stdout: Stdout) -> Output {
-        Output { stdout, faults: 0 }
+impl StdSink {
+    /// The standard output, of which no write has failed yet.
+    pub fn new(stdout: Stdout) -> StdSink {
+        StdSink { stdout, faults: 0 }
     }
 }
 
-impl Sink for Output {
+impl Sink for StdSink {
     ghost tells = { ⊥ };
 
-    ghost taken = { λ output. [] };
+    ghost taken = { λ sink. [] };
 
-    ghost faults = { λ output. output.faults };
+    ghost faults = { λ sink. sink.faults };
 
     fn write(&mut self, bytes: &[u8]) -> Result<(), Failed> {
         if self.stdout.write_all(bytes).is_ok() {

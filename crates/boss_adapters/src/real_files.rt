@@ -12,14 +12,15 @@ use std::io::{self, ErrorKind, Read};
 
 /// The files of this machine.
 #[derive(Drop)]
-pub struct DiskFiles {
+pub struct RealFiles {
     rt: HostRuntime,
     faults: u64,
 }
 
-impl DiskFiles {
-    pub fn new(rt: HostRuntime) -> DiskFiles {
-        DiskFiles { rt, faults: 0 }
+impl RealFiles {
+    /// The files of this machine, of which no read has failed yet.
+    pub fn new(rt: HostRuntime) -> RealFiles {
+        RealFiles { rt, faults: 0 }
     }
 
     /// The bytes of a file, but no more than one beyond the limit, and the length that the system tells of it.
@@ -43,7 +44,7 @@ impl DiskFiles {
     }
 }
 
-impl Files for DiskFiles {
+impl Files for RealFiles {
     ghost tells = { ⊥ };
 
     ghost holds = { λ files name. None };
