@@ -1,4 +1,4 @@
-ghost use Rattle.std.specs.Prelude.{◌≡◌, ◌+◌, ◌≤◌, ◌++◌, length, codes, decimal};
+ghost use Rattle.std.specs.Prelude.{◌+◌, ◌≤◌, ◌++◌, length, codes, decimal};
 ghost use Rattle.boss_model.specs.Texts.{cause_text, placed, quoted, refusal_text};
 ghost use Rattle.boss_answers.specs.Room.{HasRoom, PutsAtMost};
 

@@ -8,18 +8,25 @@ use boss_outside::IdleActuators;
 use std::alloc::{AllocError, Global};
 use std::process::ExitCode;
 
+/// The plant's drivers.
+const DRIVERS: usize = 2;
+
 /// The words that ask for the day.
 fn words(alloc: Global) -> Result<Vec<String>, AllocError> {
     let mut words = Vec::new(alloc);
     for word in ["script", "plant.toml", "-"] {
-        words.push(String::from_str_in(alloc, word)?)?;
+        words.push(String::from_str(alloc, word)?)?;
     }
     Ok(words)
 }
 
-/// A device behind each of the plant's two drivers, which takes every command.
+/// A device behind each driver, which takes every command.
 fn devices(alloc: Global) -> Result<Vec<IdleActuators>, AllocError> {
-    vec![in alloc; IdleActuators::new(), IdleActuators::new()]
+    let mut devices = Vec::new(alloc);
+    for _ in 0..DRIVERS {
+        devices.push(IdleActuators::new())?;
+    }
+    Ok(devices)
 }
 
 fn run(rt: HostRuntime) -> Result<Status, AllocError> {
