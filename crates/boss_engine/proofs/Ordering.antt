@@ -9,6 +9,7 @@ use Rattle.std.proofs.lemmas.List.Sorted.{IsPermutation-keeps, IsPermutation-app
 use Rattle.boss_model.specs.Order.{comes_before, put, in_order}
 use Rattle.boss_laws.proofs.Filters.{put-put}
 use Rattle.boss_laws.proofs.Orders.{before-total, before-self, before-trans, before-both, each-map, each-front, each-back, each-filter, each-in_order, Ordered, in_order-Ordered, filter-in_order}
+use Rattle.boss_engine.specs.Telling.{AreApart}
 
 -- ---- members
 
@@ -113,9 +114,6 @@ module _ {X : Type 0} (rank : X → List ℕ) where
       subst (λ n. is_before (get_or (x ∷ xs) n d) (get_or xs k d) ≡ false) next (sorted (suc k) d (omega arith) (omega arith))) in
       (next-first x xs rest (λ d some. let first : not (comes_before (rank x) (rank (get_or xs 0 d))) ≡ false = sorted 0 d (omega arith) (omega arith) in grind arith), rest)
 
--- items of one rank are one and the same
-abbrev pub AreApart : {X : Type 0} → (X → List ℕ) → List X → Type 0
-AreApart rank xs = AllByRecursion (λ one. AllByRecursion (λ other. rank one ≡ rank other → one ≡ other) xs) xs
 
 -- ---- items with Q are told apart by rank
 

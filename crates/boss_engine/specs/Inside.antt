@@ -5,7 +5,7 @@ use Rattle.boss_model.specs.State.{State}
 use Rattle.boss_engine.specs.declared.engine.Engine.TheInside.{Inside}
 use Rattle.boss_engine.specs.declared.machine.Machine.{Machine}
 use Rattle.boss_engine.specs.Running.{Running}
-use Rattle.boss_engine.specs.Lasting.{durable_of, HasRoom, most_told}
+use Rattle.boss_engine.specs.Lasting.{durable_of, IsKept, most_told}
 
 -- the state that the rows stand for
 abbrev pub state_of : Machine → State
@@ -20,7 +20,7 @@ state_of m = record {
 pub record HasPlaces (plant : List Actuator) (m : Machine) : Type 0 where
   pub small : length plant ≤ 2 ^ 32
   pub drivers : m.marks.drivers ≡ map (λ actuator. actuator.driver) plant
-  pub rows : HasRoom m.lasting
+  pub rows : IsKept m.lasting
   pub attached : 256 ≤ vec_capacity m.attached
   pub told : most_told m.lasting ≤ vec_capacity m.told
 
@@ -28,8 +28,8 @@ pub record HasPlaces (plant : List Actuator) (m : Machine) : Type 0 where
 pub record HasPlacesFor (writes : ℕ) (m : Machine) : Type 0 where
   pub leases : vec_len m.lasting.leases + writes ≤ vec_capacity m.lasting.leases
   pub pending : vec_len m.lasting.leases + vec_len m.lasting.pending + writes ≤ vec_capacity m.lasting.pending
-  pub txns : vec_len m.lasting.txns < vec_capacity m.lasting.txns
-  pub told : most_told m.lasting + 2 * writes + 1 ≤ vec_capacity m.told
+  pub stages : length m.lasting.stages.kept < m.lasting.stages.room
+  pub told : most_told m.lasting + 2 * writes ≤ vec_capacity m.told
 
 -- the state is sound, and there is room
 pub record CanRun (plant : List Actuator) (m : Machine) : Type 0 where

@@ -1,6 +1,7 @@
+pub mod Books
 pub mod Concluding
 pub mod Due
-pub mod Endings
+pub mod Gathered
 pub mod Inside
 pub mod Lasting
 pub mod Meant

@@ -2,7 +2,8 @@ ghost use Rattle.std.specs.Prelude.{◌≡◌, not, vec_capacity};
 ghost use Rattle.std.specs.Ordering.{is_lt};
 ghost use Rattle.boss_model.specs.Happenings.{rank, sort_number, point_of};
 ghost use Rattle.boss_model.specs.Order.{comes_before, in_order};
-ghost use Rattle.boss_engine.specs.Telling.{AreToldApart};
+ghost use Rattle.boss_engine.specs.Gathered.{told_rank};
+ghost use Rattle.boss_engine.specs.Telling.{AreApart};
 
 use boss_model::{PointId, ProcId, Txn, What};
 use std::cmp::Ordering;
@@ -31,23 +32,55 @@ impl Model for Happening {
 }
 
 impl Happening {
-    ghost use Rattle.boss_model.specs.Happenings.{is_done};
+    ghost use Rattle.boss_engine.specs.Books.{all_done, is_end};
 
-    /// Whether the transaction became done.
-    pub fn is_done(&self) -> bool
-        ensures { result ≡ is_done self.now.told }
+    /// Whether a lease or a reversion ended.
+    pub fn is_end(&self) -> bool
+        ensures { result ≡ is_end self.now.told }
     {
-        matches!(self.what, What::Done)
+        matches!(
+            self.what,
+            What::Ended { .. } | What::Reverted { .. } | What::Cut { .. }
+        )
+    }
+
+    /// The transaction became done with it.
+    pub fn all_done(&self) -> Happening
+        ensures { result ≡ all_done self.now }
+    {
+        Happening {
+            at: self.at,
+            txn: self.txn,
+            owner: self.owner,
+            what: What::Done,
+        }
     }
 }
 
-/// Puts happenings in the order in which they are told: by moment, by transaction, by kind of notice, by point.
-pub fn put_in_order(happenings: &mut Vec<Happening>)
-    requires { AreToldApart happenings.old.items }
-    ensures order { happenings.new.items ≡ in_order rank happenings.old.items }
-    ensures room { vec_capacity happenings.new ≡ vec_capacity happenings.old }
+/// Something that happened, and whether a reversion begins with it.
+#[derive(Clone, Copy, Debug, PartialEq, Eq)]
+pub struct Telling {
+    pub happening: Happening,
+    pub reverts: bool,
+}
+
+impl Model for Telling {
+    ghost use Rattle.boss_engine.specs.Books.{Telling as Told};
+
+    ghost Value = { Told };
+
+    ghost view = { λ t. record { happening = t.happening; reverts = t.reverts } };
+
+    ghost inverse = { λ t. record { happening = t.happening; reverts = t.reverts } };
+}
+
+/// Puts what is told in its order: by moment, by transaction, by kind of notice, by point.
+pub fn put_in_order(told: &mut Vec<Telling>)
+    requires { AreApart told_rank told.old.items }
+    ensures order { told.new.items ≡ in_order told_rank told.old.items }
+    ensures room { vec_capacity told.new ≡ vec_capacity told.old }
 {
-    happenings.sort_unstable_by(|one, other| compare(one, other));
+    told.sort_unstable_by(|one, other| compare(&one.happening, &other.happening));
 }
 
 /// Whether the first is told before the second: by moment, by transaction, by kind of notice, by point.

@@ -1,18 +1,14 @@
-ghost use Rattle.std.specs.Prelude.{◌≡◌, ◌≤◌, ◌<◌, ◌+◌, ◌*◌, ◌++◌, length, map, filter, flat_map, fold, vec_len, vec_capacity};
+ghost use Rattle.std.specs.Prelude.{◌≡◌, ◌≤◌, ◌<◌, ◌+◌, ◌*◌, [], ◌∷◌, ◌++◌, length, map, filter, flat_map, fold, vec_len, vec_capacity, Some};
 ghost use Rattle.std.specs.List.{AllByRecursion};
 ghost use Rattle.boss_model.specs.Ends.{shortened};
-ghost use Rattle.boss_model.specs.Happenings.{done_at, ended};
-ghost use Rattle.boss_model.specs.Reversions.{courses, reversion_of};
+ghost use Rattle.boss_model.specs.Reversions.{reversion_of};
 ghost use Rattle.boss_model.specs.Submit.{cut, is_taken, superseded};
-ghost use Rattle.boss_engine.specs.Concluding.{is_over};
-ghost use Rattle.boss_engine.specs.Due.{done_told, due_told, last_of_lease, last_of_pending, lease_told, reverted_by};
-ghost use Rattle.boss_engine.specs.Lasting.{durable_of};
-ghost use Rattle.boss_engine.specs.Playing.{IsEndable, IsPlayable};
+ghost use Rattle.boss_engine.specs.Due.{last_of_lease, last_of_pending};
+ghost use Rattle.boss_engine.specs.Gathered.{end_tellings, ended_with, lease_tellings, pending_tellings, plain};
 ghost use Rattle.boss_engine.specs.Meant.{is_meant};
+ghost use Rattle.boss_engine.specs.Playing.{IsEndable, IsPlayable};
 
-use crate::happening::Happening;
-use crate::lasting::Lasting;
-use crate::records::{Transaction, last_end, lives};
+use crate::happening::{Happening, Telling};
 use crate::reversions::{end_of, last_turn, over};
 use crate::slots::{Which, is_meant, is_taken};
 use boss_model::{Cause, Lease, Pending, PointId, ProcId, Txn, What};
@@ -59,25 +55,24 @@ fn last_of_reversions(pending: &[Pending], now: u64, n: u64) -> u64
     last
 }
 
-/// Gathers what is told as time passes to `n`.
-pub fn gather_due(lasting: &Lasting, n: u64, told: &mut Vec<Happening>)
-    requires leases { AllByRecursion IsEndable lasting.now.leases.items }
-    requires pending { AllByRecursion IsPlayable lasting.now.pending.items }
-    requires room { 2 * vec_len lasting.now.leases + vec_len lasting.now.pending + vec_len lasting.now.txns ≤ vec_capacity told.old }
-    ensures told { told.new.items ≡ due_told n (durable_of lasting.now) }
+/// Gathers what ends as time passes to `n`: leases, with those of their reversions that are over at once, and reversions
+/// under way.
+pub fn gather_due(leases: &[Lease], pending: &[Pending], n: u64, told: &mut Vec<Telling>)
+    requires leases { AllByRecursion IsEndable leases.now }
+    requires pending { AllByRecursion IsPlayable pending.now }
+    requires room { 2 * length leases.now + length pending.now ≤ vec_capacity told.old }
+    ensures told { told.new.items ≡ flat_map (lease_tellings n) leases.now ++ flat_map (pending_tellings n) pending.now }
     ensures room { vec_capacity told.new ≡ vec_capacity told.old }
 {
     told.clear();
-    gather_expired(&lasting.leases, n, told);
-    gather_played(&lasting.pending, n, told);
-    gather_done(lasting, n, told);
+    gather_expired(leases, n, told);
+    gather_played(pending, n, told);
 }
 
-/// The leases whose time is over, and their reversions that are over too.
-fn gather_expired(leases: &[Lease], n: u64, told: &mut Vec<Happening>)
+fn gather_expired(leases: &[Lease], n: u64, told: &mut Vec<Telling>)
     requires leases { AllByRecursion IsEndable leases.now }
     requires room { vec_len told.old + 2 * length leases.now ≤ vec_capacity told.old }
-    ensures told { told.new.items ≡ told.old.items ++ flat_map (lease_told n) leases.now }
+    ensures told { told.new.items ≡ told.old.items ++ flat_map (lease_tellings n) leases.now }
     ensures len { vec_len told.new ≤ vec_len told.old + 2 * length leases.now }
     ensures room { vec_capacity told.new ≡ vec_capacity told.old }
 {
@@ -86,10 +81,10 @@ fn gather_expired(leases: &[Lease], n: u64, told: &mut Vec<Happening>)
     }
 }
 
-fn gather_lease(lease: &Lease, n: u64, told: &mut Vec<Happening>)
+fn gather_lease(lease: &Lease, n: u64, told: &mut Vec<Telling>)
     requires lease { IsEndable lease.now }
     requires room { vec_len told.old + 2 ≤ vec_capacity told.old }
-    ensures told { told.new.items ≡ told.old.items ++ lease_told n lease.now }
+    ensures told { told.new.items ≡ told.old.items ++ lease_tellings n lease.now }
     ensures len { vec_len told.new ≤ vec_len told.old + 2 }
     ensures room { vec_capacity told.new ≡ vec_capacity told.old }
 {
@@ -103,12 +98,10 @@ fn gather_lease(lease: &Lease, n: u64, told: &mut Vec<Happening>)
     }
 }
 
-/// The reversions under way that are over.
-fn gather_played(pending: &[Pending], n: u64, told: &mut Vec<Happening>)
+fn gather_played(pending: &[Pending], n: u64, told: &mut Vec<Telling>)
     requires pending { AllByRecursion IsPlayable pending.now }
     requires room { vec_len told.old + length pending.now ≤ vec_capacity told.old }
-    ensures told { told.new.items ≡ told.old.items ++ flat_map (reverted_by n) pending.now }
-    ensures len { vec_len told.new ≤ vec_len told.old + length pending.now }
+    ensures told { told.new.items ≡ told.old.items ++ flat_map (pending_tellings n) pending.now }
     ensures room { vec_capacity told.new ≡ vec_capacity told.old }
 {
     for reversion in pending {
@@ -116,84 +109,81 @@ fn gather_played(pending: &[Pending], n: u64, told: &mut Vec<Happening>)
     }
 }
 
-fn gather_reversion(reversion: &Pending, n: u64, told: &mut Vec<Happening>)
+fn gather_reversion(reversion: &Pending, n: u64, told: &mut Vec<Telling>)
     requires reversion { IsPlayable reversion.now }
     requires room { vec_len told.old < vec_capacity told.old }
-    ensures told { told.new.items ≡ told.old.items ++ reverted_by n reversion.now }
+    ensures told { told.new.items ≡ told.old.items ++ pending_tellings n reversion.now }
     ensures len { vec_len told.new ≤ vec_len told.old + 1 }
     ensures room { vec_capacity told.new ≡ vec_capacity told.old }
 {
     let end = end_of(reversion);
     if end <= n && !reversion.steps.slice().is_empty() {
-        told.push_reserved(reverted(reversion.txn, reversion.owner, reversion.point, end));
+        told.push_reserved(reverted(
+            reversion.txn,
+            reversion.owner,
+            reversion.point,
+            end,
+        ));
     }
 }
 
-/// The transactions whose last part ends up to `n`.
-fn gather_done(lasting: &Lasting, n: u64, told: &mut Vec<Happening>)
-    requires leases { AllByRecursion IsEndable lasting.now.leases.items }
-    requires pending { AllByRecursion IsPlayable lasting.now.pending.items }
-    requires room { vec_len told.old + vec_len lasting.now.txns ≤ vec_capacity told.old }
-    ensures told { told.new.items ≡ told.old.items
-        ++ done_told lasting.now.moment n (courses lasting.now.pending.items lasting.now.leases.items) lasting.now.txns.items }
-    ensures room { vec_capacity told.new ≡ vec_capacity told.old }
-{
-    for transaction in &lasting.txns {
-        let at = last_end(transaction.txn, &lasting.leases, &lasting.pending);
-        if lasting.moment < at && at <= n {
-            told.push_reserved(done(transaction, at));
-        }
-    }
-}
-
-/// The leases concerned end at `n`.
-pub fn gather_ends(leases: &[Lease], which: Which, cause: Cause, n: u64, told: &mut Vec<Happening>)
+/// Gathers the leases that end at `n` before their time.
+pub fn gather_ends(
+    leases: &[Lease],
+    which: &Which,
+    cause: &Cause,
+    n: u64,
+    told: &mut Vec<Telling>,
+)
     requires room { vec_len told.old + length leases.now ≤ vec_capacity told.old }
-    ensures told { told.new.items ≡ told.old.items
-        ++ map (λ lease. ended cause (reversion_of (shortened n lease))) (filter (is_meant which) leases.now) }
-    ensures len { vec_len told.new ≤ vec_len told.old + length leases.now }
+    ensures told { told.new.items ≡ told.old.items ++ end_tellings (is_meant which.now) cause.now n leases.now }
     ensures room { vec_capacity told.new ≡ vec_capacity told.old }
 {
     for lease in leases {
-        if is_meant(&which, lease) {
-            told.push_reserved(ended(lease, &cause, n));
+        if is_meant(which, lease) {
+            told.push_reserved(ended(lease, cause, n));
         }
     }
 }
 
-/// The leases and the reversions whose slots the new leases of the transaction `by` take at `n`.
-pub fn gather_replaced(lasting: &Lasting, new: &[Lease], by: Txn, n: u64, told: &mut Vec<Happening>)
-    requires room { vec_len lasting.now.leases + vec_len lasting.now.pending ≤ vec_capacity told.old }
-    ensures told { told.new.items ≡
-        map (superseded by n) (filter (λ lease. is_taken new.now lease.point lease.priority) lasting.now.leases.items)
-        ++ map (cut by n) (filter (λ reversion. is_taken new.now reversion.point reversion.priority) lasting.now.pending.items) }
-    ensures len { vec_len told.new ≤ vec_len lasting.now.leases + vec_len lasting.now.pending }
+/// Gathers the leases and the reversions whose slots the new leases of the transaction `by` take at `n`.
+pub fn gather_replaced(
+    leases: &[Lease],
+    pending: &[Pending],
+    new: &[Lease],
+    by: Txn,
+    n: u64,
+    told: &mut Vec<Telling>,
+)
+    requires room { length leases.now + length pending.now ≤ vec_capacity told.old }
+    ensures told { told.new.items ≡ map plain (
+        map (superseded by n) (filter (λ lease. is_taken new.now lease.point lease.priority) leases.now)
+        ++ map (cut by n) (filter (λ reversion. is_taken new.now reversion.point reversion.priority) pending.now)) }
     ensures room { vec_capacity told.new ≡ vec_capacity told.old }
 {
     told.clear();
-    gather_superseded(&lasting.leases, new, by, n, told);
-    gather_cut(&lasting.pending, new, by, n, told);
+    gather_superseded(leases, new, by, n, told);
+    gather_cut(pending, new, by, n, told);
 }
 
-fn gather_superseded(leases: &[Lease], new: &[Lease], by: Txn, n: u64, told: &mut Vec<Happening>)
+fn gather_superseded(leases: &[Lease], new: &[Lease], by: Txn, n: u64, told: &mut Vec<Telling>)
     requires room { vec_len told.old + length leases.now ≤ vec_capacity told.old }
     ensures told { told.new.items ≡ told.old.items
-        ++ map (superseded by n) (filter (λ lease. is_taken new.now lease.point lease.priority) leases.now) }
+        ++ map plain (map (superseded by n) (filter (λ lease. is_taken new.now lease.point lease.priority) leases.now)) }
     ensures len { vec_len told.new ≤ vec_len told.old + length leases.now }
     ensures room { vec_capacity told.new ≡ vec_capacity told.old }
 {
     for lease in leases {
         if is_taken(new, lease.point, lease.priority) {
-            told.push_reserved(ended(lease, &Cause::Superseded { by }, n));
+            told.push_reserved(superseded(lease, by, n));
         }
     }
 }
 
-fn gather_cut(pending: &[Pending], new: &[Lease], by: Txn, n: u64, told: &mut Vec<Happening>)
+fn gather_cut(pending: &[Pending], new: &[Lease], by: Txn, n: u64, told: &mut Vec<Telling>)
     requires room { vec_len told.old + length pending.now ≤ vec_capacity told.old }
     ensures told { told.new.items ≡ told.old.items
-        ++ map (cut by n) (filter (λ reversion. is_taken new.now reversion.point reversion.priority) pending.now) }
-    ensures len { vec_len told.new ≤ vec_len told.old + length pending.now }
+        ++ map plain (map (cut by n) (filter (λ reversion. is_taken new.now reversion.point reversion.priority) pending.now)) }
     ensures room { vec_capacity told.new ≡ vec_capacity told.old }
 {
     for reversion in pending {
@@ -203,73 +193,71 @@ fn gather_cut(pending: &[Pending], new: &[Lease], by: Txn, n: u64, told: &mut Ve
     }
 }
 
-/// The transactions that have nothing left and are not among the done.
-pub fn gather_over(lasting: &Lasting, n: u64, told: &mut Vec<Happening>)
-    requires room { vec_len told.old + vec_len lasting.now.txns ≤ vec_capacity told.old }
-    ensures told { told.new.items ≡ told.old.items
-        ++ map (done_at n) (filter (is_over (durable_of lasting.now)) lasting.now.txns.items) }
-    ensures room { vec_capacity told.new ≡ vec_capacity told.old }
+/// The lease ends at a moment, and starts its reversion if it has one.
+fn ended(lease: &Lease, cause: &Cause, at: u64) -> Telling
+    ensures { result ≡ ended_with cause.now (reversion_of (shortened at lease.now)) }
 {
-    for transaction in &lasting.txns {
-        if is_over(lasting, transaction) {
-            told.push_reserved(done(transaction, n));
-        }
-    }
-}
-
-fn is_over(lasting: &Lasting, transaction: &Transaction) -> bool
-    ensures { result ≡ is_over (durable_of lasting.now) transaction.now }
-{
-    !lasting.done.contains(&transaction.txn)
-        && !lives(transaction.txn, &lasting.leases, &lasting.pending)
-}
-
-fn ended(lease: &Lease, cause: &Cause, at: u64) -> Happening
-    ensures { result ≡ ended cause.now (reversion_of (shortened at lease.now)) }
-{
-    Happening {
-        at,
-        txn: lease.txn,
-        owner: lease.owner,
-        what: What::Ended {
-            point: lease.point,
-            cause: *cause,
+    Telling {
+        happening: Happening {
+            at,
+            txn: lease.txn,
+            owner: lease.owner,
+            what: What::Ended {
+                point: lease.point,
+                cause: *cause,
+            },
         },
+        reverts: !lease.revert.slice().is_empty(),
     }
 }
 
-fn reverted(txn: Txn, owner: ProcId, point: PointId, at: u64) -> Happening
-    ensures { result ≡ record { at = at; txn = txn; owner = owner; told = Some (What.Reverted point) } }
+/// A reversion of the transaction on the point is over.
+fn reverted(txn: Txn, owner: ProcId, point: PointId, at: u64) -> Telling
+    ensures { result ≡ plain (record { at = at; txn = txn; owner = owner; told = Some (What.Reverted point) }) }
 {
-    Happening {
-        at,
-        txn,
-        owner,
-        what: What::Reverted { point },
-    }
-}
-
-fn cut(reversion: &Pending, by: Txn, at: u64) -> Happening
-    ensures { result ≡ cut by at reversion.now }
-{
-    Happening {
-        at,
-        txn: reversion.txn,
-        owner: reversion.owner,
-        what: What::Cut {
-            point: reversion.point,
-            by,
+    Telling {
+        happening: Happening {
+            at,
+            txn,
+            owner,
+            what: What::Reverted { point },
         },
+        reverts: false,
     }
 }
 
-fn done(transaction: &Transaction, at: u64) -> Happening
-    ensures { result ≡ done_at at transaction.now }
+/// A new lease takes the lease's slot; no reversion begins.
+fn superseded(lease: &Lease, by: Txn, at: u64) -> Telling
+    ensures { result ≡ plain (superseded by at lease.now) }
 {
-    Happening {
-        at,
-        txn: transaction.txn,
-        owner: transaction.owner,
-        what: What::Done,
+    Telling {
+        happening: Happening {
+            at,
+            txn: lease.txn,
+            owner: lease.owner,
+            what: What::Ended {
+                point: lease.point,
+                cause: Cause::Superseded { by },
+            },
+        },
+        reverts: false,
+    }
+}
+
+/// A new lease takes the reversion's slot.
+fn cut(reversion: &Pending, by: Txn, at: u64) -> Telling
+    ensures { result ≡ plain (cut by at reversion.now) }
+{
+    Telling {
+        happening: Happening {
+            at,
+            txn: reversion.txn,
+            owner: reversion.owner,
+            what: What::Cut {
+                point: reversion.point,
+                by,
+            },
+        },
+        reverts: false,
     }
 }
