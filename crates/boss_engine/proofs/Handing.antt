@@ -1,6 +1,6 @@
 -- What the code hands out at the end of a step is what the model concludes.
-use Rattle.std.proofs.Common.{◌≡◌, ℕ, ◌≤◌, Bool, List, ◌++◌, length, map, sym, ◌∙◌}
-use Rattle.std.specs.List.{filter, AllByRecursion}
+use Rattle.std.proofs.Common.{◌≡◌, ℕ, ◌+◌, ◌≤◌, Bool, not, ◌||◌, List, ◌++◌, length, map, ap, sym, ◌∙◌, arith, length-append}
+use Rattle.std.specs.List.{filter, fold, AllByRecursion}
 use Rattle.boss_model.specs.declared.command.Policy.{Policy}
 use Rattle.boss_model.specs.declared.command.Setting.{Setting}
 use Rattle.boss_model.specs.declared.notice.Cause.{Cause}
@@ -8,20 +8,21 @@ use Rattle.boss_model.specs.declared.state.Actuator.{Actuator}
 use Rattle.boss_model.specs.declared.state.Lease.{Lease}
 use Rattle.boss_model.specs.declared.state.Pending.{Pending}
 use Rattle.boss_model.specs.Ends.{end_leases}
-use Rattle.boss_model.specs.Happenings.{Happening, rank, done_at}
+use Rattle.boss_model.specs.Happenings.{Happening, rank, lives, done_at, finish}
+use Rattle.boss_model.specs.Lists.{member}
 use Rattle.boss_model.specs.Order.{in_order}
 use Rattle.boss_model.specs.Records.{Transaction}
 use Rattle.boss_model.specs.Reversions.{courses}
 use Rattle.boss_model.specs.Sound.{IsSoundDurable}
-use Rattle.boss_model.specs.State.{Durable}
-use Rattle.boss_model.specs.Submit.{submitted}
+use Rattle.boss_model.specs.State.{lease_slot, Durable}
+use Rattle.boss_model.specs.Submit.{is_taken, submitted}
 use Rattle.boss_model.specs.Time.{live, under_way, record_after, expired, tick_to}
 use Rattle.boss_engine.specs.Concluding.{is_over, group_told}
 use Rattle.boss_engine.specs.Due.{due_told, last_due}
 use Rattle.boss_engine.specs.Lasting.{IsFirstTold, nothing, faulted, handed_out}
 use Rattle.boss_engine.specs.Telling.{AreToldApart}
 use Rattle.boss_engine.proofs.Concluded.{after_ends, after_submit, conclude-ends, conclude-submit, ends_told, IsOfEnds, own-fault, submit_told, told-apart-ends}
-use Rattle.boss_engine.proofs.DueLemmas.{ticked}
+use Rattle.boss_engine.proofs.DueLemmas.{few-filter, length-in_order, ticked}
 
 -- what is left as time passes, before anybody is told
 abbrev pub after_tick : ℕ → Durable → Durable
@@ -62,3 +63,17 @@ pub handed-submit : (plant : List Actuator) (owner : ℕ) (policy : Policy) (wri
     handed_out n told after ≡ submitted owner policy writes n d
 handed-submit plant owner policy writes n told d after sound some is made =
     (λ i. handed_out n (is i) (made i)) ∙ sym (conclude-submit plant owner policy writes n d sound some)
+
+-- ---- how many leases there are after the new ones took their slots
+
+pub few-taken : (leases new : List Lease) → length (in_order lease_slot (filter (λ lease. not (is_taken new lease.point lease.priority)) leases ++ new)) ≤ length leases + length new
+few-taken leases new =
+    let kept = filter (λ lease. not (is_taken new lease.point lease.priority)) leases in
+    omega (arith, length-in_order lease_slot (kept ++ new), length-append kept new, few-filter (λ lease. not (is_taken new lease.point lease.priority)) leases)
+
+pub few-handed : (n : ℕ) (told : List Happening) (d after : Durable) → after ≡ handed_out n told d →
+    (length after.leases ≡ length d.leases) × (length after.pending ≡ length d.pending) × (length after.txns ≤ length d.txns)
+few-handed n told d after is =
+    let txns = few-filter (λ (t : Transaction). lives t.txn (courses d.pending d.leases) || member t.txn (fold finish d.done told)) d.txns in
+    let same : length after.txns ≡ length (handed_out n told d).txns = ap (λ e. length e.txns) is in
+    (ap (λ e. length e.leases) is, ap (λ e. length e.pending) is, omega (arith, txns, same))
