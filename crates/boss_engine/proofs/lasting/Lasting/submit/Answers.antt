@@ -38,7 +38,7 @@ left-is : (c : After-gather_over) (owner : ℕ) (policy : Policy) (writes : List
 left-is c owner policy writes is =
     let d = durable_of c.args.self.now in
     let new = granted owner policy d.next c.args.n writes in
-    let by : c.args.transaction.txn ≡ d.next = ap (λ t. t.txn) is.recorded in
+    let by : c.transaction.inside.txn ≡ d.next = ap (λ t. t.txn) (c.transaction.view_is ∙ is.recorded) in
     let how = record_after (superseded_end new d.next c.args.n) in
     let noted : c.end_parts.new.txns ≡ map (how d.leases) d.txns = c.end_parts.ensures
     ∙ (λ i. map (record_after (superseded_end ((c.deref-3.ensures.value ∙ is.leased) i) (by i) c.args.n) (c.deref-2.ensures.value i)) (c.deref_mut.ensures.value i)) in
@@ -56,7 +56,7 @@ told-is : (c : After-gather_over) (owner : ℕ) (policy : Policy) (writes : List
     c.gather_over.new.told.items ≡ group_told c.args.n (submit_told owner policy writes c.args.n (durable_of c.args.self.now)) (after_submit owner policy writes c.args.n (durable_of c.args.self.now))
 told-is c owner policy writes is =
     let d = durable_of c.args.self.now in
-    let by : c.args.transaction.txn ≡ d.next = ap (λ t. t.txn) is.recorded in
+    let by : c.transaction.inside.txn ≡ d.next = ap (λ t. t.txn) (c.transaction.view_is ∙ is.recorded) in
     let new = c.deref.ensures.value ∙ is.leased in
     let happened : c.gather_replaced.new.told.items ≡ submit_told owner policy writes c.args.n d = c.gather_replaced.ensures.told
     ∙ (λ i. map (superseded (by i) c.args.n) (filter (λ lease. is_taken (new i) lease.point lease.priority) d.leases)
