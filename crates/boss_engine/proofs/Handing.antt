@@ -6,7 +6,6 @@ use Rattle.boss_model.specs.declared.command.Setting.{Setting}
 use Rattle.boss_model.specs.declared.notice.Cause.{Cause}
 use Rattle.boss_model.specs.declared.state.Actuator.{Actuator}
 use Rattle.boss_model.specs.declared.state.Lease.{Lease}
-use Rattle.boss_model.specs.declared.state.Pending.{Pending}
 use Rattle.boss_model.specs.Ends.{end_leases}
 use Rattle.boss_model.specs.Happenings.{Happening, rank, lives, done_at, finish}
 use Rattle.boss_model.specs.Lists.{member}

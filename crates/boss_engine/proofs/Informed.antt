@@ -1,5 +1,5 @@
 -- The owners of what is told are processes.
-use Rattle.std.proofs.Common.{◌≡◌, ℕ, ◌<◌, ◌≤◌, ◌==◌, nat_le, List, [], ◌∷◌, ◌++◌, length, Bool, true, false, not, Option, is_none, map, refl, arith}
+use Rattle.std.proofs.Common.{◌≡◌, ℕ, ◌<◌, ◌≤◌, ◌==◌, nat_le, List, [], ◌∷◌, ◌++◌, length, Bool, true, false, Option, is_none, map, refl, arith}
 use Rattle.std.specs.List.{filter, flat_map, AllByRecursion}
 use Rattle.std.proofs.lemmas.Bool.{cond_both}
 use Rattle.std.proofs.lemmas.Bool.Decides.{nat_tests}
@@ -20,7 +20,6 @@ use Rattle.boss_model.specs.Reversions.{end_of, reversion_of, courses}
 use Rattle.boss_model.specs.Sound.{has_part, is_start, IsTransaction, IsSoundDurable}
 use Rattle.boss_model.specs.State.{Durable}
 use Rattle.boss_model.specs.Submit.{begun, cut, granted, superseded, superseded_end}
-use Rattle.boss_model.specs.Target.{in_force}
 use Rattle.boss_model.specs.Time.{record_after}
 use Rattle.boss_laws.proofs.Filters.{each-mapped}
 use Rattle.boss_laws.proofs.Orders.{each-map, each-both, each-filter, each-append, each-in_order, least-of}

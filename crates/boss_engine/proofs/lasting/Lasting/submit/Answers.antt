@@ -1,6 +1,5 @@
 use Rattle.std.proofs.Common.{◌≡◌, ℕ, ◌+◌, ◌∷◌, [], ◌++◌, List, length, not, sym, subst, ◌∙◌, ap, map, arith}
 use Rattle.std.specs.List.{AllByRecursion, filter}
-use Rattle.std.specs.Vec.{with_items}
 use Rattle.std.proofs.lemmas.List.{with_items_is, length-map}
 use Rattle.boss_model.specs.declared.command.Policy.{Policy}
 use Rattle.boss_model.specs.declared.command.Setting.{Setting}
@@ -79,12 +78,20 @@ conclude-requires-clause-owners c =
     (informed-submit c.requires.sound.0 d c.requires.sound.1 s.0 s.1 s.2 c.args.n s.3.some_write)
 
 pub conclude-requires-clause-room : goal.conclude-requires-clause-room
-conclude-requires-clause-room c =
-    (
-      omega (arith, c.take_slots.new.leases.ok.0, ap length c.take_slots.ensures.items, few-taken c.args.self.now.leases.items c.args.new.items, c.args.self.now.leases.ok.0, c.args.new.ok.0,
-          c.cut_slots.ensures.len, c.cut_slots.ensures.capacity, c.requires.pending),
-      c.requires.done,
-    )
+conclude-requires-clause-room c = (
+  omega (
+    arith,
+    c.take_slots.new.leases.ok.0,
+    ap length c.take_slots.ensures.items,
+    few-taken c.args.self.now.leases.items c.args.new.items,
+    c.args.self.now.leases.ok.0,
+    c.args.new.ok.0,
+    c.cut_slots.ensures.len,
+    c.cut_slots.ensures.capacity,
+    c.requires.pending,
+  ),
+  c.requires.done,
+)
 
 pub returns-clause-after : goal.returns-clause-after
 returns-clause-after c owner policy writes is =
@@ -97,6 +104,21 @@ pub returns-clause-few : goal.returns-clause-few
 returns-clause-few c =
     let at = (goal.at.returns-clause-few c).After-gather_over in
     let few = few-handed c.args.n c.deref-5.result.now (left at) (durable_of c.conclude.new.self) c.conclude.ensures.after in
-    omega (arith, few.0, few.1, few.2, c.conclude.new.self.leases.ok.0, c.conclude.new.self.pending.ok.0, c.conclude.new.self.txns.ok.0,
-    c.take_slots.new.leases.ok.0, c.cut_slots.new.pending.ok.0, c.push_reserved.new.self.ok.0,
-    ap length c.take_slots.ensures.items, few-taken c.args.self.now.leases.items c.args.new.items, c.args.self.now.leases.ok.0, c.args.new.ok.0, c.cut_slots.ensures.len, c.push_reserved.ensures.len)
+    omega (
+      arith,
+      few.0,
+      few.1,
+      few.2,
+      c.conclude.new.self.leases.ok.0,
+      c.conclude.new.self.pending.ok.0,
+      c.conclude.new.self.txns.ok.0,
+      c.take_slots.new.leases.ok.0,
+      c.cut_slots.new.pending.ok.0,
+      c.push_reserved.new.self.ok.0,
+      ap length c.take_slots.ensures.items,
+      few-taken c.args.self.now.leases.items c.args.new.items,
+      c.args.self.now.leases.ok.0,
+      c.args.new.ok.0,
+      c.cut_slots.ensures.len,
+      c.push_reserved.ensures.len,
+    )
