@@ -2,7 +2,9 @@ pub mod Concluded
 pub mod DueLemmas
 pub mod Firsts
 pub mod Found
+pub mod Handing
 pub mod Holders
+pub mod Informed
 pub mod Living
 pub mod Names
 pub mod Ordering

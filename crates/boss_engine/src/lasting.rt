@@ -88,13 +88,7 @@ impl Lasting {
 
     /// The leases concerned end at moment `n`, and start their reversions. `told` has what is told beside that. It takes no
     /// memory.
-    pub fn end_leases(
-        &mut self,
-        which: &Which,
-        cause: &Cause,
-        n: u64,
-        told: &mut Vec<Happening>,
-    )
+    pub fn end_leases(&mut self, which: &Which, cause: &Cause, n: u64, told: &mut Vec<Happening>)
         requires sound { IsSoundOfSome (durable_of self.old) }
         requires moment { ((durable_of self.old).now ≤ n) × (n ≤ 2 ^ 60) }
         requires room { HasRoom self.old }
