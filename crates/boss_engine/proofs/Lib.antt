@@ -14,3 +14,4 @@ pub mod Taking
 pub mod ToldApart
 pub mod Turns
 pub mod Waiting
+pub mod Written
