@@ -15,3 +15,4 @@ pub mod ToldApart
 pub mod Turns
 pub mod Waiting
 pub mod Written
+pub mod Opening
