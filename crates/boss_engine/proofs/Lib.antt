@@ -16,3 +16,4 @@ pub mod Turns
 pub mod Waiting
 pub mod Written
 pub mod Opening
+pub mod Rooms

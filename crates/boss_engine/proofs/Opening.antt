@@ -1,6 +1,6 @@
 -- The marks of a plant's points are those of its first state.
-use Rattle.std.proofs.Common.{◌≡◌, ℕ, zero, suc, ◌+◌, ℤ, List, [], ◌∷◌, length, map, refl, ap, sym, ◌∙◌, arith}
-use Rattle.std.specs.List.{range_with_len}
+use Rattle.std.proofs.Common.{◌≡◌, ℕ, zero, suc, ◌+◌, ℤ, List, [], ◌∷◌, ◌++◌, length, map, take, Some, refl, ap, sym, ◌∙◌, arith}
+use Rattle.std.specs.List.{range_with_len, slice_get}
 use Rattle.std.proofs.lemmas.List.{length-map}
 use Rattle.boss_model.specs.declared.state.Actuator.{Actuator}
 use Rattle.boss_model.specs.Catalogue.{default_of}
@@ -31,3 +31,11 @@ state-opened plant marks is =
     fresh-from (default_of plant) 0 plant (λ k. ap (default_of plant) (let same : 0 + k ≡ k = omega arith in same)) in
     let wants : (opened (map device_of plant)).wants ≡ (first_state plant).wants = ap (range_with_len 0) (length-map plant device_of) in
     ap (state_of first_durable []) is ∙ (λ i. record { durable = first_durable; attached = []; proxies = proxies i; wants = wants i })
+
+-- ---- the points of a catalogue, one after another
+
+-- a front with one more item
+pub take-get : {X : Type 0} (xs : List X) (i : ℕ) (x : X) → slice_get xs i ≡ Some x → take (i + 1) xs ≡ take i xs ++ x ∷ []
+take-get [] i x is = cc
+take-get (y ∷ ys) zero x is = let same : y ≡ x = cc in ap (λ z. z ∷ []) same
+take-get (y ∷ ys) (suc i) x is = let next : suc i + 1 ≡ suc (i + 1) = omega arith in ap (λ n. take n (y ∷ ys)) next ∙ ap (λ zs. y ∷ zs) (take-get ys i x is)
