@@ -18,3 +18,6 @@ pub mod ToldApart
 pub mod Turns
 pub mod Untils
 pub mod Waiting
+pub mod Written
+pub mod Opening
+pub mod Rooms
