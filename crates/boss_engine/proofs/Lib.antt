@@ -7,10 +7,13 @@ pub mod Holders
 pub mod Informed
 pub mod Living
 pub mod Names
+pub mod Opening
 pub mod Ordering
 pub mod Passing
 pub mod Playable
 pub mod Playing
+pub mod Readied
+pub mod Rooms
 pub mod Shortened
 pub mod Side
 pub mod Taking
@@ -19,5 +22,3 @@ pub mod Turns
 pub mod Untils
 pub mod Waiting
 pub mod Written
-pub mod Opening
-pub mod Rooms
