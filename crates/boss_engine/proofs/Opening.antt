@@ -23,7 +23,7 @@ fresh-from value place [] each = refl
 fresh-from value place (x ∷ xs) each =
     let here : value place ≡ x.default = ap value (let same : place ≡ place + 0 = omega arith in same) ∙ each 0 in
     λ i. fresh (sym here i) ∷ fresh-from value (place + 1) xs
-        (λ k. ap value (let same : place + 1 + k ≡ place + suc k = omega arith in same) ∙ each (suc k)) i
+    (λ k. ap value (let same : place + 1 + k ≡ place + suc k = omega arith in same) ∙ each (suc k)) i
 
 pub state-opened : (plant : List Actuator) (marks : Marks) → marks ≡ opened (map device_of plant) → state_of first_durable [] marks ≡ first_state plant
 state-opened plant marks is =

@@ -12,7 +12,7 @@ use Rattle.boss_laws.proofs.RenewSound.{positive}
 use Rattle.boss_engine.specs.Writing.{HasLevel, IsWritable}
 
 within : (z : ℤ) (most : ℕ) → is_within (pos 1) (pos most) z ≡ true → (pos 1 ≤ℤ z) × (z ≤ℤ pos most)
-within (pos n) most is = let here = positive (pos n) most is in (search rules, grind arith)
+within (pos n) most is = let here = positive (pos n) most is in (grind arith, grind arith)
 within (negsuc n) most is = cc
 
 is-writable : (plant : List Actuator) (write : Setting) → IsWrite plant write → IsWritable write

@@ -109,9 +109,12 @@ impl Machine {
         ensures room { OnOk result (HasPlacesFor writes self.new) }
     {
         let most = most_told(&self.lasting) + 2 * writes + 1;
-        self.lasting.pending.reserve(self.lasting.leases.len() + writes)?;
+        self.lasting
+            .pending
+            .reserve(self.lasting.leases.len() + writes)?;
         self.lasting.leases.reserve(writes)?;
         self.lasting.txns.reserve(1)?;
+        // What the last step told is handed out.
         self.told.clear();
         self.told.reserve(most)?;
         Ok(())

@@ -1,4 +1,4 @@
-use Rattle.std.proofs.Common.{◌≡◌, ap, sym, ◌∙◌, subst, arith}
+use Rattle.std.proofs.Common.{◌≡◌, ap, sym, ◌∙◌, subst}
 use Rattle.boss_model.specs.Settle.{first_state}
 use Rattle.boss_model.specs.Sound.{IsSound}
 use Rattle.boss_model.specs.State.{first_durable}

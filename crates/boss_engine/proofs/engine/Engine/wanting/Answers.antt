@@ -1,4 +1,4 @@
-use Rattle.std.proofs.Common.{◌≡◌, ◌∙◌, ap, sym}
+use Rattle.std.proofs.Common.{◌∙◌, ap, sym}
 use Rattle.boss_model.specs.Devices.{wanting}
 use Rattle.boss_engine.specs.Lasting.{durable_of}
 use Rattle.boss_engine.proofs.Waiting.{wanting-is}

@@ -1,8 +1,5 @@
-use Rattle.std.proofs.Common.{◌≡◌, ◌∙◌, ◌≤◌, [], rules, ap, ap₂, arith, length, map, vec_capacity, vec_len}
-use Rattle.boss_model.specs.Settle.{first_state}
-use Rattle.boss_model.specs.State.{first_durable}
-use Rattle.boss_marks.specs.Marks.{Marks, opened}
-use Rattle.boss_engine.specs.Lasting.{durable_of, most_told}
+use Rattle.std.proofs.Common.{◌≡◌, ◌∙◌, rules, ap, ap₂, arith, length, map, vec_len}
+use Rattle.boss_marks.specs.Marks.{opened}
 use Rattle.boss_engine.specs.Waiting.{state_of}
 use Rattle.boss_engine.proofs.Opening.{device_of, drivers-opened, state-opened}
 use Rattle.boss_engine.proofs.machine.Machine.first.Goals as goal

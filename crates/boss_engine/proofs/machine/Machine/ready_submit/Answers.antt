@@ -1,8 +1,6 @@
 use Rattle.std.proofs.Common.{◌≡◌, None, rules}
-use Rattle.std.specs.List.{AllByRecursion}
 use Rattle.boss_model.specs.Submit.{submit_refused}
 use Rattle.boss_engine.specs.Lasting.{durable_of}
-use Rattle.boss_engine.specs.Writing.{IsWritable}
 use Rattle.boss_engine.proofs.Written.{all-writable, all-levels}
 use Rattle.boss_engine.proofs.machine.Machine.ready_submit.Goals as goal
 
