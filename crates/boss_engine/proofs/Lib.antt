@@ -12,12 +12,15 @@ pub mod Holders
 pub mod Keys
 pub mod Living
 pub mod Names
+pub mod Opening
 pub mod Ordering
 pub mod Overs
 pub mod Passing
 pub mod Playable
 pub mod Playing
 pub mod Points
+pub mod Readied
+pub mod Rooms
 pub mod Shortened
 pub mod Side
 pub mod Staging
@@ -29,3 +32,4 @@ pub mod Turns
 pub mod Untils
 pub mod Waiting
 pub mod Weaving
+pub mod Written

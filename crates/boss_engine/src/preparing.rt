@@ -1,15 +1,16 @@
-ghost use Rattle.std.specs.Prelude.{◌≡◌, ◌≤◌, ◌<◌, ◌+◌, ◌^◌, List, length, None, IfOk, OnOk, OnErr};
+ghost use Rattle.std.specs.Prelude.{◌≡◌, ◌≤◌, ◌<◌, ◌+◌, ◌^◌, List, length, None, vec_capacity, IfOk, OnOk, OnErr};
 ghost use Rattle.std.specs.List.{AllByRecursion};
 ghost use Rattle.boss_model.specs.declared.state.Actuator.{Actuator};
 ghost use Rattle.boss_model.specs.Processes.{attach_refused, process_named, process_of};
 ghost use Rattle.boss_model.specs.Sound.{IsAllowed};
 ghost use Rattle.boss_model.specs.Submit.{granted, lease_of};
 ghost use Rattle.boss_engine.specs.Inside.{CanRun, HasPlaces, HasPlacesFor, state_of};
-ghost use Rattle.boss_engine.specs.Lasting.{durable_of};
+ghost use Rattle.boss_engine.specs.Lasting.{HasRoom, durable_of, most_told};
 ghost use Rattle.boss_engine.specs.Ready.{HasRoomFor, IsReadyFor, IsReadyToAttach, IsReadyToList, IsReadyToSubmit, MayList, MaySubmit, MayTakeOn, MayWant};
 ghost use Rattle.boss_engine.specs.Writing.{IsWritable};
 
 use crate::attached::process_of;
+use crate::lasting::Lasting;
 use crate::machine::Machine;
 use crate::ready::Ready;
 use crate::records::begun;
@@ -101,15 +102,21 @@ impl Machine {
     /// Makes room for a transaction of so many writes.
     fn make_room(&mut self, writes: usize) -> Result<(), NoMemory>
         requires writes { writes ≤ 32 }
+        requires rows { HasRoom self.old.lasting }
+        requires told { most_told self.old.lasting ≤ vec_capacity self.old.told }
         ensures state { state_of self.new ≡ state_of self.old }
         ensures places { (plant : List Actuator) → HasPlaces plant self.old → HasPlaces plant self.new }
         ensures room { OnOk result (HasPlacesFor writes self.new) }
     {
-        let slots = self.lasting.leases.len() + self.lasting.pending.len() + writes;
+        let most = most_told(&self.lasting) + 2 * writes + 1;
+        self.lasting
+            .pending
+            .reserve(self.lasting.leases.len() + writes)?;
         self.lasting.leases.reserve(writes)?;
-        self.lasting.pending.reserve(slots)?;
         self.lasting.txns.reserve(1)?;
-        self.told.reserve(2 * slots + self.lasting.txns.len() + 2)?;
+        // What the last step told is handed out.
+        self.told.clear();
+        self.told.reserve(most)?;
         Ok(())
     }
 
@@ -130,7 +137,14 @@ impl Machine {
         }
         Ok(Ready::List(Vec::with_capacity(self.alloc, max as usize)?))
     }
+}
 
+/// The most that one step tells of these rows.
+fn most_told(lasting: &Lasting) -> usize
+    requires { most_told lasting.now < 2 ^ 63 }
+    ensures { result ≡ most_told lasting.now }
+{
+    2 * lasting.leases.len() + lasting.pending.len() + lasting.txns.len() + 1
 }
 
 /// The leases of these writes, at moment `n`.

@@ -1,0 +1,53 @@
+-- What was made ready for a command before time passes is what it uses after.
+use Rattle.std.proofs.Common.{◌≡◌, ℕ, List, Option, Some, None, sym, subst, ◌∙◌}
+use Rattle.boss_model.specs.declared.command.Command.{Command}
+use Rattle.boss_model.specs.declared.command.Command.TheVariants as command
+use Rattle.boss_model.specs.declared.command.Policy.{Policy}
+use Rattle.boss_model.specs.declared.command.Setting.{Setting}
+use Rattle.boss_model.specs.declared.state.Actuator.{Actuator}
+use Rattle.boss_model.specs.Machine.{pass_time}
+use Rattle.boss_model.specs.Processes.{process_of}
+use Rattle.boss_model.specs.State.{State}
+use Rattle.boss_model.specs.Time.{due}
+use Rattle.boss_engine.specs.declared.ready.Ready.{Ready}
+use Rattle.boss_engine.specs.declared.ready.Ready.TheVariants as ready
+use Rattle.boss_engine.specs.Ready.{IsReadyFor, IsReadyToAttach, IsReadyToSubmit, MustBeThere}
+use Rattle.boss_engine.proofs.Names.{attach-refused-ticked, told-named}
+
+readied-attach : (plant : List Actuator) (session n : ℕ) (name : List ℕ) (s : State) (given : Ready) →
+    IsReadyToAttach session name given s → IsReadyToAttach session name given (pass_time plant n s)
+readied-attach plant session n name s (ready.Refused why) was = attach-refused-ticked session name s.attached n s.durable ∙ was
+readied-attach plant session n name s (ready.Process ring) was =
+    (attach-refused-ticked session name s.attached n s.durable ∙ was.0, told-named s.durable.processes (due n s.durable) name ∙ was.1, was.2)
+readied-attach plant session n name s ready.Nothing was =
+    (attach-refused-ticked session name s.attached n s.durable ∙ was.0, subst MustBeThere (sym (told-named s.durable.processes (due n s.durable) name)) was.1)
+readied-attach plant session n name s (ready.Submit transaction leases) was = was
+readied-attach plant session n name s (ready.List notices) was = was
+
+readied-submit : (plant : List Actuator) (owner : Option ℕ) (writes : List Setting) (policy : Policy) (n : ℕ) (given : Ready) (s : State) →
+    IsReadyToSubmit plant owner writes policy n given s → IsReadyToSubmit plant owner writes policy n given (pass_time plant n s)
+readied-submit plant None writes policy n (ready.Refused why) s was = was
+readied-submit plant None writes policy n (ready.Process ring) s was = was
+readied-submit plant None writes policy n ready.Nothing s was = was
+readied-submit plant None writes policy n (ready.Submit transaction leases) s was = was
+readied-submit plant None writes policy n (ready.List notices) s was = was
+readied-submit plant (Some owner) writes policy n (ready.Refused why) s was = was
+readied-submit plant (Some owner) writes policy n (ready.Process ring) s was = was
+readied-submit plant (Some owner) writes policy n ready.Nothing s was = was
+readied-submit plant (Some owner) writes policy n (ready.Submit transaction leases) s was = was
+readied-submit plant (Some owner) writes policy n (ready.List notices) s was = was
+
+pub readied : (plant : List Actuator) (session : ℕ) (c : Command) (n : ℕ) (given : Ready) (s : State) →
+    IsReadyFor plant session c n given s → IsReadyFor plant session c n given (pass_time plant n s)
+readied plant session (command.Attach name) n given s was = readied-attach plant session n name s given was
+readied plant session (command.Submit writes policy) n given s was = readied-submit plant (process_of s.attached session) writes policy n given s was
+readied plant session (command.Renew txn length points) n given s was = was
+readied plant session (command.Cancel txn) n given s was = was
+readied plant session command.Gone n given s was = was
+readied plant session command.Tick n given s was = was
+readied plant session (command.Next driver) n given s was = was
+readied plant session (command.Report point version ok) n given s was = was
+readied plant session (command.Read point) n given s was = was
+readied plant session (command.Array point) n given s was = was
+readied plant session (command.Status txn) n given s was = was
+readied plant session (command.Notices name from most) n given s was = was

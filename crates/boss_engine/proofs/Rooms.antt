@@ -1,0 +1,48 @@
+-- The room for what a command does is there still after a change that makes no more of anything.
+use Rattle.std.proofs.Common.{◌≡◌, ◌≤◌, vec_len, vec_capacity, arith}
+use Rattle.boss_engine.specs.declared.lasting.Lasting.{Lasting}
+use Rattle.boss_engine.specs.declared.machine.Machine.{Machine}
+use Rattle.boss_engine.specs.declared.ready.Ready.{Ready}
+use Rattle.boss_engine.specs.declared.ready.Ready.TheVariants as ready
+use Rattle.boss_engine.specs.Inside.{HasPlacesFor}
+use Rattle.boss_engine.specs.Lasting.{durable_of, most_told}
+use Rattle.boss_engine.specs.Ready.{HasRoomFor}
+use Rattle.boss_engine.proofs.DueLemmas.{IsNoMore}
+
+pub fewer-told : (old new : Lasting) → IsNoMore (durable_of old) (durable_of new) → most_told new ≤ most_told old
+fewer-told old new few = omega (
+  arith,
+  few.both,
+  few.leases,
+  few.txns,
+  old.leases.ok.0,
+  old.pending.ok.0,
+  old.txns.ok.0,
+  new.leases.ok.0,
+  new.pending.ok.0,
+  new.txns.ok.0,
+)
+
+module _ (old new : Machine) (few : IsNoMore (durable_of old.lasting) (durable_of new.lasting))
+    (leases : vec_capacity new.lasting.leases ≡ vec_capacity old.lasting.leases) (pending : vec_capacity new.lasting.pending ≡ vec_capacity old.lasting.pending)
+    (txns : vec_capacity new.lasting.txns ≡ vec_capacity old.lasting.txns) (told : vec_capacity new.told ≡ vec_capacity old.told) where
+  pub room-left : (given : Ready) → HasRoomFor given old → HasRoomFor given new
+  room-left ready.Nothing room = tt
+  room-left (ready.Refused why) room = tt
+  room-left (ready.Process ring) room = tt
+  room-left (ready.List notices) room = tt
+  room-left (ready.Submit transaction writes) room = record {
+    leases = omega (arith, room.leases, leases, few.leases, old.lasting.leases.ok.0, new.lasting.leases.ok.0);
+    pending = omega (
+      arith,
+      room.pending,
+      pending,
+      few.both,
+      old.lasting.leases.ok.0,
+      old.lasting.pending.ok.0,
+      new.lasting.leases.ok.0,
+      new.lasting.pending.ok.0,
+    );
+    txns = omega (arith, room.txns, txns, few.txns, old.lasting.txns.ok.0, new.lasting.txns.ok.0);
+    told = omega (arith, room.told, told, fewer-told old.lasting new.lasting few);
+  }
