@@ -1,4 +1,4 @@
-use Rattle.std.specs.Prelude.{◌≡◌, ℕ, ◌≤◌, List, length, Option, Some, None, vec_len, vec_capacity}
+use Rattle.std.specs.Prelude.{◌≡◌, ℕ, ◌≤◌, List, [], length, Option, Some, None, vec_len, vec_capacity}
 use Rattle.boss_model.specs.declared.answer.Refusal.{Refusal}
 use Rattle.boss_model.specs.declared.answer.Refusal.TheVariants as refusal
 use Rattle.boss_model.specs.declared.command.Command.{Command}
@@ -62,7 +62,8 @@ IsReadyToSubmit plant None writes policy n (ready.Refused why) s = why ≡ refus
 IsReadyToSubmit plant (Some owner) writes policy n (ready.Refused why) s = submit_refused plant writes s.durable ≡ Some why
 IsReadyToSubmit plant (Some owner) writes policy n (ready.Submit transaction leases) s =
     (submit_refused plant writes s.durable ≡ None)
-    × (transaction ≡ begun owner policy s.durable.next writes)
+    × (transaction.transaction ≡ begun owner policy s.durable.next writes)
+    × (transaction.reverting ≡ [])
     × (leases.items ≡ granted owner policy s.durable.next n writes)
 IsReadyToSubmit plant owner writes policy n given s = ⊥
 

@@ -13,16 +13,15 @@ ghost use Rattle.boss_model.specs.Processes.{enrol, number_of, process_named, pr
 ghost use Rattle.boss_model.specs.Sound.{IsSoundDurable};
 ghost use Rattle.boss_model.specs.Target.{in_force};
 ghost use Rattle.boss_engine.specs.Inside.{CanRun, HasPlaces, state_of};
-ghost use Rattle.boss_engine.specs.Lasting.{durable_of};
+ghost use Rattle.boss_engine.specs.Lasting.{IsPassed, durable_of};
 ghost use Rattle.boss_engine.specs.Playing.{IsPlayable};
 ghost use Rattle.boss_engine.specs.Ready.{CanTakeOn, HasRoomFor, IsReadyToAttach, IsReadyToList, IsReadyToSubmit};
 
 use crate::attached::{attach, detach, process_of};
-use crate::happening::Happening;
+use crate::happening::{Happening, Telling};
 use crate::machine::Machine;
 use crate::queries::{extend, first_until, first_until_of, notices};
 use crate::ready::Ready;
-use crate::records::Transaction;
 use crate::refusals::{cancel_refused, renew_refused};
 use crate::slots::Which;
 use crate::target::{basis_of, in_force, slots_of, target_of};
@@ -31,6 +30,7 @@ use boss_model::{
     Actuator, Answer, Cause, DriverId, Lease, Name, PointId, ProcId, Refusal, SessionId, Txn, What,
 };
 use boss_policy::{Decision, on_fault};
+use boss_stages::Transaction;
 
 /// The commands, at a moment n up to which time has passed.
 impl Machine {
@@ -99,7 +99,7 @@ impl Machine {
 
     fn begin(&mut self, transaction: Transaction, leases: Vec<Lease>, n: u64) -> Answer {
         let answer = Answer::Accepted {
-            txn: transaction.txn,
+            txn: Txn(self.lasting.next_txn),
             until: first_until(&leases),
         };
         self.lasting.submit(transaction, leases, n, &mut self.told);
@@ -140,6 +140,7 @@ impl Machine {
     /// The live leases of a transaction end.
     pub fn cancel(&mut self, session: SessionId, txn: Txn, n: u64) -> Answer
         requires can_run { (plant : List Actuator) × CanRun plant self.old }
+        requires passed { IsPassed n (durable_of self.old.lasting) }
         requires moment { (self.old.lasting.moment ≤ n) × (n ≤ 2 ^ 60) }
         ensures answer { (plant : List Actuator) → result ≡ (act plant session n (command.Cancel txn) (state_of self.old)).answer }
         ensures state { (plant : List Actuator) → state_of self.new ≡ (act plant session n (command.Cancel txn) (state_of self.old)).state }
@@ -160,6 +161,7 @@ impl Machine {
     /// The session's process is lost: its live leases end, and the session no longer holds it.
     pub fn gone(&mut self, session: SessionId, n: u64) -> Answer
         requires can_run { (plant : List Actuator) × CanRun plant self.old }
+        requires passed { IsPassed n (durable_of self.old.lasting) }
         requires moment { (self.old.lasting.moment ≤ n) × (n ≤ 2 ^ 60) }
         ensures answer { (plant : List Actuator) → result ≡ (act plant session n (command.Gone) (state_of self.old)).answer }
         ensures state { (plant : List Actuator) → state_of self.new ≡ (act plant session n (command.Gone) (state_of self.old)).state }
@@ -197,6 +199,7 @@ impl Machine {
     /// Takes a device's answer to a write down.
     pub fn report(&mut self, point: PointId, version: u64, ok: bool, n: u64) -> Answer
         requires can_run { (plant : List Actuator) × CanRun plant self.old × (point < length plant) }
+        requires passed { IsPassed n (durable_of self.old.lasting) }
         requires moment { (self.old.lasting.moment ≤ n) × (n ≤ 2 ^ 60) }
         ensures answer { (plant : List Actuator) (session : ℕ) → HasPlaces plant self.old → result ≡ (act plant session n (command.Report point version ok) (state_of self.old)).answer }
         ensures state { (plant : List Actuator) (session : ℕ) → HasPlaces plant self.old → state_of self.new ≡ (act plant session n (command.Report point version ok) (state_of self.old)).state }
@@ -213,6 +216,7 @@ impl Machine {
     /// What follows for the lease in force on a point, whose device has failed to take its value, for the first time or again.
     fn follow_up(&mut self, point: PointId, first: bool, n: u64)
         requires can_run { (plant : List Actuator) × IsSoundDurable plant (durable_of self.old.lasting) × HasPlaces plant self.old }
+        requires passed { IsPassed n (durable_of self.old.lasting) }
         requires moment { (self.old.lasting.moment ≤ n) × (n ≤ 2 ^ 60) }
         ensures after { durable_of self.new.lasting ≡ (if first then faulted (in_force (durable_of self.old.lasting).leases point) n (durable_of self.old.lasting) else durable_of self.old.lasting) }
         ensures others { (self.new.marks ≡ self.old.marks) × (self.new.attached ≡ self.old.attached) }
@@ -232,6 +236,7 @@ impl Machine {
     /// The owner is told of a fault, and all live leases of the transaction end.
     fn abort(&mut self, happened: Happening, n: u64)
         requires can_run { (plant : List Actuator) × IsSoundDurable plant (durable_of self.old.lasting) × HasPlaces plant self.old }
+        requires passed { IsPassed n (durable_of self.old.lasting) }
         requires moment { (self.old.lasting.moment ≤ n) × (n ≤ 2 ^ 60) }
         requires fault { (point : ℕ) × (lease : Lease) × (in_force (durable_of self.old.lasting).leases point ≡ Some lease) × (happened ≡ fault n lease) }
         ensures after { durable_of self.new.lasting ≡ end_leases (is_of happened.txn) cause.Fault n (happened ∷ []) (durable_of self.old.lasting) }
@@ -239,7 +244,10 @@ impl Machine {
         ensures places { (plant : List Actuator) → HasPlaces plant self.old → HasPlaces plant self.new }
     {
         self.told.clear();
-        self.told.push_reserved(happened);
+        self.told.push_reserved(Telling {
+            happening: happened,
+            reverts: false,
+        });
         self.lasting
             .end_leases(&Which::OfTransaction(happened.txn), &Cause::Fault, n, &mut self.told);
     }

@@ -49,7 +49,7 @@ impl Engine {
     /// The engine of a plant before anything was done: no process, no lease, and every point wants its
     /// default. Room is taken for sixteen slots of each point, 256 sessions, and what is told in a step.
     fn for_plant(alloc: Global, plant: Vec<Actuator>) -> Result<Engine, NoMemory>
-        requires { length plant.items ≤ 2 ^ 32 }
+        requires { length plant.items ≤ 1024 }
         ensures { IfOk result (λ engine. engine ≡ record { plant = plant.items; state = first_state plant.items }) }
     {
         let machine = Machine::first(alloc, &plant)?;

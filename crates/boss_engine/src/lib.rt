@@ -3,8 +3,8 @@
 #![tactic(auto)]
 
 mod attached;
+mod booking;
 mod commands;
-mod endings;
 mod engine;
 mod happening;
 mod lasting;
@@ -13,7 +13,6 @@ mod preparing;
 mod processes;
 mod queries;
 mod ready;
-mod records;
 mod refusals;
 mod reversions;
 mod settling;

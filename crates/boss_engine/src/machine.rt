@@ -4,10 +4,11 @@ ghost use Rattle.boss_model.specs.Sound.{IsAllowed, IsSound};
 ghost use Rattle.boss_model.specs.Settle.{first_state};
 ghost use Rattle.boss_engine.specs.declared.ready.Ready.{Ready};
 ghost use Rattle.boss_engine.specs.Inside.{CanRun, HasPlaces, state_of};
+ghost use Rattle.boss_engine.specs.Lasting.{IsPassed, durable_of};
 ghost use Rattle.boss_engine.specs.Ready.{HasRoomFor, IsReadyFor, MayWant};
 
 use crate::attached::Attachment;
-use crate::happening::Happening;
+use crate::happening::Telling;
 use crate::lasting::Lasting;
 use crate::queries::status;
 use crate::ready::Ready;
@@ -31,19 +32,19 @@ pub struct Machine {
     pub attached: Vec<Attachment>,
     pub marks: Marks,
     /// Room for what is told in one step.
-    pub told: Vec<Happening>,
+    pub told: Vec<Telling>,
 }
 
 impl Machine {
     /// The first state of a plant, with room for what its commands do.
     pub fn first(alloc: Global, plant: &[Actuator]) -> Result<Machine, NoMemory>
-        requires { length plant.now ≤ 2 ^ 32 }
+        requires { length plant.now ≤ 1024 }
         ensures state { IfOk result (λ machine. state_of machine ≡ first_state plant.now) }
         ensures ready { IfOk result (HasPlaces plant.now) }
     {
         Ok(Machine {
             alloc,
-            lasting: Lasting::first(alloc, plant.len())?,
+            lasting: Lasting::first(alloc, plant.len() as u32)?,
             attached: Vec::with_capacity(alloc, MOST_ATTACHED)?,
             marks: Marks::new(alloc, &devices_of(alloc, plant)?)?,
             told: Vec::with_capacity(alloc, plant.len() * TOLD_OF_A_POINT + 1)?,
@@ -98,6 +99,7 @@ impl Machine {
         n: u64,
         ready: Ready,
     ) -> Answer
+        requires passed { IsPassed n (durable_of self.old.lasting) }
         requires moment { (self.old.lasting.moment ≤ n) × (n ≤ 2 ^ 60) }
         requires allowed { IsAllowed plant.now command.now }
         requires can_run { CanRun plant.now self.old }

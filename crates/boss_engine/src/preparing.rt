@@ -1,11 +1,11 @@
-ghost use Rattle.std.specs.Prelude.{◌≡◌, ◌≤◌, ◌<◌, ◌+◌, ◌^◌, List, length, None, vec_capacity, IfOk, OnOk, OnErr};
+ghost use Rattle.std.specs.Prelude.{◌≡◌, ◌≤◌, ◌<◌, ◌+◌, ◌^◌, List, [], length, map, unsigned_abs, None, vec_capacity, IfOk, OnOk, OnErr};
 ghost use Rattle.std.specs.List.{AllByRecursion};
 ghost use Rattle.boss_model.specs.declared.state.Actuator.{Actuator};
 ghost use Rattle.boss_model.specs.Processes.{attach_refused, process_named, process_of};
 ghost use Rattle.boss_model.specs.Sound.{IsAllowed};
-ghost use Rattle.boss_model.specs.Submit.{granted, lease_of};
+ghost use Rattle.boss_model.specs.Submit.{begun, granted, lease_of};
 ghost use Rattle.boss_engine.specs.Inside.{CanRun, HasPlaces, HasPlacesFor, state_of};
-ghost use Rattle.boss_engine.specs.Lasting.{HasRoom, durable_of, most_told};
+ghost use Rattle.boss_engine.specs.Lasting.{IsKept, durable_of, most_told};
 ghost use Rattle.boss_engine.specs.Ready.{HasRoomFor, IsReadyFor, IsReadyToAttach, IsReadyToList, IsReadyToSubmit, MayList, MaySubmit, MayTakeOn, MayWant};
 ghost use Rattle.boss_engine.specs.Writing.{IsWritable};
 
@@ -13,13 +13,13 @@ use crate::attached::process_of;
 use crate::lasting::Lasting;
 use crate::machine::Machine;
 use crate::ready::Ready;
-use crate::records::begun;
 use crate::refusals::{attach_refused, submit_refused};
 use boss_model::{
-    Actuator, Command, Items, Lease, Name, NoMemory, Policy, Priority, ProcId, Refusal, SessionId,
+    Actuator, Command, Items, Lease, Name, NoMemory, PointId, Policy, Priority, ProcId, Refusal, SessionId,
     Setting, Step, Txn,
 };
 use boss_notices::Ring;
+use boss_stages::Transaction;
 use std::alloc::Global;
 
 /// The memory that a command wants is taken before time passes.
@@ -102,18 +102,18 @@ impl Machine {
     /// Makes room for a transaction of so many writes.
     fn make_room(&mut self, writes: usize) -> Result<(), NoMemory>
         requires writes { writes ≤ 32 }
-        requires rows { HasRoom self.old.lasting }
+        requires rows { IsKept self.old.lasting }
         requires told { most_told self.old.lasting ≤ vec_capacity self.old.told }
         ensures state { state_of self.new ≡ state_of self.old }
         ensures places { (plant : List Actuator) → HasPlaces plant self.old → HasPlaces plant self.new }
         ensures room { OnOk result (HasPlacesFor writes self.new) }
     {
-        let most = most_told(&self.lasting) + 2 * writes + 1;
+        let most = most_told(&self.lasting) + 2 * writes;
         self.lasting
             .pending
             .reserve(self.lasting.leases.len() + writes)?;
         self.lasting.leases.reserve(writes)?;
-        self.lasting.txns.reserve(1)?;
+        self.lasting.stages.reserve()?;
         // What the last step told is handed out.
         self.told.clear();
         self.told.reserve(most)?;
@@ -144,7 +144,7 @@ fn most_told(lasting: &Lasting) -> usize
     requires { most_told lasting.now < 2 ^ 63 }
     ensures { result ≡ most_told lasting.now }
 {
-    2 * lasting.leases.len() + lasting.pending.len() + lasting.txns.len() + 1
+    2 * lasting.leases.len() + lasting.pending.len() + 1
 }
 
 /// The leases of these writes, at moment `n`.
@@ -191,4 +191,31 @@ fn lease_of(
         revert: Items::from_vec(revert),
         policy,
     })
+}
+
+/// The record of a transaction of these writes, whose leases are all live.
+fn begun(
+    alloc: Global,
+    owner: ProcId,
+    policy: Policy,
+    txn: Txn,
+    writes: &[Setting],
+) -> Result<Transaction, NoMemory>
+    requires { AllByRecursion IsWritable writes.now }
+    ensures record { IfOk result (λ kept. kept.transaction ≡ begun owner policy txn writes.now) }
+    ensures settled { IfOk result (λ kept. kept.reverting ≡ []) }
+{
+    Transaction::new(alloc, txn, owner, policy, &slots_of(alloc, writes)?)
+}
+
+/// The slots of these writes.
+fn slots_of(alloc: Global, writes: &[Setting]) -> Result<Vec<(PointId, Priority)>, NoMemory>
+    requires { AllByRecursion IsWritable writes.now }
+    ensures { IfOk result (λ slots. slots.items ≡ map (λ write. (write.point, unsigned_abs write.priority)) writes.now) }
+{
+    let mut slots = Vec::with_capacity(alloc, writes.len())?;
+    for write in writes {
+        slots.push_reserved((write.point, Priority(write.priority as u8)));
+    }
+    Ok(slots)
 }

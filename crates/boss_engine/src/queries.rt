@@ -8,15 +8,15 @@ ghost use Rattle.boss_model.specs.Submit.{first_until};
 ghost use Rattle.boss_engine.specs.Lasting.{durable_of};
 
 use crate::lasting::Lasting;
-use crate::records::{self, Transaction};
 use boss_model::{Answer, Items, Lease, Notice, Pending, PointId, ProcId, Refusal, Stage, Txn};
+use boss_stages::Transaction;
 
 /// How far the transaction has come.
 pub fn status(lasting: &Lasting, txn: Txn) -> Answer
     requires { AllByRecursion (λ transaction. transaction.owner < length (durable_of lasting.now).processes) (durable_of lasting.now).txns }
     ensures { result ≡ status txn (durable_of lasting.now) }
 {
-    match records::find(&lasting.txns, txn) {
+    match lasting.stages.find(txn) {
         Some(transaction) => status_of(lasting, transaction),
         None => Answer::Refused(Refusal::UnknownTxn),
     }
@@ -24,14 +24,15 @@ pub fn status(lasting: &Lasting, txn: Txn) -> Answer
 
 /// The same of a transaction that is kept.
 fn status_of(lasting: &Lasting, transaction: &Transaction) -> Answer
-    requires { transaction.now.owner < length (durable_of lasting.now).processes }
-    ensures { result ≡ status_of (Some transaction.now) (durable_of lasting.now) }
+    requires { transaction.now.transaction.owner < length (durable_of lasting.now).processes }
+    ensures { result ≡ status_of (Some transaction.now.transaction) (durable_of lasting.now) }
 {
-    let live = live_of(&lasting.leases, transaction.txn);
-    let pending = pending_of(&lasting.pending, transaction.txn);
+    let txn = Txn(transaction.number());
+    let live = live_of(&lasting.leases, txn);
+    let pending = pending_of(&lasting.pending, txn);
     Answer::Status {
-        txn: transaction.txn,
-        owner: lasting.processes.name(transaction.owner),
+        txn,
+        owner: lasting.processes.name(transaction.owner()),
         stage: stage_of(live, pending),
         live,
         pending,

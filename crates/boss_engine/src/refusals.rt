@@ -13,8 +13,8 @@ ghost use Rattle.boss_engine.specs.Lasting.{durable_of};
 use crate::attached::{Attachment, process_of, session_of};
 use crate::lasting::Lasting;
 use crate::processes::MOST_PROCESSES;
-use crate::records::{self, End, Part, Transaction};
 use boss_model::{Actuator, Lease, Name, PointId, ProcId, Refusal, SessionId, Setting, Step, Txn};
+use boss_stages::{End, Part};
 
 /// The number after the last transaction's.
 const SPENT: u64 = 1 << 62;
@@ -175,13 +175,13 @@ pub fn renew_refused(
     if !is_length(duration) {
         return Some(Refusal::BadLease { index: 0 });
     }
-    let Some(transaction) = records::find(&lasting.txns, txn) else {
+    let Some(transaction) = lasting.stages.find(txn) else {
         return Some(Refusal::UnknownTxn);
     };
-    if transaction.owner != owner {
+    if transaction.owner() != owner {
         return Some(Refusal::NotYours);
     }
-    parts_refused(&transaction.parts, points, n)
+    parts_refused(transaction.parts(), points, n)
 }
 
 /// Why a renewal of these parts at moment `n` is refused, if it is.
@@ -261,17 +261,17 @@ fn end_on(parts: &[Part], point: PointId) -> Option<End>
 pub fn cancel_refused(lasting: &Lasting, owner: ProcId, txn: Txn) -> Option<Refusal>
     ensures { result ≡ cancel_refused owner txn (durable_of lasting.now) }
 {
-    let Some(transaction) = records::find(&lasting.txns, txn) else {
+    let Some(transaction) = lasting.stages.find(txn) else {
         return Some(Refusal::UnknownTxn);
     };
-    if transaction.owner != owner {
+    if transaction.owner() != owner {
         return Some(Refusal::NotYours);
     }
     if has_lease(&lasting.leases, txn) {
         return None;
     }
     Some(Refusal::Over {
-        at: last_part_end(transaction),
+        at: last_part_end(transaction.parts()),
     })
 }
 
@@ -283,11 +283,11 @@ fn has_lease(leases: &[Lease], txn: Txn) -> bool
 }
 
 /// The last of the moments at which the transaction's leases ended; 0 where none did.
-fn last_part_end(transaction: &Transaction) -> u64
-    ensures { result ≡ last_part_end transaction.now }
+fn last_part_end(parts: &[Part]) -> u64
+    ensures { result ≡ latest (map (λ end. end.at) (filter_map (λ part. part.end) parts.now)) }
 {
     let mut last = 0;
-    for part in &transaction.parts {
+    for part in parts {
         if let Some(end) = part.end {
             last = end.at.max(last);
         }
