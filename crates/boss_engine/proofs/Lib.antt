@@ -1,14 +1,19 @@
+pub mod Attaching
 pub mod Concluded
+pub mod Counted
+pub mod Doing
 pub mod DueLemmas
 pub mod Firsts
 pub mod Found
 pub mod Handing
 pub mod Holders
 pub mod Informed
+pub mod Keeping
 pub mod Living
 pub mod Names
 pub mod Opening
 pub mod Ordering
+pub mod Owners
 pub mod Passing
 pub mod Playable
 pub mod Playing
@@ -16,6 +21,7 @@ pub mod Readied
 pub mod Rooms
 pub mod Shortened
 pub mod Side
+pub mod Submitting
 pub mod Taking
 pub mod ToldApart
 pub mod Turns
