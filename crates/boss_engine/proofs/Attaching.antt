@@ -1,7 +1,7 @@
 -- There is room for one more that holds a process.
-use Rattle.std.proofs.Common.{◌≡◌, ℕ, ◌<◌, ◌==◌, nat_lt, nat_le, nat_eq, List, [], ◌∷◌, length, map, Bool, true, false, ◌||◌, cond, Option, Some, None, refl, ap, sym, arith}
+use Rattle.std.proofs.Common.{◌≡◌, ℕ, ◌<◌, ◌==◌, nat_lt, nat_eq, List, [], ◌∷◌, length, map, Bool, true, false, ◌||◌, cond, Option, Some, None, refl, arith}
 use Rattle.std.specs.Cmp.Lexicographic.{pointwise}
-use Rattle.std.specs.List.{AllByRecursion, list_any, position_or_len}
+use Rattle.std.specs.List.{AllByRecursion, position_or_len}
 use Rattle.std.specs.Option.{option_map}
 use Rattle.std.specs.Prelude.{find, position}
 use Rattle.std.proofs.lemmas.Bool.{cond_both}
@@ -12,13 +12,13 @@ use Rattle.boss_model.specs.declared.state.Actuator.{Actuator}
 use Rattle.boss_model.specs.Lists.{member}
 use Rattle.boss_model.specs.Processes.{attach_refused, is_full, name_of, process_named, process_of, process_refused, session_of}
 use Rattle.boss_model.specs.Sound.{IsSound}
-use Rattle.boss_model.specs.State.{Attachment, Process, State}
+use Rattle.boss_model.specs.State.{Attachment, State}
 use Rattle.boss_laws.proofs.Draining.{at-most}
 use Rattle.boss_laws.proofs.Filters.{each-mapped}
 use Rattle.boss_laws.proofs.NotRefused.{none-mapped, none-of-first}
 use Rattle.boss_engine.specs.declared.ready.Ready.{Ready}
 use Rattle.boss_engine.specs.declared.ready.Ready.TheVariants as ready
-use Rattle.boss_engine.specs.Ready.{IsReadyToAttach, IsReadyToList}
+use Rattle.boss_engine.specs.Ready.{IsReadyToAttach}
 
 -- what is found is there
 pub position-below : {X : Type 0} (test : X → Bool) (xs : List X) (i : ℕ) → position test xs ≡ Some i → i < length xs
