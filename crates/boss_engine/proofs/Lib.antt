@@ -21,6 +21,7 @@ pub mod Readied
 pub mod Rooms
 pub mod Shortened
 pub mod Side
+pub mod Stepping
 pub mod Submitting
 pub mod Taking
 pub mod ToldApart

@@ -35,3 +35,7 @@ pub in-force-known : (plant : List Actuator) (d : Durable) (point : ℕ) (lease 
     lease.owner < length d.processes
 in-force-known plant d point lease sound found =
     each-least (λ l. l.owner < length d.processes) (λ l. l.priority) (λ l. l.point == point) d.leases lease (leases-known plant d sound) found
+
+-- the owners of the transactions that are kept are processes
+pub owners-known : (plant : List Actuator) (d : Durable) → IsSoundDurable plant d → AllByRecursion (λ (t : Transaction). t.owner < length d.processes) d.txns
+owners-known plant d sound = each-map (IsTransaction plant d) (λ t. t.owner < length d.processes) (λ t is. is.owner) d.txns sound.txns
