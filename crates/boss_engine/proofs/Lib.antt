@@ -1,7 +1,10 @@
+pub mod Attaching
 pub mod Begun
 pub mod Booking
 pub mod Changed
 pub mod Concluded
+pub mod Counted
+pub mod Doing
 pub mod DueBooked
 pub mod DueLemmas
 pub mod EndsBooked
@@ -9,12 +12,14 @@ pub mod Firsts
 pub mod Found
 pub mod Gathering
 pub mod Holders
+pub mod Keeping
 pub mod Keys
 pub mod Living
 pub mod Names
 pub mod Opening
 pub mod Ordering
 pub mod Overs
+pub mod Owners
 pub mod Passing
 pub mod Playable
 pub mod Playing
@@ -24,7 +29,9 @@ pub mod Rooms
 pub mod Shortened
 pub mod Side
 pub mod Staging
+pub mod Stepping
 pub mod SubmitBooked
+pub mod Submitting
 pub mod Taking
 pub mod Tellings
 pub mod ToldApart

@@ -1,19 +1,21 @@
-ghost use Rattle.std.specs.Prelude.{◌≡◌, ℕ, ◌≤◌, ◌<◌, ◌+◌, ◌^◌, if◌then◌else◌, List, [], ◌∷◌, length, filter, Some};
+ghost use Rattle.std.specs.Prelude.{◌≡◌, ℕ, ◌≤◌, ◌<◌, ◌+◌, ◌^◌, if◌then◌else◌, List, [], ◌∷◌, length, filter, Some, None, vec_len};
 ghost use Rattle.std.specs.List.{AllByRecursion};
 ghost use Rattle.boss_model.specs.declared.state.Actuator.{Actuator};
+ghost use Rattle.boss_model.specs.declared.answer.Answer.TheVariants as answer;
 ghost use Rattle.boss_model.specs.declared.command.Command.TheVariants as command;
 ghost use Rattle.boss_model.specs.declared.command.Policy.{Policy};
 ghost use Rattle.boss_model.specs.declared.command.Setting.{Setting};
 ghost use Rattle.boss_model.specs.declared.notice.Cause.TheVariants as cause;
 ghost use Rattle.boss_model.specs.declared.state.Lease.{Lease};
-ghost use Rattle.boss_model.specs.Ends.{end_leases, fault, faulted, is_of, is_owned_by};
+ghost use Rattle.boss_model.specs.Ends.{end_leases, fault, faulted, is_of, is_owned_by, lost};
 ghost use Rattle.boss_model.specs.Happenings.{tell};
 ghost use Rattle.boss_model.specs.Machine.{act};
 ghost use Rattle.boss_model.specs.Processes.{enrol, number_of, process_named, process_of};
 ghost use Rattle.boss_model.specs.Sound.{IsSoundDurable};
+ghost use Rattle.boss_model.specs.Submit.{first_until, submitted};
 ghost use Rattle.boss_model.specs.Target.{in_force};
-ghost use Rattle.boss_engine.specs.Inside.{CanRun, HasPlaces, state_of};
-ghost use Rattle.boss_engine.specs.Lasting.{IsPassed, durable_of};
+ghost use Rattle.boss_engine.specs.Inside.{CanRun, HasPlaces, HasPlacesFor, state_of};
+ghost use Rattle.boss_engine.specs.Lasting.{IsPassed, IsSomeSubmit, IsSubmit, durable_of};
 ghost use Rattle.boss_engine.specs.Playing.{IsPlayable};
 ghost use Rattle.boss_engine.specs.Ready.{CanTakeOn, HasRoomFor, IsReadyToAttach, IsReadyToList, IsReadyToSubmit};
 
@@ -55,12 +57,12 @@ impl Machine {
 
     /// The process of this name, which is taken on if it is new.
     fn process_for(&mut self, name: &Name, n: u64, ready: Ready) -> ProcId
-        requires few { length self.old.lasting.processes ≤ 256 }
+        requires few { process_named self.old.lasting.processes name.now ≡ None → length self.old.lasting.processes < 256 }
         requires ready { CanTakeOn name.now ready (state_of self.old) }
         ensures process { result ≡ number_of self.old.lasting.processes (process_named self.old.lasting.processes name.now) }
         ensures known { result < length self.new.lasting.processes }
         ensures after { durable_of self.new.lasting ≡ enrol name.now n (durable_of self.old.lasting) }
-        ensures others { self.new ≡ record self.old { lasting = self.new.lasting } }
+        ensures others { self.new ≡ record self.old { lasting = record self.old.lasting { moment = self.new.lasting.moment; processes = self.new.lasting.processes } } }
     {
         if let Some(process) = self.lasting.processes.named(name) {
             return process;
@@ -97,7 +99,19 @@ impl Machine {
         }
     }
 
-    fn begin(&mut self, transaction: Transaction, leases: Vec<Lease>, n: u64) -> Answer {
+    /// The same of a transaction that is not refused.
+    fn begin(&mut self, transaction: Transaction, leases: Vec<Lease>, n: u64) -> Answer
+        requires can_run { (plant : List Actuator) × CanRun plant self.old }
+        requires begun { IsSomeSubmit n transaction leases.items (durable_of self.old.lasting) }
+        requires next { self.old.lasting.next_txn < 2 ^ 62 }
+        requires room { HasPlacesFor (vec_len leases) self.old }
+        ensures answer { result ≡ answer.Accepted self.old.lasting.next_txn (first_until leases.items) }
+        ensures after { (owner : ℕ) (policy : Policy) (writes : List Setting) →
+            IsSubmit n transaction leases.items (durable_of self.old.lasting) owner policy writes →
+            durable_of self.new.lasting ≡ submitted owner policy writes n (durable_of self.old.lasting) }
+        ensures others { (self.new.marks ≡ self.old.marks) × (self.new.attached ≡ self.old.attached) }
+        ensures places { (plant : List Actuator) → HasPlaces plant self.old → HasPlaces plant self.new }
+    {
         let answer = Answer::Accepted {
             txn: Txn(self.lasting.next_txn),
             until: first_until(&leases),
@@ -153,8 +167,12 @@ impl Machine {
             return Answer::Refused(why);
         }
         self.told.clear();
-        self.lasting
-            .end_leases(&Which::OfTransaction(txn), &Cause::Cancelled, n, &mut self.told);
+        self.lasting.end_leases(
+            &Which::OfTransaction(txn),
+            &Cause::Cancelled,
+            n,
+            &mut self.told,
+        );
         Answer::Cancelled { txn, at: n }
     }
 
@@ -170,14 +188,29 @@ impl Machine {
         let Some(owner) = process_of(&self.attached, session) else {
             return Answer::Refused(Refusal::NotAttached);
         };
-        let ended = count_owned(&self.lasting.leases, owner);
-        if 0 < ended {
-            self.told.clear();
-            self.lasting
-                .end_leases(&Which::OfProcess(owner), &Cause::Died, n, &mut self.told);
-        }
+        let ended = self.lose(owner, n);
         detach(&mut self.attached, session);
         Answer::Gone { ended }
+    }
+
+    /// The live leases of a process end, if it has any. The answer is how many it had.
+    fn lose(&mut self, owner: ProcId, n: u64) -> u64
+        requires can_run { (plant : List Actuator) × CanRun plant self.old }
+        requires passed { IsPassed n (durable_of self.old.lasting) }
+        requires moment { (self.old.lasting.moment ≤ n) × (n ≤ 2 ^ 60) }
+        ensures ended { result ≡ length (filter (is_owned_by owner) self.old.lasting.leases.items) }
+        ensures after { durable_of self.new.lasting ≡ lost owner n (durable_of self.old.lasting) }
+        ensures others { (self.new.marks ≡ self.old.marks) × (self.new.attached ≡ self.old.attached) }
+        ensures places { (plant : List Actuator) → HasPlaces plant self.old → HasPlaces plant self.new }
+    {
+        let ended = count_owned(&self.lasting.leases, owner);
+        if ended == 0 {
+            return 0;
+        }
+        self.told.clear();
+        self.lasting
+            .end_leases(&Which::OfProcess(owner), &Cause::Died, n, &mut self.told);
+        ended
     }
 
     /// Hands a driver's first want out.
@@ -248,8 +281,12 @@ impl Machine {
             happening: happened,
             reverts: false,
         });
-        self.lasting
-            .end_leases(&Which::OfTransaction(happened.txn), &Cause::Fault, n, &mut self.told);
+        self.lasting.end_leases(
+            &Which::OfTransaction(happened.txn),
+            &Cause::Fault,
+            n,
+            &mut self.told,
+        );
     }
 
     /// The owner is told of a fault.
@@ -324,13 +361,7 @@ impl Machine {
 fn count_owned(leases: &[Lease], owner: ProcId) -> u64
     ensures { result ≡ length (filter (is_owned_by owner) leases.now) }
 {
-    let mut count = 0;
-    for lease in leases {
-        if lease.owner == owner {
-            count += 1;
-        }
-    }
-    count
+    leases.iter().filter(|lease| lease.owner == owner).count() as u64
 }
 
 /// A device did not take the lease's value.

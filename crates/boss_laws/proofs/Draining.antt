@@ -68,7 +68,7 @@ below-without n [] below = tt
 below-without n (x ∷ xs) below = cond_both (not (x == n)) (x ∷ without n xs) (without n xs) (AllByRecursion (λ y. y < n))
     (λ other. (let here : x < suc n = below.0 in grind (arith, nat_tests), below-without n xs below.1)) (λ _. below-without n xs below.1)
 
-at-most : (n : ℕ) (xs : List ℕ) → Distinct xs → AllByRecursion (λ x. x < n) xs → length xs ≤ n
+pub at-most : (n : ℕ) (xs : List ℕ) → Distinct xs → AllByRecursion (λ x. x < n) xs → length xs ≤ n
 at-most n [] once below = omega arith
 at-most zero (x ∷ xs) once below = absurd (omega (arith, below.0))
 at-most (suc n) (x ∷ xs) once below =

@@ -1,0 +1,52 @@
+-- A submit that is made ready is not refused, and leaves what the model says.
+use Rattle.std.proofs.Common.{◌≡◌, ℕ, ◌≤◌, ◌<◌, ◌==◌, ◌^◌, List, length, Vec, Global, false, Option, Some, None, refl, arith}
+use Rattle.std.proofs.lemmas.Bool.Decides.{nat_tests}
+use Rattle.boss_model.specs.declared.answer.Answer.TheVariants as answer
+use Rattle.boss_model.specs.declared.command.Command.TheVariants as command
+use Rattle.boss_model.specs.declared.command.Policy.{Policy}
+use Rattle.boss_model.specs.declared.command.Setting.{Setting}
+use Rattle.boss_model.specs.declared.state.Actuator.{Actuator}
+use Rattle.boss_model.specs.declared.state.Lease.{Lease}
+use Rattle.boss_model.specs.Machine.{act}
+use Rattle.boss_model.specs.Processes.{process_of}
+use Rattle.boss_model.specs.Records.{Transaction}
+use Rattle.boss_model.specs.Sound.{IsSoundDurable}
+use Rattle.boss_model.specs.State.{Durable, State}
+use Rattle.boss_model.specs.Submit.{first_until, granted, submit_refused, submitted}
+use Rattle.boss_laws.proofs.NotRefused.{submit-not-refused}
+use Rattle.boss_engine.specs.Lasting.{IsSubmit}
+use Rattle.boss_engine.specs.Ready.{IsReadyToSubmit}
+use Rattle.boss_engine.specs.declared.ready.Ready.TheVariants as ready
+
+-- the session holds a process, the writes are not refused, and the record and the leases are theirs
+pub record IsBegun (plant : List Actuator) (held : Option ℕ) (writes : List Setting) (policy : Policy) (n : ℕ) (transaction : Transaction) (leases : List Lease) (d : Durable) : Type 0 where
+  pub owner : ℕ
+  pub own : held ≡ Some owner
+  pub passed : submit_refused plant writes d ≡ None
+  pub is : IsSubmit n transaction leases d owner policy writes
+
+pub ready-submit : (plant : List Actuator) (held : Option ℕ) (writes : List Setting) (policy : Policy) (n : ℕ) (transaction : Transaction) (leases : Vec Lease Global) (s : State) →
+    1 ≤ length writes → IsReadyToSubmit plant held writes policy n (ready.Submit transaction leases) s → IsBegun plant held writes policy n transaction leases.items s.durable
+ready-submit plant None writes policy n transaction leases s some is = absurd is
+ready-submit plant (Some owner) writes policy n transaction leases s some is = record {
+  owner = owner;
+  own = refl;
+  passed = is.0;
+  is = record { some_write = some; recorded = is.1; leased = is.2 };
+}
+
+-- there is a number for it
+pub unspent : (plant : List Actuator) (writes : List Setting) (d : Durable) → IsSoundDurable plant d → (any : List Actuator) → submit_refused any writes d ≡ None → d.next < 2 ^ 62
+unspent plant writes d sound any passed =
+    let other : (d.next == 2 ^ 62) ≡ false = (submit-not-refused any writes d passed).unspent in
+    let most : d.next ≤ 2 ^ 62 = sound.next in
+    grind (arith, nat_tests)
+
+pub submit-leaves : (plant : List Actuator) (session owner n : ℕ) (writes : List Setting) (policy : Policy) (s : State) → process_of s.attached session ≡ Some owner →
+    submit_refused plant writes s.durable ≡ None →
+    act plant session n (command.Submit writes policy) s
+    ≡ record {
+      answer = answer.Accepted s.durable.next (first_until (granted owner policy s.durable.next n writes));
+      state = record s { durable = submitted owner policy writes n s.durable };
+    }
+submit-leaves plant session owner n writes policy s held passed = rw (held, passed) refl

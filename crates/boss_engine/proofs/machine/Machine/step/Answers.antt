@@ -1,0 +1,73 @@
+use Rattle.std.proofs.Common.{◌≡◌, ap, refl, sym, subst, ◌∙◌}
+use Rattle.boss_model.specs.Machine.{act, pass_time, step}
+use Rattle.boss_model.specs.Settle.{settle}
+use Rattle.boss_model.specs.Sound.{IsSound}
+use Rattle.boss_model.specs.State.{State}
+use Rattle.boss_laws.proofs.StepSound.{step-sound}
+use Rattle.boss_engine.specs.Inside.{state_of}
+use Rattle.boss_engine.specs.Lasting.{durable_of}
+use Rattle.boss_engine.specs.Ready.{IsReadyFor}
+use Rattle.boss_engine.proofs.Readied.{readied}
+use Rattle.boss_engine.proofs.Stepping.{passed-moment, passed-well, answered, stepped, acted-playable, acted-number}
+use Rattle.boss_engine.proofs.machine.Machine.step.Goals as goal
+
+passes : (c : goal.After-act-arg-1) → state_of c.pass_time.new.self ≡ pass_time c.args.plant.now c.max-n.result (state_of c.args.self.now)
+passes c = c.pass_time.ensures.state ∙ ap (pass_time c.args.plant.now c.max-n.result) c.in_ok-ready.ensures.state
+
+pub act-answer-requires-clause-moment : goal.act-answer-requires-clause-moment
+act-answer-requires-clause-moment c =
+    passed-moment c.args.plant.now c.args.session c.args.command.now c.args.moment c.max-n.result (state_of c.args.self.now) c.max-n.ensures
+    c.requires.allowed c.requires.moment c.requires.ready.sound (state_of c.pass_time.new.self) (passes c)
+
+pub act-answer-requires-clause-can_run : goal.act-answer-requires-clause-can_run
+act-answer-requires-clause-can_run c = record {
+  sound = passed-well c.args.plant.now c.args.session c.args.command.now c.args.moment c.max-n.result (state_of c.args.self.now) c.max-n.ensures
+      c.requires.allowed c.requires.moment c.requires.ready.sound (state_of c.pass_time.new.self) (passes c);
+  places = c.pass_time.ensures.places;
+}
+
+pub act-answer-requires-clause-ready : goal.act-answer-requires-clause-ready
+act-answer-requires-clause-ready c = subst (IsReadyFor c.args.plant.now c.args.session c.args.command.now c.max-n.result c.in_ok-ready.ready) (sym (passes c))
+    (readied c.args.plant.now c.args.session c.args.command.now c.max-n.result c.in_ok-ready.ready (state_of c.args.self.now) c.in_ok-ready.ensures.ready)
+
+pub settle-requires-clause-number : goal.settle-requires-clause-number
+settle-requires-clause-number c =
+    acted-number c.args.plant.now c.args.session c.args.command.now c.args.moment c.max-n.result (state_of c.args.self.now) c.max-n.ensures
+    c.requires.allowed c.requires.moment c.requires.ready.sound (state_of c.pass_time.new.self) (c.pass_time.ensures.state ∙ ap (pass_time c.args.plant.now c.max-n.result) c.in_ok-ready.ensures.state)
+    (state_of c.act-answer.new.self) c.act-answer.ensures.state c.act-answer.new.self.marks refl
+
+pub settle-requires-clause-pending : goal.settle-requires-clause-pending
+settle-requires-clause-pending c =
+    acted-playable c.args.plant.now c.args.session c.args.command.now c.args.moment c.max-n.result (state_of c.args.self.now) c.max-n.ensures
+    c.requires.allowed c.requires.moment c.requires.ready.sound (state_of c.pass_time.new.self) (c.pass_time.ensures.state ∙ ap (pass_time c.args.plant.now c.max-n.result) c.in_ok-ready.ensures.state)
+    (state_of c.act-answer.new.self) c.act-answer.ensures.state
+
+pub returns-clause-answer : goal.returns-clause-answer
+returns-clause-answer c =
+    answered c.args.plant.now c.args.session c.args.command.now c.args.moment c.max-n.result (state_of c.args.self.now) c.max-n.ensures
+    c.requires.allowed c.requires.moment c.requires.ready.sound (state_of c.pass_time.new.self) (c.pass_time.ensures.state ∙ ap (pass_time c.args.plant.now c.max-n.result) c.in_ok-ready.ensures.state)
+    c.act-answer.result c.act-answer.ensures.answer
+
+over : (c : goal.After-settle) → record { durable = durable_of c.act-answer.new.self.lasting; attached = c.act-answer.new.self.attached.items; proxies = c.settle.new.marks.proxies; wants = c.settle.new.marks.wants }
+    ≡ (step c.args.plant.now c.args.session c.args.command.now c.args.moment (state_of c.args.self.now)).state
+over c =
+    ap (λ marks. record { durable = durable_of c.act-answer.new.self.lasting; attached = c.act-answer.new.self.attached.items; proxies = marks.proxies; wants = marks.wants }) c.settle.ensures
+    ∙ stepped c.args.plant.now c.args.session c.args.command.now c.args.moment c.max-n.result (state_of c.args.self.now) c.max-n.ensures
+    c.requires.allowed c.requires.moment c.requires.ready.sound (state_of c.pass_time.new.self) (c.pass_time.ensures.state ∙ ap (pass_time c.args.plant.now c.max-n.result) c.in_ok-ready.ensures.state)
+    (state_of c.act-answer.new.self) c.act-answer.ensures.state
+
+pub returns-clause-state : goal.returns-clause-state
+returns-clause-state c = over c
+
+pub returns-clause-ready : goal.returns-clause-ready
+returns-clause-ready c = record {
+  sound = subst (IsSound c.args.plant.now) (sym (over c))
+      (step-sound c.args.plant.now c.args.session c.args.command.now c.args.moment (state_of c.args.self.now) c.requires.allowed c.requires.moment c.requires.ready.sound);
+  places = record {
+    small = c.act-answer.ensures.places.small;
+    drivers = ap (λ marks. marks.drivers) c.settle.ensures ∙ c.act-answer.ensures.places.drivers;
+    rows = c.act-answer.ensures.places.rows;
+    attached = c.act-answer.ensures.places.attached;
+    told = c.act-answer.ensures.places.told;
+  };
+}
