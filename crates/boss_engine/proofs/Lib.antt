@@ -14,6 +14,7 @@ pub mod Living
 pub mod Names
 pub mod Ordering
 pub mod Overs
+pub mod Owners
 pub mod Passing
 pub mod Playable
 pub mod Playing
@@ -24,6 +25,7 @@ pub mod Staging
 pub mod SubmitBooked
 pub mod Taking
 pub mod Tellings
+pub mod Together
 pub mod ToldApart
 pub mod Turns
 pub mod Untils
