@@ -83,13 +83,7 @@ impl Lasting {
 
     /// The leases concerned end at moment `n`, and start their reversions. `told` has what is told beside that. It takes no
     /// memory.
-    pub fn end_leases(
-        &mut self,
-        which: &Which,
-        cause: &Cause,
-        n: u64,
-        told: &mut Vec<Telling>,
-    )
+    pub fn end_leases(&mut self, which: &Which, cause: &Cause, n: u64, told: &mut Vec<Telling>)
         requires sound { IsSoundOfSome (durable_of self.old) }
         requires passed { IsPassed n (durable_of self.old) }
         requires moment { n ≤ 2 ^ 60 }

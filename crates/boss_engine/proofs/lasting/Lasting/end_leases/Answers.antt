@@ -69,10 +69,12 @@ after c told =
     let which = is_meant c.args.which.now in
     let first = c.requires.first in
     let made : books c ≡ booked_all s d.processes (tellings c) =
-    c.book_all.ensures.books ∙ ap (fold booked (record { stages = s; processes = d.processes })) told in
-    (made, together c.args.n d.next c.end_some.new.leases.items c.end_some.new.pending.items (books c) (booked_all s d.processes (tellings c)) (end_leases which c.args.cause.now c.args.n first.0 d)
-    made (first-booked c.requires.sound.0 d s which c.args.cause.now c.args.n first.0 c.requires.sound.1 c.requires.kept.stands c.requires.passed c.requires.moment c.requires.cause first.2)
-    refl refl c.end_some.ensures.leases c.end_some.ensures.pending)
+    c.book_all.ensures.books ∙ ap (fold booked (record { stages = s; processes = d.processes })) told in (
+      made,
+      together c.args.n d.next c.end_some.new.leases.items c.end_some.new.pending.items (books c) (booked_all s d.processes (tellings c)) (end_leases which c.args.cause.now c.args.n first.0 d)
+          made (first-booked c.requires.sound.0 d s which c.args.cause.now c.args.n first.0 c.requires.sound.1 c.requires.kept.stands c.requires.passed c.requires.moment c.requires.cause first.2)
+          refl refl c.end_some.ensures.leases c.end_some.ensures.pending,
+    )
 
 pub returns-clause-after : goal.returns-clause-after
 returns-clause-after c first given =

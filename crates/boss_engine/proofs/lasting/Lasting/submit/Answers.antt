@@ -1,4 +1,4 @@
-use Rattle.std.proofs.Common.{◌≡◌, ℕ, ◌<◌, ◌+◌, [], ◌∷◌, ◌++◌, List, length, map, not, refl, ap, sym, ◌∙◌, subst, arith}
+use Rattle.std.proofs.Common.{◌≡◌, ℕ, ◌<◌, ◌+◌, ◌++◌, List, length, map, not, refl, ap, sym, ◌∙◌, subst, arith}
 use Rattle.std.specs.List.{AllByRecursion, filter, fold}
 use Rattle.std.proofs.lemmas.List.Elements.{All-from_recursion}
 use Rattle.boss_model.specs.declared.command.Policy.{Policy}
@@ -11,7 +11,7 @@ use Rattle.boss_model.specs.Submit.{cut, granted, is_taken, submitted, supersede
 use Rattle.boss_laws.proofs.Filters.{each-unmapped}
 use Rattle.boss_stages.specs.Stages.{Kept, number}
 use Rattle.boss_engine.specs.Books.{Books, Telling, booked}
-use Rattle.boss_engine.specs.Gathered.{CanBook, booked_all, plain, replaced_tellings, told_rank, with_begun}
+use Rattle.boss_engine.specs.Gathered.{CanBook, booked_all, plain, told_rank, with_begun}
 use Rattle.boss_engine.specs.Lasting.{IsSubmit, durable_of}
 use Rattle.boss_engine.specs.Telling.{AreApart}
 use Rattle.boss_engine.proofs.Owners.{IsInformed, informed-replaced}
@@ -90,10 +90,12 @@ after c owner policy writes is told =
     let leases = c.take_slots.ensures.items
     ∙ ap (λ new. in_order lease_slot (filter (λ lease. not (is_taken new lease.point lease.priority)) d.leases ++ new)) is.leased in
     let pending = c.cut_slots.ensures.items
-    ∙ ap (λ new. filter (λ reversion. not (is_taken new reversion.point reversion.priority)) d.pending) (c.deref-4.ensures.value ∙ is.leased) in
-    (same, together c.args.n (d.next + 1) c.take_slots.new.leases.items c.cut_slots.new.pending.items (books c) (made c owner policy writes) (submitted owner policy writes c.args.n d)
-    same (submit-begun c.requires.sound.0 d stages owner policy writes c.args.n c.requires.sound.1 c.requires.kept.stands is.some_write c.args.transaction is.recorded is.settled)
-    refl refl leases pending)
+    ∙ ap (λ new. filter (λ reversion. not (is_taken new reversion.point reversion.priority)) d.pending) (c.deref-4.ensures.value ∙ is.leased) in (
+      same,
+      together c.args.n (d.next + 1) c.take_slots.new.leases.items c.cut_slots.new.pending.items (books c) (made c owner policy writes) (submitted owner policy writes c.args.n d)
+          same (submit-begun c.requires.sound.0 d stages owner policy writes c.args.n c.requires.sound.1 c.requires.kept.stands is.some_write c.args.transaction is.recorded is.settled)
+          refl refl leases pending,
+    )
 
 pub returns-clause-after : goal.returns-clause-after
 returns-clause-after c owner policy writes is =

@@ -79,10 +79,12 @@ after c told =
     let found : c.last_due-last.result ≡ last_due c.args.n d =
     c.last_due-last.ensures ∙ (λ i. fold (last_of_pending c.args.n) (fold (last_of_lease c.args.n) d.now (c.deref.ensures.value i)) (c.deref-2.ensures.value i)) in
     let made : books c ≡ booked_all s d.processes (due_tellings c.args.n d) =
-    c.book_all.ensures.books ∙ ap (fold booked (record { stages = s; processes = d.processes })) told in
-    (made, together c.last_due-last.result d.next c.pass_on.new.leases.items c.pass_on.new.pending.items (books c) (booked_all s d.processes (due_tellings c.args.n d)) (tick_to c.args.n d)
-    made (due-booked c.requires.sound.0 d s c.args.n c.requires.sound.1 c.requires.kept.stands c.requires.moment.0 c.requires.moment.1)
-    (found ∙ last-due c.requires.sound.0 d c.args.n c.requires.sound.1 c.requires.moment.0) refl c.pass_on.ensures.leases c.pass_on.ensures.pending)
+    c.book_all.ensures.books ∙ ap (fold booked (record { stages = s; processes = d.processes })) told in (
+      made,
+      together c.last_due-last.result d.next c.pass_on.new.leases.items c.pass_on.new.pending.items (books c) (booked_all s d.processes (due_tellings c.args.n d)) (tick_to c.args.n d)
+          made (due-booked c.requires.sound.0 d s c.args.n c.requires.sound.1 c.requires.kept.stands c.requires.moment.0 c.requires.moment.1)
+          (found ∙ last-due c.requires.sound.0 d c.args.n c.requires.sound.1 c.requires.moment.0) refl c.pass_on.ensures.leases c.pass_on.ensures.pending,
+    )
 
 pub returns-clause-after : goal.returns-clause-after
 returns-clause-after c =
