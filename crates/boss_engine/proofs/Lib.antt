@@ -12,6 +12,7 @@ pub mod Firsts
 pub mod Found
 pub mod Gathering
 pub mod Holders
+pub mod Informed
 pub mod Keeping
 pub mod Keys
 pub mod Living
@@ -34,6 +35,7 @@ pub mod SubmitBooked
 pub mod Submitting
 pub mod Taking
 pub mod Tellings
+pub mod Together
 pub mod ToldApart
 pub mod Turns
 pub mod Untils
