@@ -1,6 +1,5 @@
 pub mod Attaching
 pub mod Begun
-pub mod Booking
 pub mod Changed
 pub mod Concluded
 pub mod Counted
@@ -9,6 +8,7 @@ pub mod DueBooked
 pub mod DueLemmas
 pub mod EndsBooked
 pub mod Firsts
+pub mod Fitting
 pub mod Found
 pub mod Gathering
 pub mod Holders
