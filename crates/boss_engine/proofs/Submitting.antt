@@ -9,7 +9,7 @@ use Rattle.boss_model.specs.declared.state.Actuator.{Actuator}
 use Rattle.boss_model.specs.declared.state.Lease.{Lease}
 use Rattle.boss_model.specs.Machine.{act}
 use Rattle.boss_model.specs.Processes.{process_of}
-use Rattle.boss_model.specs.Records.{Transaction}
+use Rattle.boss_stages.specs.Stages.{Kept}
 use Rattle.boss_model.specs.Sound.{IsSoundDurable}
 use Rattle.boss_model.specs.State.{Durable, State}
 use Rattle.boss_model.specs.Submit.{first_until, granted, submit_refused, submitted}
@@ -19,20 +19,20 @@ use Rattle.boss_engine.specs.Ready.{IsReadyToSubmit}
 use Rattle.boss_engine.specs.declared.ready.Ready.TheVariants as ready
 
 -- the session holds a process, the writes are not refused, and the record and the leases are theirs
-pub record IsBegun (plant : List Actuator) (held : Option ℕ) (writes : List Setting) (policy : Policy) (n : ℕ) (transaction : Transaction) (leases : List Lease) (d : Durable) : Type 0 where
+pub record IsBegun (plant : List Actuator) (held : Option ℕ) (writes : List Setting) (policy : Policy) (n : ℕ) (transaction : Kept) (leases : List Lease) (d : Durable) : Type 0 where
   pub owner : ℕ
   pub own : held ≡ Some owner
   pub passed : submit_refused plant writes d ≡ None
   pub is : IsSubmit n transaction leases d owner policy writes
 
-pub ready-submit : (plant : List Actuator) (held : Option ℕ) (writes : List Setting) (policy : Policy) (n : ℕ) (transaction : Transaction) (leases : Vec Lease Global) (s : State) →
+pub ready-submit : (plant : List Actuator) (held : Option ℕ) (writes : List Setting) (policy : Policy) (n : ℕ) (transaction : Kept) (leases : Vec Lease Global) (s : State) →
     1 ≤ length writes → IsReadyToSubmit plant held writes policy n (ready.Submit transaction leases) s → IsBegun plant held writes policy n transaction leases.items s.durable
 ready-submit plant None writes policy n transaction leases s some is = absurd is
 ready-submit plant (Some owner) writes policy n transaction leases s some is = record {
   owner = owner;
   own = refl;
   passed = is.0;
-  is = record { some_write = some; recorded = is.1; leased = is.2 };
+  is = record { some_write = some; recorded = is.1; settled = is.2; leased = is.3 };
 }
 
 -- there is a number for it

@@ -3,10 +3,10 @@ use Rattle.boss_model.specs.declared.answer.Answer.TheVariants as answer
 use Rattle.boss_model.specs.Processes.{attached_too, next_notice, number_of, process_named}
 use Rattle.boss_engine.specs.declared.machine.Machine.{Machine}
 use Rattle.boss_engine.specs.Inside.{state_of}
-use Rattle.boss_engine.specs.Lasting.{HasRoom, most_told}
+use Rattle.boss_engine.specs.Lasting.{IsKept, most_told}
 use Rattle.boss_engine.proofs.Attaching.{few-attached, ready-attach}
 use Rattle.boss_engine.proofs.Doing.{attach-leaves, next-enrolled}
-use Rattle.boss_engine.proofs.Keeping.{keeps-places}
+use Rattle.boss_engine.proofs.Keeping.{keeps-places, kept-aside}
 use Rattle.boss_engine.proofs.machine.Machine.attach.Goals as goal
 
 pub attach-requires : goal.attach-requires
@@ -50,4 +50,4 @@ returns-clause-places c = λ plant places.
     let attached = c.attach.ensures.room ∙ ap (λ (m : Machine). vec_capacity m.attached) others in
     let told = ap (λ (m : Machine). vec_capacity m.told) others in
     let few : most_told c.process_for-process.new.self.lasting ≤ most_told m.lasting = subst (λ (after : Machine). most_told after.lasting ≤ most_told m.lasting) (sym others) (omega arith) in
-    keeps-places plant m _ places drivers attached (subst (λ (after : Machine). HasRoom after.lasting) (sym others) places.rows) told few
+    keeps-places plant m _ places drivers attached (subst (λ (after : Machine). IsKept after.lasting) (sym others) (kept-aside m.lasting _ _ places.rows)) told few

@@ -1,13 +1,12 @@
-use Rattle.std.proofs.Common.{◌≡◌, ◌<◌, length, filter, refl, subst, sym, ap, ◌∙◌, arith}
-use Rattle.boss_model.specs.declared.notice.Cause.TheVariants as cause
-use Rattle.boss_model.specs.Ends.{is_owned_by, end_leases}
-use Rattle.boss_engine.specs.Lasting.{IsFirstTold, durable_of, nothing}
+use Rattle.std.proofs.Common.{◌≡◌, ◌<◌, [], length, filter, refl, sym, ap, ◌∙◌, arith}
+use Rattle.boss_model.specs.Ends.{is_owned_by}
+use Rattle.boss_engine.specs.Lasting.{durable_of, nothing}
 use Rattle.boss_engine.proofs.Doing.{lost-none, lost-some}
-use Rattle.boss_engine.proofs.Keeping.{keeps-places, ended-few}
+use Rattle.boss_engine.proofs.Keeping.{keeps-places}
 use Rattle.boss_engine.proofs.machine.Machine.lose.Goals as goal
 
 pub end_leases-requires-clause-first : goal.end_leases-requires-clause-first
-end_leases-requires-clause-first c = subst (IsFirstTold cause.Died c.args.n (durable_of c.args.self.now.lasting)) (sym c.clear.ensures.items) nothing
+end_leases-requires-clause-first c = ([], c.clear.ensures.items, nothing)
 
 pub returns-then-ended-eq0-clause-after : goal.returns-then-ended-eq0-clause-after
 returns-then-ended-eq0-clause-after c =
@@ -22,10 +21,8 @@ returns-clause-after c =
     let counted : c.count_owned-ended.result ≡ length (filter (is_owned_by c.args.owner) d.leases) =
     c.count_owned-ended.ensures ∙ ap (λ leases. length (filter (is_owned_by c.args.owner) leases)) c.deref.ensures.value in
     let some : 0 < length (filter (is_owned_by c.args.owner) d.leases) = omega (arith, c.if-ended-eq0.false) in
-    c.end_leases.ensures.after ∙ (ap (λ first. end_leases (is_owned_by c.args.owner) cause.Died c.args.n first d) c.clear.ensures.items
-    ∙ sym (lost-some c.args.owner c.args.n d some))
+    c.end_leases.ensures.after [] c.clear.ensures.items ∙ sym (lost-some c.args.owner c.args.n d some)
 
 pub returns-clause-places : goal.returns-clause-places
 returns-clause-places c = λ plant places.
-    keeps-places plant c.args.self.now _ places refl refl c.end_leases.ensures.room (c.end_leases.ensures.told ∙ c.clear.ensures.capacity)
-    (ended-few (is_owned_by c.args.owner) cause.Died c.args.n c.clear.new.self.items c.args.self.now.lasting c.end_leases.new.self c.end_leases.ensures.after)
+    keeps-places plant c.args.self.now _ places refl refl c.end_leases.ensures.kept (c.end_leases.ensures.told ∙ c.clear.ensures.capacity) c.end_leases.ensures.few

@@ -8,7 +8,7 @@ use Rattle.boss_engine.specs.Inside.{state_of}
 use Rattle.boss_engine.specs.Lasting.{durable_of}
 use Rattle.boss_engine.specs.Ready.{IsReadyFor}
 use Rattle.boss_engine.proofs.Readied.{readied}
-use Rattle.boss_engine.proofs.Stepping.{passed-moment, passed-well, answered, stepped, acted-playable, acted-number}
+use Rattle.boss_engine.proofs.Stepping.{passed-at, passed-moment, passed-well, answered, stepped, acted-playable, acted-number}
 use Rattle.boss_engine.proofs.machine.Machine.step.Goals as goal
 
 passes : (c : goal.After-act-arg-1) → state_of c.pass_time.new.self ≡ pass_time c.args.plant.now c.max-n.result (state_of c.args.self.now)
@@ -18,6 +18,12 @@ pub act-answer-requires-clause-moment : goal.act-answer-requires-clause-moment
 act-answer-requires-clause-moment c =
     passed-moment c.args.plant.now c.args.session c.args.command.now c.args.moment c.max-n.result (state_of c.args.self.now) c.max-n.ensures
     c.requires.allowed c.requires.moment c.requires.ready.sound (state_of c.pass_time.new.self) (passes c)
+
+pub act-answer-requires-clause-passed : goal.act-answer-requires-clause-passed
+act-answer-requires-clause-passed c =
+    let at = passed-at c.args.plant.now c.args.session c.args.command.now c.args.moment c.max-n.result (state_of c.args.self.now) c.max-n.ensures
+        c.requires.allowed c.requires.moment c.requires.ready.sound (state_of c.pass_time.new.self) (passes c) in
+    record { reached = at.reached; live = at.live; running = at.running }
 
 pub act-answer-requires-clause-can_run : goal.act-answer-requires-clause-can_run
 act-answer-requires-clause-can_run c = record {
