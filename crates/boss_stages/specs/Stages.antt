@@ -15,11 +15,12 @@ pub record Kept : Type 0 where
   pub transaction : Transaction
   pub reverting : List ℕ
 
--- the transactions that are kept, in order of number, and the numbers of the last ones that became done, in the order of
--- becoming done
+-- the transactions that are kept, in order of number; the numbers of the last ones that became done, in the order of
+-- becoming done; and how many transactions there is room for
 pub record Stages : Type 0 where
   pub kept : List Kept
   pub done : List ℕ
+  pub room : ℕ
 
 -- ---- a transaction
 
@@ -113,7 +114,7 @@ without gone all = filter (λ kept. not (list_any (λ txn. txn == number kept) g
 
 -- one more is done: the numbers of the last 1,024 are kept, and the transactions before those are gone
 abbrev pub finished : ℕ → Stages → Stages
-finished txn stages = record {
+finished txn stages = record stages {
   kept = without (dropped (stages.done ++ txn ∷ [])) stages.kept;
   done = keep_last 1024 (stages.done ++ txn ∷ []);
 }

@@ -5,5 +5,6 @@ mod part;
 mod stages;
 mod transaction;
 
-pub use part::PartEnd;
+pub use part::{End, Part, PartEnd};
 pub use stages::Stages;
+pub use transaction::Transaction;

@@ -16,10 +16,11 @@ pub enum PartEnd {
 }
 
 /// Why and when a lease ended.
-#[derive(Drop)]
-struct End {
-    cause: Cause,
-    at: u64,
+#[derive(Clone, Copy, Debug, PartialEq, Eq)]
+pub struct End {
+    pub cause: Cause,
+    /// The moment, in milliseconds.
+    pub at: u64,
 }
 
 impl Model for End {
@@ -28,14 +29,17 @@ impl Model for End {
     ghost Value = { LeaseEnd };
 
     ghost view = { λ e. record { cause = e.cause; at = e.at } };
+
+    ghost inverse = { λ e. record { cause = e.cause; at = e.at } };
 }
 
-/// One write of a transaction.
-#[derive(Drop)]
+/// One write of a transaction: its slot, and how its lease ended.
+#[derive(Clone, Copy, Debug, PartialEq, Eq)]
 pub struct Part {
-    point: PointId,
-    priority: Priority,
-    end: Option<End>,
+    pub point: PointId,
+    pub priority: Priority,
+    /// None as long as the lease is live.
+    pub end: Option<End>,
 }
 
 impl Model for Part {
@@ -44,6 +48,8 @@ impl Model for Part {
     ghost Value = { Write };
 
     ghost view = { λ p. record { point = p.point; priority = p.priority; end = p.end } };
+
+    ghost inverse = { λ p. record { point = p.point; priority = p.priority; end = p.end } };
 }
 
 impl Part {

@@ -1,6 +1,7 @@
-ghost use Rattle.std.specs.Prelude.{◌≡◌, ◌<◌, ◌==◌, ◌∷◌, [], ◌++◌, true, length, option_copied, option_and_then, slice_get, All, IfOk, IfSome, OnOk, OnErr};
+ghost use Rattle.std.specs.Prelude.{◌≡◌, ◌<◌, ◌≤◌, ◌==◌, ◌∷◌, [], ◌++◌, true, length, option_copied, option_and_then, slice_get, All, IfOk, IfSome, OnOk, OnErr};
 ghost use Rattle.std.specs.List.{position_from, remove};
 ghost use Rattle.std.specs.Option.{option_map};
+ghost use Rattle.std.specs.VecDeque.{deque_capacity};
 ghost use Rattle.boss_stages.specs.declared.part.PartEnd.TheVariants.{Live};
 ghost use Rattle.boss_stages.specs.Stages.{number, stage_of, slot_of, begun, kept_as, end_on, is_reverting, is_over, without, finished, finished_if_over, after_lease, after_reversion};
 
@@ -28,11 +29,12 @@ pub struct Stages {
 
 impl Model for Stages {
     ghost use Rattle.std.specs.Prelude.{◌≡◌, ◌≤◌, length};
+    ghost use Rattle.std.specs.VecDeque.{deque_capacity};
     ghost use Rattle.boss_stages.specs.Stages.{Stages as Records, Rising};
 
     ghost Value = { Records };
 
-    ghost view = { λ s. record { kept = s.transactions.items; done = s.done.items } };
+    ghost view = { λ s. record { kept = s.transactions.items; done = s.done.items; room = deque_capacity s.transactions } };
 
     ghost invariant = { λ s. (s.done.capacity ≡ 1024) × (length s.done.items ≤ 1024) × Rising s.transactions.items };
 }
@@ -40,7 +42,7 @@ impl Model for Stages {
 impl Stages {
     /// No transaction, with room for this many that are not done.
     pub fn new(alloc: Global, capacity: u32) -> Result<Stages, NoMemory>
-        ensures { IfOk result (λ stages. stages ≡ record { kept = []; done = [] }) }
+        ensures { IfOk result (λ stages. (stages.kept ≡ []) × (stages.done ≡ [])) }
     {
         Ok(Stages {
             transactions: VecDeque::with_capacity(alloc, capacity as usize + DONE_KEPT)?,
@@ -59,12 +61,34 @@ impl Stages {
         parts: &Items<(PointId, Priority)>,
     ) -> Result<(), NoMemory>
         requires { All (λ kept. number kept < txn) self.old.kept }
-        ensures ok { OnOk result (self.new ≡ record self.old { kept = self.old.kept ++ begun txn owner policy parts.now ∷ [] }) }
-        ensures err { OnErr result (self.new ≡ self.old) }
+        ensures ok { OnOk result (self.new.kept ≡ self.old.kept ++ begun txn owner policy parts.now ∷ []) }
+        ensures err { OnErr result (self.new.kept ≡ self.old.kept) }
+        ensures done { self.new.done ≡ self.old.done }
+        ensures room { self.old.room ≤ self.new.room }
     {
         let transaction = Transaction::new(alloc, txn, owner, policy, parts.slice())?;
-        self.transactions.push_back(transaction)?;
+        self.reserve()?;
+        self.add(transaction);
         Ok(())
+    }
+
+    /// Makes room for one transaction more.
+    pub fn reserve(&mut self) -> Result<(), NoMemory>
+        ensures ok { OnOk result (length self.new.kept < self.new.room) }
+        ensures same { (self.new.kept ≡ self.old.kept) × (self.new.done ≡ self.old.done) }
+        ensures room { self.old.room ≤ self.new.room }
+    {
+        self.transactions.reserve(1)?;
+        Ok(())
+    }
+
+    /// A transaction more, whose number is above that of each one that is kept. It takes no memory, since there is room.
+    pub fn add(&mut self, transaction: Transaction)
+        requires newest { All (λ kept. number kept < number transaction) self.old.kept }
+        requires room { length self.old.kept < self.old.room }
+        ensures { self.new ≡ record self.old { kept = self.old.kept ++ transaction ∷ [] } }
+    {
+        self.transactions.push_back_reserved(transaction);
     }
 
     /// The live lease of the transaction's part on the point ended for this cause at this moment, in milliseconds, and its
@@ -133,8 +157,8 @@ impl Stages {
         }
     }
 
-    /// The transaction of this number.
-    fn find(&self, txn: Txn) -> Option<&Transaction>
+    /// What is kept of the transaction of this number; none where it is not kept.
+    pub fn find(&self, txn: Txn) -> Option<&Transaction>
         ensures { option_copied result ≡ kept_as txn self.now.kept }
     {
         match self.place_of(txn) {
@@ -194,7 +218,8 @@ impl Stages {
 /// The transaction at this place is dropped.
 fn drop_at(transactions: &mut VecDeque<Transaction>, place: usize)
     requires { place < length transactions.old.items }
-    ensures { transactions.new.items ≡ remove transactions.old.items place }
+    ensures items { transactions.new.items ≡ remove transactions.old.items place }
+    ensures room { deque_capacity transactions.new ≡ deque_capacity transactions.old }
 {
     let _ = transactions.remove(place);
 }

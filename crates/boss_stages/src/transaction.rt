@@ -69,6 +69,13 @@ impl Transaction {
         self.owner
     }
 
+    /// Its parts, in the order of its writes.
+    pub fn parts(&self) -> &[Part]
+        ensures { result.now ≡ self.now.transaction.parts }
+    {
+        &self.parts
+    }
+
     /// How far it has come.
     pub fn stage(&self) -> Stage
         ensures { result ≡ stage_of self.now }

@@ -2,6 +2,7 @@ ghost use Rattle.std.specs.Prelude.{◌<◌, ◌+◌, All};
 ghost use Rattle.boss_stages.specs.Stages.{number};
 
 use super::*;
+use crate::part::Part;
 use std::test::Fail;
 
 const DAMPER: PointId = PointId(0);
@@ -92,5 +93,22 @@ fn done_transaction_makes_room_after_1024_later_ones(rt: HostRuntime) -> Result<
     assert_eq!(rt; stages.stage(Txn(1)), None);
     assert_eq!(rt; stages.stage(Txn(2)), Some(Stage::Done));
     assert_eq!(rt; stages.stage(Txn(1025)), Some(Stage::Done));
+    Ok(())
+}
+
+#[test]
+fn kept_transaction_has_its_parts(rt: HostRuntime) -> Result<(), Fail> {
+    let mut stages = Stages::new(rt.alloc(), 4)?;
+    let slots = [(LAMP, Priority(10))];
+    let transaction = Transaction::new(rt.alloc(), Txn(1), OWNER, Policy::Keep, &slots)?;
+    stages.reserve()?;
+    stages.add(transaction);
+    let kept = stages.find(Txn(1)).ok_or("the transaction")?;
+    let part = Part {
+        point: LAMP,
+        priority: Priority(10),
+        end: None,
+    };
+    assert_eq!(rt; kept.parts(), [part].as_slice());
     Ok(())
 }

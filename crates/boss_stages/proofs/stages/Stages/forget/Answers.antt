@@ -8,14 +8,14 @@ invariant_of-self c =
     let all = c.self.inside.transactions.items in
     let place = rw (← c.self.view_is) at (sym c.place_of.ensures.place ∙ c.in-Some.is) in
     let first = IsFirst-position (is_of c.args.txn) all c.in-Some.place place in
-    rw (c.drop_at.ensures, ← without-IsFirst c.args.txn all c.in-Some.place c.self.invariant.2 first) (c.self.invariant.0, c.self.invariant.1, Rising-without (c.args.txn ∷ []) all c.self.invariant.2)
+    rw (c.drop_at.ensures.items, ← without-IsFirst c.args.txn all c.in-Some.place c.self.invariant.2 first) (c.self.invariant.0, c.self.invariant.1, Rising-without (c.args.txn ∷ []) all c.self.invariant.2)
 
 pub returns-in-Some : goal.returns-in-Some
 returns-in-Some c =
     let all = c.self.inside.transactions.items in
     let place = rw (← c.self.view_is) at (sym c.place_of.ensures.place ∙ c.in-Some.is) in
     let first = IsFirst-position (is_of c.args.txn) all c.in-Some.place place in
-    rw (← c.self.view_is, c.drop_at.ensures, without-IsFirst c.args.txn all c.in-Some.place c.self.invariant.2 first)
+    rw (← c.self.view_is, c.drop_at.ensures.items, c.drop_at.ensures.room, without-IsFirst c.args.txn all c.in-Some.place c.self.invariant.2 first)
 
 pub returns-in_default : goal.returns-in_default
 returns-in_default c =
