@@ -9,6 +9,7 @@ pub mod Firsts
 pub mod Found
 pub mod Gathering
 pub mod Holders
+pub mod Keeping
 pub mod Keys
 pub mod Living
 pub mod Names
