@@ -16,6 +16,7 @@ pub mod Names
 pub mod Opening
 pub mod Ordering
 pub mod Overs
+pub mod Owners
 pub mod Passing
 pub mod Playable
 pub mod Playing
@@ -28,6 +29,7 @@ pub mod Staging
 pub mod SubmitBooked
 pub mod Taking
 pub mod Tellings
+pub mod Together
 pub mod ToldApart
 pub mod Turns
 pub mod Untils

@@ -1,8 +1,9 @@
-ghost use Rattle.std.specs.Prelude.{◌≡◌, ℕ, List, ◌≤◌, ◌<◌, ◌+◌, ◌*◌, ◌^◌, length, map, vec_len, vec_capacity, IfOk};
+ghost use Rattle.std.specs.Prelude.{◌≡◌, ℕ, false, List, ◌≤◌, ◌<◌, ◌+◌, ◌*◌, ◌^◌, length, map, vec_len, vec_capacity, IfOk};
 ghost use Rattle.boss_model.specs.declared.command.Policy.{Policy};
 ghost use Rattle.boss_model.specs.declared.command.Setting.{Setting};
 ghost use Rattle.boss_model.specs.Ends.{end_leases};
 ghost use Rattle.boss_model.specs.Happenings.{Happening};
+ghost use Rattle.boss_model.specs.Sound.{is_superseded};
 ghost use Rattle.boss_model.specs.State.{first_durable};
 ghost use Rattle.boss_model.specs.Submit.{submitted};
 ghost use Rattle.boss_model.specs.Time.{tick_to};
@@ -82,16 +83,11 @@ impl Lasting {
 
     /// The leases concerned end at moment `n`, and start their reversions. `told` has what is told beside that. It takes no
     /// memory.
-    pub fn end_leases(
-        &mut self,
-        which: &Which,
-        cause: &Cause,
-        n: u64,
-        told: &mut Vec<Telling>,
-    )
+    pub fn end_leases(&mut self, which: &Which, cause: &Cause, n: u64, told: &mut Vec<Telling>)
         requires sound { IsSoundOfSome (durable_of self.old) }
         requires passed { IsPassed n (durable_of self.old) }
         requires moment { n ≤ 2 ^ 60 }
+        requires cause { is_superseded cause.now ≡ false }
         requires kept { IsKept self.old }
         requires first { (first : List Happening) × (told.old.items ≡ map plain first) × IsFirstTold cause.now n (durable_of self.old) first }
         requires told { most_told self.old ≤ vec_capacity told.old }

@@ -118,23 +118,12 @@ fn gather_reversion(reversion: &Pending, n: u64, told: &mut Vec<Telling>)
 {
     let end = end_of(reversion);
     if end <= n && !reversion.steps.slice().is_empty() {
-        told.push_reserved(reverted(
-            reversion.txn,
-            reversion.owner,
-            reversion.point,
-            end,
-        ));
+        told.push_reserved(reverted(reversion.txn, reversion.owner, reversion.point, end));
     }
 }
 
 /// Gathers the leases that end at `n` before their time.
-pub fn gather_ends(
-    leases: &[Lease],
-    which: &Which,
-    cause: &Cause,
-    n: u64,
-    told: &mut Vec<Telling>,
-)
+pub fn gather_ends(leases: &[Lease], which: &Which, cause: &Cause, n: u64, told: &mut Vec<Telling>)
     requires room { vec_len told.old + length leases.now ≤ vec_capacity told.old }
     ensures told { told.new.items ≡ told.old.items ++ end_tellings (is_meant which.now) cause.now n leases.now }
     ensures room { vec_capacity told.new ≡ vec_capacity told.old }
