@@ -48,7 +48,7 @@ module _ (k : Kept) where
       ⊎_elim
       (λ over. record {
         same = ap (λ b. cond b (finished txn (with_begun k s)) (with_begun k s)) (alike ∙ over)
-            ∙ (λ i. record { kept = without-begun (dropped all) s.kept (member-take (number k) (length all - 1024) all none) i; done = (finished txn s).done })
+            ∙ (λ i. record { kept = without-begun (dropped all) s.kept (member-take (number k) (length all - 1024) all none) i; done = (finished txn s).done; room = s.room })
             ∙ sym (ap (λ b. with_begun k (cond b (finished txn s) s)) over);
         fresh = ap (λ b. member (number k) (cond b (finished txn s) s).done) over ∙ member-drop (number k) (length all - 1024) all none;
       })

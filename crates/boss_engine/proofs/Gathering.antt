@@ -24,7 +24,7 @@ use Rattle.boss_laws.proofs.SubmitSound.{kept-number}
 use Rattle.boss_engine.specs.Books.{Telling, Books, StandsFor, is_end, booked, reverts_on}
 use Rattle.boss_engine.specs.Gathered.{told_rank, booked_all, AreBooksOf, CanBookAll, with_begun, books_with}
 use Rattle.boss_engine.proofs.Begun.{IsOther, begun-first, can-begun}
-use Rattle.boss_engine.proofs.Booking.{IsReady, can-book}
+use Rattle.boss_engine.proofs.Fitting.{IsReady, can-book}
 use Rattle.boss_engine.proofs.Keys.{some_items, some_test, found_part, part_at, lease_key, pending_key, PointsOnce, found-any, found-has, one-filtered, one-tested, own-parts, own-points, lease-once, pending-once, lease-found, not-both, found-alike}
 use Rattle.boss_engine.specs.Telling.{AreApart}
 use Rattle.boss_engine.proofs.Overs.{IsOpen, IsLived, passed-any, leases-lived, over-lives, over-numbers}

@@ -1,11 +1,11 @@
 pub mod Begun
-pub mod Booking
 pub mod Changed
 pub mod Concluded
 pub mod DueBooked
 pub mod DueLemmas
 pub mod EndsBooked
 pub mod Firsts
+pub mod Fitting
 pub mod Found
 pub mod Gathering
 pub mod Holders

@@ -114,7 +114,6 @@ module _ {X : Type 0} (rank : X → List ℕ) where
       subst (λ n. is_before (get_or (x ∷ xs) n d) (get_or xs k d) ≡ false) next (sorted (suc k) d (omega arith) (omega arith))) in
       (next-first x xs rest (λ d some. let first : not (comes_before (rank x) (rank (get_or xs 0 d))) ≡ false = sorted 0 d (omega arith) (omega arith) in grind arith), rest)
 
-
 -- ---- items with Q are told apart by rank
 
 -- two items may be put in either first, if they are one and the same where their ranks are

@@ -51,3 +51,43 @@ fn record_end(stages: &mut Stages, happening: &Happening, reverts: bool)
         What::Fault { .. } | What::Done => {}
     }
 }
+
+#[cfg(test)]
+mod tests {
+    use super::*;
+    use boss_model::{Cause, Name, PointId, Policy, Priority, ProcId, Txn};
+    use boss_notices::Ring;
+    use boss_stages::Transaction;
+    use std::test::Fail;
+
+    const FAN: PointId = PointId(3);
+
+    const OWNER: ProcId = ProcId(0);
+
+    #[test]
+    fn with_its_last_part_a_transaction_is_done(rt: HostRuntime) -> Result<(), Fail> {
+        let mut stages = Stages::new(rt.alloc(), 1)?;
+        let mut processes = Processes::new(rt.alloc())?;
+        processes.enrol(Name::new(b"night").ok_or("a name")?, Ring::new(rt.alloc())?);
+        let slots = [(FAN, Priority(8))];
+        let transaction = Transaction::new(rt.alloc(), Txn(1), OWNER, Policy::Keep, &slots)?;
+        stages.reserve()?;
+        stages.add(transaction);
+        let ended = Telling {
+            happening: Happening {
+                at: 61000,
+                txn: Txn(1),
+                owner: OWNER,
+                what: What::Ended {
+                    point: FAN,
+                    cause: Cause::Expired,
+                },
+            },
+            reverts: false,
+        };
+        book_all(&mut stages, &mut processes, &[ended]);
+        assert_eq!(rt; stages.stage(Txn(1)), Some(Stage::Done));
+        assert_eq!(rt; processes.next_notice(OWNER), 3);
+        Ok(())
+    }
+}

@@ -126,23 +126,33 @@ mod tests {
     use boss_model::Cause;
     use std::test::Fail;
 
-    const OWNER: ProcId = ProcId(0);
+    const FAN: PointId = PointId(3);
 
-    fn done(at: u64, txn: u64) -> Happening
-        ensures { result ≡ record { at = at; txn = txn; owner = 0; told = Some What.Done } }
+    fn expired(at: u64, txn: u64) -> Happening
+        ensures { result ≡ record { at = at; txn = txn; owner = 0; told = Some (What.Ended 3 Cause.Expired) } }
     {
         Happening {
             at,
             txn: Txn(txn),
-            owner: OWNER,
-            what: What::Done,
+            owner: ProcId(0),
+            what: What::Ended {
+                point: FAN,
+                cause: Cause::Expired,
+            },
         }
     }
 
     #[test]
-    fn earlier_happenings_come_first(rt: HostRuntime) -> Result<(), Fail> {
-        let later = done(2000, 1);
-        let mut told = vec![in rt.alloc(); later, done(1000, 2)]?;
+    fn what_came_earlier_is_told_first(rt: HostRuntime) -> Result<(), Fail> {
+        let later = Telling {
+            happening: expired(2000, 1),
+            reverts: true,
+        };
+        let earlier = Telling {
+            happening: expired(1000, 2),
+            reverts: false,
+        };
+        let mut told = vec![in rt.alloc(); later, earlier]?;
         put_in_order(&mut told);
         assert_eq!(rt; told.len(), 2);
         assert_eq!(rt; told[1], later);
@@ -150,16 +160,16 @@ mod tests {
     }
 
     #[test]
-    fn only_a_transaction_becomes_done(rt: HostRuntime) -> Result<(), Fail> {
-        let ended = Happening {
-            what: What::Ended {
-                point: PointId(3),
-                cause: Cause::Expired,
-            },
-            ..done(1000, 1)
+    fn only_an_end_makes_a_transaction_done(rt: HostRuntime) -> Result<(), Fail> {
+        let ended = expired(1000, 1);
+        let fault = Happening {
+            what: What::Fault { point: FAN },
+            ..ended
         };
-        assert!(rt; done(1000, 1).is_done());
-        assert!(rt; !ended.is_done());
+        assert!(rt; ended.is_end());
+        assert!(rt; !fault.is_end());
+        assert!(rt; !ended.all_done().is_end());
+        assert_eq!(rt; ended.all_done().what, What::Done);
         Ok(())
     }
 }
