@@ -1,7 +1,6 @@
-use Rattle.std.proofs.Common.{◌≡◌, ℕ, List, map, unsigned_abs, ap, ◌∙◌}
+use Rattle.std.proofs.Common.{◌≡◌, ℕ, map, unsigned_abs, ap, ◌∙◌}
 use Rattle.std.proofs.lemmas.Result.{IfOk-weaker}
 use Rattle.boss_model.specs.declared.command.Setting.{Setting}
-use Rattle.boss_model.specs.Records.{Transaction}
 use Rattle.boss_model.specs.Submit.{begun, part_of}
 use Rattle.boss_stages.specs.Stages.{Kept, live_part, begun as kept_begun}
 use Rattle.boss_engine.proofs.Points.{map-map}

@@ -1,7 +1,6 @@
-use Rattle.std.proofs.Common.{◌≡◌, ◌<◌, ◌==◌, length, map, Some, sym, ap, ◌∙◌}
+use Rattle.std.proofs.Common.{◌<◌, ◌==◌, length, map, sym, ap, ◌∙◌}
 use Rattle.boss_model.specs.Queries.{status_of}
 use Rattle.boss_model.specs.Records.{Transaction}
-use Rattle.boss_model.specs.Renew.{transaction_of}
 use Rattle.boss_engine.specs.Lasting.{durable_of}
 use Rattle.boss_engine.proofs.Firsts.{each-found}
 use Rattle.boss_engine.proofs.Keeping.{record_of, is-found, is-unknown}

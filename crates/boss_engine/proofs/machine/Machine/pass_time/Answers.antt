@@ -1,4 +1,4 @@
-use Rattle.std.proofs.Common.{◌≡◌, ◌∙◌, ◌≤◌, length, sym, subst, ap, arith}
+use Rattle.std.proofs.Common.{◌∙◌, length, sym, subst, ap, arith}
 use Rattle.boss_model.specs.Sound.{IsSoundDurable}
 use Rattle.boss_laws.proofs.TickSound.{tick-sound}
 use Rattle.boss_engine.specs.Lasting.{durable_of}
