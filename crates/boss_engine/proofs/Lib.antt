@@ -26,6 +26,7 @@ pub mod Playable
 pub mod Playing
 pub mod Points
 pub mod Readied
+pub mod Recorded
 pub mod Rooms
 pub mod Shortened
 pub mod Side

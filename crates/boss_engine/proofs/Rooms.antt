@@ -1,5 +1,6 @@
 -- The room for what a command does is there still after a change that makes no more of anything.
-use Rattle.std.proofs.Common.{◌≡◌, ◌≤◌, vec_len, vec_capacity, arith}
+use Rattle.std.proofs.Common.{◌≡◌, ◌≤◌, length, vec_len, vec_capacity, arith}
+use Rattle.std.proofs.lemmas.List.{length-map}
 use Rattle.boss_engine.specs.declared.lasting.Lasting.{Lasting}
 use Rattle.boss_engine.specs.declared.machine.Machine.{Machine}
 use Rattle.boss_engine.specs.declared.ready.Ready.{Ready}
@@ -8,24 +9,17 @@ use Rattle.boss_engine.specs.Inside.{HasPlacesFor}
 use Rattle.boss_engine.specs.Lasting.{durable_of, most_told}
 use Rattle.boss_engine.specs.Ready.{HasRoomFor}
 use Rattle.boss_engine.proofs.DueLemmas.{IsNoMore}
+use Rattle.boss_engine.proofs.Recorded.{record_of}
 
 pub fewer-told : (old new : Lasting) → IsNoMore (durable_of old) (durable_of new) → most_told new ≤ most_told old
-fewer-told old new few = omega (
-  arith,
-  few.both,
-  few.leases,
-  few.txns,
-  old.leases.ok.0,
-  old.pending.ok.0,
-  old.txns.ok.0,
-  new.leases.ok.0,
-  new.pending.ok.0,
-  new.txns.ok.0,
-)
+fewer-told old new few = omega (arith, few.both, few.leases, old.leases.ok.0, old.pending.ok.0, new.leases.ok.0, new.pending.ok.0)
+
+pub fewer-kept : (old new : Lasting) → IsNoMore (durable_of old) (durable_of new) → length new.stages.kept ≤ length old.stages.kept
+fewer-kept old new few = omega (arith, few.txns, length-map old.stages.kept record_of, length-map new.stages.kept record_of)
 
 module _ (old new : Machine) (few : IsNoMore (durable_of old.lasting) (durable_of new.lasting))
     (leases : vec_capacity new.lasting.leases ≡ vec_capacity old.lasting.leases) (pending : vec_capacity new.lasting.pending ≡ vec_capacity old.lasting.pending)
-    (txns : vec_capacity new.lasting.txns ≡ vec_capacity old.lasting.txns) (told : vec_capacity new.told ≡ vec_capacity old.told) where
+    (stages : new.lasting.stages.room ≡ old.lasting.stages.room) (told : vec_capacity new.told ≡ vec_capacity old.told) where
   pub room-left : (given : Ready) → HasRoomFor given old → HasRoomFor given new
   room-left ready.Nothing room = tt
   room-left (ready.Refused why) room = tt
@@ -43,6 +37,6 @@ module _ (old new : Machine) (few : IsNoMore (durable_of old.lasting) (durable_o
       new.lasting.leases.ok.0,
       new.lasting.pending.ok.0,
     );
-    txns = omega (arith, room.txns, txns, few.txns, old.lasting.txns.ok.0, new.lasting.txns.ok.0);
+    stages = omega (arith, room.stages, stages, fewer-kept old.lasting new.lasting few);
     told = omega (arith, room.told, told, fewer-told old.lasting new.lasting few);
   }

@@ -9,7 +9,7 @@ use Rattle.boss_model.specs.Submit.{is_within, submit_refused}
 use Rattle.boss_laws.proofs.NotRefused.{IsWrite, submit-not-refused}
 use Rattle.boss_laws.proofs.Orders.{each-map}
 use Rattle.boss_laws.proofs.RenewSound.{positive}
-use Rattle.boss_engine.specs.Writing.{HasLevel, IsWritable}
+use Rattle.boss_engine.specs.Writing.{IsWritable}
 
 within : (z : ℤ) (most : ℕ) → is_within (pos 1) (pos most) z ≡ true → (pos 1 ≤ℤ z) × (z ≤ℤ pos most)
 within (pos n) most is = let here = positive (pos n) most is in (grind arith, grind arith)
@@ -21,6 +21,3 @@ is-writable plant write is =
 
 pub all-writable : (plant : List Actuator) (writes : List Setting) (d : Durable) → submit_refused plant writes d ≡ None → AllByRecursion IsWritable writes
 all-writable plant writes d none = each-map (IsWrite plant) IsWritable (is-writable plant) writes (submit-not-refused plant writes d none).allowed
-
-pub all-levels : (writes : List Setting) → AllByRecursion IsWritable writes → AllByRecursion HasLevel writes
-all-levels writes all = each-map IsWritable HasLevel (λ write is. is.0) writes all

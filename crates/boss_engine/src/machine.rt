@@ -20,9 +20,8 @@ use std::alloc::Global;
 /// The most sessions that hold a process.
 const MOST_ATTACHED: usize = 256;
 
-/// The most that one step tells of a point's slots: that a lease ended, that its reversion did, and that the transaction is
-/// done.
-const TOLD_OF_A_POINT: usize = 48;
+/// The most that one step tells of a point's slots: of each that a lease ended, and that its reversion did.
+const TOLD_OF_A_POINT: usize = 32;
 
 /// The rows of the machine, as plain lists.
 #[derive(Drop)]

@@ -15,8 +15,8 @@ use crate::machine::Machine;
 use crate::ready::Ready;
 use crate::refusals::{attach_refused, submit_refused};
 use boss_model::{
-    Actuator, Command, Items, Lease, Name, NoMemory, PointId, Policy, Priority, ProcId, Refusal, SessionId,
-    Setting, Step, Txn,
+    Actuator, Command, Items, Lease, Name, NoMemory, PointId, Policy, Priority, ProcId, Refusal,
+    SessionId, Setting, Step, Txn,
 };
 use boss_notices::Ring;
 use boss_stages::Transaction;

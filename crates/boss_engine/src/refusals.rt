@@ -1,8 +1,8 @@
-ghost use Rattle.std.specs.Prelude.{◌≡◌, ◌≤◌, ◌<◌, ◌^◌, ◌==◌, [], not, if◌then◌else◌, length, map, position, Some, None, IfSome};
+ghost use Rattle.std.specs.Prelude.{◌≡◌, ◌≤◌, ◌<◌, ◌^◌, ◌==◌, [], not, if◌then◌else◌, length, map, filter_map, position, Some, None, IfSome};
 ghost use Rattle.std.specs.List.{AllByRecursion, list_any};
 ghost use Rattle.std.specs.Option.{option_and_then, option_map};
 ghost use Rattle.boss_model.specs.Catalogue.{fits_at};
-ghost use Rattle.boss_model.specs.Ends.{cancel_refused, is_of, last_part_end};
+ghost use Rattle.boss_model.specs.Ends.{cancel_refused, is_of};
 ghost use Rattle.boss_model.specs.Lists.{first_some, latest};
 ghost use Rattle.boss_model.specs.Processes.{attach_refused, is_full, session_of};
 ghost use Rattle.boss_model.specs.Renew.{named_parts, part_on, renew_refused, wrote};

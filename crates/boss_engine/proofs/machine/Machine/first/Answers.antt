@@ -16,11 +16,10 @@ returns-clause-ready c =
     let l = c.in_ok-first.field-0 in
     let leases : vec_len l.leases ≡ 0 = l.leases.ok.0 ∙ ap (λ d. length d.leases) c.in_ok-first.ensures.first in
     let pending : vec_len l.pending ≡ 0 = l.pending.ok.0 ∙ ap (λ d. length d.pending) c.in_ok-first.ensures.first in
-    let txns : vec_len l.txns ≡ 0 = l.txns.ok.0 ∙ ap (λ d. length d.txns) c.in_ok-first.ensures.first in
     record {
-      small = c.requires;
+      small = omega (arith, c.requires);
       drivers = ap (λ m. m.drivers) marks ∙ drivers-opened c.args.plant.now;
-      rows = c.in_ok-first.ensures.room;
+      rows = c.in_ok-first.ensures.kept;
       attached = search rules;
       told = omega (arith, c.in_ok-with_capacity-2.ensures.capacity);
     }

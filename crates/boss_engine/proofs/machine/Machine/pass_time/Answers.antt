@@ -1,4 +1,4 @@
-use Rattle.std.proofs.Common.{◌≡◌, ◌∙◌, ◌≤◌, length, sym, subst, ap, arith}
+use Rattle.std.proofs.Common.{◌∙◌, length, sym, subst, ap, arith}
 use Rattle.boss_model.specs.Sound.{IsSoundDurable}
 use Rattle.boss_laws.proofs.TickSound.{tick-sound}
 use Rattle.boss_engine.specs.Lasting.{durable_of}
@@ -28,7 +28,7 @@ returns-clause-places c =
     record {
       small = places.small;
       drivers = ap (λ marks. marks.drivers) c.settle.ensures ∙ ap (λ marks. marks.drivers) c.retry_due.ensures ∙ places.drivers;
-      rows = c.tick.ensures.room;
+      rows = c.tick.ensures.kept;
       attached = places.attached;
       told = omega (arith, fewer-told old new few, c.tick.ensures.told, places.told);
     }
@@ -38,4 +38,4 @@ returns-clause-room c =
     let old = c.args.self.now.lasting in
     let new = c.tick.new.self in
     let few : IsNoMore (durable_of old) (durable_of new) = subst (IsNoMore (durable_of old)) (sym c.tick.ensures.after) (few-after c.args.n (durable_of old)) in
-    room-left c.args.self.now _ few c.tick.ensures.leases c.tick.ensures.pending c.tick.ensures.txns c.tick.ensures.told
+    room-left c.args.self.now _ few c.tick.ensures.leases c.tick.ensures.pending c.tick.ensures.stages c.tick.ensures.told
