@@ -1,5 +1,6 @@
 pub mod Attaching
 pub mod Begun
+pub mod Cancelling
 pub mod Changed
 pub mod Concluded
 pub mod Counted
