@@ -1,5 +1,5 @@
 -- The records of transactions, as they are kept and as the model's list has them.
-use Rattle.std.proofs.Common.{◌≡◌, ℕ, ◌==◌, List, [], ◌∷◌, map, Bool, true, false, Option, Some, None, cond, refl, ap, sym, ◌∙◌}
+use Rattle.std.proofs.Common.{◌≡◌, ℕ, ◌==◌, List, [], ◌∷◌, map, Bool, true, false, Option, Some, None, cond, refl, ap, ◌∙◌}
 use Rattle.std.specs.Option.{option_map}
 use Rattle.boss_model.specs.declared.answer.Refusal.{Refusal}
 use Rattle.boss_model.specs.declared.answer.Refusal.TheVariants as refusal

@@ -1,11 +1,10 @@
 -- The room for what a command does is there still after a change that makes no more of anything.
-use Rattle.std.proofs.Common.{◌≡◌, ◌≤◌, length, vec_len, vec_capacity, arith}
+use Rattle.std.proofs.Common.{◌≡◌, ◌≤◌, length, vec_capacity, arith}
 use Rattle.std.proofs.lemmas.List.{length-map}
 use Rattle.boss_engine.specs.declared.lasting.Lasting.{Lasting}
 use Rattle.boss_engine.specs.declared.machine.Machine.{Machine}
 use Rattle.boss_engine.specs.declared.ready.Ready.{Ready}
 use Rattle.boss_engine.specs.declared.ready.Ready.TheVariants as ready
-use Rattle.boss_engine.specs.Inside.{HasPlacesFor}
 use Rattle.boss_engine.specs.Lasting.{durable_of, most_told}
 use Rattle.boss_engine.specs.Ready.{HasRoomFor}
 use Rattle.boss_engine.proofs.DueLemmas.{IsNoMore}

@@ -1,4 +1,4 @@
-use Rattle.std.proofs.Common.{◌≡◌, length, ap}
+use Rattle.std.proofs.Common.{length}
 use Rattle.boss_engine.proofs.Holders.{held-below}
 use Rattle.boss_engine.proofs.refusals.attach_refused.Goals as goal
 

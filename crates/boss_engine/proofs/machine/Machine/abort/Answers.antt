@@ -10,9 +10,11 @@ use Rattle.boss_engine.proofs.machine.Machine.abort.Goals as goal
 pub end_leases-requires-clause-first : goal.end_leases-requires-clause-first
 end_leases-requires-clause-first c =
     let told : c.push_reserved.new.self.items ≡ map plain (c.args.happened ∷ []) = c.push_reserved.ensures.items ∙ ap (λ items. items ++ plain c.args.happened ∷ []) c.clear.ensures.items in
-    let d = durable_of c.args.self.now.lasting in
-    (c.args.happened ∷ [], told,
-    subst (λ (happened : Happening). IsFirstTold cause.Fault c.args.n d (happened ∷ [])) (sym c.requires.fault.3) (faulted c.requires.fault.0 c.requires.fault.1 c.requires.fault.2))
+    let d = durable_of c.args.self.now.lasting in (
+      c.args.happened ∷ [],
+      told,
+      subst (λ (happened : Happening). IsFirstTold cause.Fault c.args.n d (happened ∷ [])) (sym c.requires.fault.3) (faulted c.requires.fault.0 c.requires.fault.1 c.requires.fault.2),
+    )
 
 pub returns-clause-after : goal.returns-clause-after
 returns-clause-after c =

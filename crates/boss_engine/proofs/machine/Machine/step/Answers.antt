@@ -1,8 +1,6 @@
 use Rattle.std.proofs.Common.{◌≡◌, ap, refl, sym, subst, ◌∙◌}
-use Rattle.boss_model.specs.Machine.{act, pass_time, step}
-use Rattle.boss_model.specs.Settle.{settle}
+use Rattle.boss_model.specs.Machine.{pass_time, step}
 use Rattle.boss_model.specs.Sound.{IsSound}
-use Rattle.boss_model.specs.State.{State}
 use Rattle.boss_laws.proofs.StepSound.{step-sound}
 use Rattle.boss_engine.specs.Inside.{state_of}
 use Rattle.boss_engine.specs.Lasting.{durable_of}
@@ -22,7 +20,7 @@ act-answer-requires-clause-moment c =
 pub act-answer-requires-clause-passed : goal.act-answer-requires-clause-passed
 act-answer-requires-clause-passed c =
     let at = passed-at c.args.plant.now c.args.session c.args.command.now c.args.moment c.max-n.result (state_of c.args.self.now) c.max-n.ensures
-        c.requires.allowed c.requires.moment c.requires.ready.sound (state_of c.pass_time.new.self) (passes c) in
+    c.requires.allowed c.requires.moment c.requires.ready.sound (state_of c.pass_time.new.self) (passes c) in
     record { reached = at.reached; live = at.live; running = at.running }
 
 pub act-answer-requires-clause-can_run : goal.act-answer-requires-clause-can_run
