@@ -16,7 +16,6 @@ pub mod Holders
 pub mod Informed
 pub mod Keeping
 pub mod Keys
-pub mod Living
 pub mod Names
 pub mod Opening
 pub mod Ordering
