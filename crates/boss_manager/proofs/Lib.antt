@@ -1,7 +1,10 @@
-pub mod CauseLemmas
+pub mod Fronts
+pub mod InputLemmas
 pub mod LineLemmas
 pub mod Places
-pub mod PointNames
+pub mod ReadLemmas
+pub mod Results
 pub mod RunLemmas
+pub mod ScriptLemmas
 pub mod ServeLemmas
-pub mod Values
+pub mod StatusLemmas

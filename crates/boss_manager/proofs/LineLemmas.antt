@@ -1,153 +1,133 @@
--- A line taken, as a part of a script.
-use Rattle.std.proofs.Common.{◌≡◌, ℕ, Bool, true, false, List, [], ◌∷◌, ◌++◌, Option, Some, None, cond, refl, ap, ap₂, sym, subst, ◌∙◌, append-nil, arith, length, set, ◌<◌, ◌≤◌, ◌^◌, ◌==◌}
-use Rattle.std.specs.List.{fold, find, AllByRecursion}
-use Rattle.std.proofs.lemmas.Bool.{cond_both}
-use Rattle.std.proofs.lemmas.List.{length-map}
-use Rattle.boss_model.specs.declared.Answer.TheVariants as answer
-use Rattle.boss_model.specs.declared.Refusal.TheVariants as refusal
-use Rattle.boss_model.specs.declared.Command.{Command}
-use Rattle.boss_model.specs.declared.Command.TheVariants as command
-use Rattle.boss_model.specs.declared.Setting.{Setting}
-use Rattle.boss_model.specs.Sound.{IsAllowed, IsSound}
-use Rattle.boss_model.proofs.NextFacts.{found-passes}
-use Rattle.boss_model.proofs.StepSound.{unsettled, passed, wants-known}
-use Rattle.boss_manager.specs.Answers.{IsOfCatalogue}
-use Rattle.boss_model.specs.declared.Actuator.{Actuator}
-use Rattle.boss_model.specs.declared.Answer.{Answer}
+-- A line taken, and lines taken, as parts of a script.
+use Rattle.std.proofs.Common.{◌≡◌, ℕ, Bool, true, false, List, [], ◌∷◌, ◌++◌, cond, refl, ap, ap₂, sym, subst, ◌∙◌, append-nil, append_assoc, arith, nat_lt, length, ◌<◌, ◌≤◌, ◌^◌, Result, Ok, Err, if◌then◌else◌}
+use Rattle.std.specs.List.{fold, AllByRecursion}
+use Rattle.std.proofs.lemmas.Bool.Decides.{nat_tests}
+use Rattle.boss_laws.proofs.Tellable.{tellable}
+use Rattle.boss_model.specs.declared.answer.Refusal.{Refusal}
+use Rattle.boss_model.specs.declared.command.Command.{Command}
+use Rattle.boss_model.specs.declared.form.Form.TheVariants as form
+use Rattle.boss_model.specs.declared.state.Actuator.{Actuator}
 use Rattle.boss_model.specs.Call.{Call}
-use Rattle.boss_model.specs.Catalogue.{Catalogue, actuators, driver_of}
-use Rattle.boss_model.specs.Lines.{lines, is_blank}
-use Rattle.boss_model.specs.Machine.{Step, act, first_end, granted, hand_out, is_current, marked, moment_of, pass_time, proxy_of, report, step, submit, submitted}
-use Rattle.boss_model.specs.Requests.{Request, request_of}
-use Rattle.boss_model.specs.Script.{Run, line_read, asked_for, begun, drain, script}
-use Rattle.boss_model.specs.State.{State, first_state}
-use Rattle.boss_model.specs.Texts.{answer_text, line_of}
-use Rattle.boss_manager.specs.Runs.{at, Did, Leads, dealt, line_taken, reading, served, stop}
-use Rattle.boss_manager.specs.Scripts.{RanScript, whole_script}
-use Rattle.boss_manager.proofs.RunLemmas.{did-nothing, did-then, did-under, dealt-none}
+use Rattle.boss_model.specs.Catalogue.{Catalogue, actuators}
+use Rattle.boss_model.specs.Lines.{is_blank}
+use Rattle.boss_model.specs.Machine.{step}
+use Rattle.boss_model.specs.Requests.{Reading, asks, wrong, Request, reading}
+use Rattle.boss_model.specs.Script.{Run, is_too_long, say, answered, replied, line_read}
+use Rattle.boss_model.specs.Sound.{IsAllowed, IsSound}
+use Rattle.boss_model.specs.State.{State}
+use Rattle.boss_model.specs.Tellable.{IsTellable}
+use Rattle.boss_model.specs.Texts.{answer_text, line_of, refusal_text}
+use Rattle.boss_outside.specs.Streams.{TakesFront}
+use Rattle.boss_manager.specs.Runs.{at, Did, Broke, Leads, dealt, line_taken, lines_taken, served, stop}
+use Rattle.boss_manager.proofs.Fronts.{served-covers, answered-covers, lines-cover, line-covers, front-whole}
+use Rattle.boss_manager.proofs.RunLemmas.{broke-told, broke-then, broke-under, broke-same, dealt-none, did-told, did-nothing, did-then, did-under, did-same}
 
-blank-leads : (catalogue : Catalogue) (line : List ℕ) (s : State) → is_blank line ≡ true → Leads (line_taken catalogue line) stop s s [] [] []
-blank-leads catalogue line s blank more text earlier =
-    ap (λ b. cond b (at s text earlier more) (asked_for catalogue (request_of catalogue line) (at s text earlier more))) blank
-    ∙ ap₂ (λ t cs. at s t cs more) (sym (append-nil text)) (sym (append-nil earlier))
+-- a sound state's answer to a request can be told
+pub told-step : (catalogue : Catalogue) (plant : List Actuator) (s : State) (session : ℕ) (c : Command) (moment : ℕ) → plant ≡ actuators catalogue → IsSound plant s →
+    IsAllowed (actuators catalogue) c → moment ≤ 2 ^ 60 → IsTellable catalogue (step plant session c moment s).answer
+told-step catalogue plant s session c moment same sound allowed small =
+    subst (λ p. IsTellable catalogue (step p session c moment s).answer) (sym same)
+    (tellable catalogue s session c moment (subst (λ p. IsSound p s) same sound) allowed small)
 
--- a blank line does nothing
-pub did-blank : (catalogue : Catalogue) (line : List ℕ) (s : State) (old : List ℕ) (before : List (List Call)) (whole : Type 0) → is_blank line ≡ true →
-    Did (actuators catalogue) (line_taken catalogue line) stop s s old old before before whole whole
-did-blank catalogue line s old before whole blank = record {
-  results = [];
-  told = [];
-  calls = [];
-  leads = blank-leads catalogue line s blank;
-  text = sym (append-nil old);
-  devices = λ all. (all, sym (dealt-none (actuators catalogue) before));
-}
+-- ---- a request
 
-asked-leads : (catalogue : Catalogue) (line : List ℕ) (request : Request) (s : State) → is_blank line ≡ false → request_of catalogue line ≡ Some request →
-    Leads (line_taken catalogue line) (served catalogue request.at) s (step (actuators catalogue) 1 request.command request.at s).state
-    (line_of (answer_text catalogue (step (actuators catalogue) 1 request.command request.at s).answer)) [] []
-asked-leads catalogue line request s blank asks more text earlier =
-    ap (λ b. cond b (at s text earlier more) (asked_for catalogue (request_of catalogue line) (at s text earlier more))) blank
-    ∙ ap (λ r. asked_for catalogue r (at s text earlier more)) asks
-    ∙ ap (λ cs. served catalogue request.at (at (step (actuators catalogue) 1 request.command request.at s).state
-    (text ++ line_of (answer_text catalogue (step (actuators catalogue) 1 request.command request.at s).answer)) cs more)) (sym (append-nil earlier))
+module _ (catalogue : Catalogue) (request : Request) (plant : List Actuator) (s : State) (same : plant ≡ actuators catalogue) where
+  abbrev answering : List ℕ
+  answering = line_of (answer_text catalogue (step plant request.on request.command request.at s).answer)
 
--- a request is answered, and then the wants that it leaves are served
-pub did-asked : (catalogue : Catalogue) (line : List ℕ) (request : Request) (answer : Answer) (plant : List Actuator) (s s' s'' : State) (old mid new : List ℕ)
-    (before after : List (List Call)) (was now : Type 0) → plant ≡ actuators catalogue → is_blank line ≡ false → Some request ≡ request_of catalogue line →
-    answer ≡ (step plant 1 request.command request.at s).answer → s' ≡ (step plant 1 request.command request.at s).state →
-    mid ≡ old ++ line_of (answer_text catalogue answer) →
-    Did (actuators catalogue) (served catalogue request.at) stop s' s'' mid new before after was now →
-    Did (actuators catalogue) (line_taken catalogue line) stop s s'' old new before after was now
-did-asked catalogue line request answer plant s s' s'' old mid new before after was now same blank asks answers next told rest =
-    let cat = actuators catalogue in
-    let next' : (step cat 1 request.command request.at s).state ≡ s' = sym (next ∙ ap (λ p. (step p 1 request.command request.at s).state) same) in
-    let answers' : (step cat 1 request.command request.at s).answer ≡ answer = sym (answers ∙ ap (λ p. (step p 1 request.command request.at s).answer) same) in
-    did-then cat (line_taken catalogue line) (served catalogue request.at) stop s s' s'' old mid new before before after was was now
-    (record {
-      results = [];
-      told = line_of (answer_text catalogue answer);
-      calls = [];
-      leads = subst (λ t. Leads (line_taken catalogue line) (served catalogue request.at) s t (line_of (answer_text catalogue answer)) [] []) next'
-          (subst (λ a. Leads (line_taken catalogue line) (served catalogue request.at) s (step cat 1 request.command request.at s).state (line_of (answer_text catalogue a)) [] []) answers'
-          (asked-leads catalogue line request s blank (sym asks)));
-      text = told;
-      devices = λ all. (all, sym (dealt-none cat before));
-    }) rest
+  abbrev after : State
+  after = (step plant request.on request.command request.at s).state
 
--- the first line is taken, and then the others
-pub did-line : (catalogue : Catalogue) (bytes rest line : List ℕ) (s s' : State) (old new : List ℕ) (before after : List (List Call)) (was now : Type 0) →
-    lines bytes ≡ line ∷ lines rest → Did (actuators catalogue) (line_taken catalogue line) stop s s' old new before after was now →
-    Did (actuators catalogue) (reading catalogue bytes) (reading catalogue rest) s s' old new before after was now
-did-line catalogue bytes rest line s s' old new before after was now first did =
-    subst (λ ls. Did (actuators catalogue) (λ run. fold (line_read catalogue) run ls) (reading catalogue rest) s s' old new before after was now) (sym first)
-    (did-under (actuators catalogue) (line_taken catalogue line) (reading catalogue rest) s s' old new before after was now did)
+  answered-leads : Leads (answered catalogue request) (served catalogue request.at) s after answering [] []
+  answered-leads more text earlier =
+      ap (λ p. served catalogue request.at (at (step p request.on request.command request.at s).state (text ++ line_of (answer_text catalogue (step p request.on request.command request.at s).answer)) earlier more)) (sym same)
+      ∙ ap (λ cs. served catalogue request.at (at after (text ++ answering) cs more)) (sym (append-nil earlier))
 
--- no byte is left
-pub did-all : (catalogue : Catalogue) (bytes : List ℕ) (s : State) (old : List ℕ) (before : List (List Call)) (whole : Type 0) → bytes ≡ [] →
-    Did (actuators catalogue) (reading catalogue bytes) stop s s old old before before whole whole
-did-all catalogue bytes s old before whole none =
-    subst (λ bs. Did (actuators catalogue) (reading catalogue bs) stop s s old old before before whole whole) (sym none) (did-nothing (actuators catalogue) stop s old before whole)
+  module _ (old mid : List ℕ) (before : List (List Call)) (was : Type 0) where
+    -- the answer is told, and then the wants that it leaves are served
+    pub did-answer : mid ≡ old ++ answering → Did (actuators catalogue) (answered catalogue request) (served catalogue request.at) s after old mid before before was was
+    did-answer told = did-told (actuators catalogue) (answered catalogue request) (served catalogue request.at) s after answering [] [] old mid before before was was
+        answered-leads told (λ all. (all, sym (dealt-none (actuators catalogue) before)))
 
--- the wants of the beginning, and all lines, are the script
-pub ran-script : (catalogue : Catalogue) (bytes : List ℕ) (s s' : State) (old mid new : List ℕ) (before between after : List (List Call)) (was half now : Type 0) →
-    s ≡ first_state (actuators catalogue) →
-    Did (actuators catalogue) (served catalogue 0) stop s s' old mid before between was half →
-    ((s'' : State) × Did (actuators catalogue) (reading catalogue bytes) stop s' s'' mid new between after half now) → RanScript catalogue bytes old new before after was now
-unfolding script
-ran-script catalogue bytes s s' old mid new before between after was half now first opening rest =
-    let cat = actuators catalogue in
-    let s'' = rest.0 in
-    let all = did-then cat (λ run. reading catalogue bytes (served catalogue 0 run)) (reading catalogue bytes) stop s s' s'' old mid new before between after was half now
-    (did-under cat (served catalogue 0) (reading catalogue bytes) s s' old mid before between was half opening) rest.1 in
-    let run : whole_script catalogue bytes all.results ≡ at s'' all.told all.calls [] =
-    ap (λ t. reading catalogue bytes (drain catalogue 0 all.results (begun t all.results))) (sym first)
-    ∙ ap (λ rs. reading catalogue bytes (served catalogue 0 (at s [] [] rs))) (sym (append-nil all.results))
-    ∙ all.leads [] [] [] in
-    record {
-      results = all.results;
-      finished = ap (λ r. r.short) run;
-      used = ap (λ r. r.results) run;
-      text = all.text ∙ ap (λ r. old ++ r.text) (sym run);
-      devices = λ whole. let done = all.devices whole in (done.0, done.1 ∙ ap (λ r. dealt cat r.calls before) (sym run));
-    }
+    pub broke-answer : TakesFront old mid answering → Broke (actuators catalogue) (answered catalogue request) s old mid before before was was
+    broke-answer takes = broke-told (actuators catalogue) (answered catalogue request) (served catalogue request.at) s after answering [] [] old mid before before was was
+        answered-leads (served-covers catalogue request.at) takes (λ all. (all, sym (dealt-none (actuators catalogue) before)))
 
--- ---- the points that an answer names
+-- ---- a line
 
-submit-known : (catalogue : Catalogue) (n : ℕ) (writes : List Setting) (s : State) → IsOfCatalogue catalogue (submit n writes s).answer
-submit-known catalogue n writes s = cond_both {A = Step} (s.durable.next == 2 ^ 62)
-    (record { answer = answer.Refused refusal.Spent; state = s })
-    (record { answer = answer.Accepted s.durable.next (first_end (granted s.durable.next n writes)); state = record s { durable = submitted n writes s.durable } })
-    (λ done. IsOfCatalogue catalogue done.answer) (λ _. tt) (λ _. tt)
+pub not-long : (line : List ℕ) → length line ≤ 65535 → is_too_long line ≡ false
+not-long line short = grind (arith, nat_tests)
 
-want-known : (catalogue : Catalogue) (found : Option ℕ) (s : State) → ((point : ℕ) → found ≡ Some point → point < length catalogue.points) → IsOfCatalogue catalogue (hand_out found s).answer
-want-known catalogue None s known = tt
-want-known catalogue (Some point) s known = known point refl
+pub is-long : (line : List ℕ) → 65535 < length line → is_too_long line ≡ true
+is-long line past = grind (arith, nat_tests)
 
-report-known : (catalogue : Catalogue) (point version : ℕ) (ok : Bool) (s : State) → IsOfCatalogue catalogue (report point version ok s).answer
-report-known catalogue point version ok s = cond_both {A = Step} (is_current point version s)
-    (record { answer = answer.Noted true; state = record s { proxies = set s.proxies point (marked ok (proxy_of s.proxies point)) } })
-    (record { answer = answer.Noted false; state = s })
-    (λ done. IsOfCatalogue catalogue done.answer) (λ _. tt) (λ _. tt)
+module _ (catalogue : Catalogue) (line : List ℕ) (short : is_too_long line ≡ false) where
+  -- a blank line does nothing
+  blank-same : is_blank line ≡ true → (s : State) (text : List ℕ) (earlier : List Call) (results : List Bool) → line_taken catalogue line (at s text earlier results) ≡ stop (at s text earlier results)
+  blank-same blank s text earlier results = rw (short, blank) refl
 
-act-known : (catalogue : Catalogue) (n : ℕ) (c : Command) (s : State) → IsAllowed (actuators catalogue) c → AllByRecursion (λ want. want < length (actuators catalogue)) s.wants →
-    IsOfCatalogue catalogue (act (actuators catalogue) n c s).answer
-act-known catalogue n (command.Submit writes policy) s allowed wants = submit-known catalogue n writes s
-act-known catalogue n (command.Next driver) s allowed wants =
-    want-known catalogue (find (λ point. driver_of (actuators catalogue) point == driver) s.wants) s
-    (λ point found. let there = (found-passes (λ want. want < length (actuators catalogue)) (λ point. driver_of (actuators catalogue) point == driver) s.wants point wants found).0 in
-    omega (arith, there, length-map catalogue.points (λ p. p.actuator)))
-act-known catalogue n (command.Report point version ok) s allowed wants = report-known catalogue point version ok s
-act-known catalogue n (command.Read point) s allowed wants = omega (arith, allowed, length-map catalogue.points (λ p. p.actuator))
+  -- any other is replied to
+  replied-same : is_blank line ≡ false → (read : Reading Request) → reading catalogue form.Script line ≡ read → (s : State) (text : List ℕ) (earlier : List Call) (results : List Bool) →
+      line_taken catalogue line (at s text earlier results) ≡ replied catalogue read (at s text earlier results)
+  replied-same full read is s text earlier results = rw (short, full, is) refl
 
-pub step-known : (catalogue : Catalogue) (plant : List Actuator) (session : ℕ) (c : Command) (moment : ℕ) (s : State) → plant ≡ actuators catalogue → moment ≤ 2 ^ 60 →
-    IsAllowed (actuators catalogue) c → IsSound plant s → IsOfCatalogue catalogue (step plant session c moment s).answer
-unfolding step
-step-known catalogue plant session c moment s same small allowed sound =
-    let cat = actuators catalogue in
-    let sound' : IsSound cat s = subst (λ p. IsSound p s) same sound in
-    let now_small : s.durable.now ≤ 2 ^ 60 = sound.durable.now in
-    let n = moment_of s moment in
-    let later = pass_time cat n s in
-    subst (λ p. IsOfCatalogue catalogue (act p (moment_of s moment) c (pass_time p (moment_of s moment) s)).answer) (sym same)
-    (act-known catalogue n c later allowed (wants-known cat later (unsettled cat later (passed cat n s (omega arith) (omega arith) sound'))))
+  pub did-blank : is_blank line ≡ true → (s : State) (old : List ℕ) (before : List (List Call)) (whole : Type 0) →
+      Did (actuators catalogue) (line_taken catalogue line) stop s s old old before before whole whole
+  did-blank blank s old before whole = did-same (actuators catalogue) (line_taken catalogue line) stop stop s s old old before before whole whole (blank-same blank)
+      (did-nothing (actuators catalogue) stop s old before whole)
+
+  -- a request
+  pub did-request : is_blank line ≡ false → (request : Request) → reading catalogue form.Script line ≡ asks request → (s s' : State) (old new : List ℕ) (before after : List (List Call)) (was now : Type 0) →
+      Did (actuators catalogue) (answered catalogue request) stop s s' old new before after was now → Did (actuators catalogue) (line_taken catalogue line) stop s s' old new before after was now
+  did-request full request is s s' old new before after was now did =
+      did-same (actuators catalogue) (line_taken catalogue line) (answered catalogue request) stop s s' old new before after was now (replied-same full (asks request) is) did
+
+  pub broke-request : is_blank line ≡ false → (request : Request) → reading catalogue form.Script line ≡ asks request → (s : State) (old new : List ℕ) (before after : List (List Call)) (was now : Type 0) →
+      Broke (actuators catalogue) (answered catalogue request) s old new before after was now → Broke (actuators catalogue) (line_taken catalogue line) s old new before after was now
+  broke-request full request is s old new before after was now broke =
+      broke-same (actuators catalogue) (line_taken catalogue line) (answered catalogue request) s old new before after was now (replied-same full (asks request) is) broke
+
+  -- a refusal
+  module _ (full : is_blank line ≡ false) (why : Refusal) (is : reading catalogue form.Script line ≡ wrong why) (s : State) (old new : List ℕ) (before : List (List Call)) (whole : Type 0) where
+    refused-leads : Leads (line_taken catalogue line) stop s s (line_of (refusal_text why)) [] []
+    refused-leads more text earlier = replied-same full (wrong why) is s text earlier more
+        ∙ ap (λ cs. at s (text ++ line_of (refusal_text why)) cs more) (sym (append-nil earlier))
+
+    pub did-refusal : new ≡ old ++ line_of (refusal_text why) → Did (actuators catalogue) (line_taken catalogue line) stop s s old new before before whole whole
+    did-refusal told = did-told (actuators catalogue) (line_taken catalogue line) stop s s (line_of (refusal_text why)) [] [] old new before before whole whole
+        refused-leads told (λ all. (all, sym (dealt-none (actuators catalogue) before)))
+
+    pub broke-refusal : TakesFront old new (line_of (refusal_text why)) → Broke (actuators catalogue) (line_taken catalogue line) s old new before before whole whole
+    broke-refusal takes = broke-told (actuators catalogue) (line_taken catalogue line) stop s s (line_of (refusal_text why)) [] [] old new before before whole whole
+        refused-leads (λ run. (front-whole run.text, front-whole run.calls)) takes (λ all. (all, sym (dealt-none (actuators catalogue) before)))
+
+-- ---- lines
+
+taken-append : (catalogue : Catalogue) (first rest : List (List ℕ)) (run : Run) → lines_taken catalogue (first ++ rest) run ≡ lines_taken catalogue rest (lines_taken catalogue first run)
+taken-append catalogue [] rest run = refl
+taken-append catalogue (line ∷ first) rest run = taken-append catalogue first rest (line_read catalogue run line)
+
+module _ (catalogue : Catalogue) (given : List (List ℕ)) (s s' : State) (old mid : List ℕ) (before between : List (List Call)) (was half : Type 0)
+    (first : Did (actuators catalogue) (lines_taken catalogue given) stop s s' old mid before between was half) where
+  -- lines and then others
+  pub did-before : (more : List (List ℕ)) → Did (actuators catalogue) (lines_taken catalogue (given ++ more)) (lines_taken catalogue more) s s' old mid before between was half
+  did-before more = did-same (actuators catalogue) (lines_taken catalogue (given ++ more)) (λ run. lines_taken catalogue more (lines_taken catalogue given run)) (lines_taken catalogue more)
+      s s' old mid before between was half (λ t text earlier results. taken-append catalogue given more (at t text earlier results))
+      (did-under (actuators catalogue) (lines_taken catalogue given) (lines_taken catalogue more) s s' old mid before between was half first)
+
+  -- one line more
+  pub did-one-more : (line : List ℕ) (s'' : State) (new : List ℕ) (after : List (List Call)) (now : Type 0) →
+      Did (actuators catalogue) (line_taken catalogue line) stop s' s'' mid new between after half now →
+      Did (actuators catalogue) (lines_taken catalogue (given ++ line ∷ [])) stop s s'' old new before after was now
+  did-one-more line s'' new after now second =
+      did-then (actuators catalogue) (lines_taken catalogue (given ++ line ∷ [])) (lines_taken catalogue (line ∷ [])) stop s s' s'' old mid new before between after was half now
+      (did-before (line ∷ [])) second
+
+  -- the next line broke off
+  pub broke-next : (line : List ℕ) (more : List (List ℕ)) (new : List ℕ) (after : List (List Call)) (now : Type 0) →
+      Broke (actuators catalogue) (line_taken catalogue line) s' mid new between after half now →
+      Broke (actuators catalogue) (lines_taken catalogue (given ++ line ∷ more)) s old new before after was now
+  broke-next line more new after now broke =
+      broke-then (actuators catalogue) (lines_taken catalogue (given ++ line ∷ more)) (lines_taken catalogue (line ∷ more)) s s' old mid new before between after was half now
+      (did-before (line ∷ more))
+      (broke-under (actuators catalogue) (line_taken catalogue line) (lines_taken catalogue more) s' mid new between after half now (lines-cover catalogue more) broke)

@@ -4,12 +4,14 @@ use Rattle.std.specs.List.{filter, enumerate_from, AllByRecursion}
 use Rattle.std.proofs.lemmas.Grind.{common_steps}
 use Rattle.std.proofs.lemmas.List.Elements.{filter-append}
 use Rattle.std.proofs.lemmas.Bool.Decides.{nat_tests, Decides-eqb}
-use Rattle.boss_model.specs.declared.Actuator.{Actuator}
+use Rattle.boss_model.specs.declared.state.Actuator.{Actuator}
 use Rattle.boss_model.specs.Call.{Call}
 use Rattle.boss_model.specs.Catalogue.{driver_of}
 use Rattle.boss_model.specs.Script.{Run}
 use Rattle.boss_model.specs.State.{State}
-use Rattle.boss_manager.specs.Runs.{at, Leads, gained, dealt, Did, stop}
+use Rattle.boss_outside.specs.Streams.{TakesFront}
+use Rattle.boss_manager.specs.Runs.{at, Leads, IsFrontOf, Covers, gained, dealt, Did, Broke, stop}
+use Rattle.boss_manager.proofs.Fronts.{front-trans, front-under}
 
 pub leads-then : (G H K : Run → Run) (s s' s'' : State) (told told' : List ℕ) (calls calls' : List Call) (results results' : List Bool) →
     Leads G H s s' told calls results → Leads H K s' s'' told' calls' results' → Leads G K s s'' (told ++ told') (calls ++ calls') (results ++ results')
@@ -71,7 +73,7 @@ gains calls whole call (d ∷ ds) (suc driver) old new within is go all =
     let rest = gains calls whole call ds driver old new (omega arith) is go all.1 in
     ((all.0, rest.0), ap (λ css. calls d ∷ css) rest.1)
 
--- ---- what parts did
+-- ---- what parts did that came to their end
 
 pub did-nothing : (plant : List Actuator) (G : Run → Run) (s : State) (old : List ℕ) (before : List (List Call)) (whole : Type 0) → Did plant G G s s old old before before whole whole
 did-nothing plant G s old before whole = record {
@@ -107,4 +109,103 @@ did-under plant F H s s' old new before after was now did = record {
   leads = λ more text earlier. ap H (did.leads more text earlier);
   text = did.text;
   devices = did.devices;
+}
+
+-- where G does the same as F
+pub did-same : (plant : List Actuator) (G F H : Run → Run) (s s' : State) (old new : List ℕ) (before after : List (List Call)) (was now : Type 0) →
+    ((t : State) (text : List ℕ) (earlier : List Call) (results : List Bool) → G (at t text earlier results) ≡ F (at t text earlier results)) →
+    Did plant F H s s' old new before after was now → Did plant G H s s' old new before after was now
+did-same plant G F H s s' old new before after was now same did = record {
+  results = did.results;
+  told = did.told;
+  calls = did.calls;
+  leads = λ more text earlier. same s text earlier (did.results ++ more) ∙ did.leads more text earlier;
+  text = did.text;
+  devices = did.devices;
+}
+
+-- what was led to and told
+pub did-told : (plant : List Actuator) (G H : Run → Run) (s s' : State) (told : List ℕ) (calls : List Call) (results : List Bool) (old new : List ℕ) (before after : List (List Call)) (was now : Type 0) →
+    Leads G H s s' told calls results → new ≡ old ++ told → (now → was × (after ≡ dealt plant calls before)) → Did plant G H s s' old new before after was now
+did-told plant G H s s' told calls results old new before after was now leads text devices =
+    record { results = results; told = told; calls = calls; leads = leads; text = text; devices = devices }
+
+-- ---- what parts did that broke off
+
+pub broke-nothing : (plant : List Actuator) (G : Run → Run) (s : State) (old : List ℕ) (before : List (List Call)) (whole : Type 0) →
+    ((run : Run) → Covers (G run) run.text run.calls) → Broke plant G s old old before before whole whole
+broke-nothing plant G s old before whole covers = record {
+  results = [];
+  told = [];
+  calls = [];
+  begins = λ more text earlier. subst (λ t. IsFrontOf t (G (at s text earlier more)).text × IsFrontOf (earlier ++ []) (G (at s text earlier more)).calls) (sym (append-nil text))
+      (subst (λ cs. IsFrontOf text (G (at s text earlier more)).text × IsFrontOf cs (G (at s text earlier more)).calls) (sym (append-nil earlier)) (covers (at s text earlier more)));
+  text = sym (append-nil old);
+  devices = λ all. (all, sym (dealt-none plant before));
+}
+
+-- what was to be told was told in part
+pub broke-told : (plant : List Actuator) (G H : Run → Run) (s s' : State) (told : List ℕ) (calls : List Call) (results : List Bool) (old new : List ℕ) (before after : List (List Call)) (was now : Type 0) →
+    Leads G H s s' told calls results → ((run : Run) → Covers (H run) run.text run.calls) → TakesFront old new told →
+    (now → was × (after ≡ dealt plant calls before)) → Broke plant G s old new before after was now
+broke-told plant G H s s' told calls results old new before after was now leads covers takes devices = record {
+  results = results;
+  told = takes.0;
+  calls = calls;
+  begins = λ more text earlier.
+      let there = covers (at s' (text ++ told) (earlier ++ calls) more) in
+      subst (λ run. Covers run (text ++ takes.0) (earlier ++ calls)) (sym (leads more text earlier))
+      (front-trans (text ++ takes.0) (text ++ told) (H (at s' (text ++ told) (earlier ++ calls) more)).text (front-under text takes.0 told (takes.1, takes.2)) there.0, there.1);
+  text = takes.3;
+  devices = devices;
+}
+
+pub broke-then : (plant : List Actuator) (G H : Run → Run) (s s' : State) (old mid new : List ℕ) (before between after : List (List Call)) (was half now : Type 0) →
+    Did plant G H s s' old mid before between was half → Broke plant H s' mid new between after half now → Broke plant G s old new before after was now
+broke-then plant G H s s' old mid new before between after was half now first second = record {
+  results = first.results ++ second.results;
+  told = first.told ++ second.told;
+  calls = first.calls ++ second.calls;
+  begins = λ more text earlier.
+      let led = ap (λ rs. G (at s text earlier rs)) (append_assoc first.results second.results more) ∙ first.leads (second.results ++ more) text earlier in
+      subst (λ run. Covers run (text ++ (first.told ++ second.told)) (earlier ++ (first.calls ++ second.calls))) (sym led)
+      (subst (λ t. IsFrontOf t (H (at s' (text ++ first.told) (earlier ++ first.calls) (second.results ++ more))).text
+      × IsFrontOf (earlier ++ (first.calls ++ second.calls)) (H (at s' (text ++ first.told) (earlier ++ first.calls) (second.results ++ more))).calls) (append_assoc text first.told second.told)
+      (subst (λ cs. IsFrontOf ((text ++ first.told) ++ second.told) (H (at s' (text ++ first.told) (earlier ++ first.calls) (second.results ++ more))).text
+      × IsFrontOf cs (H (at s' (text ++ first.told) (earlier ++ first.calls) (second.results ++ more))).calls) (append_assoc earlier first.calls second.calls)
+      (second.begins more (text ++ first.told) (earlier ++ first.calls))));
+  text = second.text ∙ ap (λ t. t ++ second.told) first.text ∙ append_assoc old first.told second.told;
+  devices = λ all.
+      let later = second.devices all in
+      let earlier = first.devices later.0 in
+      (earlier.0, later.1 ∙ ap (dealt plant second.calls) earlier.1 ∙ sym (dealt-append plant first.calls second.calls before));
+}
+
+-- where what H does first is F
+pub broke-under : (plant : List Actuator) (F H : Run → Run) (s : State) (old new : List ℕ) (before after : List (List Call)) (was now : Type 0) →
+    ((run : Run) → Covers (H run) run.text run.calls) → Broke plant F s old new before after was now → Broke plant (λ run. H (F run)) s old new before after was now
+broke-under plant F H s old new before after was now covers broke = record {
+  results = broke.results;
+  told = broke.told;
+  calls = broke.calls;
+  begins = λ more text earlier.
+      let run = F (at s text earlier (broke.results ++ more)) in
+      let here = broke.begins more text earlier in
+      let there = covers run in
+      (front-trans (text ++ broke.told) run.text (H run).text here.0 there.0, front-trans (earlier ++ broke.calls) run.calls (H run).calls here.1 there.1);
+  text = broke.text;
+  devices = broke.devices;
+}
+
+-- where G does the same as F
+pub broke-same : (plant : List Actuator) (G F : Run → Run) (s : State) (old new : List ℕ) (before after : List (List Call)) (was now : Type 0) →
+    ((t : State) (text : List ℕ) (earlier : List Call) (results : List Bool) → G (at t text earlier results) ≡ F (at t text earlier results)) →
+    Broke plant F s old new before after was now → Broke plant G s old new before after was now
+broke-same plant G F s old new before after was now same broke = record {
+  results = broke.results;
+  told = broke.told;
+  calls = broke.calls;
+  begins = λ more text earlier. subst (λ run. Covers run (text ++ broke.told) (earlier ++ broke.calls)) (sym (same s text earlier (broke.results ++ more))) (broke.begins more text earlier);
+  text = broke.text;
+  devices = broke.devices;
 }

@@ -1,10 +1,8 @@
-pub mod Answers
 pub mod Causes
+pub mod Devices
 pub mod Ends
+pub mod Inputs
 pub mod Loads
 pub mod Programs
 pub mod Runs
 pub mod Scripts
-pub mod Served
-pub mod Wanted
-pub mod Weights

@@ -4,7 +4,7 @@ ghost use Rattle.boss_model.specs.Catalogue.{actuators};
 ghost use Rattle.boss_outside.specs.Counts.{Rose};
 ghost use Rattle.boss_points.specs.declared.CatalogueRefusal.TheVariants.{NoMemory};
 ghost use Rattle.boss_points.specs.Seen.{seen};
-ghost use Rattle.boss_manager.specs.Weights.{HasDevices};
+ghost use Rattle.boss_manager.specs.Devices.{HasDevices};
 ghost use Rattle.boss_manager.specs.Loads.{Loads, FaultOnly};
 ghost use Rattle.boss_manager.specs.Programs.{key_text, lacks_device, refusal_line, refusal_text, usable};
 

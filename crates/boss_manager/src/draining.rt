@@ -1,94 +1,107 @@
-ghost use Rattle.std.specs.Prelude.{◌≡◌, ◌<◌, ◌≤◌, ◌^◌, Some, map, OnOk, vec_len};
+ghost use Rattle.std.specs.Prelude.{◌≡◌, ◌<◌, ◌≤◌, ◌^◌, Some, map, OnOk, OnErr, vec_len};
 ghost use Rattle.std.specs.List.{AllByRecursion};
+ghost use Rattle.boss_laws.specs.Draining.{weight};
 ghost use Rattle.boss_model.specs.Catalogue.{actuators};
-ghost use Rattle.boss_model.specs.Machine.{wanting};
+ghost use Rattle.boss_model.specs.Devices.{wanting};
 ghost use Rattle.boss_model.specs.Sound.{IsSound};
-ghost use Rattle.boss_manager.specs.Runs.{Did, served, stop};
-ghost use Rattle.boss_manager.specs.Causes.{NoReadFault, WriteCause};
-ghost use Rattle.boss_manager.specs.Weights.{HasDevices, weight};
+ghost use Rattle.boss_outside.specs.Counts.{HasCause};
+ghost use Rattle.boss_manager.specs.Devices.{HasDevices};
+ghost use Rattle.boss_manager.specs.Runs.{Broke, Did, served, stop};
 
-use crate::Ending;
-use crate::devices::write_device;
-use crate::texts::device_line;
-use crate::wants::want_in;
+use crate::devices::command_device;
+use crate::telling::tell_write;
 use boss_engine::Engine;
-use boss_model::{Command, DriverId, SessionId};
-use boss_outside::{Actuators, Sink};
+use boss_model::{Answer, Buffer, Command, DriverId, SessionId};
+use boss_outside::{Actuators, Failed, Sink};
 use boss_points::Catalogue;
-use std::alloc::Global;
 
 /// The session of commands that no line asks for.
 const OWN: SessionId = SessionId(0);
 
-/// Serves the wants of one moment, the least driver's first, until none is left.
+/// Serves the wants of one moment, the least driver's first, until none is left. It takes no memory.
 pub fn drain<K: Sink, A: Actuators>(
-    alloc: Global,
     catalogue: &Catalogue,
     engine: &mut Engine,
     moment: u64,
+    text: &mut Buffer,
     sink: &mut K,
     devices: &mut Vec<A>,
-) -> Result<(), Ending>
+) -> Result<(), Failed>
     requires moment { moment ≤ 2 ^ 60 }
     requires plant { engine.old.plant ≡ actuators catalogue.now }
     requires sound { IsSound engine.old.plant engine.old.state }
+    requires room { 32768 ≤ text.old.capacity }
     requires devices { HasDevices (vec_len devices.old) engine.old.plant }
 
     ensures plant { engine.new.plant ≡ engine.old.plant }
     ensures sound { IsSound engine.new.plant engine.new.state }
+    ensures room { text.new.capacity ≡ text.old.capacity }
     ensures len { vec_len devices.new ≡ vec_len devices.old }
-    ensures write { WriteCause (K.faults sink.old) (K.faults sink.new) result }
-    ensures read { NoReadFault result }
+    ensures cause { HasCause (K.faults sink.old) (K.faults sink.new) result }
     ensures did { OnOk result (K.tells → A.tells → Did (actuators catalogue.now) (served catalogue.now moment) stop
         engine.old.state engine.new.state (K.taken sink.old) (K.taken sink.new)
         (map A.calls devices.old.items) (map A.calls devices.new.items)
         (AllByRecursion A.whole devices.old.items) (AllByRecursion A.whole devices.new.items)) }
+    ensures broke { OnErr result (K.tells → A.tells → Broke (actuators catalogue.now) (served catalogue.now moment)
+        engine.old.state (K.taken sink.old) (K.taken sink.new)
+        (map A.calls devices.old.items) (map A.calls devices.new.items)
+        (AllByRecursion A.whole devices.old.items) (AllByRecursion A.whole devices.new.items)) }
 {
     while let Some(driver) = engine.wanting() {
-        serve(alloc, catalogue, engine, driver, moment, sink, devices)?;
+        serve(catalogue, engine, driver, moment, text, sink, devices)?;
     }
     Ok(())
 }
 
-/// Serves one want: the driver is asked, its device is written, and the result is told and reported.
+/// Serves one want: the driver is asked, its device is commanded, and the result is told and reported.
 fn serve<K: Sink, A: Actuators>(
-    alloc: Global,
     catalogue: &Catalogue,
     engine: &mut Engine,
     driver: DriverId,
     moment: u64,
+    text: &mut Buffer,
     sink: &mut K,
     devices: &mut Vec<A>,
-) -> Result<(), Ending>
+) -> Result<(), Failed>
     requires moment { moment ≤ 2 ^ 60 }
     requires plant { engine.old.plant ≡ actuators catalogue.now }
     requires sound { IsSound engine.old.plant engine.old.state }
     requires wants { wanting engine.old.plant engine.old.state ≡ Some driver }
+    requires room { 32768 ≤ text.old.capacity }
     requires device { driver < vec_len devices.old }
 
     ensures plant { engine.new.plant ≡ engine.old.plant }
     ensures sound { IsSound engine.new.plant engine.new.state }
+    ensures room { text.new.capacity ≡ text.old.capacity }
     ensures len { vec_len devices.new ≡ vec_len devices.old }
-    ensures write { WriteCause (K.faults sink.old) (K.faults sink.new) result }
-    ensures read { NoReadFault result }
-    ensures lighter { OnOk result (weight engine.new.plant engine.new.state < weight engine.old.plant engine.old.state) }
+    ensures cause { HasCause (K.faults sink.old) (K.faults sink.new) result }
+    ensures lighter { OnOk result (weight engine.new.plant moment engine.new.state < weight engine.old.plant moment engine.old.state) }
     ensures did { OnOk result (K.tells → A.tells → Did (actuators catalogue.now) (served catalogue.now moment) (served catalogue.now moment)
         engine.old.state engine.new.state (K.taken sink.old) (K.taken sink.new)
         (map A.calls devices.old.items) (map A.calls devices.new.items)
         (AllByRecursion A.whole devices.old.items) (AllByRecursion A.whole devices.new.items)) }
+    ensures broke { OnErr result (K.tells → A.tells → Broke (actuators catalogue.now) (served catalogue.now moment)
+        engine.old.state (K.taken sink.old) (K.taken sink.new)
+        (map A.calls devices.old.items) (map A.calls devices.new.items)
+        (AllByRecursion A.whole devices.old.items) (AllByRecursion A.whole devices.new.items)) }
 {
-    let answer = engine.step(OWN, &Command::Next { driver }, moment)?;
-    let Some(want) = want_in(answer) else {
-        return Err(Ending::Unserved);
+    let Ok(answer) = engine.step(OWN, &Command::Next { driver }, moment) else {
+        unreachable!()
     };
-    let ok = write_device(devices, driver, &want);
-    let line = device_line(alloc, catalogue, &want, ok)?;
-    sink.write(&line)?;
-    let report = Command::Report {
-        point: want.point,
-        version: want.version,
-        ok,
+    let Answer::Want {
+        point,
+        version,
+        value,
+    } = &answer
+    else {
+        unreachable!()
     };
-    engine.step(OWN, &report, moment)?;
+    let (point, version, value) = (*point, *version, *value);
+    let ok = command_device(devices, driver, point, value);
+    tell_write(catalogue, point, value, ok, text, sink)?;
+    let report = Command::Report { point, version, ok };
+    let Ok(_) = engine.step(OWN, &report, moment) else {
+        unreachable!()
+    };
     Ok(())
 }

@@ -5,8 +5,6 @@ pub struct Status(pub u8);
 impl Status {
     /// All was done.
     pub const DONE: Status = Status(0);
-    /// The input asks for something that is not served yet.
-    pub const UNSERVED: Status = Status(1);
     /// The words ask for no job that is there.
     pub const USAGE: Status = Status(2);
     /// The catalogue was refused.

@@ -1,9 +1,13 @@
-ghost use Rattle.std.specs.Prelude.{◌≡◌, ◌≢◌, ◌⊎◌, ◌++◌, [], map, None, Some, vec_len, IfOk};
-ghost use Rattle.std.specs.List.{AllByRecursion};
+ghost use Rattle.std.specs.Prelude.{◌≡◌, ◌≢◌, ◌⊎◌, ◌++◌, ◌<◌, ◌≤◌, [], false, true, length, take, None, Some, vec_len, IfOk};
+ghost use Rattle.boss_model.specs.Lines.{lines};
+ghost use Rattle.boss_outside.specs.Counts.{Rose};
+ghost use Rattle.boss_outside.specs.Streams.{TakesFront};
 ghost use Rattle.boss_words.specs.Words.{texts};
 ghost use Rattle.boss_manager.specs.Programs.{catalogue_word, refusal_line, script_of_words, usage_line};
 ghost use Rattle.boss_manager.specs.Causes.{Tells};
-ghost use Rattle.boss_manager.specs.Ends.{MayYield, RanProgram, Refuses};
+ghost use Rattle.boss_manager.specs.Ends.{BrokeProgram, IsStatus, MayYield, Refuses, Uses};
+ghost use Rattle.boss_manager.specs.Inputs.{RanBefore, has_too_long, most_lines};
+ghost use Rattle.boss_manager.specs.Scripts.{BrokeOff, Ran};
 
 use crate::Status;
 use crate::catalogue::{Unusable, load, refusal_line};
@@ -26,12 +30,32 @@ pub fn boss<F: Files, S: Source, K: Sink, A: Actuators>(
     sink: &mut K,
     devices: &mut Vec<A>,
 ) -> Status
-    // Status 0: the words ask for a script, its catalogue can be used, and the script ran to its end.
-    ensures ran { result.0 ≡ 0 → F.tells → S.tells → K.tells → A.tells → RanProgram (script_of_words (texts words.now.items))
-        (F.holds files.old) (vec_len devices.old) (S.left source.old) (K.taken sink.old) (K.taken sink.new)
-        (map A.calls devices.old.items) (map A.calls devices.new.items)
-        (AllByRecursion A.whole devices.old.items) (AllByRecursion A.whole devices.new.items) }
+    // Status 0: the catalogue can be used, and the script ran over all lines of the source, none of which is too long. The
+    // source was read to its end.
+    ensures ran { result.0 ≡ 0 → F.tells → S.tells → K.tells → A.tells → Uses (script_of_words (texts words.now.items)) (F.holds files.old) (vec_len devices.old) (λ catalogue. Ran K.taken A.calls A.whole
+        sink.old sink.new devices.old.items devices.new.items catalogue (lines (S.left source.old)) false) }
     ensures read { result.0 ≡ 0 → S.tells → S.left source.new ≡ [] }
+    ensures none_long { result.0 ≡ 0 → S.tells → has_too_long (lines (S.left source.old)) ≡ false }
+
+    // Status 13: the script ran up to a line that is too long, which is told as its last.
+    ensures ran_over { result.0 ≡ 13 → F.tells → S.tells → K.tells → A.tells → Uses (script_of_words (texts words.now.items)) (F.holds files.old) (vec_len devices.old) (λ catalogue. Ran K.taken A.calls A.whole
+        sink.old sink.new devices.old.items devices.new.items catalogue (lines (S.left source.old)) true) }
+    ensures one_long { result.0 ≡ 13 → S.tells → has_too_long (lines (S.left source.old)) ≡ true }
+
+    // Status 14: the script ran over the first 2^32 lines, and there are more.
+    ensures ran_most { result.0 ≡ 14 → F.tells → S.tells → K.tells → A.tells → Uses (script_of_words (texts words.now.items)) (F.holds files.old) (vec_len devices.old) (λ catalogue. Ran K.taken A.calls A.whole
+        sink.old sink.new devices.old.items devices.new.items catalogue (take most_lines (lines (S.left source.old))) false) }
+    ensures more { result.0 ≡ 14 → S.tells → most_lines < length (lines (S.left source.old)) }
+
+    // Status 6: the script ran over the lines that were read.
+    ensures ran_before { result.0 ≡ 6 → F.tells → S.tells → K.tells → A.tells → Uses (script_of_words (texts words.now.items)) (F.holds files.old) (vec_len devices.old) (λ catalogue.
+        RanBefore (S.left source.old) (S.left source.new) (λ given. Ran K.taken A.calls A.whole
+        sink.old sink.new devices.old.items devices.new.items catalogue given false)) }
+
+    // Statuses 7 and 8: the sink took the front of what was to be told, and the devices' calls are the first of the script's.
+    ensures broke { MayYield result.0 → F.tells → S.tells → K.tells → A.tells → BrokeProgram (script_of_words (texts words.now.items)) (F.holds files.old) (vec_len devices.old)
+        (K.taken sink.old) (K.taken sink.new) (devices.new ≡ devices.old) (λ catalogue. BrokeOff K.taken A.calls A.whole
+        sink.old sink.new devices.old.items devices.new.items catalogue (lines (S.left source.old))) }
 
     // Status 2: the words ask for nothing that is served. One line tells it, and nothing is read and no device called.
     ensures usage { result.0 ≡ 2 → script_of_words (texts words.now.items) ≡ None }
@@ -47,11 +71,21 @@ pub fn boss<F: Files, S: Source, K: Sink, A: Actuators>(
     ensures catalogue_only { F.tells → Refuses (script_of_words (texts words.now.items)) (F.holds files.old) (vec_len devices.old)
         (λ refusal. Unit {0}) → (result.0 ≡ 3) ⊎ (result.0 ≡ 5) ⊎ MayYield result.0 }
 
-    // Status 5 comes exactly where a file failed, 6 exactly where a read of the source did, and 7 exactly where a write to
-    // the sink did.
+    // Status 5 comes exactly where a file failed, and then nothing is told and no device called; 6 exactly where a read of the
+    // source failed, and 7 exactly where a write to the sink did.
     ensures file_fault { Tells result.0 5 (F.faults files.old) (F.faults files.new) }
+    ensures file_silent { result.0 ≡ 5 → (source.new ≡ source.old) × (sink.new ≡ sink.old) × (devices.new ≡ devices.old) }
     ensures read_fault { Tells result.0 6 (S.faults source.old) (S.faults source.new) }
     ensures write_fault { Tells result.0 7 (K.faults sink.old) (K.faults sink.new) }
+
+    // There is no other status. Where the catalogue can be used, nothing failed, no line is too long and the lines are not too
+    // many, the script runs to its end, or memory is wanting.
+    ensures only { IsStatus result.0 }
+    ensures complete { F.tells → S.tells → Uses (script_of_words (texts words.now.items)) (F.holds files.old) (vec_len devices.old) (λ catalogue. Unit {0})
+        → ¬ Rose (F.faults files.old) (F.faults files.new) → ¬ Rose (S.faults source.old) (S.faults source.new)
+        → ¬ Rose (K.faults sink.old) (K.faults sink.new)
+        → has_too_long (lines (S.left source.old)) ≡ false → length (lines (S.left source.old)) ≤ most_lines
+        → (result.0 ≡ 0) ⊎ (result.0 ≡ 8) }
 {
     let word = match asked_catalogue(alloc, words) {
         Ok(word) => word,
@@ -92,6 +126,7 @@ fn catalogue_of_job(job: Job) -> Option<Word>
 /// Tells how the program is used.
 fn say_usage<K: Sink>(sink: &mut K) -> Status
     ensures told { result.0 ≡ 2 → K.tells → K.taken sink.new ≡ K.taken sink.old ++ usage_line }
+    ensures broke { result.0 ≡ 7 → K.tells → TakesFront (K.taken sink.old) (K.taken sink.new) usage_line }
     ensures write_fault { Tells result.0 7 (K.faults sink.old) (K.faults sink.new) }
     ensures only { (result.0 ≡ 2) ⊎ (result.0 ≡ 7) }
 {
@@ -104,6 +139,8 @@ fn say_usage<K: Sink>(sink: &mut K) -> Status
 /// Tells why a catalogue was refused.
 fn say_refusal<K: Sink>(alloc: Global, sink: &mut K, refusal: CatalogueRefusal) -> Status
     ensures told { result.0 ≡ 3 → K.tells → K.taken sink.new ≡ K.taken sink.old ++ refusal_line refusal }
+    ensures broke { result.0 ≡ 7 → K.tells → TakesFront (K.taken sink.old) (K.taken sink.new) (refusal_line refusal) }
+    ensures untold { result.0 ≡ 8 → sink.new ≡ sink.old }
     ensures write_fault { Tells result.0 7 (K.faults sink.old) (K.faults sink.new) }
     ensures only { (result.0 ≡ 3) ⊎ (result.0 ≡ 7) ⊎ (result.0 ≡ 8) }
 {
@@ -125,20 +162,38 @@ fn run_script<F: Files, S: Source, K: Sink, A: Actuators>(
     sink: &mut K,
     devices: &mut Vec<A>,
 ) -> Status
-    ensures ran { result.0 ≡ 0 → F.tells → S.tells → K.tells → A.tells → RanProgram (Some word.now)
-        (F.holds files.old) (vec_len devices.old) (S.left source.old) (K.taken sink.old) (K.taken sink.new)
-        (map A.calls devices.old.items) (map A.calls devices.new.items)
-        (AllByRecursion A.whole devices.old.items) (AllByRecursion A.whole devices.new.items) }
+    ensures ran { result.0 ≡ 0 → F.tells → S.tells → K.tells → A.tells → Uses (Some word.now) (F.holds files.old) (vec_len devices.old) (λ catalogue. Ran K.taken A.calls A.whole
+        sink.old sink.new devices.old.items devices.new.items catalogue (lines (S.left source.old)) false) }
     ensures read { result.0 ≡ 0 → S.tells → S.left source.new ≡ [] }
+    ensures none_long { result.0 ≡ 0 → S.tells → has_too_long (lines (S.left source.old)) ≡ false }
+    ensures ran_over { result.0 ≡ 13 → F.tells → S.tells → K.tells → A.tells → Uses (Some word.now) (F.holds files.old) (vec_len devices.old) (λ catalogue. Ran K.taken A.calls A.whole
+        sink.old sink.new devices.old.items devices.new.items catalogue (lines (S.left source.old)) true) }
+    ensures one_long { result.0 ≡ 13 → S.tells → has_too_long (lines (S.left source.old)) ≡ true }
+    ensures ran_most { result.0 ≡ 14 → F.tells → S.tells → K.tells → A.tells → Uses (Some word.now) (F.holds files.old) (vec_len devices.old) (λ catalogue. Ran K.taken A.calls A.whole
+        sink.old sink.new devices.old.items devices.new.items catalogue (take most_lines (lines (S.left source.old))) false) }
+    ensures more { result.0 ≡ 14 → S.tells → most_lines < length (lines (S.left source.old)) }
+    ensures ran_before { result.0 ≡ 6 → F.tells → S.tells → K.tells → A.tells → Uses (Some word.now) (F.holds files.old) (vec_len devices.old) (λ catalogue.
+        RanBefore (S.left source.old) (S.left source.new) (λ given. Ran K.taken A.calls A.whole
+        sink.old sink.new devices.old.items devices.new.items catalogue given false)) }
+    ensures broke { MayYield result.0 → F.tells → S.tells → K.tells → A.tells → BrokeProgram (Some word.now) (F.holds files.old) (vec_len devices.old)
+        (K.taken sink.old) (K.taken sink.new) (devices.new ≡ devices.old) (λ catalogue. BrokeOff K.taken A.calls A.whole
+        sink.old sink.new devices.old.items devices.new.items catalogue (lines (S.left source.old))) }
     ensures other { result.0 ≢ 2 }
     ensures catalogue { result.0 ≡ 3 → F.tells → Refuses (Some word.now) (F.holds files.old)
         (vec_len devices.old) (λ refusal. K.tells → K.taken sink.new ≡ K.taken sink.old ++ refusal_line refusal) }
     ensures catalogue_silent { result.0 ≡ 3 → (source.new ≡ source.old) × (devices.new ≡ devices.old) }
     ensures catalogue_only { F.tells → Refuses (Some word.now) (F.holds files.old) (vec_len devices.old)
         (λ refusal. Unit {0}) → (result.0 ≡ 3) ⊎ (result.0 ≡ 5) ⊎ MayYield result.0 }
+    ensures file_fault { Tells result.0 5 (F.faults files.old) (F.faults files.new) }
+    ensures file_silent { result.0 ≡ 5 → (source.new ≡ source.old) × (sink.new ≡ sink.old) × (devices.new ≡ devices.old) }
     ensures read_fault { Tells result.0 6 (S.faults source.old) (S.faults source.new) }
     ensures write_fault { Tells result.0 7 (K.faults sink.old) (K.faults sink.new) }
-    ensures file_fault { Tells result.0 5 (F.faults files.old) (F.faults files.new) }
+    ensures only { IsStatus result.0 }
+    ensures complete { F.tells → S.tells → Uses (Some word.now) (F.holds files.old) (vec_len devices.old) (λ catalogue. Unit {0})
+        → ¬ Rose (F.faults files.old) (F.faults files.new) → ¬ Rose (S.faults source.old) (S.faults source.new)
+        → ¬ Rose (K.faults sink.old) (K.faults sink.new)
+        → has_too_long (lines (S.left source.old)) ≡ false → length (lines (S.left source.old)) ≤ most_lines
+        → (result.0 ≡ 0) ⊎ (result.0 ≡ 8) }
 {
     match load(alloc, files, word.text(), devices.len()) {
         Ok(catalogue) => script_run(alloc, &catalogue, source, sink, devices),

@@ -1,10 +1,10 @@
 use Rattle.std.proofs.Common.{rules, ◌≡◌, ◌<◌, map, sym, ap, subst, ◌∙◌, arith, refl, vec_len}
 use Rattle.std.specs.List.{AllByRecursion}
 use Rattle.boss_model.specs.Catalogue.{actuators}
-use Rattle.boss_manager.specs.Causes.{WriteCause}
+use Rattle.boss_manager.specs.Devices.{HasDevices}
 use Rattle.boss_manager.specs.Runs.{served, stop}
-use Rattle.boss_manager.specs.Weights.{HasDevices}
-use Rattle.boss_manager.proofs.RunLemmas.{did-nothing, did-then}
+use Rattle.boss_manager.proofs.Results.{on-err}
+use Rattle.boss_manager.proofs.RunLemmas.{broke-then, did-nothing, did-then}
 use Rattle.boss_manager.proofs.ServeLemmas.{device-there, did-drained}
 use Rattle.boss_manager.proofs.draining.drain.Goals as goal
 
@@ -12,8 +12,9 @@ pub loop-driver-init : goal.loop-driver-init
 loop-driver-init g c = record {
   plant = refl;
   sound = c.requires.sound;
+  room = refl;
   len = refl;
-  write = refl;
+  cause = refl;
   did = λ tells told. did-nothing (actuators c.args.catalogue.now) (served c.args.catalogue.now c.args.moment) c.args.engine.now.state (g.K.Sink.taken c.args.sink.now)
       (map g.A.Actuators.calls c.args.devices.now.items) (AllByRecursion g.A.Actuators.whole c.args.devices.now.items);
 }
@@ -23,7 +24,8 @@ serve-requires-clause-device g c =
     let inv = c.loop-driver.invariant in
     let devices : HasDevices (vec_len c.loop-driver.devices) c.loop-driver.engine.plant =
     rw (inv.len, inv.plant) c.requires.devices in
-    device-there (vec_len c.loop-driver.devices) c.loop-driver.engine.plant c.loop-driver.engine.state c.in-Some.driver devices inv.sound (sym c.wanting.ensures ∙ c.in-Some.is)
+    device-there (vec_len c.loop-driver.devices) c.loop-driver.engine.plant c.args.moment c.loop-driver.engine.state c.in-Some.driver c.requires.moment devices inv.sound
+    (sym c.wanting.ensures ∙ c.in-Some.is)
 
 pub loop-driver-preserved : goal.loop-driver-preserved
 loop-driver-preserved g c =
@@ -33,14 +35,24 @@ loop-driver-preserved g c =
     record {
       plant = c.serve.ensures.plant ∙ inv.plant;
       sound = c.serve.ensures.sound;
+      room = c.serve.ensures.room ∙ inv.room;
       len = c.serve.ensures.len ∙ inv.len;
-      write = done.write ∙ inv.write;
+      cause = done.cause.fine ∙ inv.cause;
       did = λ tells told. did-then (actuators c.args.catalogue.now) part part part c.args.engine.now.state c.loop-driver.engine.state c.serve.new.engine.state
           (g.K.Sink.taken c.args.sink.now) (g.K.Sink.taken c.loop-driver.sink) (g.K.Sink.taken c.serve.new.sink)
           (map g.A.Actuators.calls c.args.devices.now.items) (map g.A.Actuators.calls c.loop-driver.devices.items) (map g.A.Actuators.calls c.serve.new.devices.items)
           (AllByRecursion g.A.Actuators.whole c.args.devices.now.items) (AllByRecursion g.A.Actuators.whole c.loop-driver.devices.items) (AllByRecursion g.A.Actuators.whole c.serve.new.devices.items)
           (inv.did tells told) (done.did tells told);
     }
+
+pub returns-in_err-serve-clause-broke : goal.returns-in_err-serve-clause-broke
+returns-in_err-serve-clause-broke g c = on-err c.from_residual.result _ (λ tells told.
+    let part = served c.args.catalogue.now c.args.moment in
+    broke-then (actuators c.args.catalogue.now) part part c.args.engine.now.state c.loop-driver.engine.state
+    (g.K.Sink.taken c.args.sink.now) (g.K.Sink.taken c.loop-driver.sink) (g.K.Sink.taken c.serve.new.sink)
+    (map g.A.Actuators.calls c.args.devices.now.items) (map g.A.Actuators.calls c.loop-driver.devices.items) (map g.A.Actuators.calls c.serve.new.devices.items)
+    (AllByRecursion g.A.Actuators.whole c.args.devices.now.items) (AllByRecursion g.A.Actuators.whole c.loop-driver.devices.items) (AllByRecursion g.A.Actuators.whole c.serve.new.devices.items)
+    (c.loop-driver.invariant.did tells told) (c.in_err-serve.ensures.broke tells told))
 
 pub returns-clause-did : goal.returns-clause-did
 returns-clause-did g c = λ tells told.
@@ -49,7 +61,3 @@ returns-clause-did g c = λ tells told.
     (g.K.Sink.taken c.args.sink.now) (g.K.Sink.taken c.loop-driver.sink) (map g.A.Actuators.calls c.args.devices.now.items) (map g.A.Actuators.calls c.loop-driver.devices.items)
     (AllByRecursion g.A.Actuators.whole c.args.devices.now.items) (AllByRecursion g.A.Actuators.whole c.loop-driver.devices.items)
     (inv.plant ∙ c.requires.plant) (sym c.wanting.ensures ∙ c.in_default.is) (inv.did tells told)
-
-pub returns-in_err-serve-clause-write : goal.returns-in_err-serve-clause-write
-returns-in_err-serve-clause-write g c =
-    subst (λ before. WriteCause before (g.K.Sink.faults c.serve.new.sink) c.from_residual.result) c.loop-driver.invariant.write (search rules)

@@ -1,44 +1,77 @@
-use Rattle.std.proofs.Common.{◌≡◌, ◌<◌, ◌≤◌, ◌++◌, ◌+◌, ◌*◌, suc, length, map, sym, ap, subst, ◌∙◌, arith}
+use Rattle.std.proofs.Common.{rules, ◌≡◌, ◌<◌, ◌++◌, ◌∷◌, [], Some, length, map, sym, ap, ap₂, subst, ◌∙◌, arith}
+use Rattle.std.specs.List.{AllByRecursion}
+use Rattle.std.proofs.lemmas.Int.{to_z-of_z}
 use Rattle.std.proofs.lemmas.List.{length-map}
-use Rattle.boss_model.specs.declared.Answer.TheVariants as answer
-use Rattle.boss_model.specs.declared.Command.TheVariants as command
-use Rattle.boss_model.specs.Catalogue.{Point, actuators}
-use Rattle.boss_manager.specs.Weights.{weight}
+use mir.Val.{SFits}
+use mir.Syntax.{w64}
+use Rattle.boss_laws.specs.Draining.{weight}
+use Rattle.boss_laws.proofs.Weighing.{report-lighter, want-of}
+use Rattle.boss_model.specs.declared.answer.Answer.TheVariants as answer
+use Rattle.boss_model.specs.declared.command.Command.TheVariants as command
+use Rattle.boss_model.specs.Catalogue.{actuators}
 use Rattle.boss_model.specs.Machine.{step}
-use Rattle.boss_model.proofs.DrainEnds.{next-falls, report-stays}
-use Rattle.boss_manager.proofs.ServeLemmas.{did-serve, next-point}
+use Rattle.boss_model.specs.State.{State}
+use Rattle.boss_manager.specs.Runs.{Did, served}
+use Rattle.boss_manager.proofs.Results.{on-err}
+use Rattle.boss_manager.proofs.ServeLemmas.{want-there, did-serve, broke-serve}
 use Rattle.boss_manager.proofs.draining.serve.Goals as goal
 
-pub device_line-requires : goal.device_line-requires
-device_line-requires g c =
-    (next-point c.args.catalogue.now c.args.driver c.args.moment c.in-Some.want.point c.in-Some.want.version c.in-Some.want.value c.args.engine.now.plant c.args.engine.now.state
-    c.requires.plant c.requires.moment c.requires.sound (sym c.in-Some.ensures ∙ c.in_ok-answer.ensures.answer)).0
+pub unreachable-requires-in_default-answer : goal.unreachable-requires-in_default-answer
+unreachable-requires-in_default-answer g c =
+    let wanted = want-of c.args.engine.now.plant c.args.moment c.args.engine.now.state c.args.driver c.requires.moment c.requires.sound c.requires.wants in
+    c.in_default-answer.not-Want wanted.point wanted.version wanted.value (c.in-Ok.ensures.answer ∙ wanted.asks)
+
+pub tell_write-requires-clause-known : goal.tell_write-requires-clause-known
+tell_write-requires-clause-known g c =
+    (want-there c.args.catalogue.now c.args.driver c.args.moment c.in-Want.point c.in-Want.version c.in-Want.value c.args.engine.now.plant c.args.engine.now.state
+    c.requires.plant c.requires.moment c.requires.sound c.requires.wants (sym c.in-Ok.ensures.answer ∙ c.in-Want.is)).0
 
 pub step-requires-2-clause-allowed : goal.step-requires-2-clause-allowed
 step-requires-2-clause-allowed g c =
-    let there = (next-point c.args.catalogue.now c.args.driver c.args.moment c.in-Some.want.point c.in-Some.want.version c.in-Some.want.value c.args.engine.now.plant c.args.engine.now.state
-    c.requires.plant c.requires.moment c.requires.sound (sym c.in-Some.ensures ∙ c.in_ok-answer.ensures.answer)).0 in
-    rw (c.step.ensures.plant ∙ c.requires.plant) (omega (arith, there, length-map c.args.catalogue.now.points (λ (p : Point). p.actuator)))
+    subst (λ plant. c.in-Want.point < length plant) (sym c.step.ensures.plant)
+    (want-there c.args.catalogue.now c.args.driver c.args.moment c.in-Want.point c.in-Want.version c.in-Want.value c.args.engine.now.plant c.args.engine.now.state
+    c.requires.plant c.requires.moment c.requires.sound c.requires.wants (sym c.in-Ok.ensures.answer ∙ c.in-Want.is)).1
+
+pub returns-in_err-tell_write-clause-broke : goal.returns-in_err-tell_write-clause-broke
+returns-in_err-tell_write-clause-broke g c = on-err c.from_residual.result _ (λ tells told.
+    let fits : SFits w64 c.in-Want.value = search rules in
+    let asked = sym c.in-Ok.ensures.answer ∙ c.in-Want.is in
+    let there = want-there c.args.catalogue.now c.args.driver c.args.moment c.in-Want.point c.in-Want.version c.in-Want.value c.args.engine.now.plant c.args.engine.now.state
+    c.requires.plant c.requires.moment c.requires.sound c.requires.wants asked in
+    broke-serve c.args.catalogue.now c.args.driver c.args.moment c.in-Want.point c.in-Want.version c.in-Want.value c.command_device-ok.result c.args.engine.now.plant c.args.engine.now.state
+    (g.K.Sink.taken c.args.sink.now) (g.K.Sink.taken c.tell_write.new.sink) (map g.A.Actuators.calls c.args.devices.now.items) (map g.A.Actuators.calls c.command_device-ok.new.devices.items)
+    (AllByRecursion g.A.Actuators.whole c.args.devices.now.items) (AllByRecursion g.A.Actuators.whole c.command_device-ok.new.devices.items)
+    c.requires.plant c.requires.wants asked there.2 (omega (arith, length-map c.args.devices.now.items g.A.Actuators.calls)) (simp to_z-of_z at (c.command_device-ok.ensures.calls told))
+    (simp to_z-of_z at (c.in_err-tell_write.ensures.bytes tells)))
 
 pub returns-clause-lighter : goal.returns-clause-lighter
 returns-clause-lighter g c =
     let s = c.args.engine.now.state in
     let plant = c.args.engine.now.plant in
-    let falls : weight plant c.step.new.self.state < weight plant s =
-    rw c.in_ok-answer.ensures.state (next-falls plant 0 c.args.driver c.args.moment s c.requires.moment c.requires.sound c.requires.wants) in
-    let stays : weight c.step.new.self.plant c.step-2.new.self.state ≤ weight c.step.new.self.plant c.step.new.self.state =
-    rw c.in_ok-step.ensures.state (report-stays c.step.new.self.plant 0 c.in-Some.want.point c.in-Some.want.version c.args.moment c.write_device-ok.result c.step.new.self.state c.requires.moment c.step.ensures.sound) in
-    let stays' : weight plant c.step-2.new.self.state ≤ weight plant c.step.new.self.state =
-    subst (λ p. weight p c.step-2.new.self.state ≤ weight p c.step.new.self.state) c.step.ensures.plant stays in
-    rw (c.step-2.ensures.plant ∙ c.step.ensures.plant) (omega (arith, falls, stays'))
+    let after : c.step-2.new.self.state ≡ (step plant 0 (command.Report c.in-Want.point c.in-Want.version c.command_device-ok.result) c.args.moment (step plant 0 (command.Next c.args.driver) c.args.moment s).state).state =
+    c.in-Ok-step.ensures.state
+    ∙ ap₂ (λ p t. (step p 0 (command.Report c.in-Want.point c.in-Want.version c.command_device-ok.result) c.args.moment t).state) c.step.ensures.plant c.in-Ok.ensures.state in
+    subst (λ p. weight p c.args.moment c.step-2.new.self.state < weight plant c.args.moment s) (sym (c.step-2.ensures.plant ∙ c.step.ensures.plant))
+    (subst (λ t. weight plant c.args.moment t < weight plant c.args.moment s) (sym after)
+    (report-lighter plant c.args.moment s c.args.driver c.in-Want.point c.in-Want.version c.in-Want.value c.command_device-ok.result c.requires.moment c.requires.sound c.requires.wants
+    (sym c.in-Ok.ensures.answer ∙ c.in-Want.is)).1)
 
 pub returns-clause-did : goal.returns-clause-did
 returns-clause-did g c = λ tells told.
-    did-serve c.args.catalogue.now c.args.driver c.args.moment c.in-Some.want.point c.in-Some.want.version c.in-Some.want.value c.write_device-ok.result
-    c.args.engine.now.plant c.step.new.self.plant c.args.engine.now.state c.step.new.self.state c.step-2.new.self.state
-    (g.K.Sink.taken c.args.sink.now) (g.K.Sink.taken c.write.new.self) (map g.A.Actuators.calls c.args.devices.now.items) (map g.A.Actuators.calls c.write_device-ok.new.devices.items)
-    _ _ c.requires.plant c.step.ensures.plant c.requires.moment c.requires.sound c.requires.wants (sym c.in-Some.ensures ∙ c.in_ok-answer.ensures.answer) c.in_ok-answer.ensures.state
-    c.in_ok-step.ensures.state
-    (c.in_ok-write.ensures.bytes tells ∙ ap (λ t. g.K.Sink.taken c.args.sink.now ++ t) (c.deref.ensures.value ∙ c.in_ok-line.ensures))
-    (omega (arith, length-map c.args.devices.now.items g.A.Actuators.calls))
-    (c.write_device-ok.ensures.calls told)
+    let fits : SFits w64 c.in-Want.value = search rules in
+    let s = c.args.engine.now.state in
+    let plant = c.args.engine.now.plant in
+    let asked = sym c.in-Ok.ensures.answer ∙ c.in-Want.is in
+    let there = want-there c.args.catalogue.now c.args.driver c.args.moment c.in-Want.point c.in-Want.version c.in-Want.value plant s
+    c.requires.plant c.requires.moment c.requires.sound c.requires.wants asked in
+    let after : c.step-2.new.self.state ≡ (step plant 0 (command.Report c.in-Want.point c.in-Want.version c.command_device-ok.result) c.args.moment (step plant 0 (command.Next c.args.driver) c.args.moment s).state).state =
+    c.in-Ok-step.ensures.state
+    ∙ ap₂ (λ p t. (step p 0 (command.Report c.in-Want.point c.in-Want.version c.command_device-ok.result) c.args.moment t).state) c.step.ensures.plant c.in-Ok.ensures.state in
+    subst (λ t. Did (actuators c.args.catalogue.now) (served c.args.catalogue.now c.args.moment) (served c.args.catalogue.now c.args.moment) s t
+    (g.K.Sink.taken c.args.sink.now) (g.K.Sink.taken c.tell_write.new.sink) (map g.A.Actuators.calls c.args.devices.now.items) (map g.A.Actuators.calls c.command_device-ok.new.devices.items)
+    (AllByRecursion g.A.Actuators.whole c.args.devices.now.items) (AllByRecursion g.A.Actuators.whole c.command_device-ok.new.devices.items)) (sym after)
+    (did-serve c.args.catalogue.now c.args.driver c.args.moment c.in-Want.point c.in-Want.version c.in-Want.value c.command_device-ok.result plant s
+    (g.K.Sink.taken c.args.sink.now) (g.K.Sink.taken c.tell_write.new.sink) (map g.A.Actuators.calls c.args.devices.now.items) (map g.A.Actuators.calls c.command_device-ok.new.devices.items)
+    (AllByRecursion g.A.Actuators.whole c.args.devices.now.items) (AllByRecursion g.A.Actuators.whole c.command_device-ok.new.devices.items)
+    c.requires.plant c.requires.wants asked there.2 (omega (arith, length-map c.args.devices.now.items g.A.Actuators.calls)) (simp to_z-of_z at (c.command_device-ok.ensures.calls told))
+    (simp to_z-of_z at (c.in_ok-tell_write.ensures.bytes tells)))

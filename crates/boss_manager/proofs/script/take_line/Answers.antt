@@ -1,20 +1,36 @@
-use Rattle.std.proofs.Common.{◌≡◌, ◌++◌, Some, IfSome, map, sym, ap, subst, ◌∙◌}
+use Rattle.std.proofs.Common.{◌≡◌, map, sym, ◌∙◌, false}
 use Rattle.std.specs.List.{AllByRecursion}
-use Rattle.boss_model.specs.Requests.{Request, request_of}
-use Rattle.boss_manager.specs.Served.{IsServed}
-use Rattle.boss_manager.proofs.LineLemmas.{did-blank, did-asked, step-known}
+use Rattle.boss_model.specs.Catalogue.{actuators}
+use Rattle.boss_model.specs.Script.{is_too_long}
+use Rattle.boss_manager.specs.Runs.{line_taken}
+use Rattle.boss_requests.specs.Seen.{seen}
+use Rattle.boss_manager.proofs.Fronts.{line-covers}
+use Rattle.boss_manager.proofs.LineLemmas.{not-long, did-blank, did-request, broke-request, did-refusal, broke-refusal}
+use Rattle.boss_manager.proofs.Results.{err-then, on-err}
+use Rattle.boss_manager.proofs.RunLemmas.{broke-nothing}
 use Rattle.boss_manager.proofs.script.take_line.Goals as goal
 
 pub returns-then-is_blank-clause-did : goal.returns-then-is_blank-clause-did
 returns-then-is_blank-clause-did g c = λ tells told.
-    did-blank c.args.catalogue.now c.args.line.now c.args.engine.now.state (g.K.Sink.taken c.args.sink.now) (map g.A.Actuators.calls c.args.devices.now.items)
-    (AllByRecursion g.A.Actuators.whole c.args.devices.now.items) (sym c.is_blank.ensures ∙ c.if-is_blank.true)
+    did-blank c.args.catalogue.now c.args.line.now (not-long c.args.line.now c.requires.line) (sym c.is_blank.ensures ∙ c.if-is_blank.true) c.args.engine.now.state
+    (g.K.Sink.taken c.args.sink.now) (map g.A.Actuators.calls c.args.devices.now.items) (AllByRecursion g.A.Actuators.whole c.args.devices.now.items)
 
-pub answer_line-requires : goal.answer_line-requires
-answer_line-requires g c =
-    let request : Request = record { at = c.request.inside.at; command = c.request.inside.command } in
-    let is : request ≡ c.in-Some.request = c.request.view_is in
-    let served : IsServed c.args.catalogue.now request =
-    rw is (subst (λ found. IfSome found (IsServed c.args.catalogue.now)) c.in-Some.is c.in_ok-request.ensures.allowed) in
-    rw c.in_ok-answer.ensures.answer
-    (step-known c.args.catalogue.now c.args.engine.now.plant 1 request.command request.at c.args.engine.now.state c.requires.plant served.at served.allowed c.requires.sound)
+pub returns-in_err-tell_answer-in-Err-Refused-clause-broke : goal.returns-in_err-tell_answer-in-Err-Refused-clause-broke
+returns-in_err-tell_answer-in-Err-Refused-clause-broke g c = on-err c.from_residual.result _ (λ tells told.
+    broke-refusal c.args.catalogue.now c.args.line.now (not-long c.args.line.now c.requires.line) (sym c.is_blank.ensures ∙ c.if-is_blank.false) c.in-Err-Refused.refusal (rw c.in-Err-Refused.field-0-is at c.in-Err-Refused.ensures.request)
+    c.args.engine.now.state (g.K.Sink.taken c.args.sink.now) (g.K.Sink.taken c.tell_answer.new.sink) (map g.A.Actuators.calls c.args.devices.now.items) (AllByRecursion g.A.Actuators.whole c.args.devices.now.items) (c.in_err-tell_answer-in-Err-Refused.ensures.bytes tells))
+
+pub returns-in-Ok-clause-broke : goal.returns-in-Ok-clause-broke
+returns-in-Ok-clause-broke g c = err-then c.answer.result _ _ (λ broke tells told.
+    broke-request c.args.catalogue.now c.args.line.now (not-long c.args.line.now c.requires.line) (sym c.is_blank.ensures ∙ c.if-is_blank.false) (seen c.in-Ok.request) c.in-Ok.ensures.request
+    c.args.engine.now.state (g.K.Sink.taken c.args.sink.now) (g.K.Sink.taken c.answer.new.sink) (map g.A.Actuators.calls c.args.devices.now.items) (map g.A.Actuators.calls c.answer.new.devices.items) (AllByRecursion g.A.Actuators.whole c.args.devices.now.items) (AllByRecursion g.A.Actuators.whole c.answer.new.devices.items) (broke tells told)) c.answer.ensures.broke
+
+pub returns-in_ok-tell_answer-in-Err-Refused-clause-did : goal.returns-in_ok-tell_answer-in-Err-Refused-clause-did
+returns-in_ok-tell_answer-in-Err-Refused-clause-did g c = λ tells told.
+    did-refusal c.args.catalogue.now c.args.line.now (not-long c.args.line.now c.requires.line) (sym c.is_blank.ensures ∙ c.if-is_blank.false) c.in-Err-Refused.refusal (rw c.in-Err-Refused.field-0-is at c.in-Err-Refused.ensures.request)
+    c.args.engine.now.state (g.K.Sink.taken c.args.sink.now) (g.K.Sink.taken c.tell_answer.new.sink) (map g.A.Actuators.calls c.args.devices.now.items) (AllByRecursion g.A.Actuators.whole c.args.devices.now.items) (c.in_ok-tell_answer-in-Err-Refused.ensures.bytes tells)
+
+pub returns-in-Err-NoMemory-clause-broke : goal.returns-in-Err-NoMemory-clause-broke
+returns-in-Err-NoMemory-clause-broke g c = λ tells told.
+    broke-nothing (actuators c.args.catalogue.now) (line_taken c.args.catalogue.now c.args.line.now) c.args.engine.now.state (g.K.Sink.taken c.args.sink.now) (map g.A.Actuators.calls c.args.devices.now.items) (AllByRecursion g.A.Actuators.whole c.args.devices.now.items)
+    (line-covers c.args.catalogue.now c.args.line.now)

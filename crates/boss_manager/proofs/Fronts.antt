@@ -1,0 +1,89 @@
+-- Lists that begin with others, and runs that go on with others.
+use Rattle.std.proofs.Common.{◌≡◌, ℕ, Bool, true, false, List, [], ◌∷◌, ◌++◌, Option, Some, None, refl, ap, sym, ◌∙◌, append_assoc, append-nil, ◌||◌, if◌then◌else◌}
+use Rattle.std.specs.List.{fold}
+use Rattle.std.proofs.lemmas.Bool.{cond_both}
+use Rattle.boss_model.specs.declared.answer.Answer.{Answer}
+use Rattle.boss_model.specs.declared.answer.Answer.TheVariants as answer
+use Rattle.boss_model.specs.declared.command.Command.TheVariants as command
+use Rattle.boss_model.specs.declared.form.Form.TheVariants as form
+use Rattle.boss_model.specs.Call.{Call}
+use Rattle.boss_model.specs.Catalogue.{Catalogue, actuators}
+use Rattle.boss_model.specs.Devices.{wanting}
+use Rattle.boss_model.specs.Lines.{is_blank}
+use Rattle.boss_model.specs.Machine.{step}
+use Rattle.boss_model.specs.Requests.{Reading, asks, wrong, Request, reading}
+use Rattle.boss_model.specs.Script.{Run, cut_short, say, serve, carry_out, if_wanting, drain, is_too_long, answered, replied, line_read}
+use Rattle.boss_model.specs.State.{State}
+use Rattle.boss_model.specs.Texts.{answer_text, device_text, line_of, refusal_text, too_long_text}
+use Rattle.boss_manager.specs.Runs.{IsFrontOf, Covers, served, lines_taken}
+
+-- ---- fronts
+
+pub front-whole : {A : Type 0} (xs : List A) → IsFrontOf xs xs
+front-whole xs = ([], sym (append-nil xs))
+
+pub front-trans : {A : Type 0} (xs ys zs : List A) → IsFrontOf xs ys → IsFrontOf ys zs → IsFrontOf xs zs
+front-trans xs ys zs first second = (first.0 ++ second.0, second.1 ∙ ap (λ front. front ++ second.0) first.1 ∙ append_assoc xs first.0 second.0)
+
+pub front-under : {A : Type 0} (before xs ys : List A) → IsFrontOf xs ys → IsFrontOf (before ++ xs) (before ++ ys)
+front-under before xs ys front = (front.0, ap (λ rest. before ++ rest) front.1 ∙ sym (append_assoc before xs front.0))
+
+pub covers-trans : (run later : Run) (text : List ℕ) (calls : List Call) → Covers later run.text run.calls → Covers run text calls → Covers later text calls
+covers-trans run later text calls second first = (front-trans text run.text later.text first.0 second.0, front-trans calls run.calls later.calls first.1 second.1)
+
+-- ---- each part of a script goes on
+
+stays : (run : Run) → Covers run run.text run.calls
+stays run = (front-whole run.text, front-whole run.calls)
+
+carry-covers : (catalogue : Catalogue) (moment : ℕ) (given : Answer) (ok : Bool) (run : Run) → Covers (carry_out catalogue moment given ok run) run.text run.calls
+carry-covers catalogue moment (answer.Want point version value) ok run =
+    ((line_of (device_text catalogue point value ok), refl), (record { point = point; value = value; ok = ok } ∷ [], refl))
+carry-covers catalogue moment given ok run = stays run
+
+if-covers : (found : Option ℕ) (go : ℕ → Run) (run : Run) (text : List ℕ) (calls : List Call) → ((driver : ℕ) → Covers (go driver) text calls) → Covers run text calls →
+    Covers (if_wanting found go run) text calls
+if-covers None go run text calls goes rests = rests
+if-covers (Some driver) go run text calls goes rests = goes driver
+
+pub drain-covers : (catalogue : Catalogue) (moment : ℕ) (results : List Bool) (run : Run) → Covers (drain catalogue moment results run) run.text run.calls
+unfolding drain
+drain-covers catalogue moment [] run = if-covers (wanting (actuators catalogue) run.state) (λ driver. cut_short (record run { results = [] })) (record run { results = [] }) run.text run.calls
+    (λ driver. stays run) (stays run)
+drain-covers catalogue moment (ok ∷ results) run = if-covers (wanting (actuators catalogue) run.state)
+    (λ driver. drain catalogue moment results (serve catalogue moment ok driver (record run { results = results }))) (record run { results = ok ∷ results }) run.text run.calls
+    (λ driver.
+    let after = serve catalogue moment ok driver (record run { results = results }) in
+    let asked = step (actuators catalogue) 0 (command.Next driver) moment run.state in
+    covers-trans after (drain catalogue moment results after) run.text run.calls (drain-covers catalogue moment results after)
+    (carry-covers catalogue moment asked.answer ok (record run { results = results; state = asked.state }))) (stays run)
+
+pub served-covers : (catalogue : Catalogue) (moment : ℕ) (run : Run) → Covers (served catalogue moment run) run.text run.calls
+served-covers catalogue moment run = drain-covers catalogue moment run.results run
+
+pub answered-covers : (catalogue : Catalogue) (request : Request) (run : Run) → Covers (answered catalogue request run) run.text run.calls
+answered-covers catalogue request run =
+    let done = step (actuators catalogue) request.on request.command request.at run.state in
+    let told = say (answer_text catalogue done.answer) (record run { state = done.state }) in
+    covers-trans told (answered catalogue request run) run.text run.calls (drain-covers catalogue request.at run.results told)
+    ((line_of (answer_text catalogue done.answer), refl), front-whole run.calls)
+
+replied-covers : (catalogue : Catalogue) (asked : Reading Request) (run : Run) → Covers (replied catalogue asked run) run.text run.calls
+replied-covers catalogue (wrong why) run = ((line_of (refusal_text why), refl), front-whole run.calls)
+replied-covers catalogue (asks request) run = answered-covers catalogue request run
+
+pub line-covers : (catalogue : Catalogue) (line : List ℕ) (run : Run) → Covers (line_read catalogue run line) run.text run.calls
+line-covers catalogue line run =
+    let reply = replied catalogue (reading catalogue form.Script line) run in
+    let long : Run = record (say too_long_text run) { over = true } in
+    cond_both (run.short || run.over) run (if is_too_long line then long else (if is_blank line then run else reply)) (λ later. Covers later run.text run.calls)
+    (λ _. stays run)
+    (λ _. cond_both (is_too_long line) long (if is_blank line then run else reply) (λ later. Covers later run.text run.calls)
+    (λ _. ((line_of too_long_text, refl), front-whole run.calls))
+    (λ _. cond_both (is_blank line) run reply (λ later. Covers later run.text run.calls) (λ _. stays run) (λ _. replied-covers catalogue (reading catalogue form.Script line) run)))
+
+pub lines-cover : (catalogue : Catalogue) (all : List (List ℕ)) (run : Run) → Covers (lines_taken catalogue all run) run.text run.calls
+lines-cover catalogue [] run = stays run
+lines-cover catalogue (line ∷ rest) run =
+    covers-trans (line_read catalogue run line) (lines_taken catalogue (line ∷ rest) run) run.text run.calls
+    (lines-cover catalogue rest (line_read catalogue run line)) (line-covers catalogue line run)
