@@ -1,4 +1,4 @@
-use Rattle.std.proofs.Common.{◌≡◌, ◌≢◌, ℕ, zero, suc, ◌+◌, ◌<◌, Bool, List, [], ◌∷◌, ◌++◌, length, take, drop, slice_index, Some, if◌then◌else◌, refl, sym, ◌∙◌, ap, subst, append-nil, add-one, eq-eqb, arith}
+use Rattle.std.proofs.Common.{◌≡◌, ◌≢◌, ℕ, zero, suc, ◌+◌, ◌<◌, Bool, List, [], ◌∷◌, ◌++◌, length, take, drop, slice_index, Option, Some, None, inl, inr, if◌then◌else◌, refl, sym, ◌∙◌, ap, subst, append-nil, append_assoc, add-one, eq-eqb, arith}
 use Rattle.std.specs.List.{onto_first}
 use Rattle.std.proofs.lemmas.Bool.{ne_eqb}
 use Rattle.std.proofs.lemmas.List.{get_or_append_left, length-append, take_all, drop_all}
@@ -6,7 +6,7 @@ use Rattle.boss_model.specs.Lines.{lines}
 use Rattle.boss_lines.specs.declared.window.TheConstants.{LONGEST_LINE}
 use Rattle.boss_lines.specs.declared.reader.Next.{Next}
 use Rattle.boss_lines.specs.declared.reader.Next.TheVariants.{Line, Finish, TooLong, ReadFault}
-use Rattle.boss_lines.specs.Lines.{Answers, BeginsTooLong, Leaves, stop_at}
+use Rattle.boss_lines.specs.Lines.{Answers, BeginsTooLong, EndsLine, Leaves, LeavesAhead, NextCause, StopsAt}
 use Rattle.boss_lines.specs.Window.{NoLineEnd, IsTooLong, Shows}
 use Rattle.boss_lines.specs.declared.window.Found.TheVariants.{LineEnd, SourceEnd}
 
@@ -94,10 +94,68 @@ pub Answers-too_long : (held left old line : List ℕ) → held ++ left ≡ old 
 Answers-too_long held left old line all long =
     let whole = subst IsTooLong all (IsTooLong-append held left long) in (all, whole, BeginsTooLong-lines old whole)
 
+-- the bytes that are held, where a line ends at this place
+held-line : (held : List ℕ) (place : ℕ) → place < length held → slice_index held place ≡ 10 → held ≡ take place held ++ 10 ∷ drop (suc place) held
+held-line [] place within is = absurd (omega arith)
+held-line (b ∷ held) zero within is = ap (λ (x : ℕ). x ∷ held) is
+held-line (b ∷ held) (suc place) within is = ap (λ (xs : List ℕ). b ∷ xs) (held-line held place (omega arith) is)
+
+-- the line stands before its end
+pub EndsLine-line : (held left old : List ℕ) (place : ℕ) → held ++ left ≡ old → Shows held (LineEnd place)
+    → EndsLine old (drop (place + 1) held ++ left) (take place held) None
+EndsLine-line held left old place all shows =
+    sym all
+    ∙ ap (λ (xs : List ℕ). xs ++ left) (held-line held place shows.1 shows.2)
+    ∙ append_assoc (take place held) (10 ∷ drop (suc place) held) left
+    ∙ ap (λ (n : ℕ). take place held ++ 10 ∷ (drop n held ++ left)) (sym (add-one place))
+
+-- where the source ended, the line is all
+pub EndsLine-rest : (held left old : List ℕ) → held ++ left ≡ old → left ≡ []
+    → EndsLine old (drop (length held) held ++ left) (take (length held) held) (Some Finish)
+EndsLine-rest held left old all none = (
+  sym all ∙ ap (λ (xs : List ℕ). held ++ xs) none ∙ append-nil held ∙ sym (take_all (length held) held (omega arith)),
+  rw (none, append-nil, drop_all (length held) held (omega arith)) refl,
+)
+
 -- a reader that stopped gives the same answer again
-pub Answers-again : (answer : Next) (ahead left line : List ℕ) → stop_at answer ≡ Some answer → Leaves line ahead answer → Answers (ahead ++ left) (ahead ++ left) line answer
-Answers-again Line ahead left line stops long = absurd cc
-Answers-again Finish ahead left line stops long = absurd cc
-Answers-again TooLong ahead left line stops long =
-    let all = IsTooLong-append ahead left long.1 in (refl, all, BeginsTooLong-lines (ahead ++ left) all)
-Answers-again ReadFault ahead left line stops long = refl
+pub Answers-again : (answer : Next) (ahead left : List ℕ) → LeavesAhead ahead answer → (Some answer ≡ Some Finish → left ≡ []) → Answers (ahead ++ left) (ahead ++ left) [] answer
+Answers-again Line ahead left leaves over = absurd leaves
+Answers-again Finish ahead left leaves over = let none : ahead ++ left ≡ [] = rw (leaves, over refl) refl in (none, none)
+Answers-again TooLong ahead left leaves over =
+    let all = IsTooLong-append ahead left leaves in (refl, all, BeginsTooLong-lines (ahead ++ left) all)
+Answers-again ReadFault ahead left leaves over = refl
+
+pub Leaves-again : (answer : Next) (ahead : List ℕ) → LeavesAhead ahead answer → Leaves [] ahead answer
+Leaves-again Line ahead leaves = absurd leaves
+Leaves-again Finish ahead leaves = (refl, leaves)
+Leaves-again TooLong ahead leaves = (refl, leaves)
+Leaves-again ReadFault ahead leaves = (refl, leaves)
+
+pub StopsAt-again : (answer : Next) (ahead : List ℕ) → LeavesAhead ahead answer → StopsAt answer (Some answer)
+StopsAt-again Line ahead leaves = absurd leaves
+StopsAt-again Finish ahead leaves = refl
+StopsAt-again TooLong ahead leaves = refl
+StopsAt-again ReadFault ahead leaves = refl
+
+pub not-a-line : (answer : Next) (ahead : List ℕ) → LeavesAhead ahead answer → answer ≢ Line
+not-a-line answer ahead leaves is = subst (LeavesAhead ahead) is leaves
+
+pub not-stopped : (stopped : Option Next) → ((answer : Next) → stopped ≡ Some answer → ⊥) → stopped ≡ None
+not-stopped None none = refl
+not-stopped (Some answer) none = absurd (none answer refl)
+
+pub NextCause-again : (answer : Next) (faults : ℕ) → answer ≢ ReadFault → NextCause faults faults answer
+NextCause-again Line faults other = refl
+NextCause-again Finish faults other = refl
+NextCause-again TooLong faults other = refl
+NextCause-again ReadFault faults other = absurd (other refl)
+
+-- behind a line no read has failed
+pub no-fault : (stopped : Option Next) → StopsAt Line stopped → stopped ≢ Some ReadFault
+no-fault stopped stops is = elim stops [ inl none ↦ cc | inr over ↦ cc ]
+
+-- where the source told its end behind a line, none of it is left
+pub none-left : (old ahead left line : List ℕ) (stopped : Option Next) → EndsLine old (ahead ++ left) line stopped → stopped ≡ Some Finish → left ≡ []
+none-left old ahead left line None ends is = absurd cc
+none-left old [] left line (Some answer) ends is = ends.1
+none-left old (b ∷ ahead) left line (Some answer) ends is = absurd cc

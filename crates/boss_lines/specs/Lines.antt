@@ -1,4 +1,4 @@
-use Rattle.std.specs.Prelude.{◌≡◌, ℕ, ◌<◌, ◌≤◌, List, [], ◌∷◌, ◌++◌, length, Option, Some, None}
+use Rattle.std.specs.Prelude.{◌≡◌, ◌⊎◌, ℕ, ◌<◌, ◌≤◌, List, [], ◌∷◌, ◌++◌, length, Option, Some, None}
 use Rattle.boss_model.specs.Lines.{lines}
 use Rattle.boss_outside.specs.Counts.{Rose}
 use Rattle.boss_lines.specs.declared.reader.Next.{Next}
@@ -23,12 +23,22 @@ Answers old new line Finish = (old ≡ []) × (new ≡ [])
 Answers old new line TooLong = (new ≡ old) × IsTooLong old × BeginsTooLong (lines old)
 Answers old new line ReadFault = new ≡ old
 
+-- A line stood before its end; or, where the source has told its end, it is all that was ahead.
+abbrev pub EndsLine : List ℕ → List ℕ → List ℕ → Option Next → Type 0
+EndsLine old new line None = old ≡ line ++ 10 ∷ new
+EndsLine old new line (Some answer) = (old ≡ line) × (new ≡ [])
+
+-- what is left ahead where a reader stopped
+abbrev pub LeavesAhead : List ℕ → Next → Type 0
+LeavesAhead ahead Line = ⊥
+LeavesAhead ahead Finish = ahead ≡ []
+LeavesAhead ahead TooLong = IsTooLong ahead
+LeavesAhead ahead ReadFault = NoLineEnd (length ahead) ahead
+
 -- what an answer leaves: the line, and the bytes that were read ahead
 abbrev pub Leaves : List ℕ → List ℕ → Next → Type 0
 Leaves line ahead Line = length line ≤ LONGEST_LINE
-Leaves line ahead Finish = (line ≡ []) × (ahead ≡ [])
-Leaves line ahead TooLong = (line ≡ []) × IsTooLong ahead
-Leaves line ahead ReadFault = (line ≡ []) × NoLineEnd (length ahead) ahead
+Leaves line ahead answer = (line ≡ []) × LeavesAhead ahead answer
 
 -- the answer is a read fault exactly where the source's count rose
 abbrev pub NextCause : ℕ → ℕ → Next → Type 0
@@ -37,12 +47,10 @@ NextCause before now Finish = now ≡ before
 NextCause before now TooLong = now ≡ before
 NextCause before now ReadFault = Rose before now
 
--- the answer that a reader stops at, if it stops at this one
-abbrev pub stop_at : Next → Option Next
-stop_at Line = None
-stop_at Finish = None
-stop_at TooLong = Some TooLong
-stop_at ReadFault = Some ReadFault
+-- The answer that a reader stops at, once it came to this one: itself, but behind a line the source's end, if it was told.
+abbrev pub StopsAt : Next → Option Next → Type 0
+StopsAt Line stopped = (stopped ≡ None) ⊎ (stopped ≡ Some Finish)
+StopsAt answer stopped = stopped ≡ Some answer
 
 -- what the lines of a source were, where these were given and then this answer, and what is known of all its lines
 abbrev pub GivesAll : List (List ℕ) → List (List ℕ) → Next → Type 0

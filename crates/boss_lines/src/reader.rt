@@ -1,5 +1,5 @@
-ghost use Rattle.std.specs.Prelude.{◌≡◌, ◌≤◌, ℕ, [], ◌++◌, length, None, IfOk, IfSome};
-ghost use Rattle.boss_lines.specs.Lines.{Answers, Leaves, NextCause, stop_at};
+ghost use Rattle.std.specs.Prelude.{◌≡◌, ◌≢◌, ◌≤◌, ℕ, [], ◌++◌, length, Some, None, IfOk, IfSome};
+ghost use Rattle.boss_lines.specs.Lines.{Answers, EndsLine, Leaves, NextCause, StopsAt};
 
 use crate::window::{Found, LONGEST_LINE, Window};
 use boss_model::NoMemory;
@@ -29,6 +29,7 @@ pub struct Lines {
     line: usize,
     /// The same with its line end, if it has one.
     used: usize,
+    /// The answer that it stays at. Behind the last line this is the end, where the source has told it.
     stopped: Option<Next>,
 }
 
@@ -65,26 +66,29 @@ impl Lines {
         &self.window.bytes()[..self.line]
     }
 
-    /// Goes on to the next line. It takes no memory. Once it came to a line that is too long or to a read that failed, it
-    /// stays there and reads no more.
+    /// Goes on to the next line. It takes no memory. Once it came to the end of the source, to a line that is too long or to
+    /// a read that failed, it stays there and reads no more.
     pub fn next<S: Source>(&mut self, source: &mut S) -> Next
-        // Of a source that tells its bytes: those that are ahead are those that were read ahead and those that are left.
-        ensures bytes { S.tells → Answers (self.old.ahead ++ S.left source.old)
-            (self.new.ahead ++ S.left source.new) self.new.line result }
+        // Of a source that tells its bytes, and that has none left once it told its end: those that are ahead are those that
+        // were read ahead and those that are left.
+        ensures bytes { S.tells → (self.old.stopped ≡ Some Next.Finish → S.left source.old ≡ []) →
+            Answers (self.old.ahead ++ S.left source.old) (self.new.ahead ++ S.left source.new) self.new.line result }
+        ensures ends { S.tells → result ≡ Next.Line →
+            EndsLine (self.old.ahead ++ S.left source.old) (self.new.ahead ++ S.left source.new) self.new.line self.new.stopped }
         ensures held { S.tells → S.held source.new ≡ S.held source.old }
 
         // Of every source.
         ensures leaves { Leaves self.new.line self.new.ahead result }
-        ensures cause { self.old.stopped ≡ None → NextCause (S.faults source.old) (S.faults source.new) result }
-        ensures stops { self.new.stopped ≡ stop_at result }
-        ensures stays { IfSome self.old.stopped
-            (λ answer. (result ≡ answer) × (self.new ≡ self.old) × (source.new ≡ source.old)) }
+        ensures cause { self.old.stopped ≢ Some Next.ReadFault → NextCause (S.faults source.old) (S.faults source.new) result }
+        ensures stops { StopsAt result self.new.stopped }
+        ensures stays { IfSome self.old.stopped (λ answer. (result ≡ answer) × (source.new ≡ source.old)
+            × (self.new ≡ record { line = []; ahead = self.old.ahead; stopped = self.old.stopped })) }
     {
+        self.line = 0;
         if let Some(answer) = self.stopped {
             return answer;
         }
         self.window.consume(self.used);
-        self.line = 0;
         self.used = 0;
         match self.window.find_line_end(source) {
             Found::LineEnd(place) => {
@@ -92,14 +96,17 @@ impl Lines {
                 self.used = place + 1;
                 Next::Line
             }
-            Found::SourceEnd => match self.window.bytes().len() {
-                0 => Next::Finish,
-                rest => {
-                    self.line = rest;
-                    self.used = rest;
-                    Next::Line
+            Found::SourceEnd => {
+                self.stopped = Some(Next::Finish);
+                match self.window.bytes().len() {
+                    0 => Next::Finish,
+                    rest => {
+                        self.line = rest;
+                        self.used = rest;
+                        Next::Line
+                    }
                 }
-            },
+            }
             Found::TooFar => {
                 self.stopped = Some(Next::TooLong);
                 Next::TooLong

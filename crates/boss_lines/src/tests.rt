@@ -67,7 +67,7 @@ impl Source for Pieces<'_> {
     ghost suffix = { λ source tells. absurd tells };
 }
 
-/// Whether a reader gives these lines, then this answer, and then the same answer again. Where it stopped, it reads no more.
+/// Whether a reader gives these lines, then this answer, and then the same answer again, without one more read.
 fn expect(
     rt: &impl Abort,
     alloc: Global,
@@ -84,7 +84,7 @@ fn expect(
     assert!(rt; reader.line().is_empty());
     let reads = source.reads;
     assert_eq!(rt; reader.next(&mut source), end);
-    assert!(rt; end == Next::Finish || source.reads == reads);
+    assert_eq!(rt; source.reads, reads);
     Ok(())
 }
 
@@ -160,6 +160,25 @@ fn long_line_is_told_without_one_more_read(rt: HostRuntime) -> Result<(), Fail> 
     let mut reader = Lines::new(rt.alloc())?;
     assert_eq!(rt; reader.next(&mut source), Next::TooLong);
     assert_eq!(rt; source.reads, 65_536);
+    Ok(())
+}
+
+/// A last line without its end is told by the source's end, behind which nothing is read: so no read can fail there.
+#[test]
+fn end_of_a_source_is_read_once(rt: HostRuntime) -> Result<(), Fail> {
+    let alloc = rt.alloc();
+    for (text, lines) in [
+        (b"ab\nc".as_slice(), [b"ab".as_slice(), b"c"].as_slice()),
+        (b"ab\n", &[b"ab"]),
+    ] {
+        expect(
+            &rt,
+            alloc,
+            Pieces::new(text, usize::MAX, 0, 3),
+            lines,
+            Next::Finish,
+        )?;
+    }
     Ok(())
 }
 

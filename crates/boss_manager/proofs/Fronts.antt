@@ -1,6 +1,5 @@
 -- Lists that begin with others, and runs that go on with others.
-use Rattle.std.proofs.Common.{◌≡◌, ℕ, Bool, true, false, List, [], ◌∷◌, ◌++◌, Option, Some, None, refl, ap, sym, ◌∙◌, append_assoc, append-nil, ◌||◌, if◌then◌else◌}
-use Rattle.std.specs.List.{fold}
+use Rattle.std.proofs.Common.{ℕ, Bool, true, List, [], ◌∷◌, ◌++◌, Option, Some, None, refl, ap, sym, ◌∙◌, append_assoc, append-nil, ◌||◌, if◌then◌else◌}
 use Rattle.std.proofs.lemmas.Bool.{cond_both}
 use Rattle.boss_model.specs.declared.answer.Answer.{Answer}
 use Rattle.boss_model.specs.declared.answer.Answer.TheVariants as answer
@@ -13,7 +12,6 @@ use Rattle.boss_model.specs.Lines.{is_blank}
 use Rattle.boss_model.specs.Machine.{step}
 use Rattle.boss_model.specs.Requests.{Reading, asks, wrong, Request, reading}
 use Rattle.boss_model.specs.Script.{Run, cut_short, say, serve, carry_out, if_wanting, drain, is_too_long, answered, replied, line_read}
-use Rattle.boss_model.specs.State.{State}
 use Rattle.boss_model.specs.Texts.{answer_text, device_text, line_of, refusal_text, too_long_text}
 use Rattle.boss_manager.specs.Runs.{IsFrontOf, Covers, served, lines_taken}
 

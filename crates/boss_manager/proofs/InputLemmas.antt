@@ -1,18 +1,15 @@
 -- The lines that a reader gave, and what is left of a source.
-use Rattle.std.proofs.Common.{◌≡◌, ◌≢◌, ◌⊎◌, inl, inr, ℕ, zero, suc, ◌+◌, ◌^◌, ◌<◌, ◌≤◌, ◌==◌, Bool, true, false, ◌||◌, cond, if◌then◌else◌, List, [], ◌∷◌, ◌++◌, length, take, refl, ap, sym, subst, ◌∙◌, append-nil, append_assoc, arith}
+use Rattle.std.proofs.Common.{◌≡◌, ◌≢◌, inl, inr, ℕ, zero, suc, ◌+◌, ◌≤◌, ◌==◌, Bool, true, false, ◌||◌, cond, List, [], ◌∷◌, ◌++◌, length, take, refl, ap, sym, ◌∙◌, append-nil, append_assoc, Option, Some, None, arith}
 use Rattle.std.specs.List.{onto_first, list_any}
-use Rattle.std.specs.Prelude.{slice_index}
+use Rattle.std.specs.Prelude.{IfSome}
 use Rattle.std.proofs.lemmas.Bool.{cond_both}
-use Rattle.std.proofs.lemmas.Bool.Decides.{nat_tests, Decides-eqb}
 use Rattle.std.proofs.lemmas.List.{length-append}
 use Rattle.boss_lines.specs.declared.reader.Next.{Next}
 use Rattle.boss_lines.specs.declared.reader.Next.TheVariants.{Line, Finish, TooLong, ReadFault}
-use Rattle.boss_lines.specs.Lines.{Answers, Leaves}
-use Rattle.boss_lines.specs.Window.{NoLineEnd}
+use Rattle.boss_lines.specs.Lines.{Answers, Leaves, StopsAt}
 use Rattle.boss_model.specs.Lines.{lines, whole_lines, before_first}
 use Rattle.boss_model.specs.Script.{is_too_long}
-use Rattle.boss_outside.specs.Streams.{IsSuffixOf}
-use Rattle.boss_manager.specs.Inputs.{Stopped, WereTaken, has_too_long, most_lines}
+use Rattle.boss_manager.specs.Inputs.{Stopped, has_too_long, most_lines}
 use Rattle.boss_manager.proofs.LineLemmas.{not-long, is-long}
 
 -- ---- the lengths of bytes and of their lines
@@ -69,24 +66,58 @@ take-first [] rest count is = let none : count ≡ 0 = omega (arith, is) in ap (
 take-first (x ∷ first) rest zero is = absurd (omega (arith, is))
 take-first (x ∷ first) rest (suc count) is = ap (λ xs. x ∷ xs) (take-first first rest count (omega (arith, is)))
 
-none-left : {A : Type 0} (xs ys : List A) → xs ++ ys ≡ [] → ys ≡ []
-none-left [] ys is = is
-none-left (x ∷ xs) ys is = cc
+end-of : {A : Type 0} (xs ys : List A) → xs ++ ys ≡ [] → ys ≡ []
+end-of [] ys is = is
+end-of (x ∷ xs) ys is = cc
 
-pub stopped-here : (all given : List (List ℕ)) (old ahead left line : List ℕ) (next : Next) → all ≡ given ++ lines old → Answers old (ahead ++ left) line next → Leaves line ahead next →
-    (next ≡ Line → length given ≡ most_lines) → Stopped all given ahead left next
-stopped-here all given old ahead left line Line is answers leaves full =
-    let whole : all ≡ given ++ line ∷ lines (ahead ++ left) = is ∙ ap (λ ls. given ++ ls) answers.0 in (
-      take-first given (line ∷ lines (ahead ++ left)) most_lines (full refl) ∙ ap (take most_lines) (sym whole),
-      omega (arith, full refl, ap length whole, length-append given (line ∷ lines (ahead ++ left))),
+pub stopped-here : (bytes : List ℕ) (given : List (List ℕ)) (old ahead left line : List ℕ) (next : Next) → lines bytes ≡ given ++ lines old → Answers old (ahead ++ left) line next → Leaves line ahead next →
+    (next ≡ Line → length given ≡ most_lines) → (next ≡ ReadFault → whole_lines bytes ≡ given ++ whole_lines old) → Stopped bytes given ahead left next
+stopped-here bytes given old ahead left line Line is answers leaves full whole =
+    let all : lines bytes ≡ given ++ line ∷ lines (ahead ++ left) = is ∙ ap (λ ls. given ++ ls) answers.0 in (
+      take-first given (line ∷ lines (ahead ++ left)) most_lines (full refl) ∙ ap (take most_lines) (sym all),
+      omega (arith, full refl, ap length all, length-append given (line ∷ lines (ahead ++ left))),
     )
-stopped-here all given old ahead left line Finish is answers leaves full =
-    (sym (is ∙ ap (λ bytes. given ++ lines bytes) answers.0 ∙ append-nil given), none-left ahead left answers.1)
-stopped-here all given old ahead left line TooLong is answers leaves full =
+stopped-here bytes given old ahead left line Finish is answers leaves full whole =
+    (sym (is ∙ ap (λ bs. given ++ lines bs) answers.0 ∙ append-nil given), end-of ahead left answers.1)
+stopped-here bytes given old ahead left line TooLong is answers leaves full whole =
     let begins = answers.2 in
     (begins.0, begins.1, is ∙ ap (λ ls. given ++ ls) begins.2, is-long begins.0 begins.3)
-stopped-here all given old ahead left line ReadFault is answers leaves full =
-    (is ∙ ap (λ bytes. given ++ lines bytes) (sym answers), leaves.1)
+stopped-here bytes given old ahead left line ReadFault is answers leaves full whole =
+    (whole refl ∙ ap (λ bs. given ++ whole_lines bs) (sym answers), leaves.1)
+
+-- ---- whether a reader goes on
+
+-- it gave a line, and now it comes to another answer than the end of the source: the source has not told its end
+pub still-going : (P Q : Next → Type 0) (stopped : Option Next) (next : Next) → StopsAt Line stopped → IfSome stopped (λ answer. (next ≡ answer) × P answer × Q answer) → next ≢ Finish → stopped ≡ None
+still-going P Q None next stops stays other = refl
+still-going P Q (Some answer) next stops stays other = elim stops [ inl none ↦ absurd cc | inr over ↦ absurd (other (let is = stays.0 in cc)) ]
+
+some-line : (xs new : List ℕ) → 1 ≤ length (lines (xs ++ 10 ∷ new))
+some-line [] new = omega arith
+some-line (x ∷ xs) new = lines-some x (xs ++ 10 ∷ new)
+
+-- a line that stands before its end is one of those that have their end
+whole-line : (line new : List ℕ) → lines (line ++ 10 ∷ new) ≡ line ∷ lines new → whole_lines (line ++ 10 ∷ new) ≡ line ∷ whole_lines new
+whole-line [] new is = refl
+whole-line (b ∷ line) new is = by (b == 10) (whole-line line new) is
+  where
+    rest : (all : List (List ℕ)) → 1 ≤ length all → onto_first b all ≡ (b ∷ line) ∷ lines new → all ≡ line ∷ lines new
+    rest [] some same = absurd (omega (arith, some))
+    rest (first ∷ more) some same = let first-is : first ≡ line = cc in let more-is : more ≡ lines new = cc in ap (λ l. l ∷ more) first-is ∙ ap (λ ls. line ∷ ls) more-is
+
+    by : (ends : Bool) → (lines (line ++ 10 ∷ new) ≡ line ∷ lines new → whole_lines (line ++ 10 ∷ new) ≡ line ∷ whole_lines new) →
+        cond ends ([] ∷ lines (line ++ 10 ∷ new)) (onto_first b (lines (line ++ 10 ∷ new))) ≡ (b ∷ line) ∷ lines new →
+        cond ends ([] ∷ whole_lines (line ++ 10 ∷ new)) (before_first b (whole_lines (line ++ 10 ∷ new))) ≡ (b ∷ line) ∷ whole_lines new
+    by true behind same = absurd cc
+    by false behind same = ap (before_first b) (behind (rest (lines (line ++ 10 ∷ new)) (some-line line new) same))
+
+pub one-more-whole : (bytes : List ℕ) (given : List (List ℕ)) (old new line : List ℕ) → whole_lines bytes ≡ given ++ whole_lines old → old ≡ line ++ 10 ∷ new → lines old ≡ line ∷ lines new →
+    whole_lines bytes ≡ (given ++ line ∷ []) ++ whole_lines new
+one-more-whole bytes given old new line is ends next =
+    is
+    ∙ ap (λ bs. given ++ whole_lines bs) ends
+    ∙ ap (λ ls. given ++ ls) (whole-line line new (ap lines (sym ends) ∙ next))
+    ∙ sym (append_assoc given (line ∷ []) (whole_lines new))
 
 -- ---- lines one after another
 

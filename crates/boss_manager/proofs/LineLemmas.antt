@@ -1,6 +1,5 @@
 -- A line taken, and lines taken, as parts of a script.
-use Rattle.std.proofs.Common.{◌≡◌, ℕ, Bool, true, false, List, [], ◌∷◌, ◌++◌, cond, refl, ap, ap₂, sym, subst, ◌∙◌, append-nil, append_assoc, arith, nat_lt, length, ◌<◌, ◌≤◌, ◌^◌, Result, Ok, Err, if◌then◌else◌}
-use Rattle.std.specs.List.{fold, AllByRecursion}
+use Rattle.std.proofs.Common.{◌≡◌, ℕ, Bool, true, false, List, [], ◌∷◌, ◌++◌, refl, ap, sym, subst, ◌∙◌, append-nil, arith, length, ◌<◌, ◌≤◌, ◌^◌}
 use Rattle.std.proofs.lemmas.Bool.Decides.{nat_tests}
 use Rattle.boss_laws.proofs.Tellable.{tellable}
 use Rattle.boss_model.specs.declared.answer.Refusal.{Refusal}
@@ -12,14 +11,14 @@ use Rattle.boss_model.specs.Catalogue.{Catalogue, actuators}
 use Rattle.boss_model.specs.Lines.{is_blank}
 use Rattle.boss_model.specs.Machine.{step}
 use Rattle.boss_model.specs.Requests.{Reading, asks, wrong, Request, reading}
-use Rattle.boss_model.specs.Script.{Run, is_too_long, say, answered, replied, line_read}
+use Rattle.boss_model.specs.Script.{Run, is_too_long, answered, replied, line_read}
 use Rattle.boss_model.specs.Sound.{IsAllowed, IsSound}
 use Rattle.boss_model.specs.State.{State}
 use Rattle.boss_model.specs.Tellable.{IsTellable}
 use Rattle.boss_model.specs.Texts.{answer_text, line_of, refusal_text}
 use Rattle.boss_outside.specs.Streams.{TakesFront}
-use Rattle.boss_manager.specs.Runs.{at, Did, Broke, Leads, dealt, line_taken, lines_taken, served, stop}
-use Rattle.boss_manager.proofs.Fronts.{served-covers, answered-covers, lines-cover, line-covers, front-whole}
+use Rattle.boss_manager.specs.Runs.{at, Did, Broke, Leads, line_taken, lines_taken, served, stop}
+use Rattle.boss_manager.proofs.Fronts.{served-covers, lines-cover, front-whole}
 use Rattle.boss_manager.proofs.RunLemmas.{broke-told, broke-then, broke-under, broke-same, dealt-none, did-told, did-nothing, did-then, did-under, did-same}
 
 -- a sound state's answer to a request can be told

@@ -1,8 +1,8 @@
 -- The wants of the beginning and the lines behind them, as a script.
-use Rattle.std.proofs.Common.{◌≡◌, ℕ, Bool, true, false, List, [], ◌∷◌, ◌++◌, refl, ap, ap₂, sym, subst, ◌∙◌, append-nil, append_assoc}
+use Rattle.std.proofs.Common.{◌≡◌, ℕ, Bool, true, false, List, [], ◌∷◌, ◌++◌, refl, ap, sym, subst, ◌∙◌, append-nil, append_assoc}
 use Rattle.boss_model.specs.Call.{Call}
 use Rattle.boss_model.specs.Catalogue.{Catalogue, actuators}
-use Rattle.boss_model.specs.Script.{Run, is_too_long, line_read, say, script}
+use Rattle.boss_model.specs.Script.{Run, is_too_long, script}
 use Rattle.boss_model.specs.Settle.{first_state}
 use Rattle.boss_model.specs.State.{State}
 use Rattle.boss_model.specs.Texts.{line_of, too_long_text}

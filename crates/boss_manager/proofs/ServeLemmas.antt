@@ -1,10 +1,7 @@
 -- One want served, and wants that are all served, as parts of a script.
-use Rattle.std.proofs.Common.{◌≡◌, ℕ, zero, suc, ◌+◌, ℤ, Bool, List, [], ◌∷◌, ◌++◌, Option, Some, None, refl, ap, ap₂, sym, ◌∙◌, append-nil, true, false, ◌^◌, ◌<◌, ◌≤◌, length, map, subst, arith}
-use Rattle.std.specs.List.{find}
+use Rattle.std.proofs.Common.{◌≡◌, ℕ, zero, suc, ℤ, Bool, List, [], ◌∷◌, ◌++◌, Some, None, ap, ap₂, sym, ◌∙◌, append-nil, true, false, ◌^◌, ◌<◌, ◌≤◌, length, subst, arith}
 use Rattle.std.proofs.lemmas.List.{length-map}
-use Rattle.boss_laws.specs.Draining.{IsWantOf}
 use Rattle.boss_laws.proofs.Weighing.{want-of}
-use Rattle.boss_model.specs.declared.answer.Answer.{Answer}
 use Rattle.boss_model.specs.declared.answer.Answer.TheVariants as answer
 use Rattle.boss_model.specs.declared.command.Command.TheVariants as command
 use Rattle.boss_model.specs.declared.state.Actuator.{Actuator}
@@ -12,7 +9,7 @@ use Rattle.boss_model.specs.Call.{Call}
 use Rattle.boss_model.specs.Catalogue.{Catalogue, actuators, driver_of}
 use Rattle.boss_model.specs.Devices.{wanting}
 use Rattle.boss_model.specs.Machine.{step}
-use Rattle.boss_model.specs.Script.{Run, drain, serve, carry_out, if_wanting}
+use Rattle.boss_model.specs.Script.{drain, serve, carry_out, if_wanting}
 use Rattle.boss_model.specs.Sound.{IsSound}
 use Rattle.boss_model.specs.State.{State}
 use Rattle.boss_model.specs.Texts.{device_text, line_of}

@@ -1,5 +1,5 @@
 -- What the status of a script tells.
-use Rattle.std.proofs.Common.{◌≡◌, ◌≢◌, ◌⊎◌, inl, inr, ℕ, ◌<◌, ◌≤◌, Bool, true, false, List, [], length, take, refl, sym, ◌∙◌, subst, arith, Result, Ok, Err, OnErr}
+use Rattle.std.proofs.Common.{◌≡◌, ◌≢◌, ◌⊎◌, inl, inr, ℕ, ◌<◌, ◌≤◌, Bool, true, false, List, [], length, take, refl, sym, ◌∙◌, arith, Result, Ok, Err, OnErr}
 use Rattle.boss_lines.specs.declared.reader.Next.{Next}
 use Rattle.boss_lines.specs.declared.reader.Next.TheVariants.{Line, Finish, TooLong, ReadFault}
 use Rattle.boss_model.specs.Lines.{lines}

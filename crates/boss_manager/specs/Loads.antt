@@ -1,8 +1,6 @@
-use Rattle.std.specs.Prelude.{◌≡◌, ◌≢◌, ℕ, List, Option, Some, Result, Ok, Err}
+use Rattle.std.specs.Prelude.{◌≡◌, ℕ, List, Option, Some, Result, Ok, Err}
 use Rattle.boss_model.specs.Catalogue.{Catalogue}
 use Rattle.boss_outside.specs.Counts.{Rose}
-use Rattle.boss_points.specs.declared.CatalogueRefusal.{CatalogueRefusal}
-use Rattle.boss_points.specs.declared.CatalogueRefusal.TheVariants.{NoMemory}
 use Rattle.boss_manager.specs.declared.catalogue.Unusable.{Unusable}
 use Rattle.boss_manager.specs.declared.catalogue.Unusable.TheVariants as unusable
 use Rattle.boss_manager.specs.Programs.{usable}

@@ -58,7 +58,7 @@ pub fn script_run<S: Source, K: Sink, A: Actuators>(
         catalogue.now (take most_lines (lines (S.left source.old))) false }
     ensures more { result.0 ≡ 14 → S.tells → most_lines < length (lines (S.left source.old)) }
 
-    // Status 6: it ran over the lines that were read.
+    // Status 6: it ran over the lines that had come whole before the read that failed.
     ensures ran_before { result.0 ≡ 6 → S.tells → K.tells → A.tells → RanBefore (S.left source.old) (S.left source.new)
         (λ given. Ran K.taken A.calls A.whole sink.old sink.new devices.old.items devices.new.items catalogue.now given false) }
 
@@ -151,7 +151,7 @@ fn take_lines<S: Source, K: Sink, A: Actuators>(
     requires devices { HasDevices (vec_len devices.old) engine.old.plant }
 
     ensures ended { S.tells → IfOk result (λ next. (given : List (List ℕ))
-        × Stopped (lines (reader.old.ahead ++ S.left source.old)) given reader.new.ahead (S.left source.new) next
+        × Stopped (reader.old.ahead ++ S.left source.old) given reader.new.ahead (S.left source.new) next
         × (has_too_long given ≡ false)
         × (K.tells → A.tells → Did (actuators catalogue.now) (lines_taken catalogue.now given) stop
         engine.old.state engine.new.state (K.taken sink.old) (K.taken sink.new)

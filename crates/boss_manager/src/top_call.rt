@@ -47,7 +47,7 @@ pub fn boss<F: Files, S: Source, K: Sink, A: Actuators>(
         sink.old sink.new devices.old.items devices.new.items catalogue (take most_lines (lines (S.left source.old))) false) }
     ensures more { result.0 ≡ 14 → S.tells → most_lines < length (lines (S.left source.old)) }
 
-    // Status 6: the script ran over the lines that were read.
+    // Status 6: the script ran over the lines that had come whole before the read that failed.
     ensures ran_before { result.0 ≡ 6 → F.tells → S.tells → K.tells → A.tells → Uses (script_of_words (texts words.now.items)) (F.holds files.old) (vec_len devices.old) (λ catalogue.
         RanBefore (S.left source.old) (S.left source.new) (λ given. Ran K.taken A.calls A.whole
         sink.old sink.new devices.old.items devices.new.items catalogue given false)) }

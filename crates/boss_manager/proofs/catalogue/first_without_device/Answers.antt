@@ -1,8 +1,8 @@
-use Rattle.std.proofs.Common.{◌≡◌, ◌+◌, Some, None, cond, drop, ap, sym, ◌∙◌}
+use Rattle.std.proofs.Common.{◌+◌, Some, cond, drop, ap, sym, ◌∙◌}
 use Rattle.std.specs.List.{position_from}
 use Rattle.boss_points.specs.Seen.{seen}
 use Rattle.boss_manager.specs.Programs.{lacks_device}
-use Rattle.boss_manager.proofs.Places.{position-here, position-past}
+use Rattle.boss_manager.proofs.Places.{position-here}
 use Rattle.boss_manager.proofs.catalogue.first_without_device.Goals as goal
 
 pub returns-then-lacks_device : goal.returns-then-lacks_device

@@ -1,4 +1,4 @@
-use Rattle.std.proofs.Common.{◌≡◌, ◌<◌, length, Err, ap, sym, ◌∙◌}
+use Rattle.std.proofs.Common.{◌<◌, Err, ap, sym, ◌∙◌}
 use Rattle.boss_points.specs.declared.CatalogueRefusal.TheVariants.{TooLong}
 use Rattle.boss_manager.proofs.Places.{all-have, too-long}
 use Rattle.boss_manager.proofs.catalogue.load.Goals as goal

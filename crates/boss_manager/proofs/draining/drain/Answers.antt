@@ -1,8 +1,8 @@
-use Rattle.std.proofs.Common.{rules, ◌≡◌, ◌<◌, map, sym, ap, subst, ◌∙◌, arith, refl, vec_len}
+use Rattle.std.proofs.Common.{map, sym, ◌∙◌, refl, vec_len}
 use Rattle.std.specs.List.{AllByRecursion}
 use Rattle.boss_model.specs.Catalogue.{actuators}
 use Rattle.boss_manager.specs.Devices.{HasDevices}
-use Rattle.boss_manager.specs.Runs.{served, stop}
+use Rattle.boss_manager.specs.Runs.{served}
 use Rattle.boss_manager.proofs.Results.{on-err}
 use Rattle.boss_manager.proofs.RunLemmas.{broke-then, did-nothing, did-then}
 use Rattle.boss_manager.proofs.ServeLemmas.{device-there, did-drained}

@@ -1,4 +1,4 @@
-use Rattle.std.proofs.Common.{rules, ◌≡◌, ◌<◌, ◌++◌, ◌∷◌, [], Some, length, map, sym, ap, ap₂, subst, ◌∙◌, arith}
+use Rattle.std.proofs.Common.{rules, ◌≡◌, ◌<◌, length, map, sym, ap₂, subst, ◌∙◌, arith}
 use Rattle.std.specs.List.{AllByRecursion}
 use Rattle.std.proofs.lemmas.Int.{to_z-of_z}
 use Rattle.std.proofs.lemmas.List.{length-map}
@@ -6,11 +6,9 @@ use mir.Val.{SFits}
 use mir.Syntax.{w64}
 use Rattle.boss_laws.specs.Draining.{weight}
 use Rattle.boss_laws.proofs.Weighing.{report-lighter, want-of}
-use Rattle.boss_model.specs.declared.answer.Answer.TheVariants as answer
 use Rattle.boss_model.specs.declared.command.Command.TheVariants as command
 use Rattle.boss_model.specs.Catalogue.{actuators}
 use Rattle.boss_model.specs.Machine.{step}
-use Rattle.boss_model.specs.State.{State}
 use Rattle.boss_manager.specs.Runs.{Did, served}
 use Rattle.boss_manager.proofs.Results.{on-err}
 use Rattle.boss_manager.proofs.ServeLemmas.{want-there, did-serve, broke-serve}

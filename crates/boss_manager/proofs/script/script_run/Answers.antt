@@ -1,7 +1,7 @@
-use Rattle.std.proofs.Common.{◌≡◌, ◌⊎◌, ℕ, sym, subst, ◌∙◌, List, Bool}
-use Rattle.boss_manager.specs.Causes.{Tells, status_of}
+use Rattle.std.proofs.Common.{◌≡◌, ◌⊎◌, sym, subst, ◌∙◌}
+use Rattle.boss_manager.specs.Causes.{Tells}
 use Rattle.boss_manager.specs.Ends.{IsScriptStatus, MayYield}
-use Rattle.boss_manager.specs.Scripts.{Ran, BrokeOff}
+use Rattle.boss_manager.specs.Scripts.{Ran}
 use Rattle.boss_manager.proofs.StatusLemmas.{at-0, at-6, at-13, at-14, at-broken, completes, is-script-status, read-told, write-told}
 use Rattle.boss_manager.proofs.script.script_run.Goals as goal
 
@@ -37,7 +37,7 @@ pub returns-clause-ran_before : goal.returns-clause-ran_before
 returns-clause-ran_before g c = λ is left tells told.
     let so = at-6 (g.S.Source.left c.args.source.now) (g.S.Source.left c.run.new.source) (λ all is_over. g.K.Sink.tells → g.A.Actuators.tells → Ran g.K.Sink.taken g.A.Actuators.calls g.A.Actuators.whole
     c.args.sink.now c.run.new.sink c.args.devices.now.items c.run.new.devices.items c.args.catalogue.now all is_over) c.run.result (c.run.ensures.ended left) (sym c.status_of.ensures ∙ is) in
-    (so.0, so.1, so.2, so.3, so.4 tells told)
+    (so.0, so.1, so.2 tells told)
 
 pub returns-clause-broke : goal.returns-clause-broke
 returns-clause-broke g c = λ may. at-broken _ c.run.result c.run.ensures.broke (subst MayYield c.status_of.ensures may)

@@ -1,11 +1,10 @@
-use Rattle.std.proofs.Common.{◌≡◌, map, sym, ◌∙◌, false}
+use Rattle.std.proofs.Common.{map, sym, ◌∙◌}
 use Rattle.std.specs.List.{AllByRecursion}
 use Rattle.boss_model.specs.Catalogue.{actuators}
-use Rattle.boss_model.specs.Script.{is_too_long}
 use Rattle.boss_manager.specs.Runs.{line_taken}
 use Rattle.boss_requests.specs.Seen.{seen}
 use Rattle.boss_manager.proofs.Fronts.{line-covers}
-use Rattle.boss_manager.proofs.LineLemmas.{not-long, did-blank, did-request, broke-request, did-refusal, broke-refusal}
+use Rattle.boss_manager.proofs.LineLemmas.{not-long, did-blank, broke-request, did-refusal, broke-refusal}
 use Rattle.boss_manager.proofs.Results.{err-then, on-err}
 use Rattle.boss_manager.proofs.RunLemmas.{broke-nothing}
 use Rattle.boss_manager.proofs.script.take_line.Goals as goal
