@@ -1,9 +1,11 @@
 //! The real things: the standard input and output, and the files of this machine. They count their faults, and tell nothing
-//! of what they hold.
+//! of what they hold. The devices are not real yet: they take every command.
 #![tactic(auto)]
 
 mod console;
+mod devices;
 mod real_files;
 
 pub use console::{StdSink, StdSource};
+pub use devices::idle_devices;
 pub use real_files::RealFiles;

@@ -10,7 +10,7 @@ use Rattle.boss_model.specs.State.{State}
 abbrev pub at : State → List ℕ → List Call → List Bool → Run
 at s text calls results = record { state = s; text = text; calls = calls; results = results; short = false; over = false }
 
--- ---- parts of a script
+-- ---- parts of a script: each takes a script under way as far as the part goes
 
 -- nothing more is carried out
 abbrev pub stop : Run → Run
@@ -27,11 +27,11 @@ line_taken catalogue line run = line_read catalogue run line
 abbrev pub lines_taken : Catalogue → List (List ℕ) → Run → Run
 lines_taken catalogue all run = fold (line_read catalogue) run all
 
--- Carrying out G from state s comes to carrying out H from state s', when the devices' next answers are these: the text
--- gains `told`, and the calls gain `calls`.
+-- From the state `start`, where the devices answer `results` next, carrying out `part` is telling `told`, making the calls
+-- `calls`, and then carrying out `rest` from the state `end`; whatever was told and called earlier, and is answered later.
 abbrev pub Leads : (Run → Run) → (Run → Run) → State → State → List ℕ → List Call → List Bool → Type 0
-Leads G H s s' told calls results = (more : List Bool) (text : List ℕ) (earlier : List Call) →
-    G (at s text earlier (results ++ more)) ≡ H (at s' (text ++ told) (earlier ++ calls) more)
+Leads part rest start end told calls results = (later : List Bool) (text : List ℕ) (earlier : List Call) →
+    part (at start text earlier (results ++ later)) ≡ rest (at end (text ++ told) (earlier ++ calls) later)
 
 -- the one list begins with the other
 abbrev pub IsFrontOf : {A : Type 0} → List A → List A → Type 0
@@ -41,38 +41,41 @@ IsFrontOf {A = A} front whole = (rest : List A) × (whole ≡ front ++ rest)
 abbrev pub Covers : Run → List ℕ → List Call → Type 0
 Covers run text calls = IsFrontOf text run.text × IsFrontOf calls run.calls
 
--- Carrying out G from state s makes the text gain `told` and the calls gain `calls`, and maybe more, when the devices' next
--- answers are these.
+-- From the state `start`, where the devices answer `results` next, carrying out `part` tells `told` and makes the calls `calls`,
+-- and maybe more behind them; whatever was told and called earlier, and is answered later.
 abbrev pub Begins : (Run → Run) → State → List ℕ → List Call → List Bool → Type 0
-Begins G s told calls results = (more : List Bool) (text : List ℕ) (earlier : List Call) →
-    Covers (G (at s text earlier (results ++ more))) (text ++ told) (earlier ++ calls)
+Begins part start told calls results = (later : List Bool) (text : List ℕ) (earlier : List Call) →
+    Covers (part (at start text earlier (results ++ later))) (text ++ told) (earlier ++ calls)
 
--- ---- one list of calls a device, in the order of drivers
+-- ---- the calls of the devices: one list for each driver, and the list of driver 0 stands first
 
--- the device of this driver gains a call
+-- the list of this driver gains a call
 abbrev pub gained : ℕ → Call → List (List Call) → List (List Call)
 gained driver call lists = slice_set lists driver (slice_index_or lists driver [] ++ call ∷ [])
 
--- each device gains the calls to the points behind its driver
+-- The list of each driver gains those of these calls that are to points behind this driver. They stay one after another.
 abbrev pub dealt : List Actuator → List Call → List (List Call) → List (List Call)
 dealt plant calls lists = map (λ device. device.1 ++ filter (λ call. driver_of plant call.point == device.0) calls) (enumerate_from 0 lists)
 
 -- ---- what a part of a script did
+-- The sink had taken `old` and then `new`, and the devices had the calls `before` and then `after`. Of the calls nothing is said
+-- where one is missing among those that the devices noted.
 
--- Where it came to its end: what it told and called is what carrying out G and then H says, for some answers of the devices.
-pub record Did (plant : List Actuator) (G H : Run → Run) (s s' : State) (old new : List ℕ) (before after : List (List Call)) (was_whole is_whole : Type 0) : Type 0 where
+-- The part was carried out as far as `rest`: for some answers of the devices it leads there, with what the sink took and the
+-- calls that the devices gained.
+pub record Did (plant : List Actuator) (part rest : Run → Run) (start end : State) (old new : List ℕ) (before after : List (List Call)) (was_whole is_whole : Type 0) : Type 0 where
   pub results : List Bool
   pub told : List ℕ
   pub calls : List Call
-  pub leads : Leads G H s s' told calls results
+  pub leads : Leads part rest start end told calls results
   pub text : new ≡ old ++ told
   pub devices : is_whole → was_whole × (after ≡ dealt plant calls before)
 
--- Where it broke off: what it told and called is the front of what carrying out G says, for some answers of the devices.
-pub record Broke (plant : List Actuator) (G : Run → Run) (s : State) (old new : List ℕ) (before after : List (List Call)) (was_whole is_whole : Type 0) : Type 0 where
+-- The part broke off: for some answers of the devices it begins with what the sink took and the calls that the devices gained.
+pub record Broke (plant : List Actuator) (part : Run → Run) (start : State) (old new : List ℕ) (before after : List (List Call)) (was_whole is_whole : Type 0) : Type 0 where
   pub results : List Bool
   pub told : List ℕ
   pub calls : List Call
-  pub begins : Begins G s told calls results
+  pub begins : Begins part start told calls results
   pub text : new ≡ old ++ told
   pub devices : is_whole → was_whole × (after ≡ dealt plant calls before)

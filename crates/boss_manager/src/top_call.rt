@@ -1,4 +1,4 @@
-ghost use Rattle.std.specs.Prelude.{◌≡◌, ◌≢◌, ◌⊎◌, ◌++◌, ◌<◌, ◌≤◌, [], false, true, length, take, None, Some, vec_len, IfOk};
+ghost use Rattle.std.specs.Prelude.{◌≡◌, ◌⊎◌, ◌++◌, ◌<◌, ◌≤◌, [], false, true, length, take, None, vec_len, IfOk};
 ghost use Rattle.boss_model.specs.Lines.{lines};
 ghost use Rattle.boss_outside.specs.Counts.{Rose};
 ghost use Rattle.boss_outside.specs.Streams.{TakesFront};
@@ -88,12 +88,15 @@ pub fn boss<F: Files, S: Source, K: Sink, A: Actuators>(
         → (result.0 ≡ 0) ⊎ (result.0 ≡ 8) }
 {
     let word = match asked_catalogue(alloc, words) {
-        Ok(word) => word,
+        Ok(Some(word)) => word,
+        Ok(None) => return say_usage(sink),
         Err(NoMemory) => return Status::NO_MEMORY,
     };
-    match word {
-        Some(word) => run_script(alloc, &word, files, source, sink, devices),
-        None => say_usage(sink),
+    match load(alloc, files, word.text(), devices.len()) {
+        Ok(catalogue) => script_run(alloc, &catalogue, source, sink, devices),
+        Err(Unusable::Refused(refusal)) => say_refusal(alloc, sink, refusal),
+        Err(Unusable::FileFault) => Status::FILE_FAULT,
+        Err(Unusable::NoMemory) => Status::NO_MEMORY,
     }
 }
 
@@ -150,55 +153,5 @@ fn say_refusal<K: Sink>(alloc: Global, sink: &mut K, refusal: CatalogueRefusal) 
     match sink.write(&line) {
         Ok(()) => Status::CATALOGUE,
         Err(_) => Status::WRITE_FAULT,
-    }
-}
-
-/// Runs the script of a catalogue's file.
-fn run_script<F: Files, S: Source, K: Sink, A: Actuators>(
-    alloc: Global,
-    word: &Word,
-    files: &mut F,
-    source: &mut S,
-    sink: &mut K,
-    devices: &mut Vec<A>,
-) -> Status
-    ensures ran { result.0 ≡ 0 → F.tells → S.tells → K.tells → A.tells → Uses (Some word.now) (F.holds files.old) (vec_len devices.old) (λ catalogue. Ran K.taken A.calls A.whole
-        sink.old sink.new devices.old.items devices.new.items catalogue (lines (S.left source.old)) false) }
-    ensures read { result.0 ≡ 0 → S.tells → S.left source.new ≡ [] }
-    ensures none_long { result.0 ≡ 0 → S.tells → has_too_long (lines (S.left source.old)) ≡ false }
-    ensures ran_over { result.0 ≡ 13 → F.tells → S.tells → K.tells → A.tells → Uses (Some word.now) (F.holds files.old) (vec_len devices.old) (λ catalogue. Ran K.taken A.calls A.whole
-        sink.old sink.new devices.old.items devices.new.items catalogue (lines (S.left source.old)) true) }
-    ensures one_long { result.0 ≡ 13 → S.tells → has_too_long (lines (S.left source.old)) ≡ true }
-    ensures ran_most { result.0 ≡ 14 → F.tells → S.tells → K.tells → A.tells → Uses (Some word.now) (F.holds files.old) (vec_len devices.old) (λ catalogue. Ran K.taken A.calls A.whole
-        sink.old sink.new devices.old.items devices.new.items catalogue (take most_lines (lines (S.left source.old))) false) }
-    ensures more { result.0 ≡ 14 → S.tells → most_lines < length (lines (S.left source.old)) }
-    ensures ran_before { result.0 ≡ 6 → F.tells → S.tells → K.tells → A.tells → Uses (Some word.now) (F.holds files.old) (vec_len devices.old) (λ catalogue.
-        RanBefore (S.left source.old) (S.left source.new) (λ given. Ran K.taken A.calls A.whole
-        sink.old sink.new devices.old.items devices.new.items catalogue given false)) }
-    ensures broke { MayYield result.0 → F.tells → S.tells → K.tells → A.tells → BrokeProgram (Some word.now) (F.holds files.old) (vec_len devices.old)
-        (K.taken sink.old) (K.taken sink.new) (devices.new ≡ devices.old) (λ catalogue. BrokeOff K.taken A.calls A.whole
-        sink.old sink.new devices.old.items devices.new.items catalogue (lines (S.left source.old))) }
-    ensures other { result.0 ≢ 2 }
-    ensures catalogue { result.0 ≡ 3 → F.tells → Refuses (Some word.now) (F.holds files.old)
-        (vec_len devices.old) (λ refusal. K.tells → K.taken sink.new ≡ K.taken sink.old ++ refusal_line refusal) }
-    ensures catalogue_silent { result.0 ≡ 3 → (source.new ≡ source.old) × (devices.new ≡ devices.old) }
-    ensures catalogue_only { F.tells → Refuses (Some word.now) (F.holds files.old) (vec_len devices.old)
-        (λ refusal. Unit {0}) → (result.0 ≡ 3) ⊎ (result.0 ≡ 5) ⊎ MayYield result.0 }
-    ensures file_fault { Tells result.0 5 (F.faults files.old) (F.faults files.new) }
-    ensures file_silent { result.0 ≡ 5 → (source.new ≡ source.old) × (sink.new ≡ sink.old) × (devices.new ≡ devices.old) }
-    ensures read_fault { Tells result.0 6 (S.faults source.old) (S.faults source.new) }
-    ensures write_fault { Tells result.0 7 (K.faults sink.old) (K.faults sink.new) }
-    ensures only { IsStatus result.0 }
-    ensures complete { F.tells → S.tells → Uses (Some word.now) (F.holds files.old) (vec_len devices.old) (λ catalogue. Unit {0})
-        → ¬ Rose (F.faults files.old) (F.faults files.new) → ¬ Rose (S.faults source.old) (S.faults source.new)
-        → ¬ Rose (K.faults sink.old) (K.faults sink.new)
-        → has_too_long (lines (S.left source.old)) ≡ false → length (lines (S.left source.old)) ≤ most_lines
-        → (result.0 ≡ 0) ⊎ (result.0 ≡ 8) }
-{
-    match load(alloc, files, word.text(), devices.len()) {
-        Ok(catalogue) => script_run(alloc, &catalogue, source, sink, devices),
-        Err(Unusable::Refused(refusal)) => say_refusal(alloc, sink, refusal),
-        Err(Unusable::FileFault) => Status::FILE_FAULT,
-        Err(Unusable::NoMemory) => Status::NO_MEMORY,
     }
 }

@@ -2,10 +2,9 @@
 //! command, behind each of the sixteen drivers.
 #![tactic(auto)]
 
-use boss_adapters::{RealFiles, StdSink, StdSource};
+use boss_adapters::{RealFiles, StdSink, StdSource, idle_devices};
 use boss_manager::{Status, boss};
-use boss_outside::IdleActuators;
-use std::alloc::{AllocError, Global};
+use std::alloc::AllocError;
 use std::process::ExitCode;
 use std::{env, io};
 
@@ -27,18 +26,9 @@ fn words_of(rt: &HostRuntime) -> Result<Vec<String>, AllocError> {
     }
 }
 
-/// Devices behind each driver.
-fn devices(alloc: Global) -> Result<Vec<IdleActuators>, AllocError> {
-    let mut devices = Vec::new(alloc);
-    for _ in 0..DRIVERS {
-        devices.push(IdleActuators::new())?;
-    }
-    Ok(devices)
-}
-
 fn run(rt: HostRuntime) -> Result<Status, AllocError> {
     let words = words_of(&rt)?;
-    let mut devices = devices(rt.alloc())?;
+    let mut devices = idle_devices(rt.alloc(), DRIVERS)?;
     let mut input = StdSource::new(rt.stdin());
     let mut output = StdSink::new(rt.stdout());
     let mut files = RealFiles::new(rt);

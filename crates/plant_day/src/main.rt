@@ -2,9 +2,8 @@
 //! these lines. What it writes is `day.out`.
 #![tactic(auto)]
 
-use boss_adapters::{RealFiles, StdSink, StdSource};
+use boss_adapters::{RealFiles, StdSink, StdSource, idle_devices};
 use boss_manager::{Status, boss};
-use boss_outside::IdleActuators;
 use std::alloc::{AllocError, Global};
 use std::process::ExitCode;
 
@@ -20,18 +19,9 @@ fn words(alloc: Global) -> Result<Vec<String>, AllocError> {
     Ok(words)
 }
 
-/// A device behind each driver, which takes every command.
-fn devices(alloc: Global) -> Result<Vec<IdleActuators>, AllocError> {
-    let mut devices = Vec::new(alloc);
-    for _ in 0..DRIVERS {
-        devices.push(IdleActuators::new())?;
-    }
-    Ok(devices)
-}
-
 fn run(rt: HostRuntime) -> Result<Status, AllocError> {
     let words = words(rt.alloc())?;
-    let mut devices = devices(rt.alloc())?;
+    let mut devices = idle_devices(rt.alloc(), DRIVERS)?;
     let mut source = StdSource::new(rt.stdin());
     let mut sink = StdSink::new(rt.stdout());
     let mut files = RealFiles::new(rt);
