@@ -106,22 +106,26 @@ fn what_ends_before_a_script_has_its_status(rt: HostRuntime) -> Result<(), Fail>
     Ok(())
 }
 
-/// What was read before is answered.
+/// What came whole before is answered, and a rest without its end is not. Behind the end of the source no read is made.
 #[test]
 fn a_read_fault_has_its_status(rt: HostRuntime) -> Result<(), Fail> {
     let alloc = rt.alloc();
-    let input = text_of(alloc, &[ATTACH_A])?;
+    let whole = text_of(alloc, &[ATTACH_A])?;
+    let rest = ATTACH_A.as_bytes();
     let none: &[&str] = &[];
-    for (name, source, output) in [
-        ("at the first read", 1, none),
-        ("at the second read", 2, &[ATTACHED_A]),
+    let answered: &[&str] = &[ATTACHED_A];
+    for (name, input, source, status, output) in [
+        ("at the first read", whole.as_slice(), 1, 6, none),
+        ("behind a line", whole.as_slice(), 2, 6, answered),
+        ("behind a rest", rest, 2, 6, none),
+        ("behind the end", rest, 3, 0, answered),
     ] {
         let fails = Fails {
             source,
             ..NONE_FAILS
         };
-        let outcome = run(alloc, SCRIPT_WORDS, THREE_POINTS, &input, fails)?;
-        expect(&rt, alloc, name, &outcome, 6, output)?;
+        let outcome = run(alloc, SCRIPT_WORDS, THREE_POINTS, input, fails)?;
+        expect(&rt, alloc, name, &outcome, status, output)?;
     }
     Ok(())
 }
