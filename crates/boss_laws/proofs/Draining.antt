@@ -112,9 +112,6 @@ none-wanted plant (w ∷ ws) none = cc
 -- ---- one round
 
 module _ (plant : List Actuator) (m n : ℕ) (small : m ≤ 2 ^ 60) where
-  -- the state whose want is handed out
-  handed : ℕ → State → State
-  handed point s = record s { wants = without point s.wants }
 
   hand-step : (s : State) (driver point : ℕ) → IsResting plant m n s → find (λ p. driver_of plant p == driver) s.wants ≡ Some point →
       step plant 0 (command.Next driver) m s

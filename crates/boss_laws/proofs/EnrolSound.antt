@@ -1,5 +1,5 @@
 -- A new process keeps a sound durable part sound.
-use Rattle.std.proofs.Common.{◌≡◌, ℕ, ◌+◌, ◌^◌, ◌<◌, ◌≤◌, nat_eq, List, [], ◌∷◌, ◌++◌, length, map, Bool, true, false, ◌||◌, None, refl, arith, length-append}
+use Rattle.std.proofs.Common.{◌≡◌, ℕ, ◌+◌, ◌^◌, ◌<◌, ◌≤◌, nat_eq, List, [], ◌∷◌, ◌++◌, length, map, true, false, None, refl, arith, length-append}
 use Rattle.std.specs.List.{AllByRecursion, list_any}
 use Rattle.std.specs.Cmp.Lexicographic.{pointwise}
 use Rattle.std.proofs.lemmas.Bool.Decides.{nat_tests}
@@ -18,10 +18,6 @@ same-turned [] [] = refl
 same-turned [] (y ∷ ys) = refl
 same-turned (x ∷ xs) [] = refl
 same-turned (x ∷ xs) (y ∷ ys) = grind (arith, nat_tests, same-turned xs ys)
-
-any-snoc : {X : Type 0} (test : X → Bool) (xs : List X) (x : X) → list_any test (xs ++ x ∷ []) ≡ (list_any test xs || test x)
-any-snoc test [] x = grind (arith)
-any-snoc test (y ∷ ys) x = grind (arith, any-snoc test ys x)
 
 names-snoc : (ps : List Process) (p : Process) → DistinctNames (map (λ q. q.name) ps) → AllByRecursion (λ q. pointwise nat_eq q.name p.name ≡ false) ps →
     DistinctNames (map (λ q. q.name) (ps ++ p ∷ []))

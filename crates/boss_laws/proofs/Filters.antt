@@ -1,6 +1,6 @@
 -- What tests make of lists, of lists of lists, and of lists in order.
 use Rattle.std.proofs.Common.{◌≡◌, ℕ, List, [], ◌∷◌, ◌++◌, Bool, true, false, ◌&&◌, ◌||◌, map, refl, ap, sym, ◌∙◌, arith}
-use Rattle.std.specs.List.{filter, flat_map, AllByRecursion}
+use Rattle.std.specs.List.{filter, AllByRecursion}
 use Rattle.std.proofs.lemmas.Bool.{cond_both}
 use Rattle.std.proofs.lemmas.Bool.Decides.{nat_tests}
 use Rattle.boss_model.specs.Order.{comes_before, put, in_order}
@@ -36,13 +36,6 @@ filter-all p (x ∷ xs) all = grind (arith, all.0, filter-all p xs all.1)
 pub filter-map : {X Y : Type 0} (q : Y → Bool) (f : X → Y) (xs : List X) → filter q (map f xs) ≡ map f (filter (λ x. q (f x)) xs)
 filter-map q f [] = refl
 filter-map q f (x ∷ xs) = grind (arith, filter-map q f xs)
-
-pub flat_map-filter : {X Y : Type 0} (p : X → Bool) (t : Y → Bool) (f : X → List Y) (xs : List X) →
-    AllByRecursion (λ x. p x ≡ false → filter t (f x) ≡ []) xs → filter t (flat_map f (filter p xs)) ≡ filter t (flat_map f xs)
-flat_map-filter p t f [] none = refl
-flat_map-filter p t f (x ∷ xs) none = cond_both (p x) (x ∷ filter p xs) (filter p xs) (λ zs. filter t (flat_map f zs) ≡ filter t (f x ++ flat_map f xs))
-    (λ _. filter-append t (f x) (flat_map f (filter p xs)) ∙ ap (λ zs. filter t (f x) ++ zs) (flat_map-filter p t f xs none.1) ∙ sym (filter-append t (f x) (flat_map f xs)))
-    (λ dropped. flat_map-filter p t f xs none.1 ∙ ap (λ zs. zs ++ filter t (flat_map f xs)) (sym (none.0 dropped)) ∙ sym (filter-append t (f x) (flat_map f xs)))
 
 -- what does not pass has P anyway
 pub each-unfilter : {X : Type 0} (P : X → Type 0) (test : X → Bool) → ((x : X) → test x ≡ false → P x) → (xs : List X) →

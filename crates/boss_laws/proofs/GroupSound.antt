@@ -184,9 +184,6 @@ tell-length ps hs = sym (length-map (fold tell ps hs) (λ p. p.name)) ∙ ap len
 
 -- ---- records that stay
 
-abbrev pub same_txn : ℕ → Transaction → Bool
-same_txn txn t = t.txn == txn
-
 -- a record with a part in this slot stays, if the test of those that stay passes its number
 pub part-stays : (test : Option End → Bool) (keeps : Transaction → Bool) (txns : List Transaction) (txn point priority : ℕ) →
     ((t : Transaction) → t.txn ≡ txn → keeps t ≡ true) → has_part test txns txn point priority ≡ true → has_part test (filter keeps txns) txn point priority ≡ true

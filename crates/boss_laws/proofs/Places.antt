@@ -75,9 +75,6 @@ module _ (test : ℕ × Proxy → Bool) (change : ℕ × Proxy → Proxy) where
   proxy_of-changed k ps within = proxy_of-changed_from 0 k ps within ∙ ap (λ n. change_at (n, proxy_of ps k)) (zero-add k)
 
 module _ (test : ℕ × Proxy → Bool) where
-  places_from : ℕ → List Proxy → List ℕ
-  places_from place ps = map (λ e. e.0) (filter test (enumerate_from place ps))
-
   above-places : (least place : ℕ) (ps : List Proxy) → least < place → AllByRecursion (λ x. least < x) (map (λ (e : ℕ × Proxy). e.0) (filter test (enumerate_from place ps)))
   above-places least place [] above = tt
   above-places least place (p ∷ ps) above =
