@@ -17,7 +17,7 @@ use Rattle.boss_model.specs.Reversions.{over, end_of, reversion_of, courses}
 use Rattle.boss_model.specs.Sound.{IsLease, IsPending, IsSoundDurable}
 use Rattle.boss_model.specs.State.{Durable, pending_slot}
 use Rattle.boss_model.specs.Time.{live, under_way, left, due, expired, record_after, kept, tick_to}
-use Rattle.boss_stages.specs.Stages.{Kept, Stages, number}
+use Rattle.boss_stages.specs.Stages.{Stages, number}
 use Rattle.boss_laws.proofs.Courses.{end-later}
 use Rattle.boss_laws.proofs.Filters.{filter-none, filter-all, filter-same, each-always}
 use Rattle.boss_laws.proofs.GroupSound.{IsChange}
@@ -28,14 +28,14 @@ use Rattle.boss_laws.proofs.TickSound.{map-same, tick-change}
 use Rattle.boss_laws.proofs.Coming.{now_after}
 use Rattle.boss_engine.specs.Books.{Telling, StandsFor, is_end, reverts_on}
 use Rattle.boss_engine.specs.Due.{reverted_by, lease_told, is_done_by, due_told}
-use Rattle.boss_engine.specs.Gathered.{plain, ended_with, lease_tellings, pending_tellings, due_tellings, told_rank, booked_all, AreBooksOf, CanBookAll, with_begun, books_with, has_steps}
+use Rattle.boss_engine.specs.Gathered.{plain, ended_with, lease_tellings, pending_tellings, due_tellings, told_rank, booked_all, AreBooksOf, CanBookAll, has_steps}
 use Rattle.boss_engine.proofs.Changed.{change-opened, change-lived, any-filter, any-map, or-turn, by-records}
 use Rattle.boss_engine.proofs.DueLemmas.{tell-told, finish-told, left-courses, due-told}
 use Rattle.boss_engine.proofs.EndsBooked.{is_way, own-on, map-append, map-plain}
-use Rattle.boss_engine.proofs.Gathering.{each-flat, IsOfLease, IsOfPending, IsGathered, gathered, over_last, over-dead, group, comes, may-book, told-apart, begun-before, may-book-begun}
+use Rattle.boss_engine.proofs.Gathering.{each-flat, IsOfLease, IsOfPending, IsGathered, gathered, over_last, over-dead, group, comes, may-book, told-apart}
 use Rattle.boss_engine.proofs.Keys.{lease_key, pending_key}
 use Rattle.boss_engine.specs.Telling.{AreApart}
-use Rattle.boss_engine.proofs.Points.{map-map, is_on}
+use Rattle.boss_engine.proofs.Points.{map-map}
 use Rattle.boss_engine.proofs.Tellings.{ends, awaits}
 use Rattle.boss_engine.proofs.ToldApart.{owner_of, leases-owned, pending-owned, txns-owned}
 use Rattle.boss_engine.proofs.Weaving.{AreWoven}
@@ -194,9 +194,6 @@ woven-last over_by g owners (e ∷ es) shape owned order last = (
     none_ends txn (y ∷ ys) none = (grind (arith), none_ends txn ys (grind (arith)))
 
 -- ---- the last end of a transaction that is over by n
-
-ends-own : (txn : ℕ) (r : Pending) (e : Telling) → is_on r.txn r.point e ≡ true → ends txn e ≡ (r.txn == txn)
-ends-own txn r e on = grind (arith, nat_tests)
 
 -- of one reversion, and of one lease
 pending-last : (n txn : ℕ) (r : Pending) (steps : List Step) → r.steps ≡ steps → r.start < end_of r → ((r.txn == txn) ≡ true → end_of r ≤ n) →
@@ -434,10 +431,3 @@ module _ (plant : List Actuator) (d : Durable) (s : Stages) (n : ℕ) (sound : I
 
   pub due-apart : AreApart told_rank (due_tellings n d)
   due-apart = told-apart plant d s sound stands [] (lease_tellings n) (pending_tellings n) (expired n) lease_left (is_way n) changed.pending changed.leases is
-
-  -- the record of the next transaction may be begun before
-  pub due-begun : (k : Kept) → number k ≡ d.next → booked_all (with_begun k s) d.processes (due_tellings n d) ≡ books_with k (booked_all s d.processes (due_tellings n d))
-  due-begun = begun-before plant d s sound stands [] (lease_tellings n) (pending_tellings n) (expired n) lease_left (is_way n) changed.pending changed.leases is
-
-  pub due-may-book-begun : (k : Kept) → number k ≡ d.next → CanBookAll (with_begun k s) d.processes (due_tellings n d)
-  due-may-book-begun = may-book-begun plant d s sound stands [] (lease_tellings n) (pending_tellings n) (expired n) lease_left (is_way n) changed.pending changed.leases is

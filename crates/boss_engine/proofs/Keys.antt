@@ -23,10 +23,6 @@ module _ {X : Type 0} (key : X → Bool) where
   Once [] = Unit {0}
   Once (x ∷ xs) = (key x ≡ true → list_any key xs ≡ false) × Once xs
 
-  pub none-found : (xs : List X) → list_any key xs ≡ false → find key xs ≡ None
-  none-found [] none = refl
-  none-found (x ∷ xs) none = grind (arith, none-found xs)
-
   pub found-any : (xs : List X) → find key xs ≡ None → list_any key xs ≡ false
   found-any [] none = refl
   found-any (x ∷ xs) none = ⊎_elim

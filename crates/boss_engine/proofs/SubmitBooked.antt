@@ -28,7 +28,7 @@ use Rattle.boss_engine.specs.Books.{Telling, StandsFor, is_end, all_done, revert
 use Rattle.boss_engine.specs.Gathered.{plain, replaced_tellings, told_rank, booked_all, AreBooksOf, CanBookAll, with_begun, books_with}
 use Rattle.boss_engine.proofs.Changed.{any-filter, any-map, areWoven, by-records}
 use Rattle.boss_engine.proofs.EndsBooked.{done_by, own-on, one_if, one-each, map-append, map-plain, numbers-kept}
-use Rattle.boss_engine.proofs.Gathering.{IsOfLease, IsOfPending, IsGathered, gathered, over_last, group, told, finished, records, reverting, may-book, told-apart, begun-before, may-book-begun}
+use Rattle.boss_engine.proofs.Gathering.{IsOfLease, IsOfPending, IsGathered, gathered, over_last, group, told, finished, records, reverting, told-apart, begun-before, may-book-begun}
 use Rattle.boss_engine.proofs.Keys.{PointsOnce, lease_key, pending_key}
 use Rattle.boss_engine.specs.Telling.{AreApart}
 use Rattle.boss_engine.proofs.Overs.{IsOpen, IsLived, leases-lived}
@@ -280,9 +280,6 @@ module _ (plant : List Actuator) (d : Durable) (s : Stages) (owner : ℕ) (polic
           ((λ point. ap (member point) none ∙ sym (ap (λ t. reverts_on t.txn point pending2) is_begun ∙ reverts-none d.next point pending2 none-pending)), tt);
     };
   })
-
-  pub submit-may-book : CanBookAll s d.processes (replaced_tellings gone broken d.next n d)
-  submit-may-book = subst (CanBookAll s d.processes) all-is (may-book plant d s sound stands [] of_lease of_pending how lease_left pending_left pending2 leases2 is)
 
   pub submit-apart : AreApart told_rank (replaced_tellings gone broken d.next n d)
   submit-apart = subst (AreApart told_rank) all-is (told-apart plant d s sound stands [] of_lease of_pending how lease_left pending_left pending2 leases2 is)
