@@ -37,7 +37,7 @@ use Rattle.boss_engine.proofs.Keys.{lease_key, pending_key}
 use Rattle.boss_engine.specs.Telling.{AreApart}
 use Rattle.boss_engine.proofs.Points.{map-map}
 use Rattle.boss_engine.proofs.Tellings.{ends, awaits}
-use Rattle.boss_engine.proofs.ToldApart.{owner_of, leases-owned, pending-owned, txns-owned}
+use Rattle.boss_engine.proofs.Owners.{owner_of, leases-owned, pending-owned, txns-owned}
 use Rattle.boss_engine.proofs.Weaving.{AreWoven}
 
 -- ---- what is told of one lease and of one reversion

@@ -29,7 +29,8 @@ use Rattle.boss_laws.proofs.TickSound.{to-due}
 use Rattle.boss_engine.specs.Due.{reverted_by, lease_told, is_done_by, done_told, due_told, is_told, is_some_told, last_of_lease, last_of_pending, last_due}
 use Rattle.boss_engine.specs.Playing.{last_turn}
 use Rattle.boss_engine.proofs.Ordering.{in_order-front, flat_map-moved, all-apart, in_order-append}
-use Rattle.boss_engine.proofs.ToldApart.{IsToldOf, told-apart, owner_of, pending-owned, leases-owned, txns-owned}
+use Rattle.boss_engine.proofs.Owners.{owner_of, pending-owned, leases-owned, txns-owned}
+use Rattle.boss_engine.proofs.ToldApart.{IsToldOf, told-apart}
 
 -- ---- what nobody is told changes nobody
 

@@ -30,7 +30,7 @@ use Rattle.boss_engine.proofs.Gathering.{IsOfLease, IsOfPending, IsGathered, gat
 use Rattle.boss_engine.proofs.Keys.{lease_key, pending_key}
 use Rattle.boss_engine.specs.Telling.{AreApart}
 use Rattle.boss_engine.proofs.Points.{map-map}
-use Rattle.boss_engine.proofs.ToldApart.{owner_of, leases-owned, txns-owned}
+use Rattle.boss_engine.proofs.Owners.{owner_of, leases-owned, txns-owned}
 use Rattle.boss_engine.proofs.Weaving.{AreWoven}
 
 -- neither ends a part nor makes a transaction done

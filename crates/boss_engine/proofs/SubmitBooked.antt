@@ -33,7 +33,7 @@ use Rattle.boss_engine.proofs.Keys.{PointsOnce, lease_key, pending_key}
 use Rattle.boss_engine.specs.Telling.{AreApart}
 use Rattle.boss_engine.proofs.Overs.{IsOpen, IsLived, leases-lived}
 use Rattle.boss_engine.proofs.Points.{map-map}
-use Rattle.boss_engine.proofs.ToldApart.{owner_of, leases-owned, pending-owned, txns-owned, next-lives-not}
+use Rattle.boss_engine.proofs.Owners.{owner_of, leases-owned, pending-owned, txns-owned, next-lives-not}
 use Rattle.boss_engine.proofs.Weaving.{AreWoven}
 
 -- ---- parts that stay open
