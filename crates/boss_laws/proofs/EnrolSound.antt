@@ -9,8 +9,8 @@ use Rattle.boss_model.specs.Processes.{process_named, is_full, enrolled}
 use Rattle.boss_model.specs.Sound.{DistinctNames, IsTransaction, IsProcess, IsSoundDurable}
 use Rattle.boss_model.specs.State.{Process, Durable}
 use Rattle.boss_laws.proofs.EndSound.{IsAt}
+use Rattle.boss_laws.proofs.Filters.{none-found}
 use Rattle.boss_laws.proofs.Orders.{each-map, each-append}
-use Rattle.boss_laws.proofs.NotRefused.{none-found}
 use Rattle.boss_laws.proofs.RenewSound.{later-sound}
 
 same-turned : (xs ys : List ℕ) → pointwise nat_eq xs ys ≡ pointwise nat_eq ys xs

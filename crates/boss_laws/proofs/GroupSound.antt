@@ -18,7 +18,7 @@ use Rattle.boss_model.specs.State.{lease_slot, pending_slot, Process, Durable}
 use Rattle.boss_model.specs.Time.{kept}
 use Rattle.boss_laws.proofs.Orders.{each-map, each-filter, each-passed, each-both, each-append, Rising-filter}
 use Rattle.boss_laws.proofs.NothingDue.{of-pending, of-leases}
-use Rattle.boss_laws.proofs.Places.{each-member, member-each}
+use Rattle.boss_laws.proofs.Places.{member-drop, Distinct-drop, each-member, member-each}
 use Rattle.boss_laws.proofs.Records.{IsOther, finish-other, member-snoc}
 
 -- ---- the last transactions that are done
@@ -30,16 +30,6 @@ pub few-finish : (done : List ℕ) (hs : List Happening) → length done ≤ 102
 few-finish done [] few = few
 few-finish done (h ∷ hs) few = few-finish (finish done h) hs
     (cond_both (is_done h.told) (keep_last 1024 (done ++ h.txn ∷ [])) done (λ xs. length xs ≤ 1024) (λ _. length-keep_last 1024 (done ++ h.txn ∷ [])) (λ _. few))
-
-member-drop : (txn n : ℕ) (xs : List ℕ) → member txn xs ≡ false → member txn (drop n xs) ≡ false
-member-drop txn zero xs away = away
-member-drop txn (suc n) [] away = away
-member-drop txn (suc n) (x ∷ xs) away = member-drop txn n xs (grind (arith, nat_tests))
-
-Distinct-drop : (n : ℕ) (xs : List ℕ) → Distinct xs → Distinct (drop n xs)
-Distinct-drop zero xs once = once
-Distinct-drop (suc n) [] once = once
-Distinct-drop (suc n) (x ∷ xs) once = Distinct-drop n xs once.1
 
 pub Distinct-snoc : (xs : List ℕ) (n : ℕ) → Distinct xs → member n xs ≡ false → Distinct (xs ++ n ∷ [])
 Distinct-snoc [] n once away = (refl, tt)
