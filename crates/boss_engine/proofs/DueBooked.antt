@@ -19,7 +19,7 @@ use Rattle.boss_model.specs.State.{Durable, pending_slot}
 use Rattle.boss_model.specs.Time.{live, under_way, left, due, expired, record_after, kept, tick_to}
 use Rattle.boss_stages.specs.Stages.{Stages, number}
 use Rattle.boss_laws.proofs.Courses.{end-later}
-use Rattle.boss_laws.proofs.Filters.{filter-none, filter-all, filter-same, each-always}
+use Rattle.boss_laws.proofs.Filters.{filter-none, filter-all, filter-same, each-always, each-flat_map, any-map}
 use Rattle.boss_laws.proofs.GroupSound.{IsChange}
 use Rattle.boss_laws.proofs.NothingDue.{of-pending, of-leases}
 use Rattle.boss_laws.proofs.Orders.{before-head, each-map, each-append, each-in_order, Ordered, Ordered-in_order}
@@ -29,16 +29,16 @@ use Rattle.boss_laws.proofs.Coming.{now_after}
 use Rattle.boss_engine.specs.Books.{Telling, StandsFor, is_end, reverts_on}
 use Rattle.boss_engine.specs.Due.{reverted_by, lease_told, is_done_by, due_told}
 use Rattle.boss_engine.specs.Gathered.{plain, ended_with, lease_tellings, pending_tellings, due_tellings, told_rank, booked_all, AreBooksOf, CanBookAll, has_steps}
-use Rattle.boss_engine.proofs.Changed.{change-opened, change-lived, any-filter, any-map, or-turn, by-records}
+use Rattle.boss_engine.proofs.Changed.{change-opened, change-lived, any-filter, or-turn, by-records}
 use Rattle.boss_engine.proofs.DueLemmas.{tell-told, finish-told, left-courses, due-told}
 use Rattle.boss_engine.proofs.EndsBooked.{is_way, own-on, map-append, map-plain}
-use Rattle.boss_engine.proofs.Gathering.{each-flat, IsOfLease, IsOfPending, IsGathered, gathered, over_last, over-dead, group, comes, may-book, told-apart}
+use Rattle.boss_engine.proofs.Gathering.{IsOfLease, IsOfPending, IsGathered, gathered, over_last, over-dead, group, comes, may-book, told-apart}
 use Rattle.boss_engine.proofs.Keys.{lease_key, pending_key}
 use Rattle.boss_engine.specs.Telling.{AreApart}
 use Rattle.boss_engine.proofs.Points.{map-map}
 use Rattle.boss_engine.proofs.Tellings.{ends, awaits}
 use Rattle.boss_engine.proofs.Owners.{owner_of, leases-owned, pending-owned, txns-owned}
-use Rattle.boss_engine.proofs.Weaving.{AreWoven}
+use Rattle.boss_engine.proofs.Weaving.{AreWoven, none-awaited}
 
 -- ---- what is told of one lease and of one reversion
 
@@ -177,7 +177,7 @@ woven-last over_by g owners (e ∷ es) shape owned order last = (
       let none : awaits h.txn es ≡ false = grind (arith) in
       let here : ends h.txn e ≡ true = grind (arith, nat_tests) in
       let at : (g h.txn).at ≡ h.at = last h.txn done (ap (λ b. b || awaits h.txn es) here)
-      ∙ last-first told_at (ends h.txn) e es ∙ (λ i. max (cond (here i) h.at 0) (last-none told_at (ends h.txn) es (none_ends h.txn es none) i)) ∙ only h.at in
+      ∙ last-first told_at (ends h.txn) e es ∙ (λ i. max (cond (here i) h.at 0) (last-none told_at (ends h.txn) es (none-awaited h.txn es none) i)) ∙ only h.at in
       sym (shape h.txn ∙ (λ i. record { at = at i; txn = h.txn; owner = sym (owned.0 end) i; told = Some what.Done }))),
   woven-last over_by g owners es shape owned.1 order.1
       (λ txn done more. last txn done (rest_too txn more) ∙ last-behind txn e es order.0 more),
@@ -188,10 +188,6 @@ woven-last over_by g owners (e ∷ es) shape owned order last = (
 
     rest_too : (txn : ℕ) → awaits txn es ≡ true → awaits txn (e ∷ es) ≡ true
     rest_too txn more = grind (arith)
-
-    none_ends : (txn : ℕ) (ys : List Telling) → awaits txn ys ≡ false → AllByRecursion (λ y. ends txn y ≡ false) ys
-    none_ends txn [] none = tt
-    none_ends txn (y ∷ ys) none = (grind (arith), none_ends txn ys (grind (arith)))
 
 -- ---- the last end of a transaction that is over by n
 
@@ -381,9 +377,9 @@ module _ (plant : List Actuator) (d : Durable) (s : Stages) (n : ℕ) (sound : I
 
   owned : AllByRecursion (IsOwned (owner_of d.txns)) all
   owned = each-append (IsOwned (owner_of d.txns)) (flat_map (lease_tellings n) d.leases) (flat_map (pending_tellings n) d.pending)
-      (each-flat (IsOwned (owner_of d.txns)) (lease_tellings n) d.leases (each-map (λ l. l.owner ≡ owner_of d.txns l.txn) (λ l. AllByRecursion (IsOwned (owner_of d.txns)) (lease_tellings n l))
+      (each-flat_map (IsOwned (owner_of d.txns)) (lease_tellings n) d.leases (each-map (λ l. l.owner ≡ owner_of d.txns l.txn) (λ l. AllByRecursion (IsOwned (owner_of d.txns)) (lease_tellings n l))
       (λ l o. lease-owned-told (owner_of d.txns) n l o) d.leases (leases-owned plant d sound)))
-      (each-flat (IsOwned (owner_of d.txns)) (pending_tellings n) d.pending (each-map (λ r. r.owner ≡ owner_of d.txns r.txn) (λ r. AllByRecursion (IsOwned (owner_of d.txns)) (pending_tellings n r))
+      (each-flat_map (IsOwned (owner_of d.txns)) (pending_tellings n) d.pending (each-map (λ r. r.owner ≡ owner_of d.txns r.txn) (λ r. AllByRecursion (IsOwned (owner_of d.txns)) (pending_tellings n r))
       (λ r o. pending-owned-told (owner_of d.txns) n r o) d.pending (pending-owned plant d sound)))
 
   so : AreWoven over_by g es

@@ -20,7 +20,7 @@ use Rattle.boss_model.specs.State.{pending_slot, Process, Durable}
 use Rattle.boss_model.specs.Time.{live, under_way, left, due, kept, record_after, expired, tick_to}
 use Rattle.boss_laws.proofs.Coming.{later-first, later-most, all_of, now_after, quiet}
 use Rattle.boss_laws.proofs.Courses.{over-later, courses-after}
-use Rattle.boss_laws.proofs.Filters.{filter-filter, filter-alike, filter-append, filter-map, each-mapped, each-always}
+use Rattle.boss_laws.proofs.Filters.{filter-filter, filter-alike, filter-append, filter-map, each-mapped, each-always, each-flat_map, few-filter}
 use Rattle.boss_laws.proofs.GroupSound.{tell-length}
 use Rattle.boss_laws.proofs.NothingDue.{of-pending, of-leases, nothing-due}
 use Rattle.boss_laws.proofs.Orders.{each-append, each-map, each-filter, each-in_order, each-front, each-back, filter-in_order}
@@ -270,10 +270,6 @@ flat_map-same : {X Y : Type 0} (f g : X → List Y) (xs : List X) → AllByRecur
 flat_map-same f g [] same = refl
 flat_map-same f g (x ∷ xs) same = λ i. same.0 i ++ flat_map-same f g xs same.1 i
 
-each-flat_map : {X Y : Type 0} (P : Y → Type 0) (f : X → List Y) (xs : List X) → AllByRecursion (λ x. AllByRecursion P (f x)) xs → AllByRecursion P (flat_map f xs)
-each-flat_map P f [] all = tt
-each-flat_map P f (x ∷ xs) all = each-append P (f x) (flat_map f xs) all.0 (each-flat_map P f xs all.1)
-
 -- it is due, and somebody is told
 abbrev is_due_told : ℕ → ℕ → Happening → Bool
 is_due_told now n h = nat_lt now h.at && (nat_le h.at n && is_some_told h)
@@ -399,11 +395,6 @@ due-told plant d n sound =
     sym (one ∙ ap (in_order rank) parts ∙ around ∙ in_order-front rank done (flat_map f cs) (leased ++ under) (moved ∙ leases_first) ∙ told_last)
 
 -- ---- what is there after a tick
-
-pub few-filter : {X : Type 0} (test : X → Bool) (xs : List X) → length (filter test xs) ≤ length xs
-few-filter test [] = omega arith
-few-filter test (x ∷ xs) = cond_both (test x) (x ∷ filter test xs) (filter test xs) (λ ys. length ys ≤ length (x ∷ xs))
-    (λ _. omega (arith, few-filter test xs)) (λ _. omega (arith, few-filter test xs))
 
 length-put : {X : Type 0} (order : X → List ℕ) (x : X) (ys : List X) → length (put order x ys) ≡ length ys + 1
 length-put order x [] = refl

@@ -19,13 +19,13 @@ use Rattle.boss_model.specs.Time.{under_way, record_after, kept}
 use Rattle.boss_stages.specs.Stages.{Stages, number}
 use Rattle.boss_laws.proofs.Endings.{IsEnding, IsReverting, ending-change, after_ending}
 use Rattle.boss_laws.proofs.EndSound.{IsAt, ending-if}
-use Rattle.boss_laws.proofs.Filters.{each-mapped, each-always}
+use Rattle.boss_laws.proofs.Filters.{each-mapped, each-always, any-map}
 use Rattle.boss_laws.proofs.GroupSound.{IsChange}
 use Rattle.boss_laws.proofs.Orders.{each-map, each-both, each-filter, each-append, each-in_order}
 use Rattle.boss_laws.proofs.Slots.{any-in_order, any-append}
 use Rattle.boss_engine.specs.Books.{Telling, StandsFor, is_end, all_done, reverts_on}
 use Rattle.boss_engine.specs.Gathered.{plain, ended_with, end_tellings, told_rank, booked_all, AreBooksOf, CanBookAll}
-use Rattle.boss_engine.proofs.Changed.{change-opened, change-lived, any-filter, any-map, any-alike, or-turn, steps-last, areWoven, by-records}
+use Rattle.boss_engine.proofs.Changed.{change-opened, change-lived, any-filter, any-alike, or-turn, steps-last, areWoven, by-records}
 use Rattle.boss_engine.proofs.Gathering.{IsOfLease, IsOfPending, IsGathered, gathered, over_last, group, comes, may-book, told-apart}
 use Rattle.boss_engine.proofs.Keys.{lease_key, pending_key}
 use Rattle.boss_engine.specs.Telling.{AreApart}

@@ -17,7 +17,7 @@ use Rattle.boss_model.specs.Sound.{Rising, Distinct, holds, has_part, is_kept, i
 use Rattle.boss_model.specs.State.{Durable}
 use Rattle.boss_model.specs.Time.{kept, lease_of_part, end_after, part_after, record_after}
 use Rattle.boss_stages.specs.Stages.{Kept, Stages, number, is_over}
-use Rattle.boss_laws.proofs.Filters.{filter-append, filter-none, filter-all, filter-same, filter-map, each-mapped, each-unmapped}
+use Rattle.boss_laws.proofs.Filters.{filter-append, filter-none, filter-all, filter-same, filter-map, each-mapped, each-unmapped, each-flat_map}
 use Rattle.boss_laws.proofs.Orders.{before-self, each-unordered, each-map, each-both, each-append, each-filter, each-in_order, filter-in_order, in_order-Rising, Ordered-in_order}
 use Rattle.boss_laws.proofs.Places.{member-filter, Distinct-filter}
 use Rattle.boss_laws.proofs.SubmitSound.{kept-number}
@@ -75,10 +75,6 @@ end-not-done e end = of e.happening.told end
     of (Some (what.Reverted point)) is = refl
     of (Some (what.Cut point by)) is = refl
     of (Some what.Done) is = absurd (cc)
-
-pub each-flat : {X Y : Type 0} (P : Y → Type 0) (f : X → List Y) (xs : List X) → AllByRecursion (λ x. AllByRecursion P (f x)) xs → AllByRecursion P (flat_map f xs)
-each-flat P f [] all = tt
-each-flat P f (x ∷ xs) all = each-append P (f x) (flat_map f xs) all.0 (each-flat P f xs all.1)
 
 end-none : (how : Lease → Option End) (end : Option End) → end ≡ end_after how None end
 end-none how None = refl
@@ -221,9 +217,9 @@ module _ (plant : List Actuator) (d : Durable) (s : Stages) (sound : IsSoundDura
 
   all-ends : (P : Telling → Type 0) → ((e : Telling) → is_end e.happening.told ≡ true → P e) → AllByRecursion P (flat_map of_lease d.leases ++ flat_map of_pending d.pending)
   all-ends P go = each-append P (flat_map of_lease d.leases) (flat_map of_pending d.pending)
-      (each-flat P of_lease d.leases (each-map (λ l. IsOfLease (how l) (lease_left l) l (of_lease l)) (λ l. AllByRecursion P (of_lease l))
+      (each-flat_map P of_lease d.leases (each-map (λ l. IsOfLease (how l) (lease_left l) l (of_lease l)) (λ l. AllByRecursion P (of_lease l))
       (λ l o. each-map (λ e. is_on l.txn l.point e ≡ true) P (λ e on. go e (on-end l.txn l.point e on)) (of_lease l) o.own) d.leases is.of_leases))
-      (each-flat P of_pending d.pending (each-map (λ r. IsOfPending (pending_left r) r (of_pending r)) (λ r. AllByRecursion P (of_pending r))
+      (each-flat_map P of_pending d.pending (each-map (λ r. IsOfPending (pending_left r) r (of_pending r)) (λ r. AllByRecursion P (of_pending r))
       (λ r o. each-map (λ e. is_on r.txn r.point e ≡ true) P (λ e on. go e (on-end r.txn r.point e on)) (of_pending r) o.own) d.pending is.of_pendings))
 
   others : filter (λ e. not (is_end e.happening.told)) all ≡ first
@@ -436,10 +432,10 @@ module _ (plant : List Actuator) (d : Durable) (s : Stages) (sound : IsSoundDura
   all-known = each-append IsKnown first (flat_map of_lease d.leases ++ flat_map of_pending d.pending)
       (each-map (λ e. (is_end e.happening.told ≡ false) × (is_done e.happening.told ≡ false)) IsKnown (λ e out end. absurd (no_way e out.0 end)) first is.silent)
       (each-append IsKnown (flat_map of_lease d.leases) (flat_map of_pending d.pending)
-      (each-flat IsKnown of_lease d.leases (each-map (λ l. IsOfLease (how l) (lease_left l) l (of_lease l) × (has_part is_none d.txns l.txn l.point l.priority ≡ true)) (λ l. AllByRecursion IsKnown (of_lease l))
+      (each-flat_map IsKnown of_lease d.leases (each-map (λ l. IsOfLease (how l) (lease_left l) l (of_lease l) × (has_part is_none d.txns l.txn l.point l.priority ≡ true)) (λ l. AllByRecursion IsKnown (of_lease l))
       (λ l both. known-by is_none l.txn l.point l.priority (of_lease l) both.1 both.0.own) d.leases
       (each-both (λ l. IsOfLease (how l) (lease_left l) l (of_lease l)) (λ l. has_part is_none d.txns l.txn l.point l.priority ≡ true) d.leases is.of_leases sound.open_parts)))
-      (each-flat IsKnown of_pending d.pending (each-map (λ r. IsOfPending (pending_left r) r (of_pending r) × (has_part (is_start r.start) d.txns r.txn r.point r.priority ≡ true)) (λ r. AllByRecursion IsKnown (of_pending r))
+      (each-flat_map IsKnown of_pending d.pending (each-map (λ r. IsOfPending (pending_left r) r (of_pending r) × (has_part (is_start r.start) d.txns r.txn r.point r.priority ≡ true)) (λ r. AllByRecursion IsKnown (of_pending r))
       (λ r both. known-by (is_start r.start) r.txn r.point r.priority (of_pending r) both.1 both.0.own) d.pending
       (each-both (λ r. IsOfPending (pending_left r) r (of_pending r)) (λ r. has_part (is_start r.start) d.txns r.txn r.point r.priority ≡ true) d.pending is.of_pendings sound.ended_parts))))
     where

@@ -15,12 +15,11 @@ use Rattle.boss_model.specs.Reversions.{end_of, reversion_of}
 use Rattle.boss_model.specs.Sound.{IsSoundDurable}
 use Rattle.boss_model.specs.State.{Durable}
 use Rattle.boss_model.specs.Submit.{cut, superseded}
-use Rattle.boss_laws.proofs.Filters.{each-mapped}
+use Rattle.boss_laws.proofs.Filters.{each-mapped, each-flat_map}
 use Rattle.boss_laws.proofs.Orders.{each-map, each-filter, each-append, each-in_order, least-of}
 use Rattle.boss_engine.specs.Books.{Telling}
 use Rattle.boss_engine.specs.Gathered.{plain, ended_with, pending_tellings, lease_tellings, due_tellings, end_tellings, replaced_tellings, told_rank}
 use Rattle.boss_engine.specs.Lasting.{IsFirstTold, nothing, faulted}
-use Rattle.boss_engine.proofs.Gathering.{each-flat}
 use Rattle.boss_engine.proofs.Owners.{leases-known, pending-known}
 
 -- ---- told to one of so many processes
@@ -52,9 +51,9 @@ module _ (plant : List Actuator) (d : Durable) (sound : IsSoundDurable plant d) 
       let leased = flat_map (lease_tellings n) d.leases in
       let under = flat_map (pending_tellings n) d.pending in
       each-in_order IsHere told_rank (due_tellings n d) (each-append IsHere leased under
-      (each-flat IsHere (lease_tellings n) d.leases (each-map (λ l. l.owner < length d.processes) (λ l. AllByRecursion IsHere (lease_tellings n l))
+      (each-flat_map IsHere (lease_tellings n) d.leases (each-map (λ l. l.owner < length d.processes) (λ l. AllByRecursion IsHere (lease_tellings n l))
       (λ l held. informed-lease (length d.processes) n l held) d.leases (leases-known plant d sound)))
-      (each-flat IsHere (pending_tellings n) d.pending (each-map (λ r. r.owner < length d.processes) (λ r. AllByRecursion IsHere (pending_tellings n r))
+      (each-flat_map IsHere (pending_tellings n) d.pending (each-map (λ r. r.owner < length d.processes) (λ r. AllByRecursion IsHere (pending_tellings n r))
       (λ r held. informed-pending (length d.processes) n r held) d.pending (pending-known plant d sound))))
 
   -- a fault is told to the owner of its lease

@@ -21,12 +21,12 @@ use Rattle.boss_model.specs.Submit.{begun, granted, is_taken, superseded, cut, s
 use Rattle.boss_model.specs.Time.{lease_of_part, end_after, part_after, record_after, kept}
 use Rattle.boss_stages.specs.Stages.{Kept, Stages, number}
 use Rattle.boss_laws.proofs.Endings.{numbers-same, points-same, part-open-stays}
-use Rattle.boss_laws.proofs.Filters.{filter-append, each-mapped, each-always}
+use Rattle.boss_laws.proofs.Filters.{filter-append, each-mapped, each-always, any-map}
 use Rattle.boss_laws.proofs.Orders.{each-map, each-both, each-filter, each-passed, each-append, each-in_order}
 use Rattle.boss_laws.proofs.Slots.{any-in_order, any-append, lives-courses, self-found, has-after, Rising-same}
 use Rattle.boss_engine.specs.Books.{Telling, StandsFor, is_end, all_done, reverts_on}
 use Rattle.boss_engine.specs.Gathered.{plain, replaced_tellings, told_rank, booked_all, AreBooksOf, CanBookAll, with_begun, books_with}
-use Rattle.boss_engine.proofs.Changed.{any-filter, any-map, areWoven, by-records}
+use Rattle.boss_engine.proofs.Changed.{any-filter, areWoven, by-records}
 use Rattle.boss_engine.proofs.EndsBooked.{done_by, own-on, one_if, one-each, map-append, map-plain, numbers-kept}
 use Rattle.boss_engine.proofs.Gathering.{IsOfLease, IsOfPending, IsGathered, gathered, over_last, group, told, finished, records, reverting, told-apart, begun-before, may-book-begun}
 use Rattle.boss_engine.proofs.Keys.{PointsOnce, lease_key, pending_key}

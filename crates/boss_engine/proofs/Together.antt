@@ -18,11 +18,12 @@ use Rattle.boss_model.specs.Submit.{is_taken}
 use Rattle.boss_model.specs.Time.{live}
 use Rattle.boss_laws.proofs.EndSound.{IsAt}
 use Rattle.boss_stages.specs.Stages.{Stages, changed, finished, finished_if_over, is_over, kept_as, with_end, without_reversion}
+use Rattle.boss_laws.proofs.Filters.{few-filter}
 use Rattle.boss_engine.specs.Books.{Telling, Books, StandsFor, after_what, booked}
 use Rattle.boss_engine.specs.Gathered.{AreBooksOf, CanBookAll, booked_all, end_tellings, plain, told_rank}
 use Rattle.boss_engine.specs.Lasting.{IsFirstTold, IsPassed, faulted, nothing}
 use Rattle.boss_engine.specs.Telling.{AreApart}
-use Rattle.boss_engine.proofs.DueLemmas.{few-filter, length-in_order}
+use Rattle.boss_engine.proofs.DueLemmas.{length-in_order}
 use Rattle.boss_engine.proofs.EndsBooked.{IsAside, ends-apart, ends-booked, ends-may-book, map-plain}
 
 abbrev pub put_together : ℕ → ℕ → List Lease → List Pending → Books → Durable
