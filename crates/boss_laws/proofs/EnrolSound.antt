@@ -10,6 +10,7 @@ use Rattle.boss_model.specs.Sound.{DistinctNames, IsTransaction, IsProcess, IsSo
 use Rattle.boss_model.specs.State.{Process, Durable}
 use Rattle.boss_laws.proofs.EndSound.{IsAt}
 use Rattle.boss_laws.proofs.Filters.{none-found}
+use Rattle.boss_laws.proofs.GroupSound.{transaction-in}
 use Rattle.boss_laws.proofs.Orders.{each-map, each-append}
 use Rattle.boss_laws.proofs.RenewSound.{later-sound}
 
@@ -46,17 +47,9 @@ enrolled-sound plant name n d sound at small named none room =
       leases = s.leases;
       pending = s.pending;
       numbers = s.numbers;
-      txns = each-map (IsTransaction plant (record d { now = n })) (IsTransaction plant (enrolled name n d)) (λ t is. record {
-        numbered = is.numbered;
-        given = is.given;
-        some_part = is.some_part;
-        few_parts = is.few_parts;
-        points = is.points;
-        owned = is.owned;
-        policies = is.policies;
-        parts = is.parts;
-        owner = let known : t.owner < length d.processes = is.owner in omega arith;
-      }) d.txns s.txns;
+      txns = each-map (IsTransaction plant (record d { now = n })) (IsTransaction plant (enrolled name n d)) (λ t is.
+          let known : t.owner < length d.processes = is.owner in
+          transaction-in plant (record d { now = n }) (enrolled name n d) t t.parts is is.given (omega arith) refl is.parts is.owned is.policies) d.txns s.txns;
       open_parts = s.open_parts;
       ended_parts = s.ended_parts;
       done = s.done;
