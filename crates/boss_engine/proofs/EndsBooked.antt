@@ -25,6 +25,7 @@ use Rattle.boss_laws.proofs.Orders.{each-map, each-both, each-filter, each-appen
 use Rattle.boss_laws.proofs.Slots.{any-in_order, any-append}
 use Rattle.boss_engine.specs.Books.{Telling, StandsFor, is_end, all_done, reverts_on}
 use Rattle.boss_engine.specs.Gathered.{plain, ended_with, end_tellings, told_rank, booked_all, AreBooksOf, CanBookAll}
+use Rattle.boss_engine.specs.Lasting.{IsFirstTold, IsPassed, faulted, nothing}
 use Rattle.boss_engine.proofs.Changed.{change-opened, change-lived, any-filter, any-alike, or-turn, steps-last, areWoven, by-records}
 use Rattle.boss_engine.proofs.Gathering.{IsOfLease, IsOfPending, IsGathered, gathered, over_last, group, comes, may-book, told-apart}
 use Rattle.boss_engine.proofs.Keys.{lease_key, pending_key}
@@ -36,6 +37,14 @@ use Rattle.boss_engine.proofs.Weaving.{AreWoven}
 -- neither ends a part nor makes a transaction done
 abbrev pub IsAside : Happening → Type 0
 IsAside h = (is_end h.told ≡ false) × (is_done h.told ≡ false)
+
+first-aside : (why : Cause) (n : ℕ) (d : Durable) (first : List Happening) → IsFirstTold why n d first → AllByRecursion IsAside first
+first-aside why n d _ nothing = tt
+first-aside why n d _ (faulted point lease found) = ((refl, refl), tt)
+
+first-single : (why : Cause) (n : ℕ) (d : Durable) (first : List Happening) → IsFirstTold why n d first → Rising rank first
+first-single why n d _ nothing = tt
+first-single why n d _ (faulted point lease found) = (tt, tt)
 
 -- a transaction of this owner becomes done at n
 abbrev pub done_by : (ℕ → ℕ) → ℕ → ℕ → Happening
@@ -80,8 +89,16 @@ pub numbers-kept : (how : Lease → Option End) (leases : List Lease) (txns : Li
 numbers-kept how leases txns = map-map (λ t. t.txn) (record_after how leases) txns
 
 module _ (plant : List Actuator) (d : Durable) (s : Stages) (which : Lease → Bool) (why : Cause) (n : ℕ) (first : List Happening)
-    (sound : IsSoundDurable plant d) (stands : StandsFor s d) (at : IsAt n d) (small : n ≤ 2 ^ 60) (reverts : is_superseded why ≡ false)
-    (aside : AllByRecursion IsAside first) (single : Rising rank first) where
+    (sound : IsSoundDurable plant d) (stands : StandsFor s d) (passed : IsPassed n d) (small : n ≤ 2 ^ 60) (reverts : is_superseded why ≡ false) (is_first : IsFirstTold why n d first) where
+  at : IsAt n d
+  at = record { reached = passed.reached; live = passed.live; running = passed.running }
+
+  aside : AllByRecursion IsAside first
+  aside = first-aside why n d first is_first
+
+  single : Rising rank first
+  single = first-single why n d first is_first
+
   abbrev the_end : Lease → Telling
   the_end l = ended_with why (reversion_of (shortened n l))
 
