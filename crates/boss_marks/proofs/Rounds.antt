@@ -4,7 +4,7 @@ use Rattle.std.specs.Prelude.{filter}
 use Rattle.std.specs.List.{enumerate_from, range_with_len}
 use Rattle.std.proofs.lemmas.Bool.{cases_Bool}
 use Rattle.std.proofs.lemmas.Grind.{common_steps}
-use Rattle.std.proofs.lemmas.List.{append_assoc, append-nil, take_more, drop_more, set_at, length-map, length-take-le, take_all, drop_all, map_push, get_or_at}
+use Rattle.std.proofs.lemmas.List.{append_assoc, append-nil, take_more, drop_more, set_at, length-map, length-take-le, map_push, get_or_at}
 use Rattle.std.proofs.lemmas.List.FromFn.{length-enumerate_from}
 use Rattle.std.proofs.lemmas.Option.{unwrap_or-slice_get}
 use Rattle.boss_model.specs.Devices.{proxy_of}
@@ -72,9 +72,6 @@ module _ (test : ℕ × Proxy → Bool) (change : ℕ × Proxy → Proxy) where
   abbrev pub turned : ℕ → Marks → Marks
   turned point marks = cond (test (point, proxy_of marks.proxies point)) (wanted point (change (point, proxy_of marks.proxies point)) marks) marks
 
-  abbrev pub turned_all : Marks → Marks
-  turned_all marks = record marks { proxies = changed_if test change marks.proxies; wants = wanted_anew (places test marks.proxies) marks.wants }
-
   -- the marks after the points below `count` had their turn
   abbrev pub turned_below : ℕ → Marks → Marks
   turned_below count marks = record marks {
@@ -84,9 +81,6 @@ module _ (test : ℕ × Proxy → Bool) (change : ℕ × Proxy → Proxy) where
 
   pub turned_below-none : (marks : Marks) → turned_below 0 marks ≡ marks
   turned_below-none marks = rw (filter_all, append-nil) refl
-
-  pub turned_below-all : (count : ℕ) (marks : Marks) → length marks.proxies ≤ count → turned_below count marks ≡ turned_all marks
-  turned_below-all count marks all = rw (take_all count marks.proxies all, drop_all count marks.proxies all, append-nil) refl
 
   -- what a device is after its turn
   abbrev after_turn : ℕ × Proxy → Proxy
