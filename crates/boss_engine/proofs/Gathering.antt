@@ -16,10 +16,10 @@ use Rattle.boss_model.specs.Reversions.{courses}
 use Rattle.boss_model.specs.Sound.{Rising, Distinct, holds, has_part, is_kept, is_start, IsTransaction, IsPart, IsSoundDurable, number_rank}
 use Rattle.boss_model.specs.State.{Durable}
 use Rattle.boss_model.specs.Time.{kept, lease_of_part, end_after, part_after, record_after}
+use Rattle.boss_model.proofs.Members.{member-filter, Distinct-filter}
 use Rattle.boss_stages.specs.Stages.{Kept, Stages, number, is_over}
 use Rattle.boss_laws.proofs.Filters.{filter-append, filter-none, filter-all, filter-same, filter-map, each-mapped, each-unmapped, each-flat_map}
 use Rattle.boss_laws.proofs.Orders.{before-self, each-unordered, each-map, each-both, each-append, each-filter, each-in_order, filter-in_order, in_order-Rising, Ordered-in_order}
-use Rattle.boss_laws.proofs.Places.{member-filter, Distinct-filter}
 use Rattle.boss_laws.proofs.SubmitSound.{kept-number}
 use Rattle.boss_engine.specs.Books.{Telling, Books, StandsFor, is_end, booked, reverts_on}
 use Rattle.boss_engine.specs.Gathered.{told_rank, booked_all, AreBooksOf, CanBookAll, with_begun, books_with}

@@ -8,11 +8,10 @@ use Rattle.boss_model.specs.Happenings.{Happening, is_done, finish, tell}
 use Rattle.boss_model.specs.Lists.{member, keep_last}
 use Rattle.boss_model.specs.Sound.{Distinct}
 use Rattle.boss_model.specs.State.{Process}
+use Rattle.boss_model.proofs.Members.{Distinct-snoc, member-append, member-drop, Distinct-drop}
 use Rattle.boss_stages.specs.Stages.{Kept, Stages, number, kept_as, is_over, changed, finished, without, dropped}
 use Rattle.boss_laws.proofs.Filters.{filter-filter, filter-same, filter-map, each-mapped}
-use Rattle.boss_laws.proofs.GroupSound.{Distinct-snoc}
 use Rattle.boss_laws.proofs.Orders.{each-map, each-both}
-use Rattle.boss_laws.proofs.Places.{member-append, member-drop, Distinct-drop}
 use Rattle.boss_engine.specs.Books.{Telling, Books, after_what, is_end, all_done, booked}
 use Rattle.boss_engine.proofs.Tellings.{turn, played, number-played, numbers-played, played-other, ends, awaits, all_played, over_in, AreFitting, over-fitting, after-end, after-other}
 

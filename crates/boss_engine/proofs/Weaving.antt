@@ -9,9 +9,9 @@ use Rattle.boss_model.specs.Happenings.{Happening, rank, rank_of, is_done}
 use Rattle.boss_model.specs.Lists.{member, without}
 use Rattle.boss_model.specs.Order.{comes_before, put, in_order}
 use Rattle.boss_model.specs.Sound.{Rising, Distinct}
+use Rattle.boss_model.proofs.Members.{member-filter, Distinct-filter, without-none}
 use Rattle.boss_laws.proofs.Filters.{filter-append, filter-none, filter-all, each-mapped, Apart, put-put}
 use Rattle.boss_laws.proofs.Orders.{before-trans, before-total, before-both, each-map, each-both, each-filter, Ordered, Ordered-filter, Ordered-in_order, in_order-Ordered, filter-in_order}
-use Rattle.boss_laws.proofs.Places.{member-filter, Distinct-filter, without-none}
 use Rattle.boss_engine.specs.Books.{Telling, is_end, all_done}
 use Rattle.boss_engine.specs.Gathered.{told_rank}
 use Rattle.boss_engine.proofs.Points.{point_in, is_on}

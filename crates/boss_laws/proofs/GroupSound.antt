@@ -16,9 +16,10 @@ use Rattle.boss_model.specs.Reversions.{courses}
 use Rattle.boss_model.specs.Sound.{Rising, Distinct, DistinctNames, NumberedFrom, IsKnown, IsLease, IsPending, IsPart, IsTransaction, has_part, is_kept, is_start, number_rank, IsProcess, IsSoundDurable}
 use Rattle.boss_model.specs.State.{lease_slot, pending_slot, Process, Durable}
 use Rattle.boss_model.specs.Time.{kept}
+use Rattle.boss_model.proofs.Members.{member-drop, Distinct-drop, Distinct-snoc}
 use Rattle.boss_laws.proofs.Orders.{each-map, each-filter, each-passed, each-both, each-append, Rising-filter}
 use Rattle.boss_laws.proofs.NothingDue.{of-pending, of-leases}
-use Rattle.boss_laws.proofs.Places.{member-drop, Distinct-drop, each-member, member-each}
+use Rattle.boss_laws.proofs.Places.{each-member, member-each}
 use Rattle.boss_laws.proofs.Records.{IsOther, finish-other, member-snoc}
 
 -- ---- the last transactions that are done
@@ -30,10 +31,6 @@ pub few-finish : (done : List ℕ) (hs : List Happening) → length done ≤ 102
 few-finish done [] few = few
 few-finish done (h ∷ hs) few = few-finish (finish done h) hs
     (cond_both (is_done h.told) (keep_last 1024 (done ++ h.txn ∷ [])) done (λ xs. length xs ≤ 1024) (λ _. length-keep_last 1024 (done ++ h.txn ∷ [])) (λ _. few))
-
-pub Distinct-snoc : (xs : List ℕ) (n : ℕ) → Distinct xs → member n xs ≡ false → Distinct (xs ++ n ∷ [])
-Distinct-snoc [] n once away = (refl, tt)
-Distinct-snoc (x ∷ xs) n once away = (grind (arith, nat_tests, member-snoc x n xs, once.0), Distinct-snoc xs n once.1 (grind (arith, nat_tests)))
 
 -- what becomes done becomes so once
 abbrev pub DoneOnce : List Happening → Type 0

@@ -31,14 +31,14 @@ use Rattle.boss_model.specs.State.{Durable, Attachment, State}
 use Rattle.boss_model.specs.Submit.{submit, submit_refused}
 use Rattle.boss_model.specs.Target.{target, in_force}
 use Rattle.boss_model.specs.Time.{tick_to}
+use Rattle.boss_model.proofs.Members.{Distinct-filter, Distinct-snoc}
 use Rattle.boss_laws.proofs.ActSound.{tick-length, submit-next, renew-next, cancel-next, lost-next, faulted-next, enrol-sound}
 use Rattle.boss_laws.proofs.ConcludeSound.{IsNext}
 use Rattle.boss_laws.proofs.EndSound.{IsAt, at-tick}
 use Rattle.boss_laws.proofs.Heard.{commanded-settled}
 use Rattle.boss_laws.proofs.Filters.{position-within}
 use Rattle.boss_laws.proofs.Orders.{each-map, each-filter, each-append}
-use Rattle.boss_laws.proofs.Places.{member-wanted_anew, Distinct-filter, Distinct-wanted_anew, length-changed, proxy_of-changed, change_at, Distinct-places, member-places, below-places, each-member, member-each, proxy_of-other}
-use Rattle.boss_laws.proofs.GroupSound.{Distinct-snoc}
+use Rattle.boss_laws.proofs.Places.{member-wanted_anew, Distinct-wanted_anew, length-changed, proxy_of-changed, change_at, Distinct-places, member-places, below-places, each-member, member-each, proxy_of-other}
 use Rattle.boss_laws.proofs.TickSound.{tick-sound}
 
 -- sound but for the commanded values, which settling makes so

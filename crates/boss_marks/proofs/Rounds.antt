@@ -11,8 +11,8 @@ use Rattle.boss_model.specs.Devices.{proxy_of}
 use Rattle.boss_model.specs.Lists.{member, without}
 use Rattle.boss_model.specs.Settle.{fresh, wanted_anew, places, changed_if}
 use Rattle.boss_model.specs.declared.state.Proxy.{Proxy}
+use Rattle.boss_model.proofs.Members.{member-append, without-none}
 use Rattle.boss_marks.specs.Marks.{Marks, wanted, wanted_last}
-use Rattle.boss_marks.proofs.Members.{member-append, without_outside}
 
 -- ---- the wants at the start
 
@@ -33,7 +33,7 @@ pub wanted_last-range : (count : ℕ) → wanted_last count (range_with_len 0 co
 wanted_last-range count =
     let outside : member count (range_with_len 0 count) ≡ false = member-range 0 count count (omega arith) in
     let last : 0 + count ≡ count = omega arith in
-    rw (without_outside count (range_with_len 0 count) outside, range-push 0 count, last) refl
+    rw (without-none count (range_with_len 0 count) outside, range-push 0 count, last) refl
 
 -- ---- a point that is put last after some others
 
@@ -47,7 +47,7 @@ without-append point (x ∷ xs) ys = grind (arith, common_steps, without-append 
 
 wanted_anew-push : (point : ℕ) (points wants : List ℕ) → member point points ≡ false → wanted_last point (wanted_anew points wants) ≡ wanted_anew (points ++ point ∷ []) wants
 wanted_anew-push point points wants outside =
-    rw (without-append point (filter (λ want. not (member want points)) wants) points, filter-without point points wants, without_outside point points outside)
+    rw (without-append point (filter (λ want. not (member want points)) wants) points, filter-without point points wants, without-none point points outside)
     (append_assoc (filter (λ want. not (member want (points ++ point ∷ []))) wants) points (point ∷ []))
 
 filter_all : (wants : List ℕ) → filter (λ want. not (member want [])) wants ≡ wants
