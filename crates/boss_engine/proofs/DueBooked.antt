@@ -32,7 +32,7 @@ use Rattle.boss_engine.specs.Gathered.{plain, ended_with, lease_tellings, pendin
 use Rattle.boss_engine.proofs.Changed.{change-opened, change-lived, any-filter, or-turn, by-records}
 use Rattle.boss_engine.proofs.DueLemmas.{tell-told, finish-told, left-courses, due-told}
 use Rattle.boss_engine.proofs.EndsBooked.{is_way, own-on, map-append, map-plain}
-use Rattle.boss_engine.proofs.Gathering.{IsOfLease, IsOfPending, IsGathered, gathered, over_last, over-dead, group, comes, may-book, told-apart}
+use Rattle.boss_engine.proofs.Gathering.{IsOfLease, IsOfPending, Outcome, IsGathered, gathered, over_last, over-dead, group, comes, may-book, told-apart}
 use Rattle.boss_engine.proofs.Keys.{lease_key, pending_key}
 use Rattle.boss_engine.specs.Telling.{AreApart}
 use Rattle.boss_engine.proofs.Points.{map-map}
@@ -331,7 +331,10 @@ module _ (plant : List Actuator) (d : Durable) (s : Stages) (n : ℕ) (sound : I
       ∙ or-turn (list_any test d.pending) (list_any test (map reversion_of d.leases))
       ∙ ap (λ b. b || list_any test d.pending) (any-map test reversion_of d.leases)
 
-  is : IsGathered d [] (lease_tellings n) (pending_tellings n) (expired n) lease_left (is_way n) changed.pending changed.leases
+  abbrev outcome : Outcome
+  outcome = record { first = []; of_lease = lease_tellings n; of_pending = pending_tellings n; how = expired n; lease_left = lease_left; pending_left = is_way n; pending = changed.pending; leases = changed.leases }
+
+  is : IsGathered d outcome
   is = record {
     silent = tt;
     single = tt;
@@ -343,7 +346,7 @@ module _ (plant : List Actuator) (d : Durable) (s : Stages) (n : ℕ) (sound : I
   }
 
   abbrev all : List Telling
-  all = gathered d [] (lease_tellings n) (pending_tellings n)
+  all = gathered d outcome
 
   abbrev es : List Telling
   es = in_order told_rank all
@@ -352,7 +355,7 @@ module _ (plant : List Actuator) (d : Durable) (s : Stages) (n : ℕ) (sound : I
   g txn = record { at = last_end txn cs; txn = txn; owner = owner_of d.txns txn; told = Some what.Done }
 
   abbrev over_by : ℕ → Bool
-  over_by = over_last plant d s sound stands [] (lease_tellings n) (pending_tellings n) (expired n) lease_left (is_way n) changed.pending changed.leases is
+  over_by = over_last plant d s sound stands outcome is
 
   left-is : courses changed.pending changed.leases ≡ left n cs
   left-is = left-courses plant d n sound within
@@ -360,7 +363,7 @@ module _ (plant : List Actuator) (d : Durable) (s : Stages) (n : ℕ) (sound : I
   last : (txn : ℕ) → over_by txn ≡ true → awaits txn es ≡ true → last_end txn cs ≡ last_told txn es
   last txn over_now more =
       let dead : lives txn (left n cs) ≡ false = ap (lives txn) (sym left-is)
-      ∙ over-dead plant d s sound stands [] (lease_tellings n) (pending_tellings n) (expired n) lease_left (is_way n) changed.pending changed.leases is txn over_now in
+      ∙ over-dead plant d s sound stands outcome is txn over_now in
       let P = λ (c : Pending). (c.txn == txn) ≡ true → end_of c ≤ n in
       let past : AllByRecursion P cs = dead-ends n txn cs dead in
       let running : AllByRecursion (λ r. r.start < end_of r) d.pending = each-map (IsPending plant d.now) (λ r. r.start < end_of r)
@@ -403,7 +406,7 @@ module _ (plant : List Actuator) (d : Durable) (s : Stages) (n : ℕ) (sound : I
       not_later a b = grind (arith, nat_tests)
 
   abbrev the_group : List Happening
-  the_group = group plant d s sound stands [] (lease_tellings n) (pending_tellings n) (expired n) lease_left (is_way n) changed.pending changed.leases is g (λ txn. refl) (λ txn. refl) so
+  the_group = group plant d s sound stands outcome is g (λ txn. refl) (λ txn. refl) so
 
   group-is : the_group ≡ in_order rank (due_told n d)
   group-is = λ i. in_order rank (due-tellings-told n d i
@@ -415,7 +418,7 @@ module _ (plant : List Actuator) (d : Durable) (s : Stages) (n : ℕ) (sound : I
   finish-is = ap (fold finish d.done) (group-is ∙ due-told plant d n sound) ∙ finish-told d.done (due n d)
 
   pub due-booked : AreBooksOf (booked_all s d.processes (due_tellings n d)) (tick_to n d)
-  due-booked = comes plant d s sound stands [] (lease_tellings n) (pending_tellings n) (expired n) lease_left (is_way n) changed.pending changed.leases is g (λ txn. refl) (λ txn. refl) so
+  due-booked = comes plant d s sound stands outcome is g (λ txn. refl) (λ txn. refl) so
       (tick_to n d) (due_tellings n d) refl
       (ap (fold tell d.processes) (group-is ∙ due-told plant d n sound) ∙ tell-told d.processes (due n d))
       finish-is
@@ -423,7 +426,7 @@ module _ (plant : List Actuator) (d : Durable) (s : Stages) (n : ℕ) (sound : I
       refl
 
   pub due-may-book : CanBookAll s d.processes (due_tellings n d)
-  due-may-book = may-book plant d s sound stands [] (lease_tellings n) (pending_tellings n) (expired n) lease_left (is_way n) changed.pending changed.leases is
+  due-may-book = may-book plant d s sound stands outcome is
 
   pub due-apart : AreApart told_rank (due_tellings n d)
-  due-apart = told-apart plant d s sound stands [] (lease_tellings n) (pending_tellings n) (expired n) lease_left (is_way n) changed.pending changed.leases is
+  due-apart = told-apart plant d s sound stands outcome is

@@ -149,34 +149,40 @@ rising-apart order xs rising =
 
 -- ---- the whole
 
-module _ (d : Durable) (first : List Telling) (of_lease : Lease → List Telling) (of_pending : Pending → List Telling) where
-  -- what is gathered, as it is found, and in order
-  abbrev pub gathered : List Telling
-  gathered = first ++ (flat_map of_lease d.leases ++ flat_map of_pending d.pending)
+-- what is told first, and of each lease and reversion, how the leases end so, and what is left
+pub record Outcome : Type 0 where
+  pub first : List Telling
+  pub of_lease : Lease → List Telling
+  pub of_pending : Pending → List Telling
+  pub how : Lease → Option End
+  pub lease_left : Lease → Bool
+  pub pending_left : Pending → Bool
+  pub pending : List Pending
+  pub leases : List Lease
 
-  abbrev pub sorted : List Telling
-  sorted = in_order told_rank gathered
+-- all that is told, as it is found
+abbrev pub gathered : Durable → Outcome → List Telling
+gathered d outcome = outcome.first ++ (flat_map outcome.of_lease d.leases ++ flat_map outcome.of_pending d.pending)
 
-  -- What is gathered ends the leases and reversions so that these are left: `pending` and `leases`.
-  pub record IsGathered (how : Lease → Option End) (lease_left : Lease → Bool) (pending_left : Pending → Bool) (pending : List Pending) (leases : List Lease) : Type 0 where
-    pub silent : AllByRecursion (λ e. (is_end e.happening.told ≡ false) × (is_done e.happening.told ≡ false)) first
-    pub single : Rising told_rank first
-    pub of_leases : AllByRecursion (λ l. IsOfLease (how l) (lease_left l) l (of_lease l)) d.leases
-    pub of_pendings : AllByRecursion (λ r. IsOfPending (pending_left r) r (of_pending r)) d.pending
-    pub left : (txn point : ℕ) → reverts_on txn point pending ≡
-        (list_any (λ l. lease_key txn point l && lease_left l) d.leases || list_any (λ r. pending_key txn point r && pending_left r) d.pending)
-    pub opened : AllByRecursion (IsOpen leases) (map (record_after how d.leases) d.txns)
-    pub lived : AllByRecursion (IsLived leases) (map (record_after how d.leases) d.txns)
+-- What is gathered ends the leases and reversions so that these are left: `pending` and `leases`.
+pub record IsGathered (d : Durable) (outcome : Outcome) : Type 0 where
+  pub silent : AllByRecursion (λ e. (is_end e.happening.told ≡ false) × (is_done e.happening.told ≡ false)) outcome.first
+  pub single : Rising told_rank outcome.first
+  pub of_leases : AllByRecursion (λ l. IsOfLease (outcome.how l) (outcome.lease_left l) l (outcome.of_lease l)) d.leases
+  pub of_pendings : AllByRecursion (λ r. IsOfPending (outcome.pending_left r) r (outcome.of_pending r)) d.pending
+  pub left : (txn point : ℕ) → reverts_on txn point outcome.pending ≡
+      (list_any (λ l. lease_key txn point l && outcome.lease_left l) d.leases || list_any (λ r. pending_key txn point r && outcome.pending_left r) d.pending)
+  pub opened : AllByRecursion (IsOpen outcome.leases) (map (record_after outcome.how d.leases) d.txns)
+  pub lived : AllByRecursion (IsLived outcome.leases) (map (record_after outcome.how d.leases) d.txns)
 
-module _ (plant : List Actuator) (d : Durable) (s : Stages) (sound : IsSoundDurable plant d) (stands : StandsFor s d)
-    (first : List Telling) (of_lease : Lease → List Telling) (of_pending : Pending → List Telling)
-    (how : Lease → Option End) (lease_left : Lease → Bool) (pending_left : Pending → Bool) (pending : List Pending) (leases : List Lease)
-    (is : IsGathered d first of_lease of_pending how lease_left pending_left pending leases) where
+module _ (plant : List Actuator) (d : Durable) (s : Stages) (sound : IsSoundDurable plant d) (stands : StandsFor s d) (outcome : Outcome) (is : IsGathered d outcome) where
+  open outcome use {first, of_lease, of_pending, how, lease_left, pending_left, pending, leases}
+
   abbrev all : List Telling
-  all = gathered d first of_lease of_pending
+  all = gathered d outcome
 
   abbrev es : List Telling
-  es = sorted d first of_lease of_pending
+  es = in_order told_rank all
 
   -- ---- what ends on one point
 
