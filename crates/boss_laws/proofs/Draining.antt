@@ -80,7 +80,6 @@ none-wanted plant (w ∷ ws) none = cc
 -- ---- one round
 
 module _ (plant : List Actuator) (m n : ℕ) (small : m ≤ 2 ^ 60) where
-
   hand-step : (s : State) (driver point : ℕ) → IsResting plant m n s → find (λ p. driver_of plant p == driver) s.wants ≡ Some point →
       step plant 0 (command.Next driver) m s
       ≡ record { answer = answer.Want point (proxy_of s.proxies point).version (proxy_of s.proxies point).commanded; state = record s { wants = without point s.wants } }
