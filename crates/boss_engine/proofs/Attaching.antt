@@ -1,9 +1,9 @@
 -- There is room for one more that holds a process.
-use Rattle.std.proofs.Common.{◌≡◌, ℕ, ◌<◌, ◌==◌, nat_lt, nat_eq, List, [], ◌∷◌, length, map, Bool, true, false, ◌||◌, cond, Option, Some, None, refl, arith}
+use Rattle.std.proofs.Common.{◌≡◌, ℕ, ◌<◌, ◌==◌, nat_eq, List, [], ◌∷◌, length, map, Bool, true, false, ◌||◌, cond, Option, Some, None, refl, arith}
 use Rattle.std.specs.Cmp.Lexicographic.{pointwise}
-use Rattle.std.specs.List.{AllByRecursion, position_or_len}
+use Rattle.std.specs.List.{AllByRecursion}
 use Rattle.std.specs.Option.{option_map}
-use Rattle.std.specs.Prelude.{find, position}
+use Rattle.std.specs.Prelude.{find}
 use Rattle.std.proofs.lemmas.Bool.{cond_both}
 use Rattle.std.proofs.lemmas.Bool.Decides.{nat_tests}
 use Rattle.std.proofs.lemmas.List.{length-map}
@@ -14,16 +14,11 @@ use Rattle.boss_model.specs.Processes.{attach_refused, is_full, name_of, process
 use Rattle.boss_model.specs.Sound.{IsSound}
 use Rattle.boss_model.specs.State.{Attachment, State}
 use Rattle.boss_laws.proofs.Draining.{at-most}
-use Rattle.boss_laws.proofs.Filters.{each-mapped}
+use Rattle.boss_laws.proofs.Filters.{each-mapped, position-within}
 use Rattle.boss_laws.proofs.NotRefused.{none-mapped, none-of-first}
 use Rattle.boss_engine.specs.declared.ready.Ready.{Ready}
 use Rattle.boss_engine.specs.declared.ready.Ready.TheVariants as ready
 use Rattle.boss_engine.specs.Ready.{IsReadyToAttach}
-
--- what is found is there
-pub position-below : {X : Type 0} (test : X → Bool) (xs : List X) (i : ℕ) → position test xs ≡ Some i → i < length xs
-position-below test xs i found = cond_both (nat_lt (position_or_len test xs) (length xs)) (Some (position_or_len test xs)) None
-    (λ place. place ≡ Some i → i < length xs) (λ inside is. let same : position_or_len test xs ≡ i = cc in grind (arith, nat_tests)) (λ _ is. cc) found
 
 -- a process that no session holds is not among those that are held
 not-held : (process : ℕ) (attached : List Attachment) → session_of attached process ≡ None → member process (map (λ a. a.process) attached) ≡ false
@@ -72,7 +67,7 @@ few-attached plant session name s sound passed = named (process_named s.durable.
     named (Some process) is free = omega (
       arith,
       at-most (length s.durable.processes) (process ∷ map (λ a. a.process) s.attached) (not-held process s.attached (none-mapped refusal.Taken (session_of s.attached process) free), sound.held)
-          (position-below (λ p. pointwise nat_eq p.name name) s.durable.processes process is, below),
+          (position-within (λ p. pointwise nat_eq p.name name) s.durable.processes process is, below),
       length-map s.attached (λ a. a.process),
       sound.durable.few_processes,
     )

@@ -9,12 +9,12 @@ use Rattle.boss_model.specs.declared.notice.What.{What}
 use Rattle.boss_model.specs.declared.notice.What.TheVariants as what
 use Rattle.boss_model.specs.Lists.{member}
 use Rattle.boss_model.specs.State.{Process}
+use Rattle.boss_model.proofs.Members.{member-append, member-drop}
 use Rattle.boss_stages.specs.Stages.{Kept, Stages, number, kept_as, is_over, changed, without, dropped, finished, finished_if_over, part_end, part_on}
 use Rattle.boss_laws.proofs.Filters.{filter-append}
-use Rattle.boss_laws.proofs.Places.{member-append}
 use Rattle.boss_engine.specs.Books.{Telling, after_what, is_end, told_with_done, booked}
 use Rattle.boss_engine.specs.Gathered.{with_begun, books_with, CanTell, CanBook}
-use Rattle.boss_engine.proofs.Staging.{member-take, member-drop}
+use Rattle.boss_engine.proofs.Staging.{member-take}
 use Rattle.boss_engine.proofs.Tellings.{turn, after-end, after-other}
 
 module _ (k : Kept) where

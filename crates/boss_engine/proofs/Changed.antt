@@ -37,10 +37,6 @@ pub any-filter : {X : Type 0} (p q : X → Bool) (xs : List X) → list_any p (f
 any-filter p q [] = refl
 any-filter p q (x ∷ xs) = grind (arith, any-filter p q xs)
 
-pub any-map : {X Y : Type 0} (p : Y → Bool) (f : X → Y) (xs : List X) → list_any p (map f xs) ≡ list_any (λ x. p (f x)) xs
-any-map p f [] = refl
-any-map p f (x ∷ xs) = ap (λ b. p (f x) || b) (any-map p f xs)
-
 pub any-alike : {X : Type 0} (p q : X → Bool) → ((x : X) → p x ≡ q x) → (xs : List X) → list_any p xs ≡ list_any q xs
 any-alike p q same [] = refl
 any-alike p q same (x ∷ xs) = λ i. same x i || any-alike p q same xs i

@@ -17,9 +17,9 @@ use Rattle.boss_model.specs.Reversions.{over, end_of, reversion_of, courses}
 use Rattle.boss_model.specs.Sound.{IsLease, IsPending, IsSoundDurable}
 use Rattle.boss_model.specs.State.{Durable, pending_slot}
 use Rattle.boss_model.specs.Time.{live, under_way, left, due, expired, record_after, kept, tick_to}
-use Rattle.boss_stages.specs.Stages.{Kept, Stages, number}
+use Rattle.boss_stages.specs.Stages.{Stages, number}
 use Rattle.boss_laws.proofs.Courses.{end-later}
-use Rattle.boss_laws.proofs.Filters.{filter-none, filter-all, filter-same, each-always}
+use Rattle.boss_laws.proofs.Filters.{filter-none, filter-all, filter-same, each-always, each-flat_map, any-map}
 use Rattle.boss_laws.proofs.GroupSound.{IsChange}
 use Rattle.boss_laws.proofs.NothingDue.{of-pending, of-leases}
 use Rattle.boss_laws.proofs.Orders.{before-head, each-map, each-append, each-in_order, Ordered, Ordered-in_order}
@@ -28,17 +28,17 @@ use Rattle.boss_laws.proofs.TickSound.{map-same, tick-change}
 use Rattle.boss_laws.proofs.Coming.{now_after}
 use Rattle.boss_engine.specs.Books.{Telling, StandsFor, is_end, reverts_on}
 use Rattle.boss_engine.specs.Due.{reverted_by, lease_told, is_done_by, due_told}
-use Rattle.boss_engine.specs.Gathered.{plain, ended_with, lease_tellings, pending_tellings, due_tellings, told_rank, booked_all, AreBooksOf, CanBookAll, with_begun, books_with, has_steps}
-use Rattle.boss_engine.proofs.Changed.{change-opened, change-lived, any-filter, any-map, or-turn, by-records}
+use Rattle.boss_engine.specs.Gathered.{plain, ended_with, lease_tellings, pending_tellings, due_tellings, told_rank, booked_all, AreBooksOf, CanBookAll, has_steps}
+use Rattle.boss_engine.proofs.Changed.{change-opened, change-lived, any-filter, or-turn, by-records}
 use Rattle.boss_engine.proofs.DueLemmas.{tell-told, finish-told, left-courses, due-told}
 use Rattle.boss_engine.proofs.EndsBooked.{is_way, own-on, map-append, map-plain}
-use Rattle.boss_engine.proofs.Gathering.{each-flat, IsOfLease, IsOfPending, IsGathered, gathered, over_last, over-dead, group, comes, may-book, told-apart, begun-before, may-book-begun}
+use Rattle.boss_engine.proofs.Gathering.{IsOfLease, IsOfPending, Outcome, IsGathered, gathered, over_last, over-dead, group, comes, may-book, told-apart}
 use Rattle.boss_engine.proofs.Keys.{lease_key, pending_key}
 use Rattle.boss_engine.specs.Telling.{AreApart}
-use Rattle.boss_engine.proofs.Points.{map-map, is_on}
+use Rattle.boss_engine.proofs.Points.{map-map}
 use Rattle.boss_engine.proofs.Tellings.{ends, awaits}
-use Rattle.boss_engine.proofs.ToldApart.{owner_of, leases-owned, pending-owned, txns-owned}
-use Rattle.boss_engine.proofs.Weaving.{AreWoven}
+use Rattle.boss_engine.proofs.Owners.{owner_of, leases-owned, pending-owned, txns-owned}
+use Rattle.boss_engine.proofs.Weaving.{AreWoven, none-awaited}
 
 -- ---- what is told of one lease and of one reversion
 
@@ -177,7 +177,7 @@ woven-last over_by g owners (e ∷ es) shape owned order last = (
       let none : awaits h.txn es ≡ false = grind (arith) in
       let here : ends h.txn e ≡ true = grind (arith, nat_tests) in
       let at : (g h.txn).at ≡ h.at = last h.txn done (ap (λ b. b || awaits h.txn es) here)
-      ∙ last-first told_at (ends h.txn) e es ∙ (λ i. max (cond (here i) h.at 0) (last-none told_at (ends h.txn) es (none_ends h.txn es none) i)) ∙ only h.at in
+      ∙ last-first told_at (ends h.txn) e es ∙ (λ i. max (cond (here i) h.at 0) (last-none told_at (ends h.txn) es (none-awaited h.txn es none) i)) ∙ only h.at in
       sym (shape h.txn ∙ (λ i. record { at = at i; txn = h.txn; owner = sym (owned.0 end) i; told = Some what.Done }))),
   woven-last over_by g owners es shape owned.1 order.1
       (λ txn done more. last txn done (rest_too txn more) ∙ last-behind txn e es order.0 more),
@@ -189,14 +189,7 @@ woven-last over_by g owners (e ∷ es) shape owned order last = (
     rest_too : (txn : ℕ) → awaits txn es ≡ true → awaits txn (e ∷ es) ≡ true
     rest_too txn more = grind (arith)
 
-    none_ends : (txn : ℕ) (ys : List Telling) → awaits txn ys ≡ false → AllByRecursion (λ y. ends txn y ≡ false) ys
-    none_ends txn [] none = tt
-    none_ends txn (y ∷ ys) none = (grind (arith), none_ends txn ys (grind (arith)))
-
 -- ---- the last end of a transaction that is over by n
-
-ends-own : (txn : ℕ) (r : Pending) (e : Telling) → is_on r.txn r.point e ≡ true → ends txn e ≡ (r.txn == txn)
-ends-own txn r e on = grind (arith, nat_tests)
 
 -- of one reversion, and of one lease
 pending-last : (n txn : ℕ) (r : Pending) (steps : List Step) → r.steps ≡ steps → r.start < end_of r → ((r.txn == txn) ≡ true → end_of r ≤ n) →
@@ -338,7 +331,10 @@ module _ (plant : List Actuator) (d : Durable) (s : Stages) (n : ℕ) (sound : I
       ∙ or-turn (list_any test d.pending) (list_any test (map reversion_of d.leases))
       ∙ ap (λ b. b || list_any test d.pending) (any-map test reversion_of d.leases)
 
-  is : IsGathered d [] (lease_tellings n) (pending_tellings n) (expired n) lease_left (is_way n) changed.pending changed.leases
+  abbrev outcome : Outcome
+  outcome = record { first = []; of_lease = lease_tellings n; of_pending = pending_tellings n; how = expired n; lease_left = lease_left; pending_left = is_way n; pending = changed.pending; leases = changed.leases }
+
+  is : IsGathered d outcome
   is = record {
     silent = tt;
     single = tt;
@@ -350,7 +346,7 @@ module _ (plant : List Actuator) (d : Durable) (s : Stages) (n : ℕ) (sound : I
   }
 
   abbrev all : List Telling
-  all = gathered d [] (lease_tellings n) (pending_tellings n)
+  all = gathered d outcome
 
   abbrev es : List Telling
   es = in_order told_rank all
@@ -359,7 +355,7 @@ module _ (plant : List Actuator) (d : Durable) (s : Stages) (n : ℕ) (sound : I
   g txn = record { at = last_end txn cs; txn = txn; owner = owner_of d.txns txn; told = Some what.Done }
 
   abbrev over_by : ℕ → Bool
-  over_by = over_last plant d s sound stands [] (lease_tellings n) (pending_tellings n) (expired n) lease_left (is_way n) changed.pending changed.leases is
+  over_by = over_last plant d s sound stands outcome is
 
   left-is : courses changed.pending changed.leases ≡ left n cs
   left-is = left-courses plant d n sound within
@@ -367,7 +363,7 @@ module _ (plant : List Actuator) (d : Durable) (s : Stages) (n : ℕ) (sound : I
   last : (txn : ℕ) → over_by txn ≡ true → awaits txn es ≡ true → last_end txn cs ≡ last_told txn es
   last txn over_now more =
       let dead : lives txn (left n cs) ≡ false = ap (lives txn) (sym left-is)
-      ∙ over-dead plant d s sound stands [] (lease_tellings n) (pending_tellings n) (expired n) lease_left (is_way n) changed.pending changed.leases is txn over_now in
+      ∙ over-dead plant d s sound stands outcome is txn over_now in
       let P = λ (c : Pending). (c.txn == txn) ≡ true → end_of c ≤ n in
       let past : AllByRecursion P cs = dead-ends n txn cs dead in
       let running : AllByRecursion (λ r. r.start < end_of r) d.pending = each-map (IsPending plant d.now) (λ r. r.start < end_of r)
@@ -384,9 +380,9 @@ module _ (plant : List Actuator) (d : Durable) (s : Stages) (n : ℕ) (sound : I
 
   owned : AllByRecursion (IsOwned (owner_of d.txns)) all
   owned = each-append (IsOwned (owner_of d.txns)) (flat_map (lease_tellings n) d.leases) (flat_map (pending_tellings n) d.pending)
-      (each-flat (IsOwned (owner_of d.txns)) (lease_tellings n) d.leases (each-map (λ l. l.owner ≡ owner_of d.txns l.txn) (λ l. AllByRecursion (IsOwned (owner_of d.txns)) (lease_tellings n l))
+      (each-flat_map (IsOwned (owner_of d.txns)) (lease_tellings n) d.leases (each-map (λ l. l.owner ≡ owner_of d.txns l.txn) (λ l. AllByRecursion (IsOwned (owner_of d.txns)) (lease_tellings n l))
       (λ l o. lease-owned-told (owner_of d.txns) n l o) d.leases (leases-owned plant d sound)))
-      (each-flat (IsOwned (owner_of d.txns)) (pending_tellings n) d.pending (each-map (λ r. r.owner ≡ owner_of d.txns r.txn) (λ r. AllByRecursion (IsOwned (owner_of d.txns)) (pending_tellings n r))
+      (each-flat_map (IsOwned (owner_of d.txns)) (pending_tellings n) d.pending (each-map (λ r. r.owner ≡ owner_of d.txns r.txn) (λ r. AllByRecursion (IsOwned (owner_of d.txns)) (pending_tellings n r))
       (λ r o. pending-owned-told (owner_of d.txns) n r o) d.pending (pending-owned plant d sound)))
 
   so : AreWoven over_by g es
@@ -410,7 +406,7 @@ module _ (plant : List Actuator) (d : Durable) (s : Stages) (n : ℕ) (sound : I
       not_later a b = grind (arith, nat_tests)
 
   abbrev the_group : List Happening
-  the_group = group plant d s sound stands [] (lease_tellings n) (pending_tellings n) (expired n) lease_left (is_way n) changed.pending changed.leases is g (λ txn. refl) (λ txn. refl) so
+  the_group = group plant d s sound stands outcome is g (λ txn. refl) (λ txn. refl) so
 
   group-is : the_group ≡ in_order rank (due_told n d)
   group-is = λ i. in_order rank (due-tellings-told n d i
@@ -422,7 +418,7 @@ module _ (plant : List Actuator) (d : Durable) (s : Stages) (n : ℕ) (sound : I
   finish-is = ap (fold finish d.done) (group-is ∙ due-told plant d n sound) ∙ finish-told d.done (due n d)
 
   pub due-booked : AreBooksOf (booked_all s d.processes (due_tellings n d)) (tick_to n d)
-  due-booked = comes plant d s sound stands [] (lease_tellings n) (pending_tellings n) (expired n) lease_left (is_way n) changed.pending changed.leases is g (λ txn. refl) (λ txn. refl) so
+  due-booked = comes plant d s sound stands outcome is g (λ txn. refl) (λ txn. refl) so
       (tick_to n d) (due_tellings n d) refl
       (ap (fold tell d.processes) (group-is ∙ due-told plant d n sound) ∙ tell-told d.processes (due n d))
       finish-is
@@ -430,14 +426,7 @@ module _ (plant : List Actuator) (d : Durable) (s : Stages) (n : ℕ) (sound : I
       refl
 
   pub due-may-book : CanBookAll s d.processes (due_tellings n d)
-  due-may-book = may-book plant d s sound stands [] (lease_tellings n) (pending_tellings n) (expired n) lease_left (is_way n) changed.pending changed.leases is
+  due-may-book = may-book plant d s sound stands outcome is
 
   pub due-apart : AreApart told_rank (due_tellings n d)
-  due-apart = told-apart plant d s sound stands [] (lease_tellings n) (pending_tellings n) (expired n) lease_left (is_way n) changed.pending changed.leases is
-
-  -- the record of the next transaction may be begun before
-  pub due-begun : (k : Kept) → number k ≡ d.next → booked_all (with_begun k s) d.processes (due_tellings n d) ≡ books_with k (booked_all s d.processes (due_tellings n d))
-  due-begun = begun-before plant d s sound stands [] (lease_tellings n) (pending_tellings n) (expired n) lease_left (is_way n) changed.pending changed.leases is
-
-  pub due-may-book-begun : (k : Kept) → number k ≡ d.next → CanBookAll (with_begun k s) d.processes (due_tellings n d)
-  due-may-book-begun = may-book-begun plant d s sound stands [] (lease_tellings n) (pending_tellings n) (expired n) lease_left (is_way n) changed.pending changed.leases is
+  due-apart = told-apart plant d s sound stands outcome is

@@ -1,5 +1,5 @@
 -- What is told as time passes, as the code finds it and as the model's list of what is due has it.
-use Rattle.std.proofs.Common.{◌≡◌, ℕ, ◌+◌, ◌*◌, ◌<◌, ◌≤◌, ◌==◌, max, nat_lt, nat_le, List, [], ◌∷◌, ◌++◌, length, Bool, true, false, ◌&&◌, ◌||◌, cond, Option, Some, None, map, refl, ap, sym, ◌∙◌, subst, arith, append_assoc, length-append}
+use Rattle.std.proofs.Common.{◌≡◌, ℕ, ◌+◌, ◌<◌, ◌≤◌, ◌==◌, max, nat_lt, nat_le, List, [], ◌∷◌, ◌++◌, length, Bool, true, false, ◌&&◌, ◌||◌, cond, Option, Some, None, map, refl, ap, sym, ◌∙◌, subst, arith, append_assoc, length-append}
 use Rattle.std.specs.List.{filter, fold, flat_map, AllByRecursion}
 use Rattle.std.proofs.lemmas.List.{length-map}
 use Rattle.std.proofs.lemmas.Bool.{cond_both}
@@ -20,7 +20,7 @@ use Rattle.boss_model.specs.State.{pending_slot, Process, Durable}
 use Rattle.boss_model.specs.Time.{live, under_way, left, due, kept, record_after, expired, tick_to}
 use Rattle.boss_laws.proofs.Coming.{later-first, later-most, all_of, now_after, quiet}
 use Rattle.boss_laws.proofs.Courses.{over-later, courses-after}
-use Rattle.boss_laws.proofs.Filters.{filter-filter, filter-alike, filter-append, filter-map, each-mapped, each-always}
+use Rattle.boss_laws.proofs.Filters.{filter-filter, filter-alike, filter-append, filter-map, each-mapped, each-always, each-flat_map, few-filter}
 use Rattle.boss_laws.proofs.GroupSound.{tell-length}
 use Rattle.boss_laws.proofs.NothingDue.{of-pending, of-leases, nothing-due}
 use Rattle.boss_laws.proofs.Orders.{each-append, each-map, each-filter, each-in_order, each-front, each-back, filter-in_order}
@@ -28,9 +28,9 @@ use Rattle.boss_laws.proofs.Slots.{to-courses}
 use Rattle.boss_laws.proofs.TickSound.{to-due}
 use Rattle.boss_engine.specs.Due.{reverted_by, lease_told, is_done_by, done_told, due_told, is_told, is_some_told, last_of_lease, last_of_pending, last_due}
 use Rattle.boss_engine.specs.Playing.{last_turn}
-use Rattle.boss_engine.specs.Telling.{AreToldApart}
 use Rattle.boss_engine.proofs.Ordering.{in_order-front, flat_map-moved, all-apart, in_order-append}
-use Rattle.boss_engine.proofs.ToldApart.{IsToldOf, told-apart, are-told-apart, owner_of, pending-owned, leases-owned, txns-owned}
+use Rattle.boss_engine.proofs.Owners.{owner_of, pending-owned, leases-owned, txns-owned}
+use Rattle.boss_engine.proofs.ToldApart.{IsToldOf, told-apart}
 
 -- ---- what nobody is told changes nobody
 
@@ -60,14 +60,6 @@ pub left-courses : (plant : List Actuator) (d : Durable) (n : ℕ) → IsSoundDu
     courses (under_way n (courses d.pending d.leases)) (live n d.leases) ≡ left n (courses d.pending d.leases)
 left-courses plant d n sound within = courses-after n d.pending d.leases
     (each-map (IsPending plant d.now) (λ r. r.start ≤ n) (λ r is. let s : r.start ≤ d.now = is.started in omega arith) d.pending sound.pending) sound.slots
-
-pub left-after : (plant : List Actuator) (d : Durable) (n txn : ℕ) → IsSoundDurable plant d → d.now ≤ n →
-    lives txn (left n (courses d.pending d.leases)) ≡ lives txn (courses (under_way n (courses d.pending d.leases)) (live n d.leases))
-left-after plant d n txn sound within = ap (lives txn) (sym (left-courses plant d n sound within))
-
-pub kept-left : (plant : List Actuator) (d : Durable) (n : ℕ) (done : List ℕ) (txns : List Transaction) → IsSoundDurable plant d → d.now ≤ n →
-    kept (left n (courses d.pending d.leases)) done txns ≡ kept (courses (under_way n (courses d.pending d.leases)) (live n d.leases)) done txns
-kept-left plant d n done txns sound within = ap (λ cs. kept cs done txns) (sym (left-courses plant d n sound within))
 
 -- ---- the last moment that is due: the last turn of steps
 
@@ -278,10 +270,6 @@ flat_map-same : {X Y : Type 0} (f g : X → List Y) (xs : List X) → AllByRecur
 flat_map-same f g [] same = refl
 flat_map-same f g (x ∷ xs) same = λ i. same.0 i ++ flat_map-same f g xs same.1 i
 
-each-flat_map : {X Y : Type 0} (P : Y → Type 0) (f : X → List Y) (xs : List X) → AllByRecursion (λ x. AllByRecursion P (f x)) xs → AllByRecursion P (flat_map f xs)
-each-flat_map P f [] all = tt
-each-flat_map P f (x ∷ xs) all = each-append P (f x) (flat_map f xs) all.0 (each-flat_map P f xs all.1)
-
 -- it is due, and somebody is told
 abbrev is_due_told : ℕ → ℕ → Happening → Bool
 is_due_told now n h = nat_lt now h.at && (nat_le h.at n && is_some_told h)
@@ -364,20 +352,6 @@ own-courses plant d n sound =
     (each-mapped own reversion_of d.leases (each-map (λ lease. lease.owner ≡ owner_of d.txns lease.txn) (λ lease. own (reversion_of lease))
     (λ lease owned. own-told (owner_of d.txns) d.now n (reversion_of lease) owned) d.leases (leases-owned plant d sound)))
 
-own-due : (plant : List Actuator) (d : Durable) (n : ℕ) → IsSoundDurable plant d → AllByRecursion (Own (owner_of d.txns)) (due_told n d)
-own-due plant d n sound =
-    let O = Own (owner_of d.txns) in
-    let leased = flat_map (lease_told n) d.leases in
-    let under = flat_map (reverted_by n) d.pending in
-    let done = done_told d.now n (courses d.pending d.leases) d.txns in
-    let all : AllByRecursion O (under ++ leased) = subst (AllByRecursion O) (told-courses plant d n sound)
-    (each-flat_map O (told_of d.now n) (d.pending ++ map reversion_of d.leases) (own-courses plant d n sound)) in
-    each-append O (leased ++ under) done (each-append O leased under (each-back O under leased all) (each-front O under leased all))
-    (own-done (owner_of d.txns) d.now n (courses d.pending d.leases) d.txns (txns-owned plant d sound))
-
-pub told-apart-due : (plant : List Actuator) (d : Durable) (n : ℕ) → IsSoundDurable plant d → AreToldApart (due_told n d)
-told-apart-due plant d n sound = are-told-apart (owner_of d.txns) cause.Expired 0 (due_told n d) (own-due plant d n sound)
-
 -- ---- what is told, in order
 
 pub due-told : (plant : List Actuator) (d : Durable) (n : ℕ) → IsSoundDurable plant d → in_order rank (due_told n d) ≡ filter is_some_told (due n d)
@@ -419,71 +393,6 @@ due-told plant d n sound =
     let told_last : in_order rank (done ++ (leased ++ under)) ≡ in_order rank ((leased ++ under) ++ done) =
     in_order-append rank done (leased ++ under) (all-apart rank O apart (done ++ (leased ++ under)) (each-append O done (leased ++ under) own_done (each-append O leased under own_leased own_under))) in
     sym (one ∙ ap (in_order rank) parts ∙ around ∙ in_order-front rank done (flat_map f cs) (leased ++ under) (moved ∙ leases_first) ∙ told_last)
-
--- ---- the tick
-
-pub ticked : (plant : List Actuator) (d : Durable) (n : ℕ) → IsSoundDurable plant d → d.now ≤ n →
-    record d {
-      now = last_due n d;
-      leases = live n d.leases;
-      pending = under_way n (courses d.pending d.leases);
-      txns = kept (courses (under_way n (courses d.pending d.leases)) (live n d.leases)) (fold finish d.done (in_order rank (due_told n d))) (map (record_after (expired n) d.leases) d.txns);
-      done = fold finish d.done (in_order rank (due_told n d));
-      processes = fold tell d.processes (in_order rank (due_told n d));
-    } ≡ tick_to n d
-ticked plant d n sound within =
-    let told : in_order rank (due_told n d) ≡ filter is_some_told (due n d) = due-told plant d n sound in
-    let done : fold finish d.done (in_order rank (due_told n d)) ≡ fold finish d.done (due n d) = ap (fold finish d.done) told ∙ finish-told d.done (due n d) in
-    let processes : fold tell d.processes (in_order rank (due_told n d)) ≡ fold tell d.processes (due n d) = ap (fold tell d.processes) told ∙ tell-told d.processes (due n d) in
-    let last : last_due n d ≡ fold later d.now (due n d) = last-due plant d n sound within in
-    let reversions : courses (under_way n (courses d.pending d.leases)) (live n d.leases) ≡ left n (courses d.pending d.leases) = left-courses plant d n sound within in
-    λ i. record {
-      now = last i;
-      next = d.next;
-      leases = live n d.leases;
-      pending = under_way n (courses d.pending d.leases);
-      txns = kept (reversions i) (done i) (map (record_after (expired n) d.leases) d.txns);
-      done = done i;
-      processes = processes i;
-    }
-
--- ---- how much is told
-
-few-reverted : (r : Pending) (steps : List Step) → length (reverted r steps) ≤ 1
-few-reverted r [] = omega arith
-few-reverted r (step ∷ steps) = omega arith
-
-few-reverted_by : (n : ℕ) (r : Pending) → length (reverted_by n r) ≤ 1
-few-reverted_by n r = cond_both (nat_le (end_of r) n) (reverted r r.steps) [] (λ hs. length hs ≤ 1) (λ _. few-reverted r r.steps) (λ _. omega arith)
-
-few-lease_told : (n : ℕ) (lease : Lease) → length (lease_told n lease) ≤ 2
-few-lease_told n lease = cond_both (nat_le lease.until n) (ended cause.Expired (reversion_of lease) ∷ reverted_by n (reversion_of lease)) [] (λ hs. length hs ≤ 2)
-    (λ _. omega (arith, few-reverted_by n (reversion_of lease))) (λ _. omega arith)
-
-few-flat_map : {X Y : Type 0} (f : X → List Y) (most : ℕ) → ((x : X) → length (f x) ≤ most) → (xs : List X) → length (flat_map f xs) ≤ length xs * most
-few-flat_map f most few [] = omega arith
-few-flat_map f most few (x ∷ xs) = omega (arith, length-append (f x) (flat_map f xs), few x, few-flat_map f most few xs)
-
-pub few-filter : {X : Type 0} (test : X → Bool) (xs : List X) → length (filter test xs) ≤ length xs
-few-filter test [] = omega arith
-few-filter test (x ∷ xs) = cond_both (test x) (x ∷ filter test xs) (filter test xs) (λ ys. length ys ≤ length (x ∷ xs))
-    (λ _. omega (arith, few-filter test xs)) (λ _. omega (arith, few-filter test xs))
-
-pub few-told : (n : ℕ) (d : Durable) → length (due_told n d) ≤ 2 * length d.leases + length d.pending + length d.txns
-few-told n d =
-    let cs = courses d.pending d.leases in
-    let leased = flat_map (lease_told n) d.leases in
-    let under = flat_map (reverted_by n) d.pending in
-    let done = filter (is_done_by d.now n cs) d.txns in
-    omega (
-      arith,
-      length-append (leased ++ under) (map (done_last cs) done),
-      length-append leased under,
-      length-map done (done_last cs),
-      few-filter (is_done_by d.now n cs) d.txns,
-      few-flat_map (lease_told n) 2 (few-lease_told n) d.leases,
-      few-flat_map (reverted_by n) 1 (few-reverted_by n) d.pending,
-    )
 
 -- ---- what is there after a tick
 

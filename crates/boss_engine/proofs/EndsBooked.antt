@@ -19,23 +19,32 @@ use Rattle.boss_model.specs.Time.{under_way, record_after, kept}
 use Rattle.boss_stages.specs.Stages.{Stages, number}
 use Rattle.boss_laws.proofs.Endings.{IsEnding, IsReverting, ending-change, after_ending}
 use Rattle.boss_laws.proofs.EndSound.{IsAt, ending-if}
-use Rattle.boss_laws.proofs.Filters.{each-mapped, each-always}
+use Rattle.boss_laws.proofs.Filters.{each-mapped, each-always, any-map}
 use Rattle.boss_laws.proofs.GroupSound.{IsChange}
 use Rattle.boss_laws.proofs.Orders.{each-map, each-both, each-filter, each-append, each-in_order}
 use Rattle.boss_laws.proofs.Slots.{any-in_order, any-append}
 use Rattle.boss_engine.specs.Books.{Telling, StandsFor, is_end, all_done, reverts_on}
 use Rattle.boss_engine.specs.Gathered.{plain, ended_with, end_tellings, told_rank, booked_all, AreBooksOf, CanBookAll}
-use Rattle.boss_engine.proofs.Changed.{change-opened, change-lived, any-filter, any-map, any-alike, or-turn, steps-last, areWoven, by-records}
-use Rattle.boss_engine.proofs.Gathering.{IsOfLease, IsOfPending, IsGathered, gathered, over_last, group, comes, may-book, told-apart}
+use Rattle.boss_engine.specs.Lasting.{IsFirstTold, IsPassed, faulted, nothing}
+use Rattle.boss_engine.proofs.Changed.{change-opened, change-lived, any-filter, any-alike, or-turn, steps-last, areWoven, by-records}
+use Rattle.boss_engine.proofs.Gathering.{IsOfLease, IsOfPending, Outcome, IsGathered, gathered, over_last, group, comes, may-book, told-apart}
 use Rattle.boss_engine.proofs.Keys.{lease_key, pending_key}
 use Rattle.boss_engine.specs.Telling.{AreApart}
 use Rattle.boss_engine.proofs.Points.{map-map}
-use Rattle.boss_engine.proofs.ToldApart.{owner_of, leases-owned, txns-owned}
+use Rattle.boss_engine.proofs.Owners.{owner_of, leases-owned, txns-owned}
 use Rattle.boss_engine.proofs.Weaving.{AreWoven}
 
 -- neither ends a part nor makes a transaction done
 abbrev pub IsAside : Happening → Type 0
 IsAside h = (is_end h.told ≡ false) × (is_done h.told ≡ false)
+
+first-aside : (why : Cause) (n : ℕ) (d : Durable) (first : List Happening) → IsFirstTold why n d first → AllByRecursion IsAside first
+first-aside why n d _ nothing = tt
+first-aside why n d _ (faulted point lease found) = ((refl, refl), tt)
+
+first-single : (why : Cause) (n : ℕ) (d : Durable) (first : List Happening) → IsFirstTold why n d first → Rising rank first
+first-single why n d _ nothing = tt
+first-single why n d _ (faulted point lease found) = (tt, tt)
 
 -- a transaction of this owner becomes done at n
 abbrev pub done_by : (ℕ → ℕ) → ℕ → ℕ → Happening
@@ -80,8 +89,16 @@ pub numbers-kept : (how : Lease → Option End) (leases : List Lease) (txns : Li
 numbers-kept how leases txns = map-map (λ t. t.txn) (record_after how leases) txns
 
 module _ (plant : List Actuator) (d : Durable) (s : Stages) (which : Lease → Bool) (why : Cause) (n : ℕ) (first : List Happening)
-    (sound : IsSoundDurable plant d) (stands : StandsFor s d) (at : IsAt n d) (small : n ≤ 2 ^ 60) (reverts : is_superseded why ≡ false)
-    (aside : AllByRecursion IsAside first) (single : Rising rank first) where
+    (sound : IsSoundDurable plant d) (stands : StandsFor s d) (passed : IsPassed n d) (small : n ≤ 2 ^ 60) (reverts : is_superseded why ≡ false) (is_first : IsFirstTold why n d first) where
+  at : IsAt n d
+  at = record { reached = passed.reached; live = passed.live; running = passed.running }
+
+  aside : AllByRecursion IsAside first
+  aside = first-aside why n d first is_first
+
+  single : Rising rank first
+  single = first-single why n d first is_first
+
   abbrev the_end : Lease → Telling
   the_end l = ended_with why (reversion_of (shortened n l))
 
@@ -159,7 +176,10 @@ module _ (plant : List Actuator) (d : Durable) (s : Stages) (which : Lease → B
       (each-always (λ lease. IsReverting (how lease)) reverting-if d.leases)
       (each-always (λ c. c.start ≤ n → c.start ≤ n) (λ c early. early) (courses d.pending cut))
 
-  is : IsGathered d (map plain first) of_lease of_pending how lease_left (is_way n) changed.pending changed.leases
+  abbrev outcome : Outcome
+  outcome = record { first = map plain first; of_lease = of_lease; of_pending = of_pending; how = how; lease_left = lease_left; pending_left = is_way n; pending = changed.pending; leases = changed.leases }
+
+  is : IsGathered d outcome
   is = record {
     silent = each-mapped (λ e. (is_end e.happening.told ≡ false) × (is_done e.happening.told ≡ false)) plain first aside;
     single = plain-rising first single;
@@ -173,7 +193,7 @@ module _ (plant : List Actuator) (d : Durable) (s : Stages) (which : Lease → B
   }
 
   abbrev all : List Telling
-  all = gathered d (map plain first) of_lease of_pending
+  all = gathered d outcome
 
   all-is : all ≡ map plain first ++ end_tellings which why n d.leases
   all-is = (λ i. map plain first ++ (one-each which the_end d.leases i ++ no-each {X = Pending} {Y = Telling} d.pending i)) ∙ ap (λ xs. map plain first ++ xs) (append-nil (end_tellings which why n d.leases))
@@ -188,8 +208,8 @@ module _ (plant : List Actuator) (d : Durable) (s : Stages) (which : Lease → B
       (each-mapped IsNow the_end (filter which d.leases) (each-filter (λ l. IsNow (the_end l)) which d.leases
       (each-map (λ l. l.owner ≡ owner_of d.txns l.txn) (λ l. IsNow (the_end l)) (λ l owned _. λ i. record { at = n; txn = l.txn; owner = owned i; told = Some what.Done }) d.leases (leases-owned plant d sound))))
 
-  so : AreWoven (over_last plant d s sound stands (map plain first) of_lease of_pending how lease_left (is_way n) changed.pending changed.leases is) (done_by (owner_of d.txns) n) (in_order told_rank all)
-  so = areWoven (over_last plant d s sound stands (map plain first) of_lease of_pending how lease_left (is_way n) changed.pending changed.leases is) (done_by (owner_of d.txns) n) (in_order told_rank all)
+  so : AreWoven (over_last plant d s sound stands outcome is) (done_by (owner_of d.txns) n) (in_order told_rank all)
+  so = areWoven (over_last plant d s sound stands outcome is) (done_by (owner_of d.txns) n) (in_order told_rank all)
       (each-in_order IsNow told_rank all (subst (AllByRecursion IsNow) (sym all-is) all-now))
 
   abbrev after : Durable
@@ -198,7 +218,7 @@ module _ (plant : List Actuator) (d : Durable) (s : Stages) (which : Lease → B
   abbrev dead : ℕ → Bool
   dead txn = lives txn (courses d.pending d.leases) && not (lives txn (courses changed.pending changed.leases))
 
-  group-is : group plant d s sound stands (map plain first) of_lease of_pending how lease_left (is_way n) changed.pending changed.leases is (done_by (owner_of d.txns) n) (λ txn. refl) (λ txn. refl) so
+  group-is : group plant d s sound stands outcome is (done_by (owner_of d.txns) n) (λ txn. refl) (λ txn. refl) so
       ≡ in_order rank ((first ++ map (λ lease. ended why (reversion_of (shortened n lease))) (filter which d.leases)) ++ map (done_at n) (filter (λ t. dead t.txn) (map (record_after how d.leases) d.txns)))
   group-is = λ i. in_order rank ((ap (map (λ e. e.happening)) all-is ∙ map-append (λ e. e.happening) (map plain first) (end_tellings which why n d.leases)
       ∙ (λ j. map-plain first j ++ map-map (λ e. e.happening) the_end (filter which d.leases) j)) i
@@ -208,13 +228,13 @@ module _ (plant : List Actuator) (d : Durable) (s : Stages) (which : Lease → B
       (each-map (λ t. t.owner ≡ owner_of d.txns t.txn) (λ t. done_by (owner_of d.txns) n t.txn ≡ done_at n t) (λ t owned j. record { at = n; txn = t.txn; owner = sym owned j; told = Some what.Done }) d.txns (txns-owned plant d sound))) i)
 
   pub ends-booked : AreBooksOf (booked_all s d.processes (map plain first ++ end_tellings which why n d.leases)) after
-  ends-booked = comes plant d s sound stands (map plain first) of_lease of_pending how lease_left (is_way n) changed.pending changed.leases is (done_by (owner_of d.txns) n) (λ txn. refl) (λ txn. refl) so
+  ends-booked = comes plant d s sound stands outcome is (done_by (owner_of d.txns) n) (λ txn. refl) (λ txn. refl) so
       after (map plain first ++ end_tellings which why n d.leases) all-is
       (ap (fold tell d.processes) group-is) (ap (fold finish d.done) group-is)
       (ap (λ hs. kept (courses changed.pending changed.leases) (fold finish d.done hs) (map (record_after how d.leases) d.txns)) group-is) refl
 
   pub ends-may-book : CanBookAll s d.processes (map plain first ++ end_tellings which why n d.leases)
-  ends-may-book = subst (CanBookAll s d.processes) all-is (may-book plant d s sound stands (map plain first) of_lease of_pending how lease_left (is_way n) changed.pending changed.leases is)
+  ends-may-book = subst (CanBookAll s d.processes) all-is (may-book plant d s sound stands outcome is)
 
   pub ends-apart : AreApart told_rank (map plain first ++ end_tellings which why n d.leases)
-  ends-apart = subst (AreApart told_rank) all-is (told-apart plant d s sound stands (map plain first) of_lease of_pending how lease_left (is_way n) changed.pending changed.leases is)
+  ends-apart = subst (AreApart told_rank) all-is (told-apart plant d s sound stands outcome is)

@@ -1,7 +1,7 @@
 -- The first place at which a test holds, as a scan of a list finds it.
-use Rattle.std.proofs.Common.{◌≡◌, ℕ, zero, suc, ◌+◌, ◌<◌, ◌≤◌, List, [], ◌∷◌, length, take, get_or, Bool, true, false, not, Some, None, cond, refl, ap, sym, subst, ◌∙◌, arith}
+use Rattle.std.proofs.Common.{◌≡◌, ℕ, zero, suc, ◌+◌, ◌<◌, ◌≤◌, List, [], ◌∷◌, length, take, get_or, Bool, true, false, not, Some, None, cond, refl, ap, sym, ◌∙◌, arith}
 use Rattle.std.specs.Prelude.{◌||◌, nat_lt, position, find}
-use Rattle.std.specs.List.{AllByRecursion, list_any, position_or_len}
+use Rattle.std.specs.List.{list_any, position_or_len}
 use Rattle.std.proofs.lemmas.Bool.Decides.{nat_tests}
 use Rattle.std.proofs.lemmas.List.{take_all}
 use Rattle.std.proofs.lemmas.List.Folds.{list_any_more}
@@ -64,12 +64,3 @@ module _ {X : Type 0} (test : X → Bool) where
 
   pub find-none : (xs : List X) (i : ℕ) → length xs ≤ i → list_any test (take i xs) ≡ false → find test xs ≡ None
   find-none xs i past none = find-past xs (ap (list_any test) (sym (take_all i xs past)) ∙ none)
-
--- what holds of all items holds of the one that is found
-pub each-found : {X : Type 0} (P : X → Type 0) (test : X → Bool) (xs : List X) (x : X) → AllByRecursion P xs → find test xs ≡ Some x → P x
-each-found P test [] x all found = cc
-each-found P test (y ∷ ys) x all found = chosen (test y) found (each-found P test ys x all.1)
-  where
-    chosen : (b : Bool) → cond b (Some y) (find test ys) ≡ Some x → (find test ys ≡ Some x → P x) → P x
-    chosen true e later = let same : y ≡ x = cc in subst P same all.0
-    chosen false e later = later e

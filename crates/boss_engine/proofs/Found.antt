@@ -2,7 +2,7 @@
 use Rattle.std.proofs.Common.{◌≡◌, ℕ, zero, suc, ◌+◌, ◌<◌, List, [], ◌∷◌, ◌++◌, length, take, get_or, Bool, true, false, Option, Some, None, cond, subst, ap, sym, ◌∙◌, refl, map, zero-add, arith, if◌then◌else◌}
 use Rattle.std.specs.Array.{IsFromFnResult, IsFromFnResultFrom}
 use Rattle.std.specs.Fn.{Called}
-use Rattle.std.specs.List.{filter, find, AllByRecursion, range_with_len}
+use Rattle.std.specs.List.{filter, AllByRecursion, range_with_len}
 use denote.Param.Members.{Mut}
 use Rattle.std.proofs.lemmas.Bool.Decides.{nat_tests}
 use Rattle.std.proofs.lemmas.Grind.{common_steps}
@@ -12,16 +12,7 @@ use Rattle.boss_model.specs.Order.{least, lesser, kept}
 use Rattle.boss_laws.proofs.Filters.{filter-append}
 use Rattle.boss_laws.proofs.Orders.{each-filter, least-of}
 
--- what holds of all items holds of the one that is found
-pub each-found : {X : Type 0} (P : X → Type 0) (test : X → Bool) (xs : List X) (x : X) → AllByRecursion P xs → find test xs ≡ Some x → P x
-each-found P test [] x all found = cc
-each-found P test (y ∷ ys) x all found = chosen (test y) found (each-found P test ys x all.1)
-  where
-    chosen : (b : Bool) → cond b (Some y) (find test ys) ≡ Some x → (find test ys ≡ Some x → P x) → P x
-    chosen true e later = let same : y ≡ x = cc in subst P same all.0
-    chosen false e later = later e
-
--- and of the least of those that pass a test
+-- what holds of all items holds of the least of those that pass a test
 pub each-least : {X : Type 0} (P : X → Type 0) (key : X → ℕ) (test : X → Bool) (xs : List X) (x : X) → AllByRecursion P xs → least key (filter test xs) ≡ Some x → P x
 each-least P key test xs x all found = least-of P key (filter test xs) x (each-filter P test xs all) found
 

@@ -16,10 +16,10 @@ use Rattle.boss_model.specs.Reversions.{courses}
 use Rattle.boss_model.specs.Sound.{Rising, Distinct, holds, has_part, is_kept, is_start, IsTransaction, IsPart, IsSoundDurable, number_rank}
 use Rattle.boss_model.specs.State.{Durable}
 use Rattle.boss_model.specs.Time.{kept, lease_of_part, end_after, part_after, record_after}
+use Rattle.boss_model.proofs.Members.{member-filter, Distinct-filter}
 use Rattle.boss_stages.specs.Stages.{Kept, Stages, number, is_over}
-use Rattle.boss_laws.proofs.Filters.{filter-append, filter-none, filter-all, filter-same, filter-map, each-mapped, each-unmapped}
+use Rattle.boss_laws.proofs.Filters.{filter-append, filter-none, filter-all, filter-same, filter-map, each-mapped, each-unmapped, each-flat_map}
 use Rattle.boss_laws.proofs.Orders.{before-self, each-unordered, each-map, each-both, each-append, each-filter, each-in_order, filter-in_order, in_order-Rising, Ordered-in_order}
-use Rattle.boss_laws.proofs.Places.{member-filter, Distinct-filter}
 use Rattle.boss_laws.proofs.SubmitSound.{kept-number}
 use Rattle.boss_engine.specs.Books.{Telling, Books, StandsFor, is_end, booked, reverts_on}
 use Rattle.boss_engine.specs.Gathered.{told_rank, booked_all, AreBooksOf, CanBookAll, with_begun, books_with}
@@ -75,10 +75,6 @@ end-not-done e end = of e.happening.told end
     of (Some (what.Reverted point)) is = refl
     of (Some (what.Cut point by)) is = refl
     of (Some what.Done) is = absurd (cc)
-
-pub each-flat : {X Y : Type 0} (P : Y → Type 0) (f : X → List Y) (xs : List X) → AllByRecursion (λ x. AllByRecursion P (f x)) xs → AllByRecursion P (flat_map f xs)
-each-flat P f [] all = tt
-each-flat P f (x ∷ xs) all = each-append P (f x) (flat_map f xs) all.0 (each-flat P f xs all.1)
 
 end-none : (how : Lease → Option End) (end : Option End) → end ≡ end_after how None end
 end-none how None = refl
@@ -153,34 +149,40 @@ rising-apart order xs rising =
 
 -- ---- the whole
 
-module _ (d : Durable) (first : List Telling) (of_lease : Lease → List Telling) (of_pending : Pending → List Telling) where
-  -- what is gathered, as it is found, and in order
-  abbrev pub gathered : List Telling
-  gathered = first ++ (flat_map of_lease d.leases ++ flat_map of_pending d.pending)
+-- what is told first, and of each lease and reversion, how the leases end so, and what is left
+pub record Outcome : Type 0 where
+  pub first : List Telling
+  pub of_lease : Lease → List Telling
+  pub of_pending : Pending → List Telling
+  pub how : Lease → Option End
+  pub lease_left : Lease → Bool
+  pub pending_left : Pending → Bool
+  pub pending : List Pending
+  pub leases : List Lease
 
-  abbrev pub sorted : List Telling
-  sorted = in_order told_rank gathered
+-- all that is told, as it is found
+abbrev pub gathered : Durable → Outcome → List Telling
+gathered d outcome = outcome.first ++ (flat_map outcome.of_lease d.leases ++ flat_map outcome.of_pending d.pending)
 
-  -- What is gathered ends the leases and reversions so that these are left: `pending` and `leases`.
-  pub record IsGathered (how : Lease → Option End) (lease_left : Lease → Bool) (pending_left : Pending → Bool) (pending : List Pending) (leases : List Lease) : Type 0 where
-    pub silent : AllByRecursion (λ e. (is_end e.happening.told ≡ false) × (is_done e.happening.told ≡ false)) first
-    pub single : Rising told_rank first
-    pub of_leases : AllByRecursion (λ l. IsOfLease (how l) (lease_left l) l (of_lease l)) d.leases
-    pub of_pendings : AllByRecursion (λ r. IsOfPending (pending_left r) r (of_pending r)) d.pending
-    pub left : (txn point : ℕ) → reverts_on txn point pending ≡
-        (list_any (λ l. lease_key txn point l && lease_left l) d.leases || list_any (λ r. pending_key txn point r && pending_left r) d.pending)
-    pub opened : AllByRecursion (IsOpen leases) (map (record_after how d.leases) d.txns)
-    pub lived : AllByRecursion (IsLived leases) (map (record_after how d.leases) d.txns)
+-- What is gathered ends the leases and reversions so that these are left: `pending` and `leases`.
+pub record IsGathered (d : Durable) (outcome : Outcome) : Type 0 where
+  pub silent : AllByRecursion (λ e. (is_end e.happening.told ≡ false) × (is_done e.happening.told ≡ false)) outcome.first
+  pub single : Rising told_rank outcome.first
+  pub of_leases : AllByRecursion (λ l. IsOfLease (outcome.how l) (outcome.lease_left l) l (outcome.of_lease l)) d.leases
+  pub of_pendings : AllByRecursion (λ r. IsOfPending (outcome.pending_left r) r (outcome.of_pending r)) d.pending
+  pub left : (txn point : ℕ) → reverts_on txn point outcome.pending ≡
+      (list_any (λ l. lease_key txn point l && outcome.lease_left l) d.leases || list_any (λ r. pending_key txn point r && outcome.pending_left r) d.pending)
+  pub opened : AllByRecursion (IsOpen outcome.leases) (map (record_after outcome.how d.leases) d.txns)
+  pub lived : AllByRecursion (IsLived outcome.leases) (map (record_after outcome.how d.leases) d.txns)
 
-module _ (plant : List Actuator) (d : Durable) (s : Stages) (sound : IsSoundDurable plant d) (stands : StandsFor s d)
-    (first : List Telling) (of_lease : Lease → List Telling) (of_pending : Pending → List Telling)
-    (how : Lease → Option End) (lease_left : Lease → Bool) (pending_left : Pending → Bool) (pending : List Pending) (leases : List Lease)
-    (is : IsGathered d first of_lease of_pending how lease_left pending_left pending leases) where
+module _ (plant : List Actuator) (d : Durable) (s : Stages) (sound : IsSoundDurable plant d) (stands : StandsFor s d) (outcome : Outcome) (is : IsGathered d outcome) where
+  open outcome use {first, of_lease, of_pending, how, lease_left, pending_left, pending, leases}
+
   abbrev all : List Telling
-  all = gathered d first of_lease of_pending
+  all = gathered d outcome
 
   abbrev es : List Telling
-  es = sorted d first of_lease of_pending
+  es = in_order told_rank all
 
   -- ---- what ends on one point
 
@@ -221,9 +223,9 @@ module _ (plant : List Actuator) (d : Durable) (s : Stages) (sound : IsSoundDura
 
   all-ends : (P : Telling → Type 0) → ((e : Telling) → is_end e.happening.told ≡ true → P e) → AllByRecursion P (flat_map of_lease d.leases ++ flat_map of_pending d.pending)
   all-ends P go = each-append P (flat_map of_lease d.leases) (flat_map of_pending d.pending)
-      (each-flat P of_lease d.leases (each-map (λ l. IsOfLease (how l) (lease_left l) l (of_lease l)) (λ l. AllByRecursion P (of_lease l))
+      (each-flat_map P of_lease d.leases (each-map (λ l. IsOfLease (how l) (lease_left l) l (of_lease l)) (λ l. AllByRecursion P (of_lease l))
       (λ l o. each-map (λ e. is_on l.txn l.point e ≡ true) P (λ e on. go e (on-end l.txn l.point e on)) (of_lease l) o.own) d.leases is.of_leases))
-      (each-flat P of_pending d.pending (each-map (λ r. IsOfPending (pending_left r) r (of_pending r)) (λ r. AllByRecursion P (of_pending r))
+      (each-flat_map P of_pending d.pending (each-map (λ r. IsOfPending (pending_left r) r (of_pending r)) (λ r. AllByRecursion P (of_pending r))
       (λ r o. each-map (λ e. is_on r.txn r.point e ≡ true) P (λ e on. go e (on-end r.txn r.point e on)) (of_pending r) o.own) d.pending is.of_pendings))
 
   others : filter (λ e. not (is_end e.happening.told)) all ≡ first
@@ -436,10 +438,10 @@ module _ (plant : List Actuator) (d : Durable) (s : Stages) (sound : IsSoundDura
   all-known = each-append IsKnown first (flat_map of_lease d.leases ++ flat_map of_pending d.pending)
       (each-map (λ e. (is_end e.happening.told ≡ false) × (is_done e.happening.told ≡ false)) IsKnown (λ e out end. absurd (no_way e out.0 end)) first is.silent)
       (each-append IsKnown (flat_map of_lease d.leases) (flat_map of_pending d.pending)
-      (each-flat IsKnown of_lease d.leases (each-map (λ l. IsOfLease (how l) (lease_left l) l (of_lease l) × (has_part is_none d.txns l.txn l.point l.priority ≡ true)) (λ l. AllByRecursion IsKnown (of_lease l))
+      (each-flat_map IsKnown of_lease d.leases (each-map (λ l. IsOfLease (how l) (lease_left l) l (of_lease l) × (has_part is_none d.txns l.txn l.point l.priority ≡ true)) (λ l. AllByRecursion IsKnown (of_lease l))
       (λ l both. known-by is_none l.txn l.point l.priority (of_lease l) both.1 both.0.own) d.leases
       (each-both (λ l. IsOfLease (how l) (lease_left l) l (of_lease l)) (λ l. has_part is_none d.txns l.txn l.point l.priority ≡ true) d.leases is.of_leases sound.open_parts)))
-      (each-flat IsKnown of_pending d.pending (each-map (λ r. IsOfPending (pending_left r) r (of_pending r) × (has_part (is_start r.start) d.txns r.txn r.point r.priority ≡ true)) (λ r. AllByRecursion IsKnown (of_pending r))
+      (each-flat_map IsKnown of_pending d.pending (each-map (λ r. IsOfPending (pending_left r) r (of_pending r) × (has_part (is_start r.start) d.txns r.txn r.point r.priority ≡ true)) (λ r. AllByRecursion IsKnown (of_pending r))
       (λ r both. known-by (is_start r.start) r.txn r.point r.priority (of_pending r) both.1 both.0.own) d.pending
       (each-both (λ r. IsOfPending (pending_left r) r (of_pending r)) (λ r. has_part (is_start r.start) d.txns r.txn r.point r.priority ≡ true) d.pending is.of_pendings sound.ended_parts))))
     where

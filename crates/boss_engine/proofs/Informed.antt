@@ -1,8 +1,7 @@
 -- The owners of what is told are processes.
-use Rattle.std.proofs.Common.{◌≡◌, ℕ, ◌<◌, ◌==◌, nat_le, List, [], ◌∷◌, ◌++◌, length, Bool, true, false, Option, is_none, map, refl, arith}
+use Rattle.std.proofs.Common.{ℕ, ◌<◌, ◌==◌, nat_le, List, [], ◌∷◌, ◌++◌, length, Bool, map}
 use Rattle.std.specs.List.{filter, flat_map, AllByRecursion}
 use Rattle.std.proofs.lemmas.Bool.{cond_both}
-use Rattle.std.proofs.lemmas.Bool.Decides.{nat_tests}
 use Rattle.boss_model.specs.declared.command.Step.{Step}
 use Rattle.boss_model.specs.declared.notice.Cause.{Cause}
 use Rattle.boss_model.specs.declared.notice.Cause.TheVariants as cause
@@ -12,28 +11,16 @@ use Rattle.boss_model.specs.declared.state.Pending.{Pending}
 use Rattle.boss_model.specs.Ends.{fault, shortened}
 use Rattle.boss_model.specs.Happenings.{Happening, reverted}
 use Rattle.boss_model.specs.Order.{in_order}
-use Rattle.boss_model.specs.Records.{End, Transaction}
 use Rattle.boss_model.specs.Reversions.{end_of, reversion_of}
-use Rattle.boss_model.specs.Sound.{has_part, is_start, IsTransaction, IsSoundDurable}
+use Rattle.boss_model.specs.Sound.{IsSoundDurable}
 use Rattle.boss_model.specs.State.{Durable}
 use Rattle.boss_model.specs.Submit.{cut, superseded}
-use Rattle.boss_laws.proofs.Filters.{each-mapped}
-use Rattle.boss_laws.proofs.Orders.{each-map, each-both, each-filter, each-append, each-in_order, least-of}
+use Rattle.boss_laws.proofs.Filters.{each-mapped, each-flat_map}
+use Rattle.boss_laws.proofs.Orders.{each-map, each-filter, each-append, each-in_order, least-of}
 use Rattle.boss_engine.specs.Books.{Telling}
 use Rattle.boss_engine.specs.Gathered.{plain, ended_with, pending_tellings, lease_tellings, due_tellings, end_tellings, replaced_tellings, told_rank}
 use Rattle.boss_engine.specs.Lasting.{IsFirstTold, nothing, faulted}
-use Rattle.boss_engine.proofs.Gathering.{each-flat}
-use Rattle.boss_engine.proofs.ToldApart.{owner_of, leases-owned, pending-owned}
-
--- the owner of a transaction that has a part is that of a record
-record-owner : (count : ℕ) (txns : List Transaction) (test : Option End → Bool) (txn point priority : ℕ) → AllByRecursion (λ t. t.owner < count) txns →
-    has_part test txns txn point priority ≡ true → owner_of txns txn < count
-record-owner count [] test txn point priority all has = cc
-record-owner count (t ∷ ts) test txn point priority all has = first-or-later (t.txn == txn) refl (record-owner count ts test txn point priority all.1)
-  where
-    first-or-later : (b : Bool) → (t.txn == txn) ≡ b → (has_part test ts txn point priority ≡ true → owner_of ts txn < count) → owner_of (t ∷ ts) txn < count
-    first-or-later true is rest = rw is all.0
-    first-or-later false is rest = rw is (rest (grind (arith, nat_tests)))
+use Rattle.boss_engine.proofs.Owners.{leases-known, pending-known}
 
 -- ---- told to one of so many processes
 
@@ -52,32 +39,11 @@ module _ (count : ℕ) where
   informed-lease n l held = cond_both (nat_le l.until n) (ended_with cause.Expired (reversion_of l) ∷ pending_tellings n (reversion_of l)) [] (AllByRecursion (IsInformed count))
       (λ _. (held, informed-pending n (reversion_of l) held)) (λ _. tt)
 
--- ---- in a sound state each owner is a process
+-- ---- in a sound state
 
 module _ (plant : List Actuator) (d : Durable) (sound : IsSoundDurable plant d) where
   abbrev pub IsHere : Telling → Type 0
   IsHere = IsInformed (length d.processes)
-
-  txns-here : AllByRecursion (λ t. t.owner < length d.processes) d.txns
-  txns-here = each-map (IsTransaction plant d) (λ t. t.owner < length d.processes) (λ t is. is.owner) d.txns sound.txns
-
-  leases-here : AllByRecursion (λ l. l.owner < length d.processes) d.leases
-  leases-here =
-      let P = λ (l : Lease). l.owner ≡ owner_of d.txns l.txn in
-      let Q = λ (l : Lease). has_part is_none d.txns l.txn l.point l.priority ≡ true in
-      each-map (λ l. P l × Q l) (λ l. l.owner < length d.processes)
-      (λ l both. let below : owner_of d.txns l.txn < length d.processes =
-      record-owner (length d.processes) d.txns is_none l.txn l.point l.priority txns-here both.1 in
-      rw both.0 below) d.leases (each-both P Q d.leases (leases-owned plant d sound) sound.open_parts)
-
-  pending-here : AllByRecursion (λ r. r.owner < length d.processes) d.pending
-  pending-here =
-      let P = λ (r : Pending). r.owner ≡ owner_of d.txns r.txn in
-      let Q = λ (r : Pending). has_part (is_start r.start) d.txns r.txn r.point r.priority ≡ true in
-      each-map (λ r. P r × Q r) (λ r. r.owner < length d.processes)
-      (λ r both. let below : owner_of d.txns r.txn < length d.processes =
-      record-owner (length d.processes) d.txns (is_start r.start) r.txn r.point r.priority txns-here both.1 in
-      rw both.0 below) d.pending (each-both P Q d.pending (pending-owned plant d sound) sound.ended_parts)
 
   -- as time passes
   pub informed-due : (n : ℕ) → AllByRecursion IsHere (in_order told_rank (due_tellings n d))
@@ -85,17 +51,17 @@ module _ (plant : List Actuator) (d : Durable) (sound : IsSoundDurable plant d) 
       let leased = flat_map (lease_tellings n) d.leases in
       let under = flat_map (pending_tellings n) d.pending in
       each-in_order IsHere told_rank (due_tellings n d) (each-append IsHere leased under
-      (each-flat IsHere (lease_tellings n) d.leases (each-map (λ l. l.owner < length d.processes) (λ l. AllByRecursion IsHere (lease_tellings n l))
-      (λ l held. informed-lease (length d.processes) n l held) d.leases leases-here))
-      (each-flat IsHere (pending_tellings n) d.pending (each-map (λ r. r.owner < length d.processes) (λ r. AllByRecursion IsHere (pending_tellings n r))
-      (λ r held. informed-pending (length d.processes) n r held) d.pending pending-here)))
+      (each-flat_map IsHere (lease_tellings n) d.leases (each-map (λ l. l.owner < length d.processes) (λ l. AllByRecursion IsHere (lease_tellings n l))
+      (λ l held. informed-lease (length d.processes) n l held) d.leases (leases-known plant d sound)))
+      (each-flat_map IsHere (pending_tellings n) d.pending (each-map (λ r. r.owner < length d.processes) (λ r. AllByRecursion IsHere (pending_tellings n r))
+      (λ r held. informed-pending (length d.processes) n r held) d.pending (pending-known plant d sound))))
 
   -- a fault is told to the owner of its lease
   informed-first : (why : Cause) (n : ℕ) (first : List Happening) → IsFirstTold why n d first → AllByRecursion IsHere (map plain first)
   informed-first why n _ nothing = tt
   informed-first why n _ (faulted point lease found) =
       let P = λ (l : Lease). IsHere (plain (fault n l)) in
-      let here : AllByRecursion P d.leases = each-map (λ l. l.owner < length d.processes) P (λ l held. held) d.leases leases-here in
+      let here : AllByRecursion P d.leases = each-map (λ l. l.owner < length d.processes) P (λ l held. held) d.leases (leases-known plant d sound) in
       (least-of P (λ l. l.priority) (filter (λ l. l.point == point) d.leases) lease (each-filter P (λ l. l.point == point) d.leases here) found, tt)
 
   -- as leases end before their time
@@ -106,7 +72,7 @@ module _ (plant : List Actuator) (d : Durable) (sound : IsSoundDurable plant d) 
       each-in_order IsHere told_rank (map plain first ++ end_tellings which why n d.leases) (each-append IsHere (map plain first) (end_tellings which why n d.leases)
       (informed-first why n first is)
       (each-mapped IsHere end (filter which d.leases) (each-filter (λ l. IsHere (end l)) which d.leases
-      (each-map (λ l. l.owner < length d.processes) (λ l. IsHere (end l)) (λ l held. held) d.leases leases-here))))
+      (each-map (λ l. l.owner < length d.processes) (λ l. IsHere (end l)) (λ l held. held) d.leases (leases-known plant d sound)))))
 
   -- as a new transaction takes its slots
   pub informed-replaced : (gone : Lease → Bool) (broken : Pending → Bool) (by n : ℕ) → AllByRecursion IsHere (in_order told_rank (replaced_tellings gone broken by n d))
@@ -116,6 +82,6 @@ module _ (plant : List Actuator) (d : Durable) (sound : IsSoundDurable plant d) 
       let stopped = map (cut by n) (filter broken d.pending) in
       each-in_order IsHere told_rank (replaced_tellings gone broken by n d) (each-mapped IsHere plain (over ++ stopped) (each-append P over stopped
       (each-mapped P (superseded by n) (filter gone d.leases) (each-filter (λ l. P (superseded by n l)) gone d.leases
-      (each-map (λ l. l.owner < length d.processes) (λ l. P (superseded by n l)) (λ l held. held) d.leases leases-here)))
+      (each-map (λ l. l.owner < length d.processes) (λ l. P (superseded by n l)) (λ l held. held) d.leases (leases-known plant d sound))))
       (each-mapped P (cut by n) (filter broken d.pending) (each-filter (λ r. P (cut by n r)) broken d.pending
-      (each-map (λ r. r.owner < length d.processes) (λ r. P (cut by n r)) (λ r held. held) d.pending pending-here)))))
+      (each-map (λ r. r.owner < length d.processes) (λ r. P (cut by n r)) (λ r held. held) d.pending (pending-known plant d sound))))))

@@ -9,8 +9,9 @@ use Rattle.boss_model.specs.declared.state.Pending.{Pending}
 use Rattle.boss_model.specs.Lists.{member}
 use Rattle.boss_model.specs.Order.{comes_before}
 use Rattle.boss_model.specs.Records.{End, Part, Transaction}
+use Rattle.boss_model.specs.Reversions.{reversion_of}
 use Rattle.boss_model.specs.Sound.{Rising, Distinct, has_part, is_start, number_rank, IsTransaction, IsSoundDurable}
-use Rattle.boss_model.specs.State.{lease_slot, pending_slot, Durable}
+use Rattle.boss_model.specs.State.{pending_slot, Durable}
 use Rattle.boss_model.specs.Time.{lease_of_part}
 use Rattle.boss_laws.proofs.Filters.{filter-append}
 use Rattle.boss_laws.proofs.Orders.{before-self, each-map, each-both}
@@ -22,10 +23,6 @@ module _ {X : Type 0} (key : X → Bool) where
   abbrev pub Once : List X → Type 0
   Once [] = Unit {0}
   Once (x ∷ xs) = (key x ≡ true → list_any key xs ≡ false) × Once xs
-
-  pub none-found : (xs : List X) → list_any key xs ≡ false → find key xs ≡ None
-  none-found [] none = refl
-  none-found (x ∷ xs) none = grind (arith, none-found xs)
 
   pub found-any : (xs : List X) → find key xs ≡ None → list_any key xs ≡ false
   found-any [] none = refl
@@ -199,6 +196,50 @@ start-some : (start : ℕ) (end : Option End) → is_start start end ≡ true �
 start-some start None is = absurd (cc)
 start-some start (Some end) is = refl
 
+-- two of one part have one priority
+same-level : (test other : Option End → Bool) (a b : ℕ) (found : Option Part) → IsPartAt test a found → IsPartAt other b found → a ≡ b
+same-level test other a b found p q =
+    let same : Some p.part ≡ Some q.part = sym p.is ∙ q.is in
+    let parts : p.part ≡ q.part = cc in
+    sym p.level ∙ ap (λ x. x.priority) parts ∙ q.level
+
+-- of leases, each seen as its reversion, and of reversions
+module _ {X : Type 0} (reversion : X → Pending) (test : Option End → Bool) (txns : List Transaction) where
+  abbrev IsOfPart : X → Type 0
+  IsOfPart x = let r = reversion x in IsPartAt test r.priority (found_part txns r.txn r.point)
+
+  abbrev key_of : ℕ → ℕ → X → Bool
+  key_of txn point x = pending_key txn point (reversion x)
+
+  part-of : (txn point : ℕ) (x : X) → key_of txn point x ≡ true → IsOfPart x → IsPartAt test (reversion x).priority (found_part txns txn point)
+  part-of txn point x own is =
+      let r = reversion x in
+      let a : r.txn ≡ txn = grind (arith, nat_tests) in
+      let b : r.point ≡ point = grind (arith, nat_tests) in
+      subst (λ k. IsPartAt test r.priority (found_part txns txn k)) b (subst (λ k. IsPartAt test r.priority (found_part txns k r.point)) a is)
+
+  -- two of one key would have one slot
+  others-apart : (txn point : ℕ) (x : X) (xs : List X) → key_of txn point x ≡ true → IsOfPart x →
+      AllByRecursion (λ y. comes_before (pending_slot (reversion y)) (pending_slot (reversion x)) ≡ false) xs → AllByRecursion IsOfPart xs → list_any (key_of txn point) xs ≡ false
+  others-apart txn point x [] own part later parts = refl
+  others-apart txn point x (y ∷ ys) own part later parts = ⊎_elim
+      (λ same.
+      let points : (reversion y).point ≡ (reversion x).point = grind (arith, nat_tests) in
+      let levels : (reversion y).priority ≡ (reversion x).priority =
+      same-level test test (reversion y).priority (reversion x).priority (found_part txns txn point) (part-of txn point y same parts.0) (part-of txn point x own part) in
+      let before : comes_before (pending_slot (reversion y)) (pending_slot (reversion x)) ≡ true =
+      (λ i. comes_before (points i ∷ levels i ∷ []) (pending_slot (reversion x))) ∙ before-self (pending_slot (reversion x)) in
+      absurd (let no_way : comes_before (pending_slot (reversion y)) (pending_slot (reversion x)) ≡ false = later.0 in cc))
+      (λ other. ap (λ b. b || list_any (key_of txn point) ys) other ∙ others-apart txn point x ys own part later.1 parts.1)
+      (cases_Bool (key_of txn point y))
+
+  slots-once : (txn point : ℕ) (xs : List X) → Rising (λ x. pending_slot (reversion x)) xs → AllByRecursion IsOfPart xs → Once (key_of txn point) xs
+  slots-once txn point [] rising parts = tt
+  slots-once txn point (x ∷ xs) rising parts = ((λ own. others-apart txn point x xs own parts.0 rising.0 parts.1), slots-once txn point xs rising.1 parts.1)
+
+  part-of-found : (txn point : ℕ) (xs : List X) (x : X) → AllByRecursion IsOfPart xs → find (key_of txn point) xs ≡ Some x → IsPartAt test (reversion x).priority (found_part txns txn point)
+  part-of-found txn point xs x parts found = let has = found-has (key_of txn point) IsOfPart xs x parts found in part-of txn point x has.1 has.0
+
 module _ (plant : List Actuator) (d : Durable) (sound : IsSoundDurable plant d) where
   points-once : AllByRecursion PointsOnce d.txns
   points-once = each-map (IsTransaction plant d) PointsOnce (λ t is. is.points) d.txns sound.txns
@@ -212,87 +253,18 @@ module _ (plant : List Actuator) (d : Durable) (sound : IsSoundDurable plant d) 
       (λ r has. let p = part-found (is_start r.start) d.txns r.txn r.point r.priority sound.numbers points-once has in
       record { part = p.part; is = p.is; level = p.level; passes = start-some r.start p.part.end p.passes }) d.pending sound.ended_parts
 
-  -- two of one key would have one slot
-  same-level : (test other : Option End → Bool) (a b : ℕ) (found : Option Part) → IsPartAt test a found → IsPartAt other b found → a ≡ b
-  same-level test other a b found p q =
-      let same : Some p.part ≡ Some q.part = sym p.is ∙ q.is in
-      let parts : p.part ≡ q.part = cc in
-      sym p.level ∙ ap (λ x. x.priority) parts ∙ q.level
-
-  leases-once : (txn point : ℕ) (leases : List Lease) → Rising lease_slot leases → AllByRecursion (λ l. IsPartAt is_none l.priority (found_part d.txns l.txn l.point)) leases →
-      Once (lease_key txn point) leases
-  leases-once txn point [] rising parts = tt
-  leases-once txn point (l ∷ ls) rising parts = ((λ own. others own ls rising.0 parts.1), leases-once txn point ls rising.1 parts.1)
-    where
-      others : lease_key txn point l ≡ true → (ms : List Lease) → AllByRecursion (λ m. comes_before (lease_slot m) (lease_slot l) ≡ false) ms →
-          AllByRecursion (λ m. IsPartAt is_none m.priority (found_part d.txns m.txn m.point)) ms → list_any (lease_key txn point) ms ≡ false
-      others own [] later all = refl
-      others own (m ∷ ms) later all =
-          let rest : list_any (lease_key txn point) ms ≡ false = others own ms later.1 all.1 in
-          ⊎_elim
-          (λ same.
-          let a : l.txn ≡ txn = grind (arith, nat_tests) in
-          let b : l.point ≡ point = grind (arith, nat_tests) in
-          let c : m.txn ≡ txn = grind (arith, nat_tests) in
-          let e : m.point ≡ point = grind (arith, nat_tests) in
-          let txns : m.txn ≡ l.txn = c ∙ sym a in
-          let points : m.point ≡ l.point = e ∙ sym b in
-          let here : IsPartAt is_none m.priority (found_part d.txns l.txn l.point) = subst (λ k. IsPartAt is_none m.priority (found_part d.txns k l.point)) txns
-          (subst (λ k. IsPartAt is_none m.priority (found_part d.txns m.txn k)) points all.0) in
-          let levels : m.priority ≡ l.priority = same-level is_none is_none m.priority l.priority (found_part d.txns l.txn l.point) here parts.0 in
-          let before : comes_before (lease_slot m) (lease_slot l) ≡ true = (λ i. comes_before (points i ∷ levels i ∷ []) (lease_slot l)) ∙ before-self (lease_slot l) in
-          absurd (let no_way : comes_before (lease_slot m) (lease_slot l) ≡ false = later.0 in cc))
-          (λ other. ap (λ b. b || list_any (lease_key txn point) ms) other ∙ rest)
-          (cases_Bool (lease_key txn point m))
-
-  pendings-once : (txn point : ℕ) (pending : List Pending) → Rising pending_slot pending → AllByRecursion (λ r. IsPartAt is_some r.priority (found_part d.txns r.txn r.point)) pending →
-      Once (pending_key txn point) pending
-  pendings-once txn point [] rising parts = tt
-  pendings-once txn point (l ∷ ls) rising parts = ((λ own. others own ls rising.0 parts.1), pendings-once txn point ls rising.1 parts.1)
-    where
-      others : pending_key txn point l ≡ true → (ms : List Pending) → AllByRecursion (λ m. comes_before (pending_slot m) (pending_slot l) ≡ false) ms →
-          AllByRecursion (λ m. IsPartAt is_some m.priority (found_part d.txns m.txn m.point)) ms → list_any (pending_key txn point) ms ≡ false
-      others own [] later all = refl
-      others own (m ∷ ms) later all =
-          let rest : list_any (pending_key txn point) ms ≡ false = others own ms later.1 all.1 in
-          ⊎_elim
-          (λ same.
-          let a : l.txn ≡ txn = grind (arith, nat_tests) in
-          let b : l.point ≡ point = grind (arith, nat_tests) in
-          let c : m.txn ≡ txn = grind (arith, nat_tests) in
-          let e : m.point ≡ point = grind (arith, nat_tests) in
-          let txns : m.txn ≡ l.txn = c ∙ sym a in
-          let points : m.point ≡ l.point = e ∙ sym b in
-          let here : IsPartAt is_some m.priority (found_part d.txns l.txn l.point) = subst (λ k. IsPartAt is_some m.priority (found_part d.txns k l.point)) txns
-          (subst (λ k. IsPartAt is_some m.priority (found_part d.txns m.txn k)) points all.0) in
-          let levels : m.priority ≡ l.priority = same-level is_some is_some m.priority l.priority (found_part d.txns l.txn l.point) here parts.0 in
-          let before : comes_before (pending_slot m) (pending_slot l) ≡ true = (λ i. comes_before (points i ∷ levels i ∷ []) (pending_slot l)) ∙ before-self (pending_slot l) in
-          absurd (let no_way : comes_before (pending_slot m) (pending_slot l) ≡ false = later.0 in cc))
-          (λ other. ap (λ b. b || list_any (pending_key txn point) ms) other ∙ rest)
-          (cases_Bool (pending_key txn point m))
-
   pub lease-once : (txn point : ℕ) → Once (lease_key txn point) d.leases
-  lease-once txn point = leases-once txn point d.leases sound.lease_slots lease-part
+  lease-once txn point = slots-once reversion_of is_none d.txns txn point d.leases sound.lease_slots lease-part
 
   pub pending-once : (txn point : ℕ) → Once (pending_key txn point) d.pending
-  pending-once txn point = pendings-once txn point d.pending sound.pending_slots pending-part
+  pending-once txn point = slots-once (λ r. r) is_some d.txns txn point d.pending sound.pending_slots pending-part
 
   -- the part of a found lease, and of a found reversion
   pub lease-found : (txn point : ℕ) (l : Lease) → find (lease_key txn point) d.leases ≡ Some l → IsPartAt is_none l.priority (found_part d.txns txn point)
-  lease-found txn point l found =
-      let has = found-has (lease_key txn point) (λ x. IsPartAt is_none x.priority (found_part d.txns x.txn x.point)) d.leases l lease-part found in
-      let key : lease_key txn point l ≡ true = has.1 in
-      let a : l.txn ≡ txn = grind (arith, nat_tests) in
-      let b : l.point ≡ point = grind (arith, nat_tests) in
-      subst (λ k. IsPartAt is_none l.priority (found_part d.txns txn k)) b (subst (λ k. IsPartAt is_none l.priority (found_part d.txns k l.point)) a has.0)
+  lease-found txn point l found = part-of-found reversion_of is_none d.txns txn point d.leases l lease-part found
 
   pub pending-found : (txn point : ℕ) (r : Pending) → find (pending_key txn point) d.pending ≡ Some r → IsPartAt is_some r.priority (found_part d.txns txn point)
-  pending-found txn point r found =
-      let has = found-has (pending_key txn point) (λ x. IsPartAt is_some x.priority (found_part d.txns x.txn x.point)) d.pending r pending-part found in
-      let key : pending_key txn point r ≡ true = has.1 in
-      let a : r.txn ≡ txn = grind (arith, nat_tests) in
-      let b : r.point ≡ point = grind (arith, nat_tests) in
-      subst (λ k. IsPartAt is_some r.priority (found_part d.txns txn k)) b (subst (λ k. IsPartAt is_some r.priority (found_part d.txns k r.point)) a has.0)
+  pending-found txn point r found = part-of-found (λ r. r) is_some d.txns txn point d.pending r pending-part found
 
   -- not both
   pub not-both : (txn point : ℕ) (l : Lease) (r : Pending) → find (lease_key txn point) d.leases ≡ Some l → find (pending_key txn point) d.pending ≡ Some r → ⊥
@@ -312,10 +284,7 @@ module _ (plant : List Actuator) (d : Durable) (sound : IsSoundDurable plant d) 
       (each-map (λ l. IsPartAt is_none l.priority (found_part d.txns l.txn l.point)) (λ l. ((l.txn == txn) && ((l.point == point) && (l.priority == priority))) ≡ lease_key txn point l)
       (λ l is. ⊎_elim
       (λ key.
-      let a : l.txn ≡ txn = grind (arith, nat_tests) in
-      let b : l.point ≡ point = grind (arith, nat_tests) in
-      let here : IsPartAt is_none l.priority (found_part d.txns txn point) =
-      subst (λ k. IsPartAt is_none l.priority (found_part d.txns txn k)) b (subst (λ k. IsPartAt is_none l.priority (found_part d.txns k l.point)) a is) in
+      let here : IsPartAt is_none l.priority (found_part d.txns txn point) = part-of reversion_of is_none d.txns txn point l key is in
       let same : Some here.part ≡ Some part = sym here.is ∙ at in
       let parts : here.part ≡ part = cc in
       let levels : l.priority ≡ priority = sym here.level ∙ ap (λ x. x.priority) parts ∙ level in

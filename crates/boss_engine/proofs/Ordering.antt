@@ -2,13 +2,13 @@
 use Rattle.std.proofs.Common.{◌≡◌, ℕ, zero, suc, ◌+◌, ◌<◌, List, [], ◌∷◌, ◌++◌, length, get_or, set, Bool, true, false, not, ◌&&◌, cond, refl, ap, sym, ◌∙◌, subst, arith}
 use Rattle.std.proofs.Math.ListN.{length-set}
 use Rattle.std.specs.Cmp.{IsStrictWeakOrder}
-use Rattle.std.specs.List.{filter, flat_map, swap, AllByRecursion}
+use Rattle.std.specs.List.{flat_map, swap, AllByRecursion}
 use Rattle.std.specs.List.Sorted.{IsPermutation, IsSortedBy}
 use Rattle.std.proofs.lemmas.Bool.{cond_both}
 use Rattle.std.proofs.lemmas.List.Sorted.{IsPermutation-keeps, IsPermutation-append_comm}
 use Rattle.boss_model.specs.Order.{comes_before, put, in_order}
 use Rattle.boss_laws.proofs.Filters.{put-put}
-use Rattle.boss_laws.proofs.Orders.{before-total, before-self, before-trans, before-both, each-map, each-front, each-back, each-filter, each-in_order, Ordered, in_order-Ordered, filter-in_order}
+use Rattle.boss_laws.proofs.Orders.{before-total, before-self, before-trans, before-both, each-map, each-in_order, Ordered, in_order-Ordered}
 use Rattle.boss_engine.specs.Telling.{AreApart}
 
 -- ---- members
@@ -46,10 +46,6 @@ get-copied (x ∷ xs) zero zero d = refl
 get-copied (x ∷ xs) zero (suc j) d = refl
 get-copied (x ∷ xs) (suc i) zero d = refl
 get-copied (x ∷ xs) (suc i) (suc j) d = get-copied xs i j d
-
-each-part : {X Y : Type 0} (P : X → Type 0) (f : Y → List X) (ys : List Y) → AllByRecursion P (flat_map f ys) → AllByRecursion (λ y. AllByRecursion P (f y)) ys
-each-part P f [] all = tt
-each-part P f (y ∷ ys) all = (each-front P (f y) (flat_map f ys) all, each-part P f ys (each-back P (f y) (flat_map f ys) all))
 
 -- ---- an item that is put in
 
@@ -177,9 +173,6 @@ module _ {X : Type 0} (rank : X → List ℕ) (Q : X → Type 0) (apart : (x y :
   pub in_order-moved : (xs ys : List X) → AllByRecursion Q xs → IsPermutation xs ys → in_order rank ys ≡ in_order rank xs
   in_order-moved xs ys all moved = (moved-both xs ys all moved).1
 
-  pub each-moved : (xs ys : List X) → AllByRecursion Q xs → IsPermutation xs ys → AllByRecursion Q ys
-  each-moved xs ys all moved = (moved-both xs ys all moved).0
-
   -- what each of some things gives, where the things are put in order first
   flat_map-put : {Y : Type 0} (slot : Y → List ℕ) (f : Y → List X) (y : Y) (ys : List Y) → AllByRecursion Q (f y) → AllByRecursion (λ z. AllByRecursion Q (f z)) ys →
       in_order rank (flat_map f (put slot y ys)) ≡ in_order rank (f y ++ flat_map f ys)
@@ -220,27 +213,3 @@ module _ {X : Type 0} (rank : X → List ℕ) (xs : List X) (apart : AreApart ra
 pub in_order-append : {X : Type 0} (rank : X → List ℕ) (xs ys : List X) → AreApart rank (xs ++ ys) → in_order rank (xs ++ ys) ≡ in_order rank (ys ++ xs)
 in_order-append rank xs ys apart =
     sym (in_order-permutation rank (xs ++ ys) apart (ys ++ xs) (IsPermutation-append_comm xs ys))
-
--- what each of some things gives has one order of rank, in whatever order the things stand
-pub in_order-flat_map : {X Y : Type 0} (rank : X → List ℕ) (slot : Y → List ℕ) (f : Y → List X) (ys : List Y) → AreApart rank (flat_map f ys) →
-    in_order rank (flat_map f (in_order slot ys)) ≡ in_order rank (flat_map f ys)
-in_order-flat_map rank slot f ys apart = flat_map-moved rank (IsItem (flat_map f ys)) (apart-items rank (flat_map f ys) apart) slot f ys
-    (each-part (IsItem (flat_map f ys)) f ys (each-in (flat_map f ys)))
-
--- a test, before and after
-pub in_order-filter : {X : Type 0} (rank : X → List ℕ) (test : X → Bool) (xs : List X) → in_order rank (filter test xs) ≡ filter test (in_order rank xs)
-in_order-filter rank test xs = sym (filter-in_order rank test xs)
-
--- ---- items that are told apart still are where some are left out, or stand elsewhere
-
-pub apart-front : {X : Type 0} (rank : X → List ℕ) (xs ys : List X) → AreApart rank (xs ++ ys) → AreApart rank xs
-apart-front rank xs ys apart = all-apart rank (IsItem (xs ++ ys)) (apart-items rank (xs ++ ys) apart) xs (each-front (IsItem (xs ++ ys)) xs ys (each-in (xs ++ ys)))
-
-pub apart-back : {X : Type 0} (rank : X → List ℕ) (xs ys : List X) → AreApart rank (xs ++ ys) → AreApart rank ys
-apart-back rank xs ys apart = all-apart rank (IsItem (xs ++ ys)) (apart-items rank (xs ++ ys) apart) ys (each-back (IsItem (xs ++ ys)) xs ys (each-in (xs ++ ys)))
-
-pub apart-filter : {X : Type 0} (rank : X → List ℕ) (test : X → Bool) (xs : List X) → AreApart rank xs → AreApart rank (filter test xs)
-apart-filter rank test xs apart = all-apart rank (IsItem xs) (apart-items rank xs apart) (filter test xs) (each-filter (IsItem xs) test xs (each-in xs))
-
-pub apart-permutation : {X : Type 0} (rank : X → List ℕ) (xs ys : List X) → AreApart rank xs → IsPermutation xs ys → AreApart rank ys
-apart-permutation rank xs ys apart moved = all-apart rank (IsItem xs) (apart-items rank xs apart) ys (each-moved rank (IsItem xs) (apart-items rank xs apart) xs ys (each-in xs) moved)

@@ -1,6 +1,6 @@
 -- Time passes lease by lease: one that has ended goes out, and its reversion gets under way.
-use Rattle.std.proofs.Common.{◌≡◌, ℕ, ◌≤◌, nat_lt, nat_le, List, [], ◌∷◌, ◌++◌, length, map, Bool, true, false, ◌&&◌, cond, Some, None, refl, ap, sym, subst, ◌∙◌, ◌+◌, arith, get_or, take, drop, append_assoc, append-nil}
-use Rattle.std.specs.List.{filter, position, position_or_len, AllByRecursion}
+use Rattle.std.proofs.Common.{◌≡◌, ℕ, ◌≤◌, nat_lt, nat_le, List, [], ◌∷◌, ◌++◌, map, Bool, true, false, ◌&&◌, cond, Some, refl, ap, sym, subst, ◌∙◌, ◌+◌, arith, get_or, take, drop, append_assoc, append-nil}
+use Rattle.std.specs.List.{filter, position, AllByRecursion}
 use Rattle.std.proofs.lemmas.Bool.{cond_both}
 use Rattle.std.proofs.lemmas.Bool.Decides.{nat_tests}
 use Rattle.std.proofs.lemmas.List.{map-append, take-append-drop, drop_more}
@@ -14,13 +14,11 @@ use Rattle.boss_model.specs.State.{pending_slot}
 use Rattle.boss_model.specs.Time.{live, under_way}
 use Rattle.boss_laws.proofs.Filters.{Apart, put-put, in_order-middle, filter-append, filter-none, filter-all, filter-same, each-mapped}
 use Rattle.boss_laws.proofs.Orders.{each-map, each-put, each-front, each-back, each-unput, each-unordered, filter-in_order, in_order-Rising}
+use Rattle.boss_laws.proofs.SubmitSound.{apart-turn}
 
 -- ---- items put in one by one
 
 module _ {X : Type 0} (rank : X → List ℕ) where
-  pub apart-back : (x y : X) → Apart rank x y → Apart rank y x
-  apart-back x y apart = grind (arith, apart)
-
   Rising-unput : (x : X) (ys : List X) → Rising rank (put rank x ys) → AllByRecursion (Apart rank x) ys × Rising rank ys
   Rising-unput x [] rising = (tt, tt)
   Rising-unput x (y ∷ ys) rising = cond_both (comes_before (rank x) (rank y)) (x ∷ y ∷ ys) (y ∷ put rank x ys) (λ zs. Rising rank zs → AllByRecursion (Apart rank x) (y ∷ ys) × Rising rank (y ∷ ys))
@@ -37,13 +35,13 @@ module _ {X : Type 0} (rank : X → List ℕ) where
   apart-front x (z ∷ zs) ys rising =
       let parts = Rising-unput z (in_order rank (zs ++ x ∷ ys)) rising in
       let others = each-back (Apart rank z) zs (x ∷ ys) (each-unordered (Apart rank z) rank (zs ++ x ∷ ys) parts.0) in
-      (apart-back z x others.0, apart-front x zs ys parts.1)
+      (apart-turn rank z x others.0, apart-front x zs ys parts.1)
 
   in_order-put : (x : X) (xs ys : List X) → AllByRecursion (Apart rank x) xs → in_order rank (put rank x xs ++ ys) ≡ put rank x (in_order rank (xs ++ ys))
   in_order-put x [] ys apart = refl
   in_order-put x (z ∷ zs) ys apart = cond_both (comes_before (rank x) (rank z)) (x ∷ z ∷ zs) (z ∷ put rank x zs) (λ us. in_order rank (us ++ ys) ≡ put rank x (in_order rank (z ∷ zs ++ ys)))
       (λ _. refl)
-      (λ _. ap (put rank z) (in_order-put x zs ys apart.1) ∙ put-put rank z x (in_order rank (zs ++ ys)) (apart-back x z apart.0))
+      (λ _. ap (put rank z) (in_order-put x zs ys apart.1) ∙ put-put rank z x (in_order rank (zs ++ ys)) (apart-turn rank x z apart.0))
 
   in_order-put-alone : (x : X) (xs : List X) → AllByRecursion (Apart rank x) xs → in_order rank xs ≡ xs → in_order rank (put rank x xs) ≡ put rank x xs
   in_order-put-alone x xs apart sorted =
@@ -146,13 +144,6 @@ passing-goes-on-at n leases_before pending_before pending leases place lease fou
     (subst (λ xs. Passing n leases_before pending_before xs pending) whole passing)
 
 -- ---- the end: no lease is left that has ended
-
-all-fail : {X : Type 0} (test : X → Bool) (xs : List X) → length xs ≤ position_or_len test xs → AllByRecursion (λ x. test x ≡ false) xs
-all-fail test [] far = tt
-all-fail test (x ∷ xs) far = (grind arith, all-fail test xs (grind arith))
-
-pub none-passes : {X : Type 0} (test : X → Bool) (xs : List X) → position test xs ≡ None → AllByRecursion (λ x. test x ≡ false) xs
-none-passes test xs none = all-fail test xs (grind (arith, nat_tests))
 
 pub passing-leases : (n : ℕ) (leases_before : List Lease) (pending_before pending : List Pending) (leases : List Lease) → AllByRecursion (λ lease. nat_le lease.until n ≡ false) leases →
     Passing n leases_before pending_before leases pending → leases ≡ live n leases_before

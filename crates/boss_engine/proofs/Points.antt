@@ -8,10 +8,10 @@ use Rattle.boss_model.specs.declared.notice.What.TheVariants as what
 use Rattle.boss_model.specs.Happenings.{point_of}
 use Rattle.boss_model.specs.Lists.{member}
 use Rattle.boss_model.specs.Records.{End, Part, Transaction}
+use Rattle.boss_model.proofs.Members.{member-append, member-filter}
 use Rattle.boss_stages.specs.Stages.{Kept, number, kept_as, is_over, is_live, has_live, has_pending, ended_on}
 use Rattle.boss_laws.proofs.Orders.{each-map}
 use Rattle.boss_laws.proofs.Filters.{each-mapped}
-use Rattle.boss_laws.proofs.Places.{member-append, member-filter}
 use Rattle.boss_laws.proofs.TickSound.{map-same}
 use Rattle.boss_engine.specs.Books.{Telling, is_end}
 use Rattle.boss_engine.proofs.Tellings.{turn, played, number-played, ends, all_played, over_in, AreFitting}

@@ -8,11 +8,10 @@ use Rattle.boss_model.specs.Happenings.{Happening, is_done, finish, tell}
 use Rattle.boss_model.specs.Lists.{member, keep_last}
 use Rattle.boss_model.specs.Sound.{Distinct}
 use Rattle.boss_model.specs.State.{Process}
+use Rattle.boss_model.proofs.Members.{Distinct-snoc, member-append, member-drop, Distinct-drop}
 use Rattle.boss_stages.specs.Stages.{Kept, Stages, number, kept_as, is_over, changed, finished, without, dropped}
 use Rattle.boss_laws.proofs.Filters.{filter-filter, filter-same, filter-map, each-mapped}
-use Rattle.boss_laws.proofs.GroupSound.{Distinct-snoc}
 use Rattle.boss_laws.proofs.Orders.{each-map, each-both}
-use Rattle.boss_laws.proofs.Places.{member-append}
 use Rattle.boss_engine.specs.Books.{Telling, Books, after_what, is_end, all_done, booked}
 use Rattle.boss_engine.proofs.Tellings.{turn, played, number-played, numbers-played, played-other, ends, awaits, all_played, over_in, AreFitting, over-fitting, after-end, after-other}
 
@@ -22,11 +21,6 @@ pub member-take : (n m : ℕ) (xs : List ℕ) → member n xs ≡ false → memb
 member-take n zero xs away = refl
 member-take n (suc m) [] away = refl
 member-take n (suc m) (x ∷ xs) away = grind (arith, nat_tests, member-take n m xs)
-
-pub member-drop : (n m : ℕ) (xs : List ℕ) → member n xs ≡ false → member n (drop m xs) ≡ false
-member-drop n zero xs away = away
-member-drop n (suc m) [] away = away
-member-drop n (suc m) (x ∷ xs) away = member-drop n m xs (grind (arith, nat_tests))
 
 -- of numbers that stand once, those in the rest are those that are not in the front
 pub member-rest : (n m : ℕ) (xs : List ℕ) → Distinct xs → member n (drop m xs) ≡ (member n xs && not (member n (take m xs)))
@@ -39,11 +33,6 @@ member-rest n (suc m) (x ∷ xs) once = ⊎_elim
     let out : member n (drop m xs) ≡ false = member-drop n m xs away in grind (arith, nat_tests))
     (λ other. grind (arith, nat_tests, member-rest n m xs once.1))
     (cases_Bool (x == n))
-
-Distinct-drop : (m : ℕ) (xs : List ℕ) → Distinct xs → Distinct (drop m xs)
-Distinct-drop zero xs once = once
-Distinct-drop (suc m) [] once = once
-Distinct-drop (suc m) (x ∷ xs) once = Distinct-drop m xs once.1
 
 -- ---- records by their numbers
 

@@ -21,19 +21,19 @@ use Rattle.boss_model.specs.Submit.{begun, granted, is_taken, superseded, cut, s
 use Rattle.boss_model.specs.Time.{lease_of_part, end_after, part_after, record_after, kept}
 use Rattle.boss_stages.specs.Stages.{Kept, Stages, number}
 use Rattle.boss_laws.proofs.Endings.{numbers-same, points-same, part-open-stays}
-use Rattle.boss_laws.proofs.Filters.{filter-append, each-mapped, each-always}
+use Rattle.boss_laws.proofs.Filters.{filter-append, each-mapped, each-always, any-map}
 use Rattle.boss_laws.proofs.Orders.{each-map, each-both, each-filter, each-passed, each-append, each-in_order}
 use Rattle.boss_laws.proofs.Slots.{any-in_order, any-append, lives-courses, self-found, has-after, Rising-same}
 use Rattle.boss_engine.specs.Books.{Telling, StandsFor, is_end, all_done, reverts_on}
 use Rattle.boss_engine.specs.Gathered.{plain, replaced_tellings, told_rank, booked_all, AreBooksOf, CanBookAll, with_begun, books_with}
-use Rattle.boss_engine.proofs.Changed.{any-filter, any-map, areWoven, by-records}
+use Rattle.boss_engine.proofs.Changed.{any-filter, areWoven, by-records}
 use Rattle.boss_engine.proofs.EndsBooked.{done_by, own-on, one_if, one-each, map-append, map-plain, numbers-kept}
-use Rattle.boss_engine.proofs.Gathering.{IsOfLease, IsOfPending, IsGathered, gathered, over_last, group, told, finished, records, reverting, may-book, told-apart, begun-before, may-book-begun}
+use Rattle.boss_engine.proofs.Gathering.{IsOfLease, IsOfPending, Outcome, IsGathered, gathered, over_last, group, told, finished, records, reverting, told-apart, begun-before, may-book-begun}
 use Rattle.boss_engine.proofs.Keys.{PointsOnce, lease_key, pending_key}
 use Rattle.boss_engine.specs.Telling.{AreApart}
 use Rattle.boss_engine.proofs.Overs.{IsOpen, IsLived, leases-lived}
 use Rattle.boss_engine.proofs.Points.{map-map}
-use Rattle.boss_engine.proofs.ToldApart.{owner_of, leases-owned, pending-owned, txns-owned, next-lives-not}
+use Rattle.boss_engine.proofs.Owners.{owner_of, leases-owned, pending-owned, txns-owned, next-lives-not}
 use Rattle.boss_engine.proofs.Weaving.{AreWoven}
 
 -- ---- parts that stay open
@@ -169,7 +169,10 @@ module _ (plant : List Actuator) (d : Durable) (s : Stages) (owner : ℕ) (polic
       rest (each-both (λ l. not (gone l) ≡ true) (λ l. O l × F l) rest (each-passed (λ l. not (gone l) ≡ true) (λ l. not (gone l)) (λ l passed. passed) d.leases)
       (each-filter (λ l. O l × F l) (λ l. not (gone l)) d.leases (each-both O F d.leases sound.open_parts (self-found d.leases sound.lease_slots))))
 
-  is : IsGathered d [] of_lease of_pending how lease_left pending_left pending2 leases2
+  abbrev outcome : Outcome
+  outcome = record { first = []; of_lease = of_lease; of_pending = of_pending; how = how; lease_left = lease_left; pending_left = pending_left; pending = pending2; leases = leases2 }
+
+  is : IsGathered d outcome
   is = record {
     silent = tt;
     single = tt;
@@ -192,7 +195,7 @@ module _ (plant : List Actuator) (d : Durable) (s : Stages) (owner : ℕ) (polic
   }
 
   abbrev all : List Telling
-  all = gathered d [] of_lease of_pending
+  all = gathered d outcome
 
   abbrev hs : List Happening
   hs = map (superseded d.next n) (filter gone d.leases) ++ map (cut d.next n) (filter broken d.pending)
@@ -213,7 +216,7 @@ module _ (plant : List Actuator) (d : Durable) (s : Stages) (owner : ℕ) (polic
       (each-map (λ r. r.owner ≡ owner_of d.txns r.txn) (λ r. IsNow (cut d.next n r)) (λ r owned _ i. record { at = n; txn = r.txn; owner = owned i; told = Some what.Done }) d.pending (pending-owned plant d sound)))))
 
   abbrev over_by : ℕ → Bool
-  over_by = over_last plant d s sound stands [] of_lease of_pending how lease_left pending_left pending2 leases2 is
+  over_by = over_last plant d s sound stands outcome is
 
   abbrev g : ℕ → Happening
   g = done_by (owner_of d.txns) n
@@ -222,7 +225,7 @@ module _ (plant : List Actuator) (d : Durable) (s : Stages) (owner : ℕ) (polic
   so = areWoven over_by g (in_order told_rank all) (each-in_order (λ e. IsNow e.happening) told_rank all (subst (AllByRecursion (λ e. IsNow e.happening)) (sym all-is) all-now))
 
   abbrev the_group : List Happening
-  the_group = group plant d s sound stands [] of_lease of_pending how lease_left pending_left pending2 leases2 is g (λ txn. refl) (λ txn. refl) so
+  the_group = group plant d s sound stands outcome is g (λ txn. refl) (λ txn. refl) so
 
   abbrev dead : ℕ → Bool
   dead txn = lives txn (courses d.pending d.leases) && not (lives txn (courses pending2 leases2))
@@ -265,36 +268,33 @@ module _ (plant : List Actuator) (d : Durable) (s : Stages) (owner : ℕ) (polic
 
   pub submit-booked : (k : Kept) → k.transaction ≡ begun owner policy d.next writes → k.reverting ≡ [] → AreBooksOf (books_with k (booked_all s d.processes (replaced_tellings gone broken d.next n d))) after
   submit-booked k is_begun none = subst (λ xs. AreBooksOf (books_with k (booked_all s d.processes xs)) after) all-is (record {
-    processes = told plant d s sound stands [] of_lease of_pending how lease_left pending_left pending2 leases2 is g (λ txn. refl) (λ txn. refl) so ∙ ap (fold tell d.processes) group-is;
+    processes = told plant d s sound stands outcome is g (λ txn. refl) (λ txn. refl) so ∙ ap (fold tell d.processes) group-is;
     stands = record {
       txns = map-append (λ x. x.transaction) (booked_all s d.processes all).stages.kept (k ∷ [])
-          ∙ (λ i. (records plant d s sound stands [] of_lease of_pending how lease_left pending_left pending2 leases2 is g (λ txn. refl) (λ txn. refl) so
+          ∙ (λ i. (records plant d s sound stands outcome is g (λ txn. refl) (λ txn. refl) so
           ∙ ap (λ xs. kept (courses pending2 leases2) (fold finish d.done xs) (map R d.txns)) group-is) i ++ is_begun i ∷ [])
           ∙ sym (filter-append (λ t. lives t.txn (courses pending2 leases2) || member t.txn after.done) (map R d.txns) (first ∷ [])
           ∙ ap (λ b. kept (courses pending2 leases2) after.done (map R d.txns) ++ cond (b || member d.next after.done) (first ∷ []) []) next-lives);
-      done = finished plant d s sound stands [] of_lease of_pending how lease_left pending_left pending2 leases2 is g (λ txn. refl) (λ txn. refl) so ∙ ap (fold finish d.done) group-is;
+      done = finished plant d s sound stands outcome is g (λ txn. refl) (λ txn. refl) so ∙ ap (fold finish d.done) group-is;
       reverting =
           let P = λ (x : Kept). (point : ℕ) → member point x.reverting ≡ reverts_on (number x) point pending2 in
           each-append P (booked_all s d.processes all).stages.kept (k ∷ [])
-          (reverting plant d s sound stands [] of_lease of_pending how lease_left pending_left pending2 leases2 is g (λ txn. refl) (λ txn. refl) so)
+          (reverting plant d s sound stands outcome is g (λ txn. refl) (λ txn. refl) so)
           ((λ point. ap (member point) none ∙ sym (ap (λ t. reverts_on t.txn point pending2) is_begun ∙ reverts-none d.next point pending2 none-pending)), tt);
     };
   })
 
-  pub submit-may-book : CanBookAll s d.processes (replaced_tellings gone broken d.next n d)
-  submit-may-book = subst (CanBookAll s d.processes) all-is (may-book plant d s sound stands [] of_lease of_pending how lease_left pending_left pending2 leases2 is)
-
   pub submit-apart : AreApart told_rank (replaced_tellings gone broken d.next n d)
-  submit-apart = subst (AreApart told_rank) all-is (told-apart plant d s sound stands [] of_lease of_pending how lease_left pending_left pending2 leases2 is)
+  submit-apart = subst (AreApart told_rank) all-is (told-apart plant d s sound stands outcome is)
 
   -- its record may be begun before
   pub submit-begun : (k : Kept) → k.transaction ≡ begun owner policy d.next writes → k.reverting ≡ [] →
       AreBooksOf (booked_all (with_begun k s) d.processes (replaced_tellings gone broken d.next n d)) after
   submit-begun k is_begun none = subst (λ b. AreBooksOf b after)
       (sym (subst (λ xs. booked_all (with_begun k s) d.processes xs ≡ books_with k (booked_all s d.processes xs)) all-is
-      (begun-before plant d s sound stands [] of_lease of_pending how lease_left pending_left pending2 leases2 is k (ap (λ t. t.txn) is_begun))))
+      (begun-before plant d s sound stands outcome is k (ap (λ t. t.txn) is_begun))))
       (submit-booked k is_begun none)
 
   pub submit-may-book-begun : (k : Kept) → number k ≡ d.next → CanBookAll (with_begun k s) d.processes (replaced_tellings gone broken d.next n d)
   submit-may-book-begun k at = subst (CanBookAll (with_begun k s) d.processes) all-is
-      (may-book-begun plant d s sound stands [] of_lease of_pending how lease_left pending_left pending2 leases2 is k at)
+      (may-book-begun plant d s sound stands outcome is k at)

@@ -1,6 +1,5 @@
 -- A submit that is made ready is not refused, and leaves what the model says.
-use Rattle.std.proofs.Common.{◌≡◌, ℕ, ◌≤◌, ◌<◌, ◌==◌, ◌^◌, List, length, Vec, Global, false, Option, Some, None, refl, arith}
-use Rattle.std.proofs.lemmas.Bool.Decides.{nat_tests}
+use Rattle.std.proofs.Common.{◌≡◌, ℕ, ◌≤◌, List, length, Vec, Global, Option, Some, None, refl}
 use Rattle.boss_model.specs.declared.answer.Answer.TheVariants as answer
 use Rattle.boss_model.specs.declared.command.Command.TheVariants as command
 use Rattle.boss_model.specs.declared.command.Policy.{Policy}
@@ -10,10 +9,8 @@ use Rattle.boss_model.specs.declared.state.Lease.{Lease}
 use Rattle.boss_model.specs.Machine.{act}
 use Rattle.boss_model.specs.Processes.{process_of}
 use Rattle.boss_stages.specs.Stages.{Kept}
-use Rattle.boss_model.specs.Sound.{IsSoundDurable}
 use Rattle.boss_model.specs.State.{Durable, State}
 use Rattle.boss_model.specs.Submit.{first_until, granted, submit_refused, submitted}
-use Rattle.boss_laws.proofs.NotRefused.{submit-not-refused}
 use Rattle.boss_engine.specs.Lasting.{IsSubmit}
 use Rattle.boss_engine.specs.Ready.{IsReadyToSubmit}
 use Rattle.boss_engine.specs.declared.ready.Ready.TheVariants as ready
@@ -34,13 +31,6 @@ ready-submit plant (Some owner) writes policy n transaction leases s some is = r
   passed = is.0;
   is = record { some_write = some; recorded = is.1; settled = is.2; leased = is.3 };
 }
-
--- there is a number for it
-pub unspent : (plant : List Actuator) (writes : List Setting) (d : Durable) → IsSoundDurable plant d → (any : List Actuator) → submit_refused any writes d ≡ None → d.next < 2 ^ 62
-unspent plant writes d sound any passed =
-    let other : (d.next == 2 ^ 62) ≡ false = (submit-not-refused any writes d passed).unspent in
-    let most : d.next ≤ 2 ^ 62 = sound.next in
-    grind (arith, nat_tests)
 
 pub submit-leaves : (plant : List Actuator) (session owner n : ℕ) (writes : List Setting) (policy : Policy) (s : State) → process_of s.attached session ≡ Some owner →
     submit_refused plant writes s.durable ≡ None →

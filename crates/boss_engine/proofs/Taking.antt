@@ -8,8 +8,7 @@ use Rattle.boss_model.specs.State.{lease_slot}
 use Rattle.boss_model.specs.Submit.{is_taken}
 use Rattle.boss_laws.proofs.Filters.{Apart, in_order-middle}
 use Rattle.boss_laws.proofs.Orders.{in_order-Rising, Rising-filter, each-map, each-passed}
-use Rattle.boss_laws.proofs.SubmitSound.{not-taken}
-use Rattle.boss_engine.proofs.Passing.{apart-back}
+use Rattle.boss_laws.proofs.SubmitSound.{not-taken, apart-turn}
 
 -- the last of the items is put in first
 abbrev pub put_all : {X : Type 0} → (X → List ℕ) → List X → List X → List X
@@ -24,7 +23,7 @@ put_all-snoc rank (z ∷ zs) x ys = ap (put rank z) (put_all-snoc rank zs x ys)
 put_all-front : {X : Type 0} (rank : X → List ℕ) (xs new : List X) → AllByRecursion (λ x. AllByRecursion (Apart rank x) new) xs → in_order rank (xs ++ new) ≡ put_all rank new (in_order rank xs)
 put_all-front rank xs [] free = ap (in_order rank) (append-nil xs)
 put_all-front rank xs (x ∷ new) free =
-    in_order-middle rank x xs new (each-map (λ y. AllByRecursion (Apart rank y) (x ∷ new)) (Apart rank x) (λ y all. apart-back rank y x all.0) xs free)
+    in_order-middle rank x xs new (each-map (λ y. AllByRecursion (Apart rank y) (x ∷ new)) (Apart rank x) (λ y all. apart-turn rank y x all.0) xs free)
     ∙ ap (put rank x) (put_all-front rank xs new (each-map (λ y. AllByRecursion (Apart rank y) (x ∷ new)) (λ y. AllByRecursion (Apart rank y) new) (λ y all. all.1) xs free))
 
 pub put_all-taken : (leases new : List Lease) → Rising lease_slot leases →

@@ -1,29 +1,26 @@
 -- What lasts after a step, put together of its rows and its books.
-use Rattle.std.proofs.Common.{◌≡◌, ℕ, ◌+◌, ◌^◌, ◌≤◌, nat_lt, List, [], ◌∷◌, ◌++◌, length, Bool, false, not, map, Option, Some, None, refl, ap, sym, ◌∙◌, subst, arith, length-append}
-use Rattle.std.specs.List.{filter, fold, AllByRecursion}
+use Rattle.std.proofs.Common.{◌≡◌, ℕ, ◌+◌, ◌≤◌, nat_lt, List, [], ◌∷◌, ◌++◌, length, Bool, not, map, Option, Some, None, refl, ap, sym, ◌∙◌, subst, arith, length-append}
+use Rattle.std.specs.List.{filter, fold}
 use Rattle.std.proofs.lemmas.Bool.{cond_both}
 use Rattle.std.proofs.lemmas.List.{length-map}
 use Rattle.boss_model.specs.declared.notice.Cause.{Cause}
 use Rattle.boss_model.specs.declared.notice.What.{What}
 use Rattle.boss_model.specs.declared.notice.What.TheVariants as what
-use Rattle.boss_model.specs.declared.state.Actuator.{Actuator}
 use Rattle.boss_model.specs.declared.state.Lease.{Lease}
 use Rattle.boss_model.specs.declared.state.Pending.{Pending}
-use Rattle.boss_model.specs.Ends.{end_leases, shortened_if}
-use Rattle.boss_model.specs.Happenings.{Happening, rank}
+use Rattle.boss_model.specs.Ends.{shortened_if}
+use Rattle.boss_model.specs.Happenings.{Happening}
 use Rattle.boss_model.specs.Order.{in_order}
-use Rattle.boss_model.specs.Sound.{IsSoundDurable, Rising, is_superseded}
 use Rattle.boss_model.specs.State.{Durable, lease_slot}
 use Rattle.boss_model.specs.Submit.{is_taken}
 use Rattle.boss_model.specs.Time.{live}
-use Rattle.boss_laws.proofs.EndSound.{IsAt}
 use Rattle.boss_stages.specs.Stages.{Stages, changed, finished, finished_if_over, is_over, kept_as, with_end, without_reversion}
+use Rattle.boss_laws.proofs.Filters.{few-filter}
 use Rattle.boss_engine.specs.Books.{Telling, Books, StandsFor, after_what, booked}
-use Rattle.boss_engine.specs.Gathered.{AreBooksOf, CanBookAll, booked_all, end_tellings, plain, told_rank}
-use Rattle.boss_engine.specs.Lasting.{IsFirstTold, IsPassed, faulted, nothing}
-use Rattle.boss_engine.specs.Telling.{AreApart}
-use Rattle.boss_engine.proofs.DueLemmas.{few-filter, length-in_order}
-use Rattle.boss_engine.proofs.EndsBooked.{IsAside, ends-apart, ends-booked, ends-may-book, map-plain}
+use Rattle.boss_engine.specs.Gathered.{AreBooksOf, plain}
+use Rattle.boss_engine.specs.Lasting.{IsFirstTold, faulted, nothing}
+use Rattle.boss_engine.proofs.DueLemmas.{length-in_order}
+use Rattle.boss_engine.proofs.EndsBooked.{map-plain}
 
 abbrev pub put_together : ℕ → ℕ → List Lease → List Pending → Books → Durable
 put_together now next leases pending books = record {
@@ -72,14 +69,6 @@ room-booked (e ∷ es) books = room-booked es (booked books e) ∙ room-what e.h
 
 -- ---- what is told first
 
-pub first-aside : (why : Cause) (n : ℕ) (d : Durable) (first : List Happening) → IsFirstTold why n d first → AllByRecursion IsAside first
-first-aside why n d _ nothing = tt
-first-aside why n d _ (faulted point lease found) = ((refl, refl), tt)
-
-pub first-single : (why : Cause) (n : ℕ) (d : Durable) (first : List Happening) → IsFirstTold why n d first → Rising rank first
-first-single why n d _ nothing = tt
-first-single why n d _ (faulted point lease found) = (tt, tt)
-
 pub few-first : (why : Cause) (n : ℕ) (d : Durable) (first : List Happening) → IsFirstTold why n d first → length (map plain first) ≤ 1
 few-first why n d _ nothing = omega arith
 few-first why n d _ (faulted point lease found) = omega arith
@@ -98,19 +87,3 @@ few-taken leases new =
 -- no more leases are live after some ended
 pub few-ended : (which : Lease → Bool) (n : ℕ) (leases : List Lease) → length (live n (map (shortened_if which n) leases)) ≤ length leases
 few-ended which n leases = omega (arith, few-filter (λ lease. nat_lt n lease.until) (map (shortened_if which n) leases), length-map leases (shortened_if which n))
-
--- ---- leases that end before their time, behind what is told first
-
-module _ (plant : List Actuator) (d : Durable) (s : Stages) (which : Lease → Bool) (why : Cause) (n : ℕ) (first : List Happening)
-    (sound : IsSoundDurable plant d) (stands : StandsFor s d) (passed : IsPassed n d) (small : n ≤ 2 ^ 60) (reverts : is_superseded why ≡ false) (is : IsFirstTold why n d first) where
-  at : IsAt n d
-  at = record { reached = passed.reached; live = passed.live; running = passed.running }
-
-  pub first-booked : AreBooksOf (booked_all s d.processes (map plain first ++ end_tellings which why n d.leases)) (end_leases which why n first d)
-  first-booked = ends-booked plant d s which why n first sound stands at small reverts (first-aside why n d first is) (first-single why n d first is)
-
-  pub first-may-book : CanBookAll s d.processes (map plain first ++ end_tellings which why n d.leases)
-  first-may-book = ends-may-book plant d s which why n first sound stands at small reverts (first-aside why n d first is) (first-single why n d first is)
-
-  pub first-apart : AreApart told_rank (map plain first ++ end_tellings which why n d.leases)
-  first-apart = ends-apart plant d s which why n first sound stands at small reverts (first-aside why n d first is) (first-single why n d first is)

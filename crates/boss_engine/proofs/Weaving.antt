@@ -9,9 +9,9 @@ use Rattle.boss_model.specs.Happenings.{Happening, rank, rank_of, is_done}
 use Rattle.boss_model.specs.Lists.{member, without}
 use Rattle.boss_model.specs.Order.{comes_before, put, in_order}
 use Rattle.boss_model.specs.Sound.{Rising, Distinct}
+use Rattle.boss_model.proofs.Members.{member-filter, Distinct-filter, without-none}
 use Rattle.boss_laws.proofs.Filters.{filter-append, filter-none, filter-all, each-mapped, Apart, put-put}
 use Rattle.boss_laws.proofs.Orders.{before-trans, before-total, before-both, each-map, each-both, each-filter, Ordered, Ordered-filter, Ordered-in_order, in_order-Ordered, filter-in_order}
-use Rattle.boss_laws.proofs.Places.{member-filter, Distinct-filter}
 use Rattle.boss_engine.specs.Books.{Telling, is_end, all_done}
 use Rattle.boss_engine.specs.Gathered.{told_rank}
 use Rattle.boss_engine.proofs.Points.{point_in, is_on}
@@ -82,7 +82,7 @@ each-woven P over (e ∷ es) all = (
       (λ _. (all.0.1, each-woven P over es all.1)) (λ _. each-woven P over es all.1),
 )
 
-none-awaited : (txn : ℕ) (es : List Telling) → awaits txn es ≡ false → AllByRecursion (λ e. ends txn e ≡ false) es
+pub none-awaited : (txn : ℕ) (es : List Telling) → awaits txn es ≡ false → AllByRecursion (λ e. ends txn e ≡ false) es
 none-awaited txn [] none = tt
 none-awaited txn (e ∷ es) none = (grind (arith), none-awaited txn es (grind (arith)))
 
@@ -187,10 +187,6 @@ module _ (g : ℕ → Happening) (own : (txn : ℕ) → (g txn).txn ≡ txn) whe
       absurd (unlike a b other (sym (own a) ∙ txns ∙ own b)))
       (λ apart. apart)
       (cases_Bool (comes_before (rank (g a)) (rank (g b)) && comes_before (rank (g b)) (rank (g a))))
-
-  without-none : (n : ℕ) (us : List ℕ) → member n us ≡ false → without n us ≡ us
-  without-none n [] away = refl
-  without-none n (u ∷ us) away = grind (arith, without-none n us)
 
   pulled : (n : ℕ) (us : List ℕ) → Distinct us → member n us ≡ true → in_order rank (map g us) ≡ put rank (g n) (in_order rank (map g (without n us)))
   pulled n [] once there = absurd (cc)

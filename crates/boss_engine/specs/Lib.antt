@@ -1,5 +1,4 @@
 pub mod Books
-pub mod Concluding
 pub mod Due
 pub mod Gathered
 pub mod Inside

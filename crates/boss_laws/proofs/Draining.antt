@@ -1,5 +1,5 @@
 -- A want that is served takes a want away, or leases.
-use Rattle.std.proofs.Common.{◌≡◌, ℕ, zero, suc, ◌+◌, ◌*◌, ◌^◌, ◌<◌, ◌≤◌, ◌==◌, max, nat_lt, List, [], ◌∷◌, length, map, set, Bool, true, false, not, ◌||◌, cond, Option, Some, None, refl, ap, sym, ◌∙◌, subst, arith, zero-add}
+use Rattle.std.proofs.Common.{◌≡◌, ℕ, suc, ◌+◌, ◌*◌, ◌^◌, ◌<◌, ◌≤◌, ◌==◌, max, nat_lt, List, [], ◌∷◌, length, map, set, Bool, true, false, not, cond, Option, Some, None, refl, ap, sym, ◌∙◌, subst, arith, zero-add}
 use Rattle.std.specs.List.{filter, find, AllByRecursion, list_any}
 use Rattle.std.proofs.Math.ListN.{length-set}
 use Rattle.std.proofs.Math.Nat.{mul-le-mul_right}
@@ -15,7 +15,7 @@ use Rattle.boss_model.specs.declared.state.Proxy.{Proxy}
 use Rattle.boss_model.specs.Catalogue.{driver_of}
 use Rattle.boss_model.specs.Devices.{Reply, proxy_of, hand_out, next, wanting, is_current, taken, not_taken, faulted_first, heard, report}
 use Rattle.boss_model.specs.Ends.{is_of, shortened_if, faulted_under, faulted}
-use Rattle.boss_model.specs.Lists.{member, without}
+use Rattle.boss_model.specs.Lists.{without}
 use Rattle.boss_model.specs.Machine.{pass_time, settle_after, step}
 use Rattle.boss_model.specs.Order.{least}
 use Rattle.boss_model.specs.Settle.{settle}
@@ -23,26 +23,23 @@ use Rattle.boss_model.specs.Sound.{Distinct, IsWant, IsSound}
 use Rattle.boss_model.specs.State.{Durable, State}
 use Rattle.boss_model.specs.Target.{in_force, target}
 use Rattle.boss_model.specs.Time.{live}
+use Rattle.boss_model.proofs.Members.{member-without_same, length-le_from_Distinct}
 use Rattle.boss_laws.specs.Draining.{reported, serve, load}
+use Rattle.boss_laws.proofs.Filters.{any-map, few-filter}
 use Rattle.boss_laws.proofs.NothingDue.{nothing-due}
 use Rattle.boss_laws.proofs.Orders.{each-map, each-filter, each-passed, least-of}
-use Rattle.boss_laws.proofs.Places.{member-each, Distinct-filter, proxy_of-set, proxy_of-other}
+use Rattle.boss_laws.proofs.Places.{member-each, proxy_of-set, proxy_of-other}
 use Rattle.boss_laws.proofs.Resting.{IsResting, IsWaiting, settled-at, settle-none, pass-resting, resting-step}
 use Rattle.boss_laws.proofs.SubmitSound.{left-live}
 use Rattle.boss_laws.proofs.Targets.{target-stays}
 
 -- ---- lists
 
-length-filter : {X : Type 0} (test : X → Bool) (xs : List X) → length (filter test xs) ≤ length xs
-length-filter test [] = omega arith
-length-filter test (x ∷ xs) = cond_both (test x) (x ∷ filter test xs) (filter test xs) (λ ys. length ys ≤ suc (length xs))
-    (λ _. omega (arith, length-filter test xs)) (λ _. omega (arith, length-filter test xs))
-
 -- a list without those that pass is shorter, if one does
 shorter : {X : Type 0} (test : X → Bool) (xs : List X) → list_any test xs ≡ true → length (filter (λ x. not (test x)) xs) < length xs
 shorter test [] some = cc
 shorter test (x ∷ xs) some = cond_both (test x) true false (λ b. test x ≡ b → length (filter (λ y. not (test y)) (x ∷ xs)) < suc (length xs))
-    (λ yes _. let out : filter (λ y. not (test y)) (x ∷ xs) ≡ filter (λ y. not (test y)) xs = grind (arith) in omega (arith, ap length out, length-filter (λ y. not (test y)) xs))
+    (λ yes _. let out : filter (λ y. not (test y)) (x ∷ xs) ≡ filter (λ y. not (test y)) xs = grind (arith) in omega (arith, ap length out, few-filter (λ y. not (test y)) xs))
     (λ no _. let kept : filter (λ y. not (test y)) (x ∷ xs) ≡ x ∷ filter (λ y. not (test y)) xs = grind (arith) in
     let rest : length (filter (λ y. not (test y)) xs) < length xs = shorter test xs (grind (arith)) in omega (arith, ap length kept)) (grind (arith))
 
@@ -51,37 +48,12 @@ some-of test self [] = tt
 some-of test self (x ∷ xs) = (grind (arith, self x), each-map (λ y. list_any (test y) xs ≡ true) (λ y. list_any (test y) (x ∷ xs) ≡ true) (λ y there. grind (arith)) xs (some-of test self xs))
 
 -- numbers below n that are all different are at most n
-length-without : (n : ℕ) (xs : List ℕ) → Distinct xs → length xs ≤ length (without n xs) + 1
-length-without n [] once = omega arith
-length-without n (x ∷ xs) once = cond_both (x == n) true false (λ b. (x == n) ≡ b → length (x ∷ xs) ≤ length (without n (x ∷ xs)) + 1)
-    (λ is _. let same : x ≡ n = grind (arith, nat_tests) in
-    let out : without n (x ∷ xs) ≡ without n xs = grind (arith) in
-    let all : without n xs ≡ xs = absent n xs (subst (λ k. member k xs ≡ false) same once.0) in omega (arith, ap length out, ap length all))
-    (λ other _. let kept : without n (x ∷ xs) ≡ x ∷ without n xs = grind (arith) in omega (arith, ap length kept, length-without n xs once.1)) (grind (arith))
-  where
-    absent : (k : ℕ) (ys : List ℕ) → member k ys ≡ false → without k ys ≡ ys
-    absent k [] away = refl
-    absent k (y ∷ ys) away = grind (arith, nat_tests, absent k ys)
-
-below-without : (n : ℕ) (xs : List ℕ) → AllByRecursion (λ x. x < suc n) xs → AllByRecursion (λ x. x < n) (without n xs)
-below-without n [] below = tt
-below-without n (x ∷ xs) below = cond_both (not (x == n)) (x ∷ without n xs) (without n xs) (AllByRecursion (λ y. y < n))
-    (λ other. (let here : x < suc n = below.0 in grind (arith, nat_tests), below-without n xs below.1)) (λ _. below-without n xs below.1)
-
 pub at-most : (n : ℕ) (xs : List ℕ) → Distinct xs → AllByRecursion (λ x. x < n) xs → length xs ≤ n
-at-most n [] once below = omega arith
-at-most zero (x ∷ xs) once below = absurd (omega (arith, below.0))
-at-most (suc n) (x ∷ xs) once below =
-    omega (arith, length-without n (x ∷ xs) once, at-most n (without n (x ∷ xs)) (Distinct-filter (λ want. not (want == n)) (x ∷ xs) once) (below-without n (x ∷ xs) below))
+at-most n xs once below = length-le_from_Distinct xs n once (λ x there. member-each (λ y. y < n) x xs below there)
 
 few-wants : (plant : List Actuator) (s : State) → IsSound plant s → length s.wants ≤ length plant
 few-wants plant s sound = at-most (length plant) s.wants sound.once
     (each-map (IsWant s.proxies) (λ k. k < length plant) (λ k is. let known : k < length s.proxies = is.known in omega (arith, sound.proxies)) s.wants sound.wants)
-
-member-without : (n : ℕ) (xs : List ℕ) → member n (without n xs) ≡ false
-member-without n [] = refl
-member-without n (x ∷ xs) = cond_both (not (x == n)) (x ∷ without n xs) (without n xs) (λ ys. member n ys ≡ false)
-    (λ other. grind (arith, nat_tests, member-without n xs)) (λ _. member-without n xs)
 
 -- ---- the want that is handed out
 
@@ -94,14 +66,10 @@ find-member test [] x found = cc
 find-member test (y ∷ ys) x found = cond_both (test y) (Some y) (find test ys) (λ f. f ≡ Some x → list_any (λ z. z == x) (y ∷ ys) ≡ true)
     (λ _ e. let same : y ≡ x = cc in grind (arith, nat_tests)) (λ _ e. grind (arith, find-member test ys x e)) found
 
-any-mapped : {X Y : Type 0} (test : Y → Bool) (f : X → Y) (xs : List X) → list_any test (map f xs) ≡ list_any (λ x. test (f x)) xs
-any-mapped test f [] = refl
-any-mapped test f (x ∷ xs) = ap (λ b. test (f x) || b) (any-mapped test f xs)
-
 -- a driver that wants has a want
 pub wanted-point : (plant : List Actuator) (s : State) (driver : ℕ) → wanting plant s ≡ Some driver → (point : ℕ) × (find (λ p. driver_of plant p == driver) s.wants ≡ Some point)
 wanted-point plant s driver is = find-some (λ p. driver_of plant p == driver) s.wants
-    (sym (any-mapped (λ d. d == driver) (driver_of plant) s.wants)
+    (sym (any-map (λ d. d == driver) (driver_of plant) s.wants)
     ∙ least-of (λ d. list_any (λ y. y == d) (map (driver_of plant) s.wants) ≡ true) (λ d. d) (map (driver_of plant) s.wants) driver
     (some-of (λ d y. y == d) (λ d. grind (arith, nat_tests)) (map (driver_of plant) s.wants)) is)
 
@@ -112,10 +80,6 @@ none-wanted plant (w ∷ ws) none = cc
 -- ---- one round
 
 module _ (plant : List Actuator) (m n : ℕ) (small : m ≤ 2 ^ 60) where
-  -- the state whose want is handed out
-  handed : ℕ → State → State
-  handed point s = record s { wants = without point s.wants }
-
   hand-step : (s : State) (driver point : ℕ) → IsResting plant m n s → find (λ p. driver_of plant p == driver) s.wants ≡ Some point →
       step plant 0 (command.Next driver) m s
       ≡ record { answer = answer.Want point (proxy_of s.proxies point).version (proxy_of s.proxies point).commanded; state = record s { wants = without point s.wants } }
@@ -251,7 +215,7 @@ module _ (plant : List Actuator) (m n : ℕ) (small : m ≤ 2 ^ 60) where
       let wanted : list_any (λ y. y == point) s.wants ≡ true = find-member (λ p. driver_of plant p == driver) s.wants point found in
       let known : point < length s.proxies = (member-each (IsWant s.proxies) point s.wants rests.sound.wants wanted).known in
       let there : point < length plant = omega (arith, rests.sound.proxies) in
-      let current : is_current point version s1 ≡ true = grind (arith, nat_tests, member-without point s.wants) in
+      let current : is_current point version s1 ≡ true = grind (arith, nat_tests, member-without_same point s.wants) in
       let whole : serve plant m ok driver s ≡ (step plant 0 (command.Report point version ok) m s1).state = ap (λ r. reported plant m ok r.answer r.state) asked in
       let rests2 : IsResting plant m n (step plant 0 (command.Report point version ok) m s1).state = report-rests s1 point version ok there rests1 in
       let step2 : (step plant 0 (command.Report point version ok) m s1).state ≡ settle plant (heard n point ok s1) = report-step s1 point version ok rests1 current in

@@ -29,6 +29,7 @@ use Rattle.boss_model.specs.Submit.{is_level, is_length, is_reversion, repeated,
 use Rattle.boss_model.specs.Time.{moment_of}
 use Rattle.boss_laws.specs.Ended.{IsKeptEnd}
 use Rattle.boss_laws.proofs.Coming.{now_after-within}
+use Rattle.boss_laws.proofs.Filters.{each-found}
 use Rattle.boss_laws.proofs.Orders.{each-map}
 use Rattle.boss_laws.proofs.TickSound.{tick-sound}
 
@@ -159,18 +160,13 @@ first-past now [] end all found = cc
 first-past now (None ∷ ends) end all found = first-past now ends end all.1 found
 first-past now (Some e ∷ ends) end all found = let same : e ≡ end = cc in subst (λ x. x.at ≤ now) same all.0
 
-found-each : {X : Type 0} (P : X → Type 0) (test : X → Bool) (xs : List X) (x : X) → AllByRecursion P xs → find test xs ≡ Some x → P x
-found-each P test [] x all found = cc
-found-each P test (y ∷ ys) x all found = cond_both (test y) (Some y) (find test ys) (λ f. f ≡ Some x → P x)
-    (λ _ e. let same : y ≡ x = cc in subst P same all.0) (λ _ e. found-each P test ys x all.1 e) found
-
 consed : {X : Type 0} (P : X → Type 0) (x : Option X) (xs : List X) → ((y : X) → x ≡ Some y → P y) → AllByRecursion P xs → AllByRecursion P (cons_option x xs)
 consed P None xs here all = all
 consed P (Some y) xs here all = (here y refl, all)
 
 chosen-past : (P : Part → Type 0) (points : List ℕ) (parts : List Part) → AllByRecursion P parts → AllByRecursion P (filter_map (part_on parts) points)
 chosen-past P [] parts all = tt
-chosen-past P (point ∷ points) parts all = consed P (part_on parts point) (filter_map (part_on parts) points) (λ y found. found-each P (λ part. part.point == point) parts y all found) (chosen-past P points parts all)
+chosen-past P (point ∷ points) parts all = consed P (part_on parts point) (filter_map (part_on parts) points) (λ y found. each-found P (λ part. part.point == point) parts y all found) (chosen-past P points parts all)
 
 named-past : (P : Part → Type 0) (points : List ℕ) (parts : List Part) → AllByRecursion P parts → AllByRecursion P (named_parts points parts)
 named-past P [] parts all = all
@@ -185,7 +181,7 @@ renew-kept : (plant : List Actuator) (owner txn : ℕ) (asked : ℤ) (points : L
 renew-kept plant owner txn asked points n d cause at moment sound reached is =
     let found = found-renew cause at moment owner txn asked points n d is in
     let t = found.0 in
-    let whole : IsTransaction plant d t = found-each (IsTransaction plant d) (λ u. u.txn == txn) d.txns t sound.txns found.1 in
+    let whole : IsTransaction plant d t = each-found (IsTransaction plant d) (λ u. u.txn == txn) d.txns t sound.txns found.1 in
     let past : at ≤ d.now = first-past d.now (map (λ part. part.end) (named_parts points t.parts)) (record { cause = cause; at = at })
     (mapped-past d.now (named_parts points t.parts) (named-past (λ part. IsPast d.now part.end) points t.parts
     (each-map (IsPart plant d.now t.txn d.leases) (λ part. IsPast d.now part.end) (λ part p. p.past) t.parts whole.parts))) found.2 in

@@ -1,7 +1,6 @@
 -- Leases end at moment n, by their time or before it, and start their reversions: what then stands is as sound as before.
 use Rattle.std.proofs.Common.{◌≡◌, ℕ, ◌+◌, ◌^◌, ◌<◌, ◌≤◌, ◌==◌, pos, nat_lt, nat_le, List, [], ◌∷◌, ◌++◌, map, true, false, not, ◌&&◌, ◌||◌, Option, Some, None, is_none, refl, ap, sym, ◌∙◌, subst, arith}
 use Rattle.std.specs.List.{AllByRecursion}
-use Rattle.std.proofs.lemmas.List.{length-map}
 use Rattle.std.proofs.lemmas.Bool.{cond_both}
 use Rattle.std.proofs.lemmas.Bool.Decides.{nat_tests}
 use Rattle.boss_model.specs.declared.state.Actuator.{Actuator}
@@ -11,13 +10,13 @@ use Rattle.boss_model.specs.Happenings.{lives}
 use Rattle.boss_model.specs.Lists.{member}
 use Rattle.boss_model.specs.Records.{End, Part, Transaction}
 use Rattle.boss_model.specs.Reversions.{end_of, reversion_of, courses}
-use Rattle.boss_model.specs.Sound.{Rising, Distinct, holds, IsLease, IsPending, IsPast, IsPart, IsTransaction, has_part, is_kept, is_superseded, is_start, number_rank, IsProcess, IsSoundDurable}
+use Rattle.boss_model.specs.Sound.{Rising, holds, IsLease, IsPending, IsPast, IsPart, IsTransaction, has_part, is_kept, is_superseded, is_start, number_rank, IsProcess, IsSoundDurable}
 use Rattle.boss_model.specs.State.{lease_slot, pending_slot, Durable}
 use Rattle.boss_model.specs.Submit.{is_level, is_reversion}
 use Rattle.boss_model.specs.Time.{live, under_way, left, lease_of_part, end_after, part_after, record_after}
 use Rattle.boss_laws.proofs.Courses.{courses-after}
 use Rattle.boss_laws.proofs.Filters.{each-mapped, each-unmapped}
-use Rattle.boss_laws.proofs.GroupSound.{IsChange}
+use Rattle.boss_laws.proofs.GroupSound.{IsChange, process-later, transaction-in}
 use Rattle.boss_laws.proofs.NothingDue.{of-pending, of-leases}
 use Rattle.boss_laws.proofs.Orders.{each-map, each-filter, each-passed, each-both, Rising-filter}
 use Rattle.boss_laws.proofs.Records.{lives-left}
@@ -215,30 +214,23 @@ ending-change plant d n now shorten how sound later within small ending reverts 
           (each-filter (λ r. IsCourse plant r × S r) test cs (each-both (IsCourse plant) S cs sound_courses starts)));
       numbers = Rising-same number_rank d.txns txns (numbers-same how d.leases d.txns) sound.numbers;
       txns = each-mapped (IsTransaction plant changed) (record_after how d.leases) d.txns
-          (each-map (IsTransaction plant d) (λ t. IsTransaction plant changed (record_after how d.leases t)) (λ t is. record {
-            numbered = is.numbered;
-            given = is.given;
-            owner = is.owner;
-            some_part = subst (λ k. 1 ≤ k) (sym (length-map t.parts (part_after how d.leases t.txn))) is.some_part;
-            few_parts = subst (λ k. k ≤ 32) (sym (length-map t.parts (part_after how d.leases t.txn))) is.few_parts;
-            points = subst Distinct (sym (points-same how d.leases t.txn t.parts)) is.points;
-            parts = each-mapped (IsPart plant now t.txn (live n cut)) (part_after how d.leases t.txn) t.parts
-                (each-map (IsPart plant d.now t.txn d.leases) (λ part. IsPart plant now t.txn (live n cut) (part_after how d.leases t.txn part)) (λ part p. record {
-                  known = p.known;
-                  open_part = part-open-after n shorten how d.leases t.txn part.point part.priority part.end sound.lease_slots e p.open_part;
-                  past = past-after n shorten how now d.now d.leases t.txn part.point part.priority part.end later pasts p.past;
-                }) t.parts is.parts);
-            owned =
-                let W = λ (c : Pending). c.txn ≡ t.txn → c.owner ≡ t.owner in
-                subst (AllByRecursion W) (sym after) (each-filter W (λ r. nat_lt n (end_of r)) cs (to-courses W d.pending cut (of-pending W d.pending d.leases is.owned)
-                (each-mapped (λ l. W (reversion_of l)) shorten d.leases
-                (each-map (λ lease. W (reversion_of lease) × E lease) (λ lease. W (reversion_of (shorten lease))) (λ lease both. subst (λ l. W (reversion_of l)) (sym both.1.same) both.0) d.leases
-                (each-both (λ lease. W (reversion_of lease)) E d.leases (of-leases W d.pending d.leases is.owned) e)))));
-            policies =
-                let W = λ (l : Lease). l.txn ≡ t.txn → l.policy ≡ t.policy in
-                each-filter W (λ l. nat_lt n l.until) cut (each-mapped W shorten d.leases
-                (each-map (λ lease. W lease × E lease) (λ lease. W (shorten lease)) (λ lease both. subst W (sym both.1.same) both.0) d.leases (each-both W E d.leases is.policies e)));
-          }) d.txns sound.txns);
+          (each-map (IsTransaction plant d) (λ t. IsTransaction plant changed (record_after how d.leases t)) (λ t is.
+          let W = λ (c : Pending). c.txn ≡ t.txn → c.owner ≡ t.owner in
+          let V = λ (l : Lease). l.txn ≡ t.txn → l.policy ≡ t.policy in
+          transaction-in plant d changed t (map (part_after how d.leases t.txn) t.parts) is is.given is.owner (points-same how d.leases t.txn t.parts)
+          (each-mapped (IsPart plant now t.txn (live n cut)) (part_after how d.leases t.txn) t.parts
+          (each-map (IsPart plant d.now t.txn d.leases) (λ part. IsPart plant now t.txn (live n cut) (part_after how d.leases t.txn part)) (λ part p. record {
+            known = p.known;
+            open_part = part-open-after n shorten how d.leases t.txn part.point part.priority part.end sound.lease_slots e p.open_part;
+            past = past-after n shorten how now d.now d.leases t.txn part.point part.priority part.end later pasts p.past;
+          }) t.parts is.parts))
+          (subst (AllByRecursion W) (sym after) (each-filter W (λ r. nat_lt n (end_of r)) cs (to-courses W d.pending cut (of-pending W d.pending d.leases is.owned)
+          (each-mapped (λ l. W (reversion_of l)) shorten d.leases
+          (each-map (λ lease. W (reversion_of lease) × E lease) (λ lease. W (reversion_of (shorten lease))) (λ lease both. subst (λ l. W (reversion_of l)) (sym both.1.same) both.0) d.leases
+          (each-both (λ lease. W (reversion_of lease)) E d.leases (of-leases W d.pending d.leases is.owned) e))))))
+          (each-filter V (λ l. nat_lt n l.until) cut (each-mapped V shorten d.leases
+          (each-map (λ lease. V lease × E lease) (λ lease. V (shorten lease)) (λ lease both. subst V (sym both.1.same) both.0) d.leases (each-both V E d.leases is.policies e)))))
+          d.txns sound.txns);
       open_parts =
           let H = λ (l : Lease). has_part is_none txns l.txn l.point l.priority ≡ true in
           let P = λ (l : Lease). n < l.until → H l in
@@ -276,13 +268,5 @@ ending-change plant d n now shorten how sound later within small ending reverts 
       done_known = each-map (λ txn. is_kept d.txns txn ≡ true) (λ txn. is_kept txns txn ≡ true) (λ txn known. kept-after how d.leases d.txns txn ∙ known) d.done sound.done_known;
       few_processes = sound.few_processes;
       names = sound.names;
-      processes = each-map (IsProcess plant d.now) (IsProcess plant now) (λ p is. record {
-        name = is.name;
-        count = is.count;
-        few = is.few;
-        sent = is.sent;
-        numbers = is.numbers;
-        known = is.known;
-        past = each-map (λ notice. notice.at ≤ d.now) (λ notice. notice.at ≤ now) (λ notice past. omega arith) p.kept is.past;
-      }) d.processes sound.processes;
+      processes = each-map (IsProcess plant d.now) (IsProcess plant now) (λ p is. process-later plant d.now now p later is) d.processes sound.processes;
     }

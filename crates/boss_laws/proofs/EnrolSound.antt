@@ -1,5 +1,5 @@
 -- A new process keeps a sound durable part sound.
-use Rattle.std.proofs.Common.{◌≡◌, ℕ, ◌+◌, ◌^◌, ◌<◌, ◌≤◌, nat_eq, List, [], ◌∷◌, ◌++◌, length, map, Bool, true, false, ◌||◌, None, refl, arith, length-append}
+use Rattle.std.proofs.Common.{◌≡◌, ℕ, ◌+◌, ◌^◌, ◌<◌, ◌≤◌, nat_eq, List, [], ◌∷◌, ◌++◌, length, map, true, false, None, refl, arith, length-append}
 use Rattle.std.specs.List.{AllByRecursion, list_any}
 use Rattle.std.specs.Cmp.Lexicographic.{pointwise}
 use Rattle.std.proofs.lemmas.Bool.Decides.{nat_tests}
@@ -9,8 +9,9 @@ use Rattle.boss_model.specs.Processes.{process_named, is_full, enrolled}
 use Rattle.boss_model.specs.Sound.{DistinctNames, IsTransaction, IsProcess, IsSoundDurable}
 use Rattle.boss_model.specs.State.{Process, Durable}
 use Rattle.boss_laws.proofs.EndSound.{IsAt}
+use Rattle.boss_laws.proofs.Filters.{none-found}
+use Rattle.boss_laws.proofs.GroupSound.{transaction-in}
 use Rattle.boss_laws.proofs.Orders.{each-map, each-append}
-use Rattle.boss_laws.proofs.NotRefused.{none-found}
 use Rattle.boss_laws.proofs.RenewSound.{later-sound}
 
 same-turned : (xs ys : List ℕ) → pointwise nat_eq xs ys ≡ pointwise nat_eq ys xs
@@ -18,10 +19,6 @@ same-turned [] [] = refl
 same-turned [] (y ∷ ys) = refl
 same-turned (x ∷ xs) [] = refl
 same-turned (x ∷ xs) (y ∷ ys) = grind (arith, nat_tests, same-turned xs ys)
-
-any-snoc : {X : Type 0} (test : X → Bool) (xs : List X) (x : X) → list_any test (xs ++ x ∷ []) ≡ (list_any test xs || test x)
-any-snoc test [] x = grind (arith)
-any-snoc test (y ∷ ys) x = grind (arith, any-snoc test ys x)
 
 names-snoc : (ps : List Process) (p : Process) → DistinctNames (map (λ q. q.name) ps) → AllByRecursion (λ q. pointwise nat_eq q.name p.name ≡ false) ps →
     DistinctNames (map (λ q. q.name) (ps ++ p ∷ []))
@@ -50,17 +47,9 @@ enrolled-sound plant name n d sound at small named none room =
       leases = s.leases;
       pending = s.pending;
       numbers = s.numbers;
-      txns = each-map (IsTransaction plant (record d { now = n })) (IsTransaction plant (enrolled name n d)) (λ t is. record {
-        numbered = is.numbered;
-        given = is.given;
-        some_part = is.some_part;
-        few_parts = is.few_parts;
-        points = is.points;
-        owned = is.owned;
-        policies = is.policies;
-        parts = is.parts;
-        owner = let known : t.owner < length d.processes = is.owner in omega arith;
-      }) d.txns s.txns;
+      txns = each-map (IsTransaction plant (record d { now = n })) (IsTransaction plant (enrolled name n d)) (λ t is.
+          let known : t.owner < length d.processes = is.owner in
+          transaction-in plant (record d { now = n }) (enrolled name n d) t t.parts is is.given (omega arith) refl is.parts is.owned is.policies) d.txns s.txns;
       open_parts = s.open_parts;
       ended_parts = s.ended_parts;
       done = s.done;

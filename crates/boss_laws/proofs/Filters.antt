@@ -1,11 +1,11 @@
 -- What tests make of lists, of lists of lists, and of lists in order.
-use Rattle.std.proofs.Common.{◌≡◌, ℕ, List, [], ◌∷◌, ◌++◌, Bool, true, false, ◌&&◌, ◌||◌, map, refl, ap, sym, ◌∙◌, arith}
-use Rattle.std.specs.List.{filter, flat_map, AllByRecursion}
+use Rattle.std.proofs.Common.{◌≡◌, ℕ, ◌<◌, ◌≤◌, nat_lt, List, [], ◌∷◌, ◌++◌, length, Bool, true, false, ◌&&◌, ◌||◌, map, Some, None, refl, ap, sym, ◌∙◌, subst, arith}
+use Rattle.std.specs.List.{filter, find, flat_map, list_any, position, position_or_len, AllByRecursion}
 use Rattle.std.proofs.lemmas.Bool.{cond_both}
 use Rattle.std.proofs.lemmas.Bool.Decides.{nat_tests}
 use Rattle.boss_model.specs.Order.{comes_before, put, in_order}
 use Rattle.boss_model.specs.Sound.{Rising}
-use Rattle.boss_laws.proofs.Orders.{before-total, before-trans, each-map, each-filter, put-first, Ordered}
+use Rattle.boss_laws.proofs.Orders.{before-total, before-trans, each-map, each-filter, each-append, put-first, Ordered}
 
 -- ---- tests
 
@@ -37,13 +37,6 @@ pub filter-map : {X Y : Type 0} (q : Y → Bool) (f : X → Y) (xs : List X) →
 filter-map q f [] = refl
 filter-map q f (x ∷ xs) = grind (arith, filter-map q f xs)
 
-pub flat_map-filter : {X Y : Type 0} (p : X → Bool) (t : Y → Bool) (f : X → List Y) (xs : List X) →
-    AllByRecursion (λ x. p x ≡ false → filter t (f x) ≡ []) xs → filter t (flat_map f (filter p xs)) ≡ filter t (flat_map f xs)
-flat_map-filter p t f [] none = refl
-flat_map-filter p t f (x ∷ xs) none = cond_both (p x) (x ∷ filter p xs) (filter p xs) (λ zs. filter t (flat_map f zs) ≡ filter t (f x ++ flat_map f xs))
-    (λ _. filter-append t (f x) (flat_map f (filter p xs)) ∙ ap (λ zs. filter t (f x) ++ zs) (flat_map-filter p t f xs none.1) ∙ sym (filter-append t (f x) (flat_map f xs)))
-    (λ dropped. flat_map-filter p t f xs none.1 ∙ ap (λ zs. zs ++ filter t (flat_map f xs)) (sym (none.0 dropped)) ∙ sym (filter-append t (f x) (flat_map f xs)))
-
 -- what does not pass has P anyway
 pub each-unfilter : {X : Type 0} (P : X → Type 0) (test : X → Bool) → ((x : X) → test x ≡ false → P x) → (xs : List X) →
     AllByRecursion P (filter test xs) → AllByRecursion P xs
@@ -59,9 +52,43 @@ pub each-unmapped : {X Y : Type 0} (Q : Y → Type 0) (f : X → Y) (xs : List X
 each-unmapped Q f [] all = tt
 each-unmapped Q f (x ∷ xs) all = (all.0, each-unmapped Q f xs all.1)
 
+pub each-flat_map : {X Y : Type 0} (P : Y → Type 0) (f : X → List Y) (xs : List X) → AllByRecursion (λ x. AllByRecursion P (f x)) xs → AllByRecursion P (flat_map f xs)
+each-flat_map P f [] all = tt
+each-flat_map P f (x ∷ xs) all = each-append P (f x) (flat_map f xs) all.0 (each-flat_map P f xs all.1)
+
 pub each-always : {X : Type 0} (P : X → Type 0) → ((x : X) → P x) → (xs : List X) → AllByRecursion P xs
 each-always P go [] = tt
 each-always P go (x ∷ xs) = (go x, each-always P go xs)
+
+-- ---- what a test finds
+
+pub few-filter : {X : Type 0} (test : X → Bool) (xs : List X) → length (filter test xs) ≤ length xs
+few-filter test [] = omega arith
+few-filter test (x ∷ xs) = cond_both (test x) (x ∷ filter test xs) (filter test xs) (λ ys. length ys ≤ length (x ∷ xs))
+    (λ _. omega (arith, few-filter test xs)) (λ _. omega (arith, few-filter test xs))
+
+pub any-map : {X Y : Type 0} (test : Y → Bool) (f : X → Y) (xs : List X) → list_any test (map f xs) ≡ list_any (λ x. test (f x)) xs
+any-map test f [] = refl
+any-map test f (x ∷ xs) = ap (λ b. test (f x) || b) (any-map test f xs)
+
+-- what holds of all items holds of the one that is found
+pub each-found : {X : Type 0} (P : X → Type 0) (test : X → Bool) (xs : List X) (x : X) → AllByRecursion P xs → find test xs ≡ Some x → P x
+each-found P test [] x all found = cc
+each-found P test (y ∷ ys) x all found = cond_both (test y) (Some y) (find test ys) (λ f. f ≡ Some x → P x)
+    (λ _ e. let same : y ≡ x = cc in subst P same all.0) (λ _ e. each-found P test ys x all.1 e) found
+
+-- where no place is found, no item passes
+none-before : {X : Type 0} (test : X → Bool) (xs : List X) → length xs ≤ position_or_len test xs → AllByRecursion (λ x. test x ≡ false) xs
+none-before test [] far = tt
+none-before test (x ∷ xs) far = (grind arith, none-before test xs (grind arith))
+
+pub none-found : {X : Type 0} (test : X → Bool) (xs : List X) → position test xs ≡ None → AllByRecursion (λ x. test x ≡ false) xs
+none-found test xs none = none-before test xs (grind (arith, nat_tests))
+
+-- a place that is found is one of the list
+pub position-within : {X : Type 0} (test : X → Bool) (xs : List X) (place : ℕ) → position test xs ≡ Some place → place < length xs
+position-within test xs place found = cond_both (nat_lt (position_or_len test xs) (length xs)) (Some (position_or_len test xs)) None
+    (λ f. f ≡ Some place → place < length xs) (λ within e. let same : position_or_len test xs ≡ place = cc in grind (arith, nat_tests)) (λ _ e. cc) found
 
 -- ---- a list in order that is taken apart and put together again
 

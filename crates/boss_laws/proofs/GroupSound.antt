@@ -11,11 +11,12 @@ use Rattle.boss_model.specs.declared.state.Actuator.{Actuator}
 use Rattle.boss_model.specs.declared.state.Pending.{Pending}
 use Rattle.boss_model.specs.Happenings.{Happening, lives, is_done, finish, posted, post, tell_of, tell}
 use Rattle.boss_model.specs.Lists.{member, keep_last}
-use Rattle.boss_model.specs.Records.{End, Transaction}
+use Rattle.boss_model.specs.Records.{End, Part, Transaction}
 use Rattle.boss_model.specs.Reversions.{courses}
-use Rattle.boss_model.specs.Sound.{Rising, Distinct, DistinctNames, NumberedFrom, IsKnown, IsLease, IsPending, IsTransaction, has_part, is_kept, is_start, number_rank, IsProcess, IsSoundDurable}
+use Rattle.boss_model.specs.Sound.{Rising, Distinct, DistinctNames, NumberedFrom, IsKnown, IsLease, IsPending, IsPart, IsTransaction, has_part, is_kept, is_start, number_rank, IsProcess, IsSoundDurable}
 use Rattle.boss_model.specs.State.{lease_slot, pending_slot, Process, Durable}
 use Rattle.boss_model.specs.Time.{kept}
+use Rattle.boss_model.proofs.Members.{member-drop, Distinct-drop, Distinct-snoc}
 use Rattle.boss_laws.proofs.Orders.{each-map, each-filter, each-passed, each-both, each-append, Rising-filter}
 use Rattle.boss_laws.proofs.NothingDue.{of-pending, of-leases}
 use Rattle.boss_laws.proofs.Places.{each-member, member-each}
@@ -30,20 +31,6 @@ pub few-finish : (done : List ℕ) (hs : List Happening) → length done ≤ 102
 few-finish done [] few = few
 few-finish done (h ∷ hs) few = few-finish (finish done h) hs
     (cond_both (is_done h.told) (keep_last 1024 (done ++ h.txn ∷ [])) done (λ xs. length xs ≤ 1024) (λ _. length-keep_last 1024 (done ++ h.txn ∷ [])) (λ _. few))
-
-member-drop : (txn n : ℕ) (xs : List ℕ) → member txn xs ≡ false → member txn (drop n xs) ≡ false
-member-drop txn zero xs away = away
-member-drop txn (suc n) [] away = away
-member-drop txn (suc n) (x ∷ xs) away = member-drop txn n xs (grind (arith, nat_tests))
-
-Distinct-drop : (n : ℕ) (xs : List ℕ) → Distinct xs → Distinct (drop n xs)
-Distinct-drop zero xs once = once
-Distinct-drop (suc n) [] once = once
-Distinct-drop (suc n) (x ∷ xs) once = Distinct-drop n xs once.1
-
-pub Distinct-snoc : (xs : List ℕ) (n : ℕ) → Distinct xs → member n xs ≡ false → Distinct (xs ++ n ∷ [])
-Distinct-snoc [] n once away = (refl, tt)
-Distinct-snoc (x ∷ xs) n once away = (grind (arith, nat_tests, member-snoc x n xs, once.0), Distinct-snoc xs n once.1 (grind (arith, nat_tests)))
 
 -- what becomes done becomes so once
 abbrev pub DoneOnce : List Happening → Type 0
@@ -184,9 +171,6 @@ tell-length ps hs = sym (length-map (fold tell ps hs) (λ p. p.name)) ∙ ap len
 
 -- ---- records that stay
 
-abbrev pub same_txn : ℕ → Transaction → Bool
-same_txn txn t = t.txn == txn
-
 -- a record with a part in this slot stays, if the test of those that stay passes its number
 pub part-stays : (test : Option End → Bool) (keeps : Transaction → Bool) (txns : List Transaction) (txn point priority : ℕ) →
     ((t : Transaction) → t.txn ≡ txn → keeps t ≡ true) → has_part test txns txn point priority ≡ true → has_part test (filter keeps txns) txn point priority ≡ true
@@ -212,6 +196,38 @@ lives-rest txn c cs there = grind (arith, nat_tests)
 pub each-lives : (cs : List Pending) → AllByRecursion (λ c. lives c.txn cs ≡ true) cs
 each-lives [] = tt
 each-lives (c ∷ cs) = (grind (arith, nat_tests), each-map (λ x. lives x.txn cs ≡ true) (λ x. lives x.txn (c ∷ cs) ≡ true) (λ x there. lives-rest x.txn c cs there) cs (each-lives cs))
+
+-- ---- at a later moment, and among other leases and reversions
+
+pub process-later : (plant : List Actuator) (now n : ℕ) (p : Process) → now ≤ n → IsProcess plant now p → IsProcess plant n p
+process-later plant now n p later is = record {
+  name = is.name;
+  count = is.count;
+  few = is.few;
+  sent = is.sent;
+  numbers = is.numbers;
+  known = is.known;
+  past = each-map (λ notice. notice.at ≤ now) (λ notice. notice.at ≤ n) (λ notice past. omega arith) p.kept is.past;
+}
+
+-- a transaction, whose parts stay on the same points
+pub transaction-in : (plant : List Actuator) (d after : Durable) (t : Transaction) (parts : List Part) → IsTransaction plant d t → t.txn < after.next → t.owner < length after.processes →
+    map (λ part. part.point) parts ≡ map (λ part. part.point) t.parts → AllByRecursion (IsPart plant after.now t.txn after.leases) parts →
+    AllByRecursion (λ r. r.txn ≡ t.txn → r.owner ≡ t.owner) (courses after.pending after.leases) → AllByRecursion (λ l. l.txn ≡ t.txn → l.policy ≡ t.policy) after.leases →
+    IsTransaction plant after (record t { parts = parts })
+transaction-in plant d after t parts is given owner same each_part owned policies =
+    let many : length parts ≡ length t.parts = sym (length-map parts (λ part. part.point)) ∙ ap length same ∙ length-map t.parts (λ part. part.point) in
+    record {
+      numbered = is.numbered;
+      given = given;
+      owner = owner;
+      some_part = subst (λ k. 1 ≤ k) (sym many) is.some_part;
+      few_parts = subst (λ k. k ≤ 32) (sym many) is.few_parts;
+      points = subst Distinct (sym same) is.points;
+      parts = each_part;
+      owned = owned;
+      policies = policies;
+    }
 
 -- ---- the whole
 
@@ -276,17 +292,8 @@ group-sound plant d hs change group =
       pending = change.pending;
       numbers = Rising-filter number_rank keeps d.txns change.numbers;
       txns = each-filter (IsTransaction plant (grouped hs d)) keeps d.txns
-          (each-map (IsTransaction plant d) (IsTransaction plant (grouped hs d)) (λ t is. record {
-            numbered = is.numbered;
-            given = is.given;
-            owner = subst (λ k. t.owner < k) (sym many) is.owner;
-            some_part = is.some_part;
-            few_parts = is.few_parts;
-            points = is.points;
-            parts = is.parts;
-            owned = is.owned;
-            policies = is.policies;
-          }) d.txns change.txns);
+          (each-map (IsTransaction plant d) (IsTransaction plant (grouped hs d)) (λ t is.
+          transaction-in plant d (grouped hs d) t t.parts is is.given (subst (λ k. t.owner < k) (sym many) is.owner) refl is.parts is.owned is.policies) d.txns change.txns);
       open_parts = each-map (λ lease. (has_part is_none d.txns lease.txn lease.point lease.priority ≡ true) × (lives lease.txn cs ≡ true))
           (λ lease. has_part is_none txns lease.txn lease.point lease.priority ≡ true)
           (λ lease both. part-stays is_none keeps d.txns lease.txn lease.point lease.priority (stays lease.txn both.1) both.0) d.leases

@@ -28,8 +28,9 @@ use Rattle.boss_model.specs.State.{Process, Durable, State}
 use Rattle.boss_model.specs.Submit.{submit}
 use Rattle.boss_model.specs.Target.{target}
 use Rattle.boss_model.specs.Time.{moment_of}
+use Rattle.boss_model.proofs.Members.{member-filter}
 use Rattle.boss_laws.specs.Heard.{Sent, Heard, nothing_heard, asked_by, took_by, heard_after, last_heard}
-use Rattle.boss_laws.proofs.Places.{member-filter, member-wanted_anew, length-changed, proxy_of-changed, change_at, member-places, proxy_of-set, proxy_of-other}
+use Rattle.boss_laws.proofs.Places.{member-wanted_anew, length-changed, proxy_of-changed, change_at, member-places, proxy_of-set, proxy_of-other}
 
 abbrev sent : Proxy → Sent
 sent proxy = record { version = proxy.version; value = proxy.commanded }

@@ -1,7 +1,7 @@
 -- What a command that is not refused says of itself.
-use Rattle.std.proofs.Common.{◌≡◌, ℕ, ◌+◌, ◌^◌, ◌==◌, ℤ, pos, negsuc, nat_lt, List, [], ◌∷◌, length, map, Bool, true, false, not, cond, Option, Some, None, unsigned_abs, refl, arith}
+use Rattle.std.proofs.Common.{◌≡◌, ℕ, ◌+◌, ◌^◌, ◌==◌, ℤ, pos, negsuc, List, [], ◌∷◌, map, Bool, true, false, not, cond, Option, Some, None, unsigned_abs, refl, arith}
 use Rattle.std.specs.Option.{option_map}
-use Rattle.std.specs.List.{AllByRecursion, position, position_or_len}
+use Rattle.std.specs.List.{AllByRecursion, position}
 use Rattle.std.proofs.lemmas.Bool.{cond_both}
 use Rattle.std.proofs.lemmas.Bool.Decides.{nat_tests}
 use Rattle.boss_model.specs.declared.answer.Refusal.TheVariants as refusal
@@ -12,6 +12,7 @@ use Rattle.boss_model.specs.Lists.{member, first_some}
 use Rattle.boss_model.specs.Sound.{Distinct}
 use Rattle.boss_model.specs.State.{Durable}
 use Rattle.boss_model.specs.Submit.{is_level, is_length, is_reversion, repeated, submit_refused}
+use Rattle.boss_laws.proofs.Filters.{none-found}
 use Rattle.boss_laws.proofs.Orders.{each-map, each-both}
 
 pub none-of-first : {X : Type 0} (x : Option X) (xs : List (Option X)) → first_some (x ∷ xs) ≡ None → (x ≡ None) × (first_some xs ≡ None)
@@ -21,20 +22,6 @@ none-of-first (Some x) xs none = cc
 pub none-mapped : {X Y : Type 0} (f : X → Y) (x : Option X) → option_map f x ≡ None → x ≡ None
 none-mapped f None none = refl
 none-mapped f (Some x) none = cc
-
-none-passes : {X : Type 0} (test : X → Bool) (xs : List X) → nat_lt (position_or_len test xs) (length xs) ≡ false → AllByRecursion (λ x. test x ≡ false) xs
-none-passes test [] none = tt
-none-passes test (x ∷ xs) none =
-    cond_both (test x) true false (λ b. test x ≡ b → AllByRecursion (λ y. test y ≡ false) (x ∷ xs))
-    (λ yes _. let first : position_or_len test (x ∷ xs) ≡ 0 = grind (arith) in absurd (grind (arith, nat_tests)))
-    (λ no _. let next : position_or_len test (x ∷ xs) ≡ 1 + position_or_len test xs = grind (arith) in
-    (no, none-passes test xs (grind (arith, nat_tests)))) (grind arith)
-
--- where no place is found, no item passes
-pub none-found : {X : Type 0} (test : X → Bool) (xs : List X) → position test xs ≡ None → AllByRecursion (λ x. test x ≡ false) xs
-none-found test xs none = none-passes test xs
-    (cond_both (nat_lt (position_or_len test xs) (length xs)) (Some (position_or_len test xs)) None
-    (λ found. found ≡ None → nat_lt (position_or_len test xs) (length xs) ≡ false) (λ _ e. cc) (λ no _. no) none)
 
 pub each-not : {X : Type 0} (test : X → Bool) (xs : List X) → AllByRecursion (λ x. not (test x) ≡ false) xs → AllByRecursion (λ x. test x ≡ true) xs
 each-not test xs all = each-map (λ x. not (test x) ≡ false) (λ x. test x ≡ true) (λ x is. grind (arith)) xs all

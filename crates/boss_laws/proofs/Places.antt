@@ -1,5 +1,5 @@
 -- Points and their proxies, by place.
-use Rattle.std.proofs.Common.{◌≡◌, ℕ, zero, suc, ◌+◌, ◌<◌, ◌≤◌, ◌==◌, List, [], ◌∷◌, ◌++◌, length, map, set, Bool, true, false, not, ◌&&◌, ◌||◌, if◌then◌else◌, refl, ap, sym, ◌∙◌, subst, arith, zero-add}
+use Rattle.std.proofs.Common.{◌≡◌, ℕ, zero, suc, ◌+◌, ◌<◌, ◌≤◌, ◌==◌, List, [], ◌∷◌, length, map, set, Bool, true, false, not, ◌||◌, if◌then◌else◌, refl, ap, sym, ◌∙◌, subst, arith, zero-add}
 use Rattle.std.specs.List.{filter, enumerate_from, AllByRecursion}
 use Rattle.std.proofs.lemmas.Bool.{cond_both}
 use Rattle.std.proofs.lemmas.Bool.Decides.{nat_tests}
@@ -8,35 +8,13 @@ use Rattle.boss_model.specs.Devices.{proxy_of}
 use Rattle.boss_model.specs.Lists.{member}
 use Rattle.boss_model.specs.Settle.{places, changed_if, wanted_anew}
 use Rattle.boss_model.specs.Sound.{Distinct}
+use Rattle.boss_model.proofs.Members.{member-append, member-filter, Distinct-filter, Distinct-append}
 
 -- ---- numbers in a list
-
-pub member-append : (n : ℕ) (xs ys : List ℕ) → member n (xs ++ ys) ≡ (member n xs || member n ys)
-member-append n [] ys = refl
-member-append n (x ∷ xs) ys = grind (arith, nat_tests, member-append n xs ys)
-
-pub member-filter : (n : ℕ) (test : ℕ → Bool) (xs : List ℕ) → member n (filter test xs) ≡ (test n && member n xs)
-member-filter n test [] = grind (arith, nat_tests)
-member-filter n test (x ∷ xs) =
-    cond_both (x == n) true false (λ b. (x == n) ≡ b → member n (filter test (x ∷ xs)) ≡ (test n && member n (x ∷ xs)))
-    (λ is _. let same : x ≡ n = grind (arith, nat_tests) in
-    let t : test x ≡ test n = ap test same in
-    grind (arith, nat_tests, member-filter n test xs))
-    (λ other _. grind (arith, nat_tests, member-filter n test xs)) (grind arith)
 
 pub member-above : (n : ℕ) (xs : List ℕ) → AllByRecursion (λ x. n < x) xs → member n xs ≡ false
 member-above n [] above = refl
 member-above n (x ∷ xs) above = grind (arith, nat_tests, above.0, member-above n xs above.1)
-
-pub Distinct-filter : (test : ℕ → Bool) (xs : List ℕ) → Distinct xs → Distinct (filter test xs)
-Distinct-filter test [] once = tt
-Distinct-filter test (x ∷ xs) once = cond_both (test x) (x ∷ filter test xs) (filter test xs) Distinct
-    (λ _. (grind (arith, nat_tests, member-filter x test xs, once.0), Distinct-filter test xs once.1)) (λ _. Distinct-filter test xs once.1)
-
-pub Distinct-append : (xs ys : List ℕ) → Distinct xs → Distinct ys → AllByRecursion (λ x. member x ys ≡ false) xs → Distinct (xs ++ ys)
-Distinct-append [] ys p q apart = q
-Distinct-append (x ∷ xs) ys p q apart =
-    (grind (arith, nat_tests, member-append x xs ys, p.0, apart.0), Distinct-append xs ys p.1 q apart.1)
 
 -- points that are wanted anew, and those that were wanted
 pub member-wanted_anew : (n : ℕ) (points wants : List ℕ) → member n (wanted_anew points wants) ≡ (member n wants || member n points)
@@ -75,9 +53,6 @@ module _ (test : ℕ × Proxy → Bool) (change : ℕ × Proxy → Proxy) where
   proxy_of-changed k ps within = proxy_of-changed_from 0 k ps within ∙ ap (λ n. change_at (n, proxy_of ps k)) (zero-add k)
 
 module _ (test : ℕ × Proxy → Bool) where
-  places_from : ℕ → List Proxy → List ℕ
-  places_from place ps = map (λ e. e.0) (filter test (enumerate_from place ps))
-
   above-places : (least place : ℕ) (ps : List Proxy) → least < place → AllByRecursion (λ x. least < x) (map (λ (e : ℕ × Proxy). e.0) (filter test (enumerate_from place ps)))
   above-places least place [] above = tt
   above-places least place (p ∷ ps) above =

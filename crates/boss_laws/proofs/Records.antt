@@ -17,10 +17,6 @@ use Rattle.boss_laws.proofs.Orders.{each-append, each-map, each-filter, each-pas
 
 -- ---- parts
 
--- the test of a part's own lease
-abbrev pub is_its : ℕ → ℕ → ℕ → Lease → Bool
-is_its txn point priority lease = (lease.txn == txn) && ((lease.point == point) && (lease.priority == priority))
-
 -- a part that has ended by n is not changed by a later tick, and an open one ends as its lease would
 end-twice : (n m k txn point priority : ℕ) (leases : List Lease) (end : Option End) → k ≡ max n m →
     end_after (expired m) (lease_of_part (live n leases) txn point priority) (end_after (expired n) (lease_of_part leases txn point priority) end)

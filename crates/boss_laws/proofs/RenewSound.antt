@@ -13,12 +13,12 @@ use Rattle.boss_model.specs.Records.{End, Part}
 use Rattle.boss_model.specs.Renew.{is_meant, extended, extended_if, renewed}
 use Rattle.boss_model.specs.Reversions.{end_of, reversion_of, courses}
 use Rattle.boss_model.specs.Sound.{holds, IsLease, IsPending, IsPast, IsPart, IsTransaction, has_part, IsProcess, IsSoundDurable}
-use Rattle.boss_model.specs.State.{lease_slot, pending_slot, Process, Durable}
+use Rattle.boss_model.specs.State.{lease_slot, pending_slot, Durable}
 use Rattle.boss_model.specs.Submit.{is_length}
 use Rattle.boss_laws.proofs.ConcludeSound.{IsNews, IsNext, conclude-sound}
 use Rattle.boss_laws.proofs.EndSound.{IsAt, alive-not-done, no-news}
 use Rattle.boss_laws.proofs.Filters.{each-mapped}
-use Rattle.boss_laws.proofs.GroupSound.{IsChange}
+use Rattle.boss_laws.proofs.GroupSound.{IsChange, process-later, transaction-in}
 use Rattle.boss_laws.proofs.NothingDue.{of-pending, of-leases}
 use Rattle.boss_laws.proofs.Orders.{each-map, each-both}
 use Rattle.boss_laws.proofs.Slots.{IsSameLease, slots-same, course_slots-same, lives-same, Rising-same, Rising-in_order-same, lives-courses, to-courses}
@@ -40,17 +40,6 @@ pending-later plant now n r later more is =
     let started : r.start ≤ now = is.started in
     record { level = is.level; steps = is.steps; started = omega arith; running = more }
 
-pub process-later : (plant : List Actuator) (now n : ℕ) (p : Process) → now ≤ n → IsProcess plant now p → IsProcess plant n p
-process-later plant now n p later is = record {
-  name = is.name;
-  count = is.count;
-  few = is.few;
-  sent = is.sent;
-  numbers = is.numbers;
-  known = is.known;
-  past = each-map (λ notice. notice.at ≤ now) (λ notice. notice.at ≤ n) (λ notice past. omega arith) p.kept is.past;
-}
-
 pub part-later : (plant : List Actuator) (now n txn : ℕ) (leases : List Lease) (part : Part) → now ≤ n → IsPart plant now txn leases part → IsPart plant n txn leases part
 part-later plant now n txn leases part later is = record { known = is.known; open_part = is.open_part; past = past-later now n part.end later is.past }
 
@@ -67,17 +56,9 @@ later-sound plant n d sound at small = record {
   pending = each-map (λ r. IsPending plant d.now r × (n < end_of r)) (IsPending plant n) (λ r both. pending-later plant d.now n r at.reached both.1 both.0) d.pending
       (each-both (IsPending plant d.now) (λ r. n < end_of r) d.pending sound.pending at.running);
   numbers = sound.numbers;
-  txns = each-map (IsTransaction plant d) (IsTransaction plant (record d { now = n })) (λ t is. record {
-    numbered = is.numbered;
-    given = is.given;
-    owner = is.owner;
-    some_part = is.some_part;
-    few_parts = is.few_parts;
-    points = is.points;
-    owned = is.owned;
-    policies = is.policies;
-    parts = each-map (IsPart plant d.now t.txn d.leases) (IsPart plant n t.txn d.leases) (λ part p. part-later plant d.now n t.txn d.leases part at.reached p) t.parts is.parts;
-  }) d.txns sound.txns;
+  txns = each-map (IsTransaction plant d) (IsTransaction plant (record d { now = n })) (λ t is. transaction-in plant d (record d { now = n }) t t.parts is is.given is.owner refl
+      (each-map (IsPart plant d.now t.txn d.leases) (IsPart plant n t.txn d.leases) (λ part p. part-later plant d.now n t.txn d.leases part at.reached p) t.parts is.parts)
+      is.owned is.policies) d.txns sound.txns;
   open_parts = sound.open_parts;
   ended_parts = sound.ended_parts;
   done = sound.done;
@@ -127,25 +108,18 @@ module _ (n : ℕ) (f : Lease → Lease) where
             d.leases (each-both (IsLease plant d.now) L d.leases sound.leases longer));
         pending = sound.pending;
         numbers = sound.numbers;
-        txns = each-map (IsTransaction plant d) (IsTransaction plant (record d { leases = ls })) (λ t is. record {
-          numbered = is.numbered;
-          given = is.given;
-          owner = is.owner;
-          some_part = is.some_part;
-          few_parts = is.few_parts;
-          points = is.points;
-          parts = each-map (IsPart plant d.now t.txn d.leases) (IsPart plant d.now t.txn ls)
-              (λ part p. record { known = p.known; open_part = p.open_part ∙ sym (holds-same d.leases t.txn part.point part.priority longer); past = p.past }) t.parts is.parts;
-          owned =
-              let W = λ (c : Pending). c.txn ≡ t.txn → c.owner ≡ t.owner in
-              to-courses W d.pending ls (of-pending W d.pending d.leases is.owned)
-              (each-mapped (λ l. W (reversion_of l)) f d.leases (each-map (λ lease. W (reversion_of lease) × L lease) (λ lease. W (reversion_of (f lease)))
-              (λ lease both. subst (λ l. W (reversion_of l)) (sym both.1.same) both.0) d.leases
-              (each-both (λ lease. W (reversion_of lease)) L d.leases (of-leases W d.pending d.leases is.owned) longer)));
-          policies =
-              let W = λ (l : Lease). l.txn ≡ t.txn → l.policy ≡ t.policy in
-              each-mapped W f d.leases (each-map (λ lease. W lease × L lease) (λ lease. W (f lease)) (λ lease both. subst W (sym both.1.same) both.0) d.leases (each-both W L d.leases is.policies longer));
-        }) d.txns sound.txns;
+        txns = each-map (IsTransaction plant d) (IsTransaction plant (record d { leases = ls })) (λ t is.
+            let W = λ (c : Pending). c.txn ≡ t.txn → c.owner ≡ t.owner in
+            let V = λ (l : Lease). l.txn ≡ t.txn → l.policy ≡ t.policy in
+            transaction-in plant d (record d { leases = ls }) t t.parts is is.given is.owner refl
+            (each-map (IsPart plant d.now t.txn d.leases) (IsPart plant d.now t.txn ls)
+            (λ part p. record { known = p.known; open_part = p.open_part ∙ sym (holds-same d.leases t.txn part.point part.priority longer); past = p.past }) t.parts is.parts)
+            (to-courses W d.pending ls (of-pending W d.pending d.leases is.owned)
+            (each-mapped (λ l. W (reversion_of l)) f d.leases (each-map (λ lease. W (reversion_of lease) × L lease) (λ lease. W (reversion_of (f lease)))
+            (λ lease both. subst (λ l. W (reversion_of l)) (sym both.1.same) both.0) d.leases
+            (each-both (λ lease. W (reversion_of lease)) L d.leases (of-leases W d.pending d.leases is.owned) longer))))
+            (each-mapped V f d.leases (each-map (λ lease. V lease × L lease) (λ lease. V (f lease)) (λ lease both. subst V (sym both.1.same) both.0) d.leases (each-both V L d.leases is.policies longer))))
+            d.txns sound.txns;
         open_parts =
             let H = λ (l : Lease). has_part is_none d.txns l.txn l.point l.priority ≡ true in
             each-mapped H f d.leases (each-map (λ lease. H lease × L lease) (λ lease. H (f lease)) (λ lease both. subst H (sym both.1.same) both.0) d.leases (each-both H L d.leases sound.open_parts longer));

@@ -1,5 +1,5 @@
 -- Slots: each is taken once, so the lease of a part is found by its slot; and what holds of all reversions together.
-use Rattle.std.proofs.Common.{◌≡◌, ℕ, ◌==◌, List, [], ◌∷◌, ◌++◌, map, Bool, true, false, ◌&&◌, ◌||◌, cond, Option, Some, None, refl, ap, sym, ◌∙◌, subst, arith}
+use Rattle.std.proofs.Common.{◌≡◌, ℕ, ◌==◌, List, [], ◌∷◌, ◌++◌, map, Bool, true, false, ◌&&◌, ◌||◌, cond, Option, Some, refl, ap, sym, ◌∙◌, subst, arith}
 use Rattle.std.specs.List.{AllByRecursion, list_any}
 use Rattle.std.proofs.lemmas.Bool.{cond_both}
 use Rattle.std.proofs.lemmas.Bool.Decides.{nat_tests}
@@ -113,10 +113,6 @@ none-later lease (y ∷ ys) txn point priority later p q =
     let rest : holds ys txn point priority ≡ false = none-later lease ys txn point priority later.1 p q in
     let first : comes_before (y.point ∷ y.priority ∷ []) (lease.point ∷ lease.priority ∷ []) ≡ false = later.0 in
     grind (arith, nat_tests)
-
-not-found : (leases : List Lease) (txn point priority : ℕ) → holds leases txn point priority ≡ false → lease_of_part leases txn point priority ≡ None
-not-found [] txn point priority none = refl
-not-found (y ∷ ys) txn point priority none = grind (arith, nat_tests, not-found ys txn point priority)
 
 -- each lease is found by its transaction and slot
 pub self-found : (leases : List Lease) → Rising lease_slot leases → AllByRecursion (λ lease. lease_of_part leases lease.txn lease.point lease.priority ≡ Some lease) leases

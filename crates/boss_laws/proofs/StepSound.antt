@@ -1,7 +1,7 @@
 -- A step keeps a sound state sound.
-use Rattle.std.proofs.Common.{◌≡◌, ℕ, suc, ◌+◌, ◌^◌, ◌<◌, ◌≤◌, ◌==◌, max, nat_eq, nat_lt, List, [], ◌∷◌, ◌++◌, length, map, set, Bool, true, false, not, Option, Some, None, refl, ap, sym, ◌∙◌, subst, arith, length-append}
+use Rattle.std.proofs.Common.{◌≡◌, ℕ, suc, ◌+◌, ◌^◌, ◌<◌, ◌≤◌, ◌==◌, max, nat_eq, List, [], ◌∷◌, ◌++◌, length, map, set, Bool, true, false, not, Option, Some, None, refl, ap, sym, ◌∙◌, subst, arith, length-append}
 use Rattle.std.specs.Option.{option_map}
-use Rattle.std.specs.List.{filter, find, AllByRecursion, position, position_or_len}
+use Rattle.std.specs.List.{filter, find, AllByRecursion}
 use Rattle.std.specs.Cmp.Lexicographic.{pointwise}
 use Rattle.std.proofs.Math.ListN.{length-set}
 use Rattle.std.proofs.lemmas.Bool.{cond_both}
@@ -31,13 +31,14 @@ use Rattle.boss_model.specs.State.{Durable, Attachment, State}
 use Rattle.boss_model.specs.Submit.{submit, submit_refused}
 use Rattle.boss_model.specs.Target.{target, in_force}
 use Rattle.boss_model.specs.Time.{tick_to}
+use Rattle.boss_model.proofs.Members.{Distinct-filter, Distinct-snoc}
 use Rattle.boss_laws.proofs.ActSound.{tick-length, submit-next, renew-next, cancel-next, lost-next, faulted-next, enrol-sound}
 use Rattle.boss_laws.proofs.ConcludeSound.{IsNext}
 use Rattle.boss_laws.proofs.EndSound.{IsAt, at-tick}
 use Rattle.boss_laws.proofs.Heard.{commanded-settled}
+use Rattle.boss_laws.proofs.Filters.{position-within}
 use Rattle.boss_laws.proofs.Orders.{each-map, each-filter, each-append}
-use Rattle.boss_laws.proofs.Places.{member-wanted_anew, Distinct-filter, Distinct-wanted_anew, length-changed, proxy_of-changed, change_at, Distinct-places, member-places, below-places, each-member, member-each, proxy_of-other}
-use Rattle.boss_laws.proofs.GroupSound.{Distinct-snoc}
+use Rattle.boss_laws.proofs.Places.{member-wanted_anew, Distinct-wanted_anew, length-changed, proxy_of-changed, change_at, Distinct-places, member-places, below-places, each-member, member-each, proxy_of-other}
 use Rattle.boss_laws.proofs.TickSound.{tick-sound}
 
 -- sound but for the commanded values, which settling makes so
@@ -188,10 +189,6 @@ attached-sound plant s session process d u none free sound more known =
       attached = each-append (λ x. x.process < length d.processes) s.attached (a ∷ [])
           (each-map (λ x. x.process < length s.durable.processes) (λ x. x.process < length d.processes) (λ x early. omega arith) s.attached u.attached) (known, tt);
     }
-
-position-within : {X : Type 0} (test : X → Bool) (xs : List X) (place : ℕ) → position test xs ≡ Some place → place < length xs
-position-within test xs place found = cond_both (nat_lt (position_or_len test xs) (length xs)) (Some (position_or_len test xs)) None
-    (λ f. f ≡ Some place → place < length xs) (λ within e. let same : position_or_len test xs ≡ place = cc in grind (arith, nat_tests)) (λ _ e. cc) found
 
 module _ (plant : List Actuator) (n : ℕ) (s : State) (u : IsUnsettled plant s) (at : IsAt n s.durable) (small : n ≤ 2 ^ 60) where
   joined-sound : (session : ℕ) (name : List ℕ) (found : Option ℕ) (held : Option ℕ) → process_named s.durable.processes name ≡ found → process_of s.attached session ≡ held → is_name name ≡ true →

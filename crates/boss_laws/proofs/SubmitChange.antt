@@ -26,7 +26,7 @@ use Rattle.boss_laws.proofs.ConcludeSound.{IsNews, IsNext, conclude-sound}
 use Rattle.boss_laws.proofs.Endings.{IsEnding, part-open-after, past-after, past-ending, points-same, numbers-same, part-open-stays, start-stays}
 use Rattle.boss_laws.proofs.EndSound.{IsAt, alive-not-done, news-append, ending-if}
 use Rattle.boss_laws.proofs.Filters.{each-mapped, each-unmapped, each-always, Apart}
-use Rattle.boss_laws.proofs.GroupSound.{IsChange, IsTidings, IsTold}
+use Rattle.boss_laws.proofs.GroupSound.{IsChange, IsTidings, IsTold, transaction-in}
 use Rattle.boss_laws.proofs.NothingDue.{of-pending, of-leases}
 use Rattle.boss_laws.proofs.NotRefused.{IsWrite, IsSubmit}
 use Rattle.boss_laws.proofs.Orders.{each-map, each-filter, each-passed, each-both, each-append, each-in_order, Rising-filter}
@@ -132,28 +132,21 @@ module _ (plant : List Actuator) (owner : ℕ) (policy : Policy) (writes : List 
         let V = λ (l : Lease). l.txn ≡ t.txn → l.policy ≡ t.policy in
         let pasts : AllByRecursion (λ lease. IsPast n (how lease)) d.leases = each-map (λ lease. IsEnding n lease (shortened_if gone n lease) (how lease)) (λ lease. IsPast n (how lease))
         (λ lease e. past-ending n (shortened_if gone n) how n lease (how lease) refl e (λ within. within)) d.leases ending in
-        record {
-          numbered = is.numbered;
-          given = omega arith;
-          owner = is.owner;
-          some_part = subst (λ k. 1 ≤ k) (sym (length-map t.parts (part_after how d.leases t.txn))) is.some_part;
-          few_parts = subst (λ k. k ≤ 32) (sym (length-map t.parts (part_after how d.leases t.txn))) is.few_parts;
-          points = subst Distinct (sym (points-same how d.leases t.txn t.parts)) is.points;
-          parts = each-mapped (IsPart plant n t.txn leases_after) (part_after how d.leases t.txn) t.parts
-              (each-map (IsPart plant n t.txn d.leases) (λ part. IsPart plant n t.txn leases_after (part_after how d.leases t.txn part)) (λ part p. record {
-                known = p.known;
-                open_part = part-open-after n (shortened_if gone n) how d.leases t.txn part.point part.priority part.end sound.lease_slots ending p.open_part
-                    ∙ ap (λ ls. holds ls t.txn part.point part.priority) (left-live gone n d.leases at.live)
-                    ∙ sym (held-after t.txn part.point part.priority
-                    ∙ ap (λ b. holds rest t.txn part.point part.priority || b) (new-others owner policy T n writes t.txn part.point part.priority other) ∙ grind (arith));
-                past = past-after n (shortened_if gone n) how n n d.leases t.txn part.point part.priority part.end (omega arith) pasts p.past;
-              }) t.parts is.parts);
-          owned = to-courses W pending_after leases_after (each-filter W (λ r. not (broken r)) d.pending (of-pending W d.pending d.leases is.owned))
-              (to-leases (λ l. W (reversion_of l)) (each-filter (λ l. W (reversion_of l)) (λ l. not (gone l)) d.leases (of-leases W d.pending d.leases is.owned))
-              (each-map (λ l. l.txn ≡ T) (λ l. W (reversion_of l)) (λ l mine same. absurd (let both : T ≡ t.txn = sym mine ∙ same in grind (arith, nat_tests))) new new-is-T));
-          policies = to-leases V (each-filter V (λ l. not (gone l)) d.leases is.policies)
-              (each-map (λ l. l.txn ≡ T) V (λ l mine same. absurd (let both : T ≡ t.txn = sym mine ∙ same in grind (arith, nat_tests))) new new-is-T);
-        }
+        transaction-in plant (record d { now = n }) changed t (map (part_after how d.leases t.txn) t.parts) is (omega arith) is.owner (points-same how d.leases t.txn t.parts)
+        (each-mapped (IsPart plant n t.txn leases_after) (part_after how d.leases t.txn) t.parts
+        (each-map (IsPart plant n t.txn d.leases) (λ part. IsPart plant n t.txn leases_after (part_after how d.leases t.txn part)) (λ part p. record {
+          known = p.known;
+          open_part = part-open-after n (shortened_if gone n) how d.leases t.txn part.point part.priority part.end sound.lease_slots ending p.open_part
+              ∙ ap (λ ls. holds ls t.txn part.point part.priority) (left-live gone n d.leases at.live)
+              ∙ sym (held-after t.txn part.point part.priority
+              ∙ ap (λ b. holds rest t.txn part.point part.priority || b) (new-others owner policy T n writes t.txn part.point part.priority other) ∙ grind (arith));
+          past = past-after n (shortened_if gone n) how n n d.leases t.txn part.point part.priority part.end (omega arith) pasts p.past;
+        }) t.parts is.parts))
+        (to-courses W pending_after leases_after (each-filter W (λ r. not (broken r)) d.pending (of-pending W d.pending d.leases is.owned))
+        (to-leases (λ l. W (reversion_of l)) (each-filter (λ l. W (reversion_of l)) (λ l. not (gone l)) d.leases (of-leases W d.pending d.leases is.owned))
+        (each-map (λ l. l.txn ≡ T) (λ l. W (reversion_of l)) (λ l mine same. absurd (let both : T ≡ t.txn = sym mine ∙ same in grind (arith, nat_tests))) new new-is-T)))
+        (to-leases V (each-filter V (λ l. not (gone l)) d.leases is.policies)
+        (each-map (λ l. l.txn ≡ T) V (λ l mine same. absurd (let both : T ≡ t.txn = sym mine ∙ same in grind (arith, nat_tests))) new new-is-T))
 
     new-transaction : IsTransaction plant changed (begun owner policy T writes)
     new-transaction =
@@ -201,6 +194,12 @@ module _ (plant : List Actuator) (owner : ℕ) (policy : Policy) (writes : List 
         pending_after (each-both (λ r. not (broken r) ≡ true) (λ r. AllByRecursion (R r) (map reversion_of d.leases)) pending_after
         (each-passed (λ r. not (broken r) ≡ true) (λ r. not (broken r)) (λ r passed. passed) d.pending)
         (each-filter (λ r. AllByRecursion (R r) (map reversion_of d.leases)) (λ r. not (broken r)) d.pending cross)))
+
+    -- the new number is not among the done
+    not-yet : member T d.done ≡ false
+    not-yet = cond_both (member T d.done) true false (λ b. member T d.done ≡ b → member T d.done ≡ false)
+        (λ there _. absurd (let early : T < T = kept-number T d.txns T (each-map (IsTransaction plant (record d { now = n })) (λ t. t.txn < T) (λ t is. is.given) d.txns sound.txns)
+        (member-each (λ k. is_kept d.txns k ≡ true) T d.done sound.done_known there) in omega arith)) (λ away _. away) (grind (arith))
 
     submit-change : IsChange plant changed
     submit-change =
@@ -250,9 +249,7 @@ module _ (plant : List Actuator) (owner : ℕ) (policy : Policy) (writes : List 
               (each-map (λ t. IsTransaction plant (record d { now = n }) t × (member t.txn d.done ≡ not (lives t.txn (courses d.pending d.leases)))) N
               (λ t both alive. let before : lives t.txn (courses d.pending d.leases) ≡ true = lived t.txn both.0.given alive in let done = both.1 in grind (arith))
               d.txns (each-both (IsTransaction plant (record d { now = n })) (λ t. member t.txn d.done ≡ not (lives t.txn (courses d.pending d.leases))) d.txns sound.txns sound.done))) (
-                (λ _. cond_both (member T d.done) true false (λ b. member T d.done ≡ b → member T d.done ≡ false)
-                    (λ there _. absurd (let early : T < T = kept-number T d.txns T (each-map (IsTransaction plant (record d { now = n })) (λ t. t.txn < T) (λ t is. is.given) d.txns sound.txns)
-                    (member-each (λ k. is_kept d.txns k ≡ true) T d.done sound.done_known there) in omega arith)) (λ away _. away) (grind (arith))),
+                (λ _. not-yet),
                 tt,
               );
           few_done = sound.few_done;
@@ -283,8 +280,6 @@ module _ (plant : List Actuator) (owner : ℕ) (policy : Policy) (writes : List 
         (let N = λ (t : Transaction). lives t.txn (courses_of d) ≡ true → member t.txn d.done ≡ false in
         each-append N old_txns (begun owner policy T writes ∷ [])
         (each-mapped N (record_after how d.leases) d.txns (alive-not-done plant (record d { now = n }) sound)) (
-          (λ _. cond_both (member T d.done) true false (λ b. member T d.done ≡ b → member T d.done ≡ false)
-              (λ there _. absurd (let early : T < T = kept-number T d.txns T (each-map (IsTransaction plant (record d { now = n })) (λ t. t.txn < T) (λ t is. is.given) d.txns sound.txns)
-              (member-each (λ k. is_kept d.txns k ≡ true) T d.done sound.done_known there) in omega arith)) (λ away _. away) (grind (arith))),
+          (λ _. not-yet),
           tt,
         ))

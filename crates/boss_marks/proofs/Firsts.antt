@@ -5,8 +5,8 @@ use Rattle.std.proofs.lemmas.Bool.{cases_eq, cases_Bool}
 use Rattle.std.proofs.lemmas.Grind.{common_steps}
 use Rattle.boss_model.specs.Lists.{member, without}
 use Rattle.boss_model.specs.Sound.{Distinct}
+use Rattle.boss_model.proofs.Members.{without-none}
 use Rattle.boss_marks.specs.Line.{behind}
-use Rattle.boss_marks.proofs.Members.{without_outside}
 
 -- a point, and those that stand behind it
 abbrev pub onward : Option ℕ → List ℕ → List ℕ
@@ -68,7 +68,7 @@ module _ (test : ℕ → Bool) where
   find-without_first point [] once found = refl
   find-without_first point (x ∷ xs) once found =
       ⊎_elim
-      (λ here. grind (arith, common_steps, once.0, without_outside point xs))
+      (λ here. grind (arith, common_steps, once.0, without-none point xs))
       (λ further.
       let fails : test x ≡ false = grind (arith, common_steps) in
       let rest : find test (without point xs) ≡ find test (behind point xs) = find-without_first point xs once.1 (grind (arith, common_steps)) in

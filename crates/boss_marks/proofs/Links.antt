@@ -8,8 +8,9 @@ use Rattle.std.specs.Vec.{with_items}
 use Rattle.std.proofs.lemmas.List.{with_items_is, length-set, length-replicate, get_or-set_same, get_or-set_other, get_or_read, reverse-append, reverse-reverse, append_assoc}
 use Rattle.boss_model.specs.Lists.{member, without}
 use Rattle.boss_model.specs.Sound.{Distinct}
+use Rattle.boss_model.proofs.Members.{member-append, Distinct-snoc, member-without, Distinct-without, length-le_from_Distinct}
 use Rattle.boss_marks.specs.Line.{Line, behind, link_of, Leads, walk, IsLine, linked, started}
-use Rattle.boss_marks.proofs.Members.{member-append, member-reverse, reverse_cons, Distinct-push, Distinct-reverse, Distinct-ahead, member-without, Distinct-without, ahead, around, without_is, length-le_from_Distinct}
+use Rattle.boss_marks.proofs.Members.{member-reverse, reverse_cons, Distinct-reverse, Distinct-ahead, ahead, around, without_is}
 
 -- the last of these points, and `from` where there is none
 abbrev pub last_or : Option ℕ → List ℕ → Option ℕ
@@ -158,7 +159,7 @@ known_pushed stands points point other room known =
 pub IsLine-pushed : {after before : List (Option ℕ)} {stands : List Bool} {first last : Option ℕ} {points : List ℕ} → IsLine after before stands first last points → (point : ℕ) → point < length stands → member point points ≡ false
     → IsLine (set (linked last (Some point) after) point None) (set before point last) (set stands point true) (started last (Some point) first) (Some point) (points ++ point ∷ [])
 IsLine-pushed {after} {before} {stands} {first} {last} {points} line point room outside =
-    let once : Distinct (points ++ point ∷ []) = Distinct-push points point line.once outside in
+    let once : Distinct (points ++ point ∷ []) = Distinct-snoc points point line.once outside in
     record {
       forwards = rw (IsLine-last line) (Leads-pushed after first points point once (rw line.afters room) line.forwards);
       backwards = rw reverse-append (Leads-first before last point (reverse points) (member-reverse point points ∙ outside) (rw line.befores room) line.backwards);

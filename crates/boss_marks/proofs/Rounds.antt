@@ -4,15 +4,15 @@ use Rattle.std.specs.Prelude.{filter}
 use Rattle.std.specs.List.{enumerate_from, range_with_len}
 use Rattle.std.proofs.lemmas.Bool.{cases_Bool}
 use Rattle.std.proofs.lemmas.Grind.{common_steps}
-use Rattle.std.proofs.lemmas.List.{append_assoc, append-nil, take_more, drop_more, set_at, length-map, length-take-le, take_all, drop_all, map_push, get_or_at}
+use Rattle.std.proofs.lemmas.List.{append_assoc, append-nil, take_more, drop_more, set_at, length-map, length-take-le, map_push, get_or_at}
 use Rattle.std.proofs.lemmas.List.FromFn.{length-enumerate_from}
 use Rattle.std.proofs.lemmas.Option.{unwrap_or-slice_get}
 use Rattle.boss_model.specs.Devices.{proxy_of}
 use Rattle.boss_model.specs.Lists.{member, without}
 use Rattle.boss_model.specs.Settle.{fresh, wanted_anew, places, changed_if}
 use Rattle.boss_model.specs.declared.state.Proxy.{Proxy}
+use Rattle.boss_model.proofs.Members.{member-append, without-none}
 use Rattle.boss_marks.specs.Marks.{Marks, wanted, wanted_last}
-use Rattle.boss_marks.proofs.Members.{member-append, without_outside}
 
 -- ---- the wants at the start
 
@@ -33,7 +33,7 @@ pub wanted_last-range : (count : ℕ) → wanted_last count (range_with_len 0 co
 wanted_last-range count =
     let outside : member count (range_with_len 0 count) ≡ false = member-range 0 count count (omega arith) in
     let last : 0 + count ≡ count = omega arith in
-    rw (without_outside count (range_with_len 0 count) outside, range-push 0 count, last) refl
+    rw (without-none count (range_with_len 0 count) outside, range-push 0 count, last) refl
 
 -- ---- a point that is put last after some others
 
@@ -47,7 +47,7 @@ without-append point (x ∷ xs) ys = grind (arith, common_steps, without-append 
 
 wanted_anew-push : (point : ℕ) (points wants : List ℕ) → member point points ≡ false → wanted_last point (wanted_anew points wants) ≡ wanted_anew (points ++ point ∷ []) wants
 wanted_anew-push point points wants outside =
-    rw (without-append point (filter (λ want. not (member want points)) wants) points, filter-without point points wants, without_outside point points outside)
+    rw (without-append point (filter (λ want. not (member want points)) wants) points, filter-without point points wants, without-none point points outside)
     (append_assoc (filter (λ want. not (member want (points ++ point ∷ []))) wants) points (point ∷ []))
 
 filter_all : (wants : List ℕ) → filter (λ want. not (member want [])) wants ≡ wants
@@ -72,9 +72,6 @@ module _ (test : ℕ × Proxy → Bool) (change : ℕ × Proxy → Proxy) where
   abbrev pub turned : ℕ → Marks → Marks
   turned point marks = cond (test (point, proxy_of marks.proxies point)) (wanted point (change (point, proxy_of marks.proxies point)) marks) marks
 
-  abbrev pub turned_all : Marks → Marks
-  turned_all marks = record marks { proxies = changed_if test change marks.proxies; wants = wanted_anew (places test marks.proxies) marks.wants }
-
   -- the marks after the points below `count` had their turn
   abbrev pub turned_below : ℕ → Marks → Marks
   turned_below count marks = record marks {
@@ -84,9 +81,6 @@ module _ (test : ℕ × Proxy → Bool) (change : ℕ × Proxy → Proxy) where
 
   pub turned_below-none : (marks : Marks) → turned_below 0 marks ≡ marks
   turned_below-none marks = rw (filter_all, append-nil) refl
-
-  pub turned_below-all : (count : ℕ) (marks : Marks) → length marks.proxies ≤ count → turned_below count marks ≡ turned_all marks
-  turned_below-all count marks all = rw (take_all count marks.proxies all, drop_all count marks.proxies all, append-nil) refl
 
   -- what a device is after its turn
   abbrev after_turn : ℕ × Proxy → Proxy

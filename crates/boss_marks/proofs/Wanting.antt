@@ -6,9 +6,9 @@ use Rattle.std.proofs.lemmas.Bool.{cases_eq}
 use Rattle.std.proofs.lemmas.Grind.{common_steps}
 use Rattle.std.proofs.lemmas.List.{length-set, get_or_read, get_or-set_same, get_or-set_other}
 use Rattle.boss_model.specs.Lists.{member, without}
+use Rattle.boss_model.proofs.Members.{member-append, member-without, Distinct-snoc, Distinct-without}
 use Rattle.boss_marks.specs.Line.{Line, behind}
 use Rattle.boss_marks.specs.Wants.{first_of, least_wanting, IsWants}
-use Rattle.boss_marks.proofs.Members.{member-append, member-without, Distinct-push, Distinct-without}
 use Rattle.boss_marks.proofs.Firsts.{onward, onward-behind, member-next, find-member, find-without_other, find-without_first, find-push_yes, find-push_no}
 use Rattle.boss_marks.proofs.Least.{position-least, is_some-find}
 
@@ -93,7 +93,7 @@ module _ {drivers : List ℕ} {line : Line} {firsts : List (Option ℕ)} (wants 
       let other_test : (other : ℕ) → (other ≡ driver → ⊥) → is_of drivers other point ≡ false = λ other apart. grind (arith, common_steps, is_driver, apart) in
       record {
         sized = wants.sized;
-        once = Distinct-push line.points point wants.once outside;
+        once = Distinct-snoc line.points point wants.once outside;
         known = λ other stays. grind (arith, common_steps, member-append other line.points (point ∷ []), wants.known other, known);
         served = λ other known. rw length-set (wants.served other known);
         few = rw length-set wants.few;

@@ -1,3 +1,4 @@
+pub mod Members
 pub mod Building
 pub mod LeaseRows
 pub mod ReversionRows

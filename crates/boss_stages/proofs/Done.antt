@@ -1,13 +1,9 @@
 -- The last ones that became done, and which one makes room for one more.
-use Rattle.std.proofs.Common.{◌≡◌, ℕ, ◌-◌, ◌<◌, ◌≤◌, List, [], ◌∷◌, ◌++◌, length, take, length-append, length-drop, Option, Some, None, cond, refl, ap, ⊎_elim, arith}
+use Rattle.std.proofs.Common.{◌≡◌, ℕ, ◌-◌, ◌<◌, ◌≤◌, List, [], ◌∷◌, ◌++◌, length, take, length-append, Option, Some, None, cond, refl, ap, ⊎_elim, arith}
 use Rattle.std.specs.Prelude.{slice_get, nat_lt}
 use Rattle.std.proofs.lemmas.Bool.{cases_lt}
 use Rattle.std.proofs.lemmas.Grind.{common_steps}
-use Rattle.circular_buffer.specs.Buffer.{keep_last}
 use Rattle.boss_stages.specs.Stages.{Kept, dropped, without}
-
-pub length-keep_last : {X : Type 0} (room : ℕ) (xs : List X) → length (keep_last room xs) ≤ room
-length-keep_last room xs = omega (arith, length-drop (length xs - room) xs)
 
 first_one : (numbers : List ℕ) (oldest : ℕ) → slice_get numbers 0 ≡ Some oldest → take 1 numbers ≡ oldest ∷ []
 first_one [] oldest is = absurd (grind arith)

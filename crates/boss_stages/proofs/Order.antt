@@ -10,14 +10,9 @@ use Rattle.std.proofs.lemmas.Bool.Decides.{nat_tests}
 use Rattle.std.proofs.lemmas.Cmp.{ranked}
 use Rattle.std.proofs.lemmas.Grind.{common_steps}
 use Rattle.std.proofs.lemmas.Option.{slice_get_read}
-use Rattle.boss_model.specs.declared.command.Policy.TheVariants.{Keep}
 use Rattle.boss_model.specs.declared.notice.Cause.{Cause}
 use Rattle.boss_stages.specs.Stages.{Kept, number, with_end, without_reversion, kept_as, changed, without, AllAbove, Rising}
 use Rattle.boss_stages.proofs.Places.{IsFirst, AllFail, IsFirst-tail, AllFail-tail, position-IsFirst, position-AllFail, find-IsFirst, find-AllFail, IsFirst-position, AllFail-position}
-
--- a transaction for the places past the end of a list
-nobody : Kept
-nobody = record { transaction = record { txn = 0; owner = 0; policy = Keep; parts = [] }; reverting = [] }
 
 -- the transaction has this number
 abbrev pub is_of : ℕ → Kept → Bool

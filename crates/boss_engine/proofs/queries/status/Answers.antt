@@ -1,8 +1,8 @@
 use Rattle.std.proofs.Common.{◌<◌, ◌==◌, length, map, sym, ap, ◌∙◌}
 use Rattle.boss_model.specs.Queries.{status_of}
 use Rattle.boss_model.specs.Records.{Transaction}
+use Rattle.boss_laws.proofs.Filters.{each-found}
 use Rattle.boss_engine.specs.Lasting.{durable_of}
-use Rattle.boss_engine.proofs.Firsts.{each-found}
 use Rattle.boss_engine.proofs.Recorded.{record_of, is-found, is-unknown}
 use Rattle.boss_engine.proofs.queries.status.Goals as goal
 

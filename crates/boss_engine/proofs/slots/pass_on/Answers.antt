@@ -1,7 +1,8 @@
 use Rattle.std.proofs.Common.{◌≡◌, ◌+◌, ◌++◌, take, drop, nat_le, sym, ◌∙◌, ap, subst, refl, false, Some, arith}
 use Rattle.std.specs.List.{AllByRecursion, position}
 use Rattle.boss_model.specs.declared.state.Lease.{Lease}
-use Rattle.boss_engine.proofs.Passing.{Passing, passing-begins, passing-goes-on-at, none-passes, passing-leases, passing-pending}
+use Rattle.boss_laws.proofs.Filters.{none-found}
+use Rattle.boss_engine.proofs.Passing.{Passing, passing-begins, passing-goes-on-at, passing-leases, passing-pending}
 use Rattle.boss_engine.proofs.slots.pass_on.Goals as goal
 
 pub loop-place-init : goal.loop-place-init
@@ -28,7 +29,7 @@ loop-place-preserved c =
 
 live_all : (c : goal.After-drop_over) → AllByRecursion (λ (l : Lease). nat_le l.until c.args.n ≡ false) c.loop-place.leases.items
 live_all c =
-    none-passes (λ (l : Lease). nat_le l.until c.args.n) c.loop-place.leases.items
+    none-found (λ (l : Lease). nat_le l.until c.args.n) c.loop-place.leases.items
     (ap (position (λ (l : Lease). nat_le l.until c.args.n)) (sym c.deref.ensures.value) ∙ sym c.ended_place.ensures ∙ c.in_default.is)
 
 pub returns-clause-leases : goal.returns-clause-leases

@@ -1,6 +1,6 @@
 use Rattle.std.proofs.Common.{◌==◌, ◌&&◌, sym}
 use Rattle.boss_model.specs.declared.state.Pending.{Pending}
-use Rattle.boss_engine.proofs.Found.{each-found}
+use Rattle.boss_laws.proofs.Filters.{each-found}
 use Rattle.boss_engine.specs.Playing.{IsPlayable}
 use Rattle.boss_engine.proofs.target.slot_without_lease.Goals as goal
 

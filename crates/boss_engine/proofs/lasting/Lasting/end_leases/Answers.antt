@@ -9,7 +9,8 @@ use Rattle.boss_engine.specs.Meant.{is_meant}
 use Rattle.boss_engine.specs.Telling.{AreApart}
 use Rattle.boss_engine.proofs.Informed.{IsInformed, informed-ends}
 use Rattle.boss_engine.proofs.Playable.{all-started}
-use Rattle.boss_engine.proofs.Together.{few-ended, few-first, first-apart, first-booked, first-may-book, put_together, same-first, stands-for, together}
+use Rattle.boss_engine.proofs.EndsBooked.{ends-apart, ends-booked, ends-may-book}
+use Rattle.boss_engine.proofs.Together.{few-ended, few-first, put_together, same-first, stands-for, together}
 use Rattle.boss_engine.proofs.lasting.Lasting.end_leases.Goals as goal
 use Rattle.boss_engine.proofs.lasting.Lasting.end_leases.Goals.{After-gather_ends, After-book_all}
 
@@ -29,7 +30,7 @@ pub put_in_order-requires : goal.put_in_order-requires
 put_in_order-requires c =
     let first = c.requires.first in
     subst (AreApart told_rank) (sym (gathered-is (goal.at.put_in_order-requires c).After-gather_ends))
-    (first-apart c.requires.sound.0 (durable_of c.args.self.now) c.args.self.now.stages (is_meant c.args.which.now) c.args.cause.now c.args.n first.0
+    (ends-apart c.requires.sound.0 (durable_of c.args.self.now) c.args.self.now.stages (is_meant c.args.which.now) c.args.cause.now c.args.n first.0
     c.requires.sound.1 c.requires.kept.stands c.requires.passed c.requires.moment c.requires.cause first.2)
 
 pub end_some-requires-clause-started : goal.end_some-requires-clause-started
@@ -40,7 +41,7 @@ book_all-requires-clause-can c =
     let first = c.requires.first in
     subst (CanBook (record { stages = c.args.self.now.stages; processes = c.args.self.now.processes }))
     (sym (c.deref-2.ensures.value ∙ c.put_in_order.ensures.order ∙ ap (in_order told_rank) (gathered-is (goal.at.book_all-requires-clause-can c).After-gather_ends)))
-    (first-may-book c.requires.sound.0 (durable_of c.args.self.now) c.args.self.now.stages (is_meant c.args.which.now) c.args.cause.now c.args.n first.0
+    (ends-may-book c.requires.sound.0 (durable_of c.args.self.now) c.args.self.now.stages (is_meant c.args.which.now) c.args.cause.now c.args.n first.0
     c.requires.sound.1 c.requires.kept.stands c.requires.passed c.requires.moment c.requires.cause first.2)
 
 pub book_all-requires-clause-owners : goal.book_all-requires-clause-owners
@@ -72,7 +73,7 @@ after c told =
     c.book_all.ensures.books ∙ ap (fold booked (record { stages = s; processes = d.processes })) told in (
       made,
       together c.args.n d.next c.end_some.new.leases.items c.end_some.new.pending.items (books c) (booked_all s d.processes (tellings c)) (end_leases which c.args.cause.now c.args.n first.0 d)
-          made (first-booked c.requires.sound.0 d s which c.args.cause.now c.args.n first.0 c.requires.sound.1 c.requires.kept.stands c.requires.passed c.requires.moment c.requires.cause first.2)
+          made (ends-booked c.requires.sound.0 d s which c.args.cause.now c.args.n first.0 c.requires.sound.1 c.requires.kept.stands c.requires.passed c.requires.moment c.requires.cause first.2)
           refl refl c.end_some.ensures.leases c.end_some.ensures.pending,
     )
 
@@ -93,7 +94,7 @@ returns-clause-kept c =
     record {
       stands = stands-for (books at.After-book_all) (booked_all s d.processes (tellings at.After-book_all)) (end_leases which c.args.cause.now c.args.n first.0 d)
           (put_together c.args.n d.next c.end_some.new.leases.items c.end_some.new.pending.items (books at.After-book_all)) is.0
-          (first-booked c.requires.sound.0 d s which c.args.cause.now c.args.n first.0 c.requires.sound.1 c.requires.kept.stands c.requires.passed c.requires.moment c.requires.cause first.2) is.1;
+          (ends-booked c.requires.sound.0 d s which c.args.cause.now c.args.n first.0 c.requires.sound.1 c.requires.kept.stands c.requires.passed c.requires.moment c.requires.cause first.2) is.1;
       room = omega arith;
     }
 

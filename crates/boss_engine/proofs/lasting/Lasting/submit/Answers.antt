@@ -17,7 +17,7 @@ use Rattle.boss_engine.specs.Telling.{AreApart}
 use Rattle.boss_engine.proofs.Informed.{IsInformed, informed-replaced}
 use Rattle.boss_engine.proofs.SubmitBooked.{submit-apart, submit-begun, submit-may-book-begun}
 use Rattle.boss_engine.proofs.Together.{few-taken, put_together, stands-for, together}
-use Rattle.boss_engine.proofs.ToldApart.{txns-given}
+use Rattle.boss_engine.proofs.Owners.{txns-given}
 use Rattle.boss_engine.proofs.lasting.Lasting.submit.Goals as goal
 use Rattle.boss_engine.proofs.lasting.Lasting.submit.Goals.{After-gather_replaced, After-book_all}
 

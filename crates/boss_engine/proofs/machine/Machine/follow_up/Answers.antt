@@ -14,7 +14,7 @@ tell-requires c =
     let found : Some c.in-Some.lease.now ≡ in_force d.leases c.args.point = c.in-Some.ensures ∙ ap (λ leases. in_force leases c.args.point) c.deref.ensures.value in
     record {
       owner = subst (λ (h : Happening). h.owner < length d.processes) (sym c.fault_of-happened.ensures)
-          (in-force-known c.requires.can_run.0 d c.args.point c.in-Some.lease.now c.requires.can_run.1 (sym found));
+          (in-force-known c.requires.can_run.0 d c.requires.can_run.1 c.args.point c.in-Some.lease.now (sym found));
     }
 
 pub returns-in-EndAll-clause-after : goal.returns-in-EndAll-clause-after

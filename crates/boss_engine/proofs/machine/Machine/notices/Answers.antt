@@ -3,7 +3,7 @@ use Rattle.std.specs.Cmp.Lexicographic.{pointwise}
 use Rattle.std.specs.Option.{IfSome}
 use Rattle.boss_model.specs.Processes.{process_named, process_of}
 use Rattle.boss_model.specs.State.{Process}
-use Rattle.boss_engine.proofs.Attaching.{position-below}
+use Rattle.boss_laws.proofs.Filters.{position-within}
 use Rattle.boss_engine.proofs.Holders.{held-below}
 use Rattle.boss_engine.proofs.machine.Machine.notices.Goals as goal
 use Rattle.boss_engine.proofs.machine.Machine.notices.Goals.{in-Some, in-None}
@@ -21,7 +21,7 @@ notices-requires-clause-process c =
       | in-Some w ↦
           let found = process_named processes w.in-Some.name in
           subst (λ found. IfSome found (λ process. process < count)) (sym (w.process-is ∙ w.named-process.ensures))
-          (if-found count found (position-below (λ (process : Process). pointwise nat_eq process.name w.in-Some.name) processes))
+          (if-found count found (position-within (λ (process : Process). pointwise nat_eq process.name w.in-Some.name) processes))
       | in-None w ↦
           let found = process_of attached c.args.session in
           let is : c.match-name.process ≡ found = w.process-is ∙ w.process_of-process.ensures ∙ ap (λ items. process_of items c.args.session) w.deref.ensures.value in

@@ -1,6 +1,6 @@
 use Rattle.std.proofs.Common.{◌≡◌, ◌<◌, false, length, ◌∙◌, ap}
 use Rattle.boss_model.specs.Lists.{member, without}
-use Rattle.boss_marks.proofs.Members.{member-without_same}
+use Rattle.boss_model.proofs.Members.{member-without_same}
 use Rattle.boss_marks.proofs.Wanting.{read_first, IsWants-pushed}
 use Rattle.boss_marks.proofs.wants.Wants.put_last.Goals as goal
 

@@ -1,13 +1,13 @@
 use Rattle.std.proofs.Common.{◌≡◌, false, sym, ◌∙◌}
 use Rattle.boss_model.specs.Lists.{member}
-use Rattle.boss_marks.proofs.Members.{without_outside}
+use Rattle.boss_model.proofs.Members.{without-none}
 use Rattle.boss_marks.proofs.Wanting.{read_at, IsWants-removed}
 use Rattle.boss_marks.proofs.wants.Wants.remove.Goals as goal
 
 pub returns-then-not-contains : goal.returns-then-not-contains
 returns-then-not-contains c =
     let outside : member c.args.point c.self.inside.line.points ≡ false = sym c.contains.ensures ∙ c.if-not-contains.true in
-    rw (← c.self.view_is, without_outside c.args.point c.self.inside.line.points outside)
+    rw (← c.self.view_is, without-none c.args.point c.self.inside.line.points outside)
 
 pub invariant_of-self : goal.invariant_of-self
 invariant_of-self c =
