@@ -1,5 +1,5 @@
 -- Lemmas on counts and on lists of places.
-use Rattle.std.proofs.Common.{◌≡◌, ◌≢◌, ◌⊎◌, ℕ, zero, suc, ◌+◌, ◌<◌, ◌≤◌, List, [], ◌∷◌, ◌++◌, length, Bool, true, false, nat_lt, if◌then◌else◌, inl, inr, refl, ap, subst, arith, ltb-true, ltb-false, eq-or-lt_of_le, add-zero}
+use Rattle.std.proofs.Common.{◌≡◌, ◌≢◌, ◌⊎◌, ℕ, zero, suc, ◌+◌, ◌<◌, ◌≤◌, List, [], ◌∷◌, ◌++◌, Bool, true, false, nat_lt, if◌then◌else◌, inl, inr, refl, ap, subst, arith, ltb-true, ltb-false, eq-or-lt_of_le, add-zero}
 use Rattle.std.proofs.lemmas.Bool.{cases_lt}
 use Rattle.boss_lock.specs.Places.{same, below, times, numbers_from, AllBelow, AllAbove, Rises, put_in, woven}
 
@@ -12,19 +12,6 @@ same_not zero zero n = absurd (n refl)
 same_not zero (suc j) n = refl
 same_not (suc k) zero n = refl
 same_not (suc k) (suc j) n = same_not k j (λ e. n (ap suc e))
-
--- what is counted is equal
-pub same_is : (k j : ℕ) → 0 < same k j → k ≡ j
-same_is zero zero h = refl
-same_is zero (suc j) h = absurd (omega arith)
-same_is (suc k) zero h = absurd (omega arith)
-same_is (suc k) (suc j) h = ap suc (same_is k j h)
-
-pub same_le : (k j : ℕ) → same k j ≤ 1
-same_le zero zero = omega arith
-same_le zero (suc j) = omega arith
-same_le (suc k) zero = omega arith
-same_le (suc k) (suc j) = same_le k j
 
 pub below_no : (k n : ℕ) → n ≤ k → below k n ≡ 0
 below_no k zero h = refl
@@ -60,21 +47,6 @@ times_append k (x ∷ xs) ys = let h = times_append k xs ys in omega arith
 pub times_numbers : (k a n : ℕ) → times k (numbers_from a n) + below k a ≡ below k (a + n)
 times_numbers k a zero = let e : below k (a + 0) ≡ below k a = ap (below k) (add-zero a) in omega arith
 times_numbers k a (suc n) = let h = times_numbers k (suc a) n in let e : below k (a + suc n) ≡ below k (suc a + n) = ap (below k) (omega arith) in omega arith
-
-pub length_numbers_from : (a n : ℕ) → length (numbers_from a n) ≡ n
-length_numbers_from a zero = refl
-length_numbers_from a (suc n) = ap suc (length_numbers_from (suc a) n)
-
-length_put_in : (p : ℕ) (ys : List ℕ) → length (put_in p ys) ≡ suc (length ys)
-length_put_in p [] = refl
-length_put_in p (q ∷ qs) = elim (nat_lt p q) as (λ b. length (if b then p ∷ q ∷ qs else q ∷ put_in p qs) ≡ suc (suc (length qs))) [
-  | true ↦ refl
-  | false ↦ ap suc (length_put_in p qs)
-]
-
-pub length_woven : (xs ys : List ℕ) → length (woven xs ys) ≡ length xs + length ys
-length_woven [] ys = omega arith
-length_woven (x ∷ xs) ys = let h = length_woven xs ys in let e = length_put_in x (woven xs ys) in omega arith
 
 times_put_in : (k p : ℕ) (ys : List ℕ) → times k (put_in p ys) ≡ same k p + times k ys
 times_put_in k p [] = refl

@@ -1,5 +1,5 @@
 -- Lemmas on lists that begin one another.
-use Rattle.std.proofs.Common.{◌≡◌, ◌⊎◌, inl, inr, ⊎_elim, ◌≤◌, List, [], ◌∷◌, ◌++◌, length, refl, sym, ap, ◌∙◌, arith, append_assoc, append-nil, length-append}
+use Rattle.std.proofs.Common.{◌≡◌, ◌⊎◌, inl, inr, ⊎_elim, ◌≤◌, List, [], ◌∷◌, ◌++◌, length, refl, sym, ap, ◌∙◌, arith, append_assoc, append-nil}
 use mathlib.Core.List.{IsPrefix}
 use Rattle.boss_lock.specs.Places.{longer, IsLonger}
 
@@ -9,9 +9,6 @@ module _ {E : Type 0} where
 
   pub prefix_more : (xs ys zs : List E) → IsPrefix xs ys → IsPrefix xs (ys ++ zs)
   prefix_more xs ys zs p = (p.0 ++ zs, sym (append_assoc xs p.0 zs) ∙ ap (λ ws. ws ++ zs) p.1)
-
-  pub prefix_long : (xs ys : List E) → IsPrefix xs ys → length xs ≤ length ys
-  prefix_long xs ys p = omega (arith, sym (ap length p.1) ∙ length-append xs p.0)
 
   -- a beginning as long as the whole is the whole
   pub prefix_whole : (xs ys : List E) → IsPrefix xs ys → length ys ≤ length xs → xs ≡ ys

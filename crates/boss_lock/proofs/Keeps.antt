@@ -13,7 +13,7 @@ use Rattle.boss_lock.specs.Steps.{Knower, ticket_of, list_of, made_of, waiting_v
 use Rattle.boss_lock.specs.declared.view.View.{View}
 use Rattle.boss_lock.specs.declared.view.Stage.{Stage}
 use Rattle.boss_lock.specs.declared.view.Stage.TheVariants.{Idle, Waiting, Turn, Holding, Given}
-use Rattle.boss_lock.proofs.Counting.{same_self, same_le, below_no, below_yes, below_is, below_le, times_append, times_numbers, times_woven, all_below_more, all_below_append, all_below_numbers, all_below_from, all_below_woven, rises_then, rises_woven}
+use Rattle.boss_lock.proofs.Counting.{same_self, below_no, below_yes, below_is, below_le, times_append, times_numbers, times_woven, all_below_more, all_below_append, all_below_numbers, all_below_from, all_below_woven, rises_then, rises_woven}
 use Rattle.boss_lock.proofs.Histories.{prefix_more, longer_nil, longer_before, longer_is, length_longer_left, length_longer_right}
 use Rattle.boss_lock.proofs.Sums.{total_set, total_snoc, total_at, total_two, total_le, total_le_but}
 
@@ -40,13 +40,6 @@ second_word : (words : List ℕ) (a b : ℕ) → words ≡ a ∷ b ∷ [] → ge
 second_word words a b is = ap (λ (ws : List ℕ). get_or ws 1 0) is
 
 module _ {E : Type 0} where
-  ticketed_line : (k : ℕ) (stage : Stage E) → ticketed k stage ≤ in_line stage
-  ticketed_line k Idle = omega arith
-  ticketed_line k (Waiting t) = same_le k t
-  ticketed_line k (Turn t list) = same_le k t
-  ticketed_line k (Holding t list) = same_le k t
-  ticketed_line k (Given t list made) = same_le k t
-
   -- a seat that holds the value has the ticket that is served
   away_served : (low : ℕ) (log : List E) (stage : Stage E) → Knows low log stage → away stage ≤ ticketed low stage
   away_served low log Idle k = omega arith

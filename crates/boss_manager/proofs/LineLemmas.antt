@@ -75,12 +75,6 @@ module _ (catalogue : Catalogue) (line : List ℕ) (short : is_too_long line ≡
   did-blank blank s old before whole = did-same (actuators catalogue) (line_taken catalogue line) stop stop s s old old before before whole whole (blank-same blank)
       (did-nothing (actuators catalogue) stop s old before whole)
 
-  -- a request
-  pub did-request : is_blank line ≡ false → (request : Request) → reading catalogue form.Script line ≡ asks request → (s s' : State) (old new : List ℕ) (before after : List (List Call)) (was now : Type 0) →
-      Did (actuators catalogue) (answered catalogue request) stop s s' old new before after was now → Did (actuators catalogue) (line_taken catalogue line) stop s s' old new before after was now
-  did-request full request is s s' old new before after was now did =
-      did-same (actuators catalogue) (line_taken catalogue line) (answered catalogue request) stop s s' old new before after was now (replied-same full (asks request) is) did
-
   pub broke-request : is_blank line ≡ false → (request : Request) → reading catalogue form.Script line ≡ asks request → (s : State) (old new : List ℕ) (before after : List (List Call)) (was now : Type 0) →
       Broke (actuators catalogue) (answered catalogue request) s old new before after was now → Broke (actuators catalogue) (line_taken catalogue line) s old new before after was now
   broke-request full request is s old new before after was now broke =

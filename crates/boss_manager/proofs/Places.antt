@@ -19,9 +19,6 @@ pub position-here : (test : Point → Bool) (points : List Point) (place : ℕ) 
     position_from test place (drop place points) ≡ cond (test point) (Some place) (position_from test (place + 1) (drop (place + 1) points))
 position-here test points place point is = ap (position_from test place) (drop-get points place point is)
 
-pub position-past : (test : Point → Bool) (points : List Point) (place : ℕ) → length points ≤ place → position_from test place (drop place points) ≡ None
-position-past test points place past = ap (position_from test place) (drop_all place points past)
-
 -- where no point lacks its device, each driver has one
 pub all-have : (count place : ℕ) (points : List Point) → position_from (lacks_device count) place points ≡ None → HasDevices count (map (λ p. p.actuator) points)
 all-have count place [] none = tt

@@ -6,4 +6,3 @@ pub mod Whole
 pub mod Fed
 pub mod Found
 pub mod Texts
-pub mod Refusals
