@@ -1,8 +1,7 @@
 -- The first place at which a test passes, as a loop finds it.
-use Rattle.std.proofs.Common.{◌≡◌, ℕ, zero, suc, ◌+◌, ◌≤◌, List, [], ◌∷◌, length, drop, Bool, true, false, not, cond, Some, None, refl, ap, sym, ◌∙◌, arith, nat_lt, map, ◌<◌, Err}
+use Rattle.std.proofs.Common.{◌≡◌, ℕ, zero, suc, ◌+◌, List, [], ◌∷◌, length, drop, Bool, true, false, not, cond, Some, None, refl, ap, sym, ◌∙◌, arith, nat_lt, map, ◌<◌, Err}
 use Rattle.std.specs.List.{position_from, slice_get}
 use Rattle.std.proofs.lemmas.Bool.Decides.{nat_tests}
-use Rattle.std.proofs.lemmas.List.{drop_all}
 use Rattle.boss_model.specs.Catalogue.{Point}
 use Rattle.boss_manager.specs.Programs.{lacks_device, usable}
 use Rattle.boss_points.specs.Reading.{catalogue_of}
