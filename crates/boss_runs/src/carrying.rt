@@ -9,8 +9,8 @@ use boss_model::{Answer, NoMemory};
 
 /// Carries the calls out, one after another, and puts their answers behind those that were told.
 ///
-/// Room for the answers is taken first, so that each step that is made is told. Where no memory is to be had, for this
-/// or for a call, the calls before it are carried out and told, and nothing of those behind them.
+/// Room for the answers is taken first, so that each step that is made is told. Where no memory is to be had, for the
+/// answers or for a call, the calls before it were carried out and told, and it and those behind it were not.
 pub fn carry_out(
     engine: &mut Engine,
     calls: &[Call],

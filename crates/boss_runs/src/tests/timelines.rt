@@ -49,18 +49,21 @@ pub enum Turn {
     Asks(u64, u32, Ask),
     /// It is answered so.
     Told(&'static str),
-    /// At a moment the driver is told to write this version of a point, and this value, and reports whether its device took it.
+    /// At a moment the driver is told to write this version of a point, with this value, and reports whether the
+    /// point's device took it.
     Writes(u32, &'static str, u64, i64, bool),
     /// At a moment the driver has nothing to write.
     Rests(u32),
 }
 
-/// A timeline of the three points: what comes before, each part by one call, and then its own turns, by one more.
+/// A timeline of the three points: what comes before, each part in one run, and then its own turns, in one more.
 pub struct Timeline {
     pub shows: &'static str,
     pub before: &'static [&'static [Turn]],
     pub turns: &'static [Turn],
 }
+
+// Writes, at priority 8 and for a minute where the name does not say.
 
 const TWO_STEPS: &[(i64, i64)] = &[(30_000, 5_000), (25_000, 5_000)];
 
