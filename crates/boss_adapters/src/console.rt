@@ -1,6 +1,6 @@
 //! The standard input and output, as a source and a sink.
 
-ghost use Rattle.std.specs.Prelude.{◌≤◌, [], length, IfOk};
+ghost use Rattle.std.specs.Prelude.{◌≡◌, ◌≤◌, [], length, IfOk};
 
 use boss_outside::{Failed, Got, Sink, Source};
 use std::io::{ErrorKind, Read, Write};
@@ -18,7 +18,9 @@ pub struct StdSource {
 
 impl StdSource {
     /// The standard input, of which no read has failed yet.
-    pub fn new(stdin: Stdin) -> StdSource {
+    pub fn new(stdin: Stdin) -> StdSource
+        ensures { ⟦<StdSource as Source>⟧.faults result ≡ 0 }
+    {
         StdSource { stdin, faults: 0 }
     }
 }
@@ -69,7 +71,9 @@ pub struct StdSink {
 
 impl StdSink {
     /// The standard output, of which no write has failed yet.
-    pub fn new(stdout: Stdout) -> StdSink {
+    pub fn new(stdout: Stdout) -> StdSink
+        ensures { ⟦<StdSink as Sink>⟧.faults result ≡ 0 }
+    {
         StdSink { stdout, faults: 0 }
     }
 }

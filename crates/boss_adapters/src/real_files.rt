@@ -1,6 +1,6 @@
 //! The files of this machine, under their paths.
 
-ghost use Rattle.std.specs.Prelude.{None, Err};
+ghost use Rattle.std.specs.Prelude.{◌≡◌, [], None, Err};
 ghost use Rattle.boss_outside.specs.declared.files.FileBytes.{FileBytes};
 ghost use Rattle.boss_outside.specs.Files.{FileCause};
 
@@ -19,7 +19,9 @@ pub struct RealFiles {
 
 impl RealFiles {
     /// The files of this machine, of which no read has failed yet.
-    pub fn new(rt: HostRuntime) -> RealFiles {
+    pub fn new(rt: HostRuntime) -> RealFiles
+        ensures { ⟦<RealFiles as Files>⟧.faults result ≡ 0 }
+    {
         RealFiles { rt, faults: 0 }
     }
 
@@ -48,6 +50,8 @@ impl Files for RealFiles {
     ghost tells = { ⊥ };
 
     ghost holds = { λ files name. None };
+
+    ghost asked = { λ files. [] };
 
     ghost faults = { λ files. files.faults };
 

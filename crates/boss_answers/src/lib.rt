@@ -1,15 +1,18 @@
-//! The bytes of answers, of notices and of what is told of the writes to devices. They go into a buffer that has the room.
+//! The texts that the program writes: of answers, of notices, of writes to devices and of refusals. They go into a buffer that
+//! has the room, and as lines to a sink.
 #![tactic(auto)]
 
 mod answer;
+mod catalogue;
 mod device;
 mod notice;
 mod parts;
 mod refusal;
 mod slots;
-#[cfg(test)]
-mod tests;
+mod telling;
 
 pub use answer::write_answer;
+pub use catalogue::refusal_line;
 pub use device::write_device;
 pub use notice::write_notice;
+pub use telling::{tell_answer, tell_too_long, tell_usage, tell_write};

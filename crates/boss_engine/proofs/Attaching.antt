@@ -13,9 +13,9 @@ use Rattle.boss_model.specs.Lists.{member}
 use Rattle.boss_model.specs.Processes.{attach_refused, is_full, name_of, process_named, process_of, process_refused, session_of}
 use Rattle.boss_model.specs.Sound.{IsSound}
 use Rattle.boss_model.specs.State.{Attachment, State}
-use Rattle.boss_laws.proofs.Draining.{at-most}
-use Rattle.boss_laws.proofs.Filters.{each-mapped, position-within}
-use Rattle.boss_laws.proofs.NotRefused.{none-mapped, none-of-first}
+use Rattle.boss_time.proofs.Places.{at-most}
+use Rattle.boss_time.proofs.Filters.{each-mapped, position-within}
+use Rattle.boss_soundness.proofs.NotRefused.{none-mapped, none-of-first}
 use Rattle.boss_engine.specs.declared.ready.Ready.{Ready}
 use Rattle.boss_engine.specs.declared.ready.Ready.TheVariants as ready
 use Rattle.boss_engine.specs.Ready.{IsReadyToAttach}
@@ -32,49 +32,49 @@ not-held process (a ∷ attached) none = chosen (a.process == process) none (not
     chosen false is rest = rest is
 
 -- a command to attach that is not refused
-pub process-free : (session : ℕ) (name : List ℕ) (s : State) → attach_refused session name s.attached s.durable ≡ None →
-    process_refused s.durable.processes s.attached (process_named s.durable.processes name) ≡ None
+pub process-free : (session : ℕ) (name : List ℕ) (s : State) → attach_refused session name s.attached s.persistent ≡ None →
+    process_refused s.persistent.processes s.attached (process_named s.persistent.processes name) ≡ None
 process-free session name s passed =
-    let second = none-of-first (option_map (λ process. refusal.Already (name_of s.durable.processes process)) (process_of s.attached session))
-    (process_refused s.durable.processes s.attached (process_named s.durable.processes name) ∷ []) passed in
-    (none-of-first (process_refused s.durable.processes s.attached (process_named s.durable.processes name)) [] second.1).0
+    let second = none-of-first (option_map (λ process. refusal.Already (name_of s.persistent.processes process)) (process_of s.attached session))
+    (process_refused s.persistent.processes s.attached (process_named s.persistent.processes name) ∷ []) passed in
+    (none-of-first (process_refused s.persistent.processes s.attached (process_named s.persistent.processes name)) [] second.1).0
 
 -- there is room for a new process
-pub not-full : (session : ℕ) (name : List ℕ) (s : State) → attach_refused session name s.attached s.durable ≡ None → process_named s.durable.processes name ≡ None →
-    length s.durable.processes < 256
+pub not-full : (session : ℕ) (name : List ℕ) (s : State) → attach_refused session name s.attached s.persistent ≡ None → process_named s.persistent.processes name ≡ None →
+    length s.persistent.processes < 256
 not-full session name s passed new =
-    let free : process_refused s.durable.processes s.attached None ≡ None = rw new at (process-free session name s passed) in
-    cond_both (is_full s.durable.processes) (Some refusal.TooManyProcesses) None (λ why. why ≡ None → length s.durable.processes < 256)
+    let free : process_refused s.persistent.processes s.attached None ≡ None = rw new at (process-free session name s passed) in
+    cond_both (is_full s.persistent.processes) (Some refusal.TooManyProcesses) None (λ why. why ≡ None → length s.persistent.processes < 256)
     (λ full is. cc) (λ room is. grind (arith, nat_tests)) free
 
-pub few-attached : (plant : List Actuator) (session : ℕ) (name : List ℕ) (s : State) → IsSound plant s → attach_refused session name s.attached s.durable ≡ None →
+pub few-attached : (plant : List Actuator) (session : ℕ) (name : List ℕ) (s : State) → IsSound plant s → attach_refused session name s.attached s.persistent ≡ None →
     length s.attached < 256
-few-attached plant session name s sound passed = named (process_named s.durable.processes name) refl (process-free session name s passed)
+few-attached plant session name s sound passed = named (process_named s.persistent.processes name) refl (process-free session name s passed)
   where
     held : List ℕ
     held = map (λ a. a.process) s.attached
 
-    below : AllByRecursion (λ process. process < length s.durable.processes) (map (λ a. a.process) s.attached)
-    below = each-mapped (λ process. process < length s.durable.processes) (λ (a : Attachment). a.process) s.attached sound.attached
+    below : AllByRecursion (λ process. process < length s.persistent.processes) (map (λ a. a.process) s.attached)
+    below = each-mapped (λ process. process < length s.persistent.processes) (λ (a : Attachment). a.process) s.attached sound.attached
 
-    named : (found : Option ℕ) → process_named s.durable.processes name ≡ found → process_refused s.durable.processes s.attached found ≡ None → length s.attached < 256
+    named : (found : Option ℕ) → process_named s.persistent.processes name ≡ found → process_refused s.persistent.processes s.attached found ≡ None → length s.attached < 256
     named None is free = omega (
       arith,
       not-full session name s passed is,
-      at-most (length s.durable.processes) (map (λ a. a.process) s.attached) sound.held below,
+      at-most (length s.persistent.processes) (map (λ a. a.process) s.attached) sound.held below,
       length-map s.attached (λ a. a.process),
     )
     named (Some process) is free = omega (
       arith,
-      at-most (length s.durable.processes) (process ∷ map (λ a. a.process) s.attached) (not-held process s.attached (none-mapped refusal.Taken (session_of s.attached process) free), sound.held)
-          (position-within (λ p. pointwise nat_eq p.name name) s.durable.processes process is, below),
+      at-most (length s.persistent.processes) (process ∷ map (λ a. a.process) s.attached) (not-held process s.attached (none-mapped refusal.Taken (session_of s.attached process) free), sound.held)
+          (position-within (λ p. pointwise nat_eq p.name name) s.persistent.processes process is, below),
       length-map s.attached (λ a. a.process),
-      sound.durable.few_processes,
+      sound.persistent.few_processes,
     )
 
 -- what is ready and is no refusal
 pub ready-attach : (session : ℕ) (name : List ℕ) (given : Ready) (s : State) → IsReadyToAttach session name given s → ((why : _) → given ≡ ready.Refused why → ⊥) →
-    attach_refused session name s.attached s.durable ≡ None
+    attach_refused session name s.attached s.persistent ≡ None
 ready-attach session name (ready.Refused why) s is passed = absurd (passed why refl)
 ready-attach session name (ready.Process ring) s is passed = is.0
 ready-attach session name ready.Nothing s is passed = is.0

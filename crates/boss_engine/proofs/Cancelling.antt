@@ -9,7 +9,7 @@ use Rattle.boss_model.specs.Machine.{act}
 use Rattle.boss_model.specs.Processes.{process_of}
 use Rattle.boss_model.specs.State.{State}
 
-pub cancel-leaves : (plant : List Actuator) (session owner txn n : ℕ) (s : State) → process_of s.attached session ≡ Some owner → cancel_refused owner txn s.durable ≡ None →
+pub cancel-leaves : (plant : List Actuator) (session owner txn n : ℕ) (s : State) → process_of s.attached session ≡ Some owner → cancel_refused owner txn s.persistent ≡ None →
     act plant session n (command.Cancel txn) s
-    ≡ record { answer = answer.Cancelled txn n; state = record s { durable = end_leases (is_of txn) cause.Cancelled n [] s.durable } }
+    ≡ record { answer = answer.Cancelled txn n; state = record s { persistent = end_leases (is_of txn) cause.Cancelled n [] s.persistent } }
 cancel-leaves plant session owner txn n s held passed = rw (held, passed) refl

@@ -11,14 +11,14 @@ use Rattle.boss_model.specs.Order.{in_order}
 use Rattle.boss_model.specs.Records.{Transaction}
 use Rattle.boss_model.specs.Renew.{is_meant, extended, extended_if, renewed}
 use Rattle.boss_model.specs.Reversions.{courses}
-use Rattle.boss_model.specs.Sound.{IsSoundDurable}
-use Rattle.boss_model.specs.State.{Durable}
+use Rattle.boss_model.specs.Sound.{IsSoundPersistent}
+use Rattle.boss_model.specs.State.{Persistent}
 use Rattle.boss_model.specs.Time.{kept}
-use Rattle.boss_laws.proofs.Filters.{filter-none, filter-all, each-always}
-use Rattle.boss_laws.proofs.Orders.{each-map}
-use Rattle.boss_laws.proofs.Slots.{IsSameLease, lives-same, lives-courses}
+use Rattle.boss_time.proofs.Filters.{filter-none, filter-all, each-always}
+use Rattle.boss_time.proofs.Orders.{each-map}
+use Rattle.boss_time.proofs.Slots.{IsSameLease, lives-same, lives-courses}
 
-pub conclude-plain : (plant : List Actuator) (n : ℕ) (happened : List Happening) (d : Durable) (leases : List Lease) → IsSoundDurable plant d →
+pub conclude-plain : (plant : List Actuator) (n : ℕ) (happened : List Happening) (d : Persistent) (leases : List Lease) → IsSoundPersistent plant d →
     ((txn : ℕ) → lives txn (courses d.pending leases) ≡ lives txn (courses d.pending d.leases)) → fold finish d.done (in_order rank happened) ≡ d.done →
     conclude n happened d (record d { leases = leases }) ≡ record d { now = n; leases = leases; processes = fold tell d.processes (in_order rank happened) }
 conclude-plain plant n happened d leases sound alive silent =
@@ -46,7 +46,7 @@ extended-same : (meant : Bool) (until : ℕ) (lease : Lease) → IsSameLease lea
 extended-same true until lease = refl
 extended-same false until lease = refl
 
-pub renewed-plain : (plant : List Actuator) (txn : ℕ) (asked : ℤ) (points : List ℕ) (n : ℕ) (d : Durable) → IsSoundDurable plant d →
+pub renewed-plain : (plant : List Actuator) (txn : ℕ) (asked : ℤ) (points : List ℕ) (n : ℕ) (d : Persistent) → IsSoundPersistent plant d →
     renewed txn asked points n d ≡ record d { now = n; leases = map (extended_if (is_meant txn points) (n + unsigned_abs asked)) d.leases }
 renewed-plain plant txn asked points n d sound =
     let until = n + unsigned_abs asked in
@@ -56,6 +56,6 @@ renewed-plain plant txn asked points n d sound =
     conclude-plain plant n [] d (map f d.leases) sound
     (λ k. lives-courses k d.pending (map f d.leases) ∙ ap (λ b. lives k d.pending || b) (lives-same f k d.leases shaped) ∙ sym (lives-courses k d.pending d.leases)) refl
 
-pub kept-fault : (plant : List Actuator) (n : ℕ) (lease : Lease) (d : Durable) → IsSoundDurable plant d →
+pub kept-fault : (plant : List Actuator) (n : ℕ) (lease : Lease) (d : Persistent) → IsSoundPersistent plant d →
     conclude n (fault n lease ∷ []) d d ≡ record d { now = n; processes = tell d.processes (fault n lease) }
 kept-fault plant n lease d sound = conclude-plain plant n (fault n lease ∷ []) d d.leases sound (λ txn. refl) refl

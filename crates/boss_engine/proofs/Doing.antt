@@ -14,8 +14,8 @@ use Rattle.boss_model.specs.Happenings.{tell}
 use Rattle.boss_model.specs.Machine.{act}
 use Rattle.boss_model.specs.Processes.{attach_refused, attached_too, enrol, enrol_unless, next_notice, number_of, process_named, process_of}
 use Rattle.boss_model.specs.Renew.{is_meant, extended_if, renew_refused}
-use Rattle.boss_model.specs.Sound.{IsSoundDurable}
-use Rattle.boss_model.specs.State.{Durable, Process, State}
+use Rattle.boss_model.specs.Sound.{IsSoundPersistent}
+use Rattle.boss_model.specs.State.{Persistent, Process, State}
 use Rattle.boss_model.specs.Target.{in_force}
 use Rattle.boss_policy.specs.Decision.{decision}
 use Rattle.boss_policy.specs.declared.Decision.TheVariants.{EndAll, Tell}
@@ -24,21 +24,21 @@ use Rattle.boss_engine.proofs.Counted.{any-counted}
 
 -- ---- renew
 
-pub renew-leaves : (plant any : List Actuator) (session owner txn : ℕ) (asked : ℤ) (points : List ℕ) (n : ℕ) (s : State) → IsSoundDurable plant s.durable →
-    Some owner ≡ process_of s.attached session → None ≡ renew_refused owner txn asked points n s.durable →
+pub renew-leaves : (plant any : List Actuator) (session owner txn : ℕ) (asked : ℤ) (points : List ℕ) (n : ℕ) (s : State) → IsSoundPersistent plant s.persistent →
+    Some owner ≡ process_of s.attached session → None ≡ renew_refused owner txn asked points n s.persistent →
     (act any session n (command.Renew txn asked points) s).state
-    ≡ record s { durable = record s.durable { now = n; leases = map (extended_if (is_meant txn points) (n + unsigned_abs asked)) s.durable.leases } }
+    ≡ record s { persistent = record s.persistent { now = n; leases = map (extended_if (is_meant txn points) (n + unsigned_abs asked)) s.persistent.leases } }
 renew-leaves plant any session owner txn asked points n s sound held passed =
-    rw (← held, ← passed) (ap (λ d. record s { durable = d }) (renewed-plain plant txn asked points n s.durable sound))
+    rw (← held, ← passed) (ap (λ d. record s { persistent = d }) (renewed-plain plant txn asked points n s.persistent sound))
 
 -- ---- a process is lost
 
-pub lost-some : (owner n : ℕ) (d : Durable) → 0 < length (filter (is_owned_by owner) d.leases) → lost owner n d ≡ end_leases (is_owned_by owner) cause.Died n [] d
+pub lost-some : (owner n : ℕ) (d : Persistent) → 0 < length (filter (is_owned_by owner) d.leases) → lost owner n d ≡ end_leases (is_owned_by owner) cause.Died n [] d
 lost-some owner n d some =
     let has : nat_lt 0 (length (filter (is_owned_by owner) d.leases)) ≡ true = grind (arith, nat_tests) in
     ap (λ b. if b then end_leases (is_owned_by owner) cause.Died n [] d else d) (any-counted (is_owned_by owner) d.leases ∙ has)
 
-pub lost-none : (owner n : ℕ) (d : Durable) → length (filter (is_owned_by owner) d.leases) ≡ 0 → lost owner n d ≡ d
+pub lost-none : (owner n : ℕ) (d : Persistent) → length (filter (is_owned_by owner) d.leases) ≡ 0 → lost owner n d ≡ d
 lost-none owner n d none =
     let has : nat_lt 0 (length (filter (is_owned_by owner) d.leases)) ≡ false = grind (arith, nat_tests) in
     ap (λ b. if b then end_leases (is_owned_by owner) cause.Died n [] d else d) (any-counted (is_owned_by owner) d.leases ∙ has)
@@ -57,13 +57,13 @@ decided-tell Abort false is = cc
 decided-tell Keep true is = (refl, refl)
 decided-tell Keep false is = cc
 
-pub ended-all : (point n : ℕ) (lease : Lease) (first : Bool) (d : Durable) → Some lease ≡ in_force d.leases point → EndAll ≡ decision (Some lease.policy) first →
+pub ended-all : (point n : ℕ) (lease : Lease) (first : Bool) (d : Persistent) → Some lease ≡ in_force d.leases point → EndAll ≡ decision (Some lease.policy) first →
     (if first then faulted (in_force d.leases point) n d else d) ≡ end_leases (is_of lease.txn) cause.Fault n (fault n lease ∷ []) d
 ended-all point n lease first d found is =
     let both : (lease.policy ≡ Abort) × (first ≡ true) = decided-end lease.policy first is in
     rw (← found, both.1, both.0) refl
 
-pub told-only : (plant : List Actuator) (point n : ℕ) (lease : Lease) (first : Bool) (d : Durable) → IsSoundDurable plant d →
+pub told-only : (plant : List Actuator) (point n : ℕ) (lease : Lease) (first : Bool) (d : Persistent) → IsSoundPersistent plant d →
     Some lease ≡ in_force d.leases point → Tell ≡ decision (Some lease.policy) first →
     (if first then faulted (in_force d.leases point) n d else d) ≡ record d { now = n; processes = tell d.processes (fault n lease) }
 told-only plant point n lease first d sound found is =
@@ -72,13 +72,13 @@ told-only plant point n lease first d sound found is =
 
 -- ---- attach
 
-pub attach-leaves : (any : List Actuator) (session n : ℕ) (name : List ℕ) (s : State) → attach_refused session name s.attached s.durable ≡ None →
+pub attach-leaves : (any : List Actuator) (session n : ℕ) (name : List ℕ) (s : State) → attach_refused session name s.attached s.persistent ≡ None →
     act any session n (command.Attach name) s
     ≡ record {
-      answer = answer.Attached name (next_notice s.durable.processes (number_of s.durable.processes (process_named s.durable.processes name)));
+      answer = answer.Attached name (next_notice s.persistent.processes (number_of s.persistent.processes (process_named s.persistent.processes name)));
       state = record s {
-        durable = enrol name n s.durable;
-        attached = attached_too session (number_of s.durable.processes (process_named s.durable.processes name)) s.attached;
+        persistent = enrol name n s.persistent;
+        attached = attached_too session (number_of s.persistent.processes (process_named s.persistent.processes name)) s.attached;
       };
     }
 attach-leaves any session n name s passed = rw passed refl
@@ -92,7 +92,7 @@ get-none [] = refl
 get-none (q ∷ ps) = get-none ps
 
 -- a new process has been told nothing
-pub next-enrolled : (name : List ℕ) (n : ℕ) (d : Durable) →
+pub next-enrolled : (name : List ℕ) (n : ℕ) (d : Persistent) →
     next_notice (enrol name n d).processes (number_of d.processes (process_named d.processes name)) ≡ next_notice d.processes (number_of d.processes (process_named d.processes name))
 next-enrolled name n d = found (process_named d.processes name)
   where

@@ -5,10 +5,10 @@ use Rattle.boss_model.specs.State.{Process}
 use Rattle.boss_engine.specs.declared.lasting.Lasting.{Lasting}
 use Rattle.boss_engine.specs.declared.machine.Machine.{Machine}
 use Rattle.boss_engine.specs.Inside.{HasPlaces}
-use Rattle.boss_engine.specs.Lasting.{IsKept, most_told}
+use Rattle.boss_engine.specs.Lasting.{IsKept, most_tellings}
 
 pub keeps-places : (plant : List Actuator) (m m' : Machine) → HasPlaces plant m → m'.marks.drivers ≡ m.marks.drivers → vec_capacity m'.attached ≡ vec_capacity m.attached →
-    IsKept m'.lasting → vec_capacity m'.told ≡ vec_capacity m.told → most_told m'.lasting ≤ most_told m.lasting → HasPlaces plant m'
+    IsKept m'.lasting → vec_capacity m'.told ≡ vec_capacity m.told → most_tellings m'.lasting ≤ most_tellings m.lasting → HasPlaces plant m'
 keeps-places plant m m' places drivers attached kept told few = record {
   small = places.small;
   drivers = drivers ∙ places.drivers;

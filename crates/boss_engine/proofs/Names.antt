@@ -9,9 +9,9 @@ use Rattle.boss_model.specs.declared.answer.Refusal.TheVariants as refusal
 use Rattle.boss_model.specs.Happenings.{Happening, tell}
 use Rattle.boss_model.specs.Lists.{first_some}
 use Rattle.boss_model.specs.Processes.{process_of, process_named, name_of, process_refused, attach_refused}
-use Rattle.boss_model.specs.State.{Process, Durable, Attachment}
+use Rattle.boss_model.specs.State.{Process, Persistent, Attachment}
 use Rattle.boss_model.specs.Time.{due, tick_to}
-use Rattle.boss_laws.proofs.GroupSound.{tell-names}
+use Rattle.boss_time.proofs.GroupSound.{tell-names}
 
 -- ---- what rests on the names alone
 
@@ -57,7 +57,7 @@ told-named processes happened = same-named processes (fold tell processes happen
 
 -- ---- what time changes of a refusal: nothing
 
-pub attach-refused-alike : (session : ℕ) (name : List ℕ) (attached : List Attachment) (before after : Durable) →
+pub attach-refused-alike : (session : ℕ) (name : List ℕ) (attached : List Attachment) (before after : Persistent) →
     map (λ p. p.name) after.processes ≡ map (λ p. p.name) before.processes → attach_refused session name attached after ≡ attach_refused session name attached before
 attach-refused-alike session name attached before after same =
     ap (λ already. first_some (already ∷ process_refused after.processes attached (process_named after.processes name) ∷ []))
@@ -67,5 +67,5 @@ attach-refused-alike session name attached before after same =
     ∙ ap (λ refused. first_some (option_map (λ process. refusal.Already (name_of before.processes process)) (process_of attached session) ∷ refused ∷ []))
     (same-process_refused before.processes after.processes same attached (process_named before.processes name)))
 
-pub attach-refused-ticked : (session : ℕ) (name : List ℕ) (attached : List Attachment) (n : ℕ) (d : Durable) → attach_refused session name attached (tick_to n d) ≡ attach_refused session name attached d
+pub attach-refused-ticked : (session : ℕ) (name : List ℕ) (attached : List Attachment) (n : ℕ) (d : Persistent) → attach_refused session name attached (tick_to n d) ≡ attach_refused session name attached d
 attach-refused-ticked session name attached n d = attach-refused-alike session name attached d (tick_to n d) (tell-names d.processes (due n d))

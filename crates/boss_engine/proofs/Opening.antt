@@ -5,7 +5,7 @@ use Rattle.std.proofs.lemmas.List.{length-map}
 use Rattle.boss_model.specs.declared.state.Actuator.{Actuator}
 use Rattle.boss_model.specs.Catalogue.{default_of}
 use Rattle.boss_model.specs.Settle.{fresh, first_state}
-use Rattle.boss_model.specs.State.{first_durable}
+use Rattle.boss_model.specs.State.{first_persistent}
 use Rattle.boss_marks.specs.Marks.{Marks, opened}
 use Rattle.boss_engine.specs.Waiting.{drivers_of, state_of}
 
@@ -25,12 +25,12 @@ fresh-from value place (x ∷ xs) each =
     λ i. fresh (sym here i) ∷ fresh-from value (place + 1) xs
     (λ k. ap value (let same : place + 1 + k ≡ place + suc k = omega arith in same) ∙ each (suc k)) i
 
-pub state-opened : (plant : List Actuator) (marks : Marks) → marks ≡ opened (map device_of plant) → state_of first_durable [] marks ≡ first_state plant
+pub state-opened : (plant : List Actuator) (marks : Marks) → marks ≡ opened (map device_of plant) → state_of first_persistent [] marks ≡ first_state plant
 state-opened plant marks is =
     let proxies : (opened (map device_of plant)).proxies ≡ (first_state plant).proxies =
     fresh-from (default_of plant) 0 plant (λ k. ap (default_of plant) (let same : 0 + k ≡ k = omega arith in same)) in
     let wants : (opened (map device_of plant)).wants ≡ (first_state plant).wants = ap (range_with_len 0) (length-map plant device_of) in
-    ap (state_of first_durable []) is ∙ (λ i. record { durable = first_durable; attached = []; proxies = proxies i; wants = wants i })
+    ap (state_of first_persistent []) is ∙ (λ i. record { persistent = first_persistent; attached = []; proxies = proxies i; wants = wants i })
 
 -- ---- the points of a catalogue, one after another
 

@@ -12,9 +12,9 @@ use Rattle.boss_model.specs.Reversions.{end_of, reversion_of, courses}
 use Rattle.boss_model.specs.Sound.{Rising}
 use Rattle.boss_model.specs.State.{pending_slot}
 use Rattle.boss_model.specs.Time.{live, under_way}
-use Rattle.boss_laws.proofs.Filters.{Apart, put-put, in_order-middle, filter-append, filter-none, filter-all, filter-same, each-mapped}
-use Rattle.boss_laws.proofs.Orders.{each-map, each-put, each-front, each-back, each-unput, each-unordered, filter-in_order, in_order-Rising}
-use Rattle.boss_laws.proofs.SubmitSound.{apart-turn}
+use Rattle.boss_time.proofs.Filters.{Apart, put-put, in_order-middle, filter-append, filter-none, filter-all, filter-same, each-mapped}
+use Rattle.boss_time.proofs.Orders.{each-map, each-put, each-front, each-back, each-unput, each-unordered, filter-in_order, in_order-Rising}
+use Rattle.boss_soundness.proofs.SubmitSound.{apart-turn}
 
 -- ---- items put in one by one
 

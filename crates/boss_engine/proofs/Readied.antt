@@ -16,11 +16,11 @@ use Rattle.boss_engine.proofs.Names.{attach-refused-ticked, told-named}
 
 readied-attach : (plant : List Actuator) (session n : ℕ) (name : List ℕ) (s : State) (given : Ready) →
     IsReadyToAttach session name given s → IsReadyToAttach session name given (pass_time plant n s)
-readied-attach plant session n name s (ready.Refused why) was = attach-refused-ticked session name s.attached n s.durable ∙ was
+readied-attach plant session n name s (ready.Refused why) was = attach-refused-ticked session name s.attached n s.persistent ∙ was
 readied-attach plant session n name s (ready.Process ring) was =
-    (attach-refused-ticked session name s.attached n s.durable ∙ was.0, told-named s.durable.processes (due n s.durable) name ∙ was.1, was.2)
+    (attach-refused-ticked session name s.attached n s.persistent ∙ was.0, told-named s.persistent.processes (due n s.persistent) name ∙ was.1, was.2)
 readied-attach plant session n name s ready.Nothing was =
-    (attach-refused-ticked session name s.attached n s.durable ∙ was.0, subst MustBeThere (sym (told-named s.durable.processes (due n s.durable) name)) was.1)
+    (attach-refused-ticked session name s.attached n s.persistent ∙ was.0, subst MustBeThere (sym (told-named s.persistent.processes (due n s.persistent) name)) was.1)
 readied-attach plant session n name s (ready.Submit transaction leases) was = was
 readied-attach plant session n name s (ready.List notices) was = was
 

@@ -5,18 +5,18 @@ use Rattle.boss_engine.specs.declared.lasting.Lasting.{Lasting}
 use Rattle.boss_engine.specs.declared.machine.Machine.{Machine}
 use Rattle.boss_engine.specs.declared.ready.Ready.{Ready}
 use Rattle.boss_engine.specs.declared.ready.Ready.TheVariants as ready
-use Rattle.boss_engine.specs.Lasting.{durable_of, most_told}
+use Rattle.boss_engine.specs.Lasting.{persistent_of, most_tellings}
 use Rattle.boss_engine.specs.Ready.{HasRoomFor}
-use Rattle.boss_engine.proofs.DueLemmas.{IsNoMore}
+use Rattle.boss_books.proofs.DueLemmas.{IsNoMore}
 use Rattle.boss_engine.proofs.Recorded.{record_of}
 
-pub fewer-told : (old new : Lasting) → IsNoMore (durable_of old) (durable_of new) → most_told new ≤ most_told old
+pub fewer-told : (old new : Lasting) → IsNoMore (persistent_of old) (persistent_of new) → most_tellings new ≤ most_tellings old
 fewer-told old new few = omega (arith, few.both, few.leases, old.leases.ok.0, old.pending.ok.0, new.leases.ok.0, new.pending.ok.0)
 
-pub fewer-kept : (old new : Lasting) → IsNoMore (durable_of old) (durable_of new) → length new.stages.kept ≤ length old.stages.kept
+pub fewer-kept : (old new : Lasting) → IsNoMore (persistent_of old) (persistent_of new) → length new.stages.kept ≤ length old.stages.kept
 fewer-kept old new few = omega (arith, few.txns, length-map old.stages.kept record_of, length-map new.stages.kept record_of)
 
-module _ (old new : Machine) (few : IsNoMore (durable_of old.lasting) (durable_of new.lasting))
+module _ (old new : Machine) (few : IsNoMore (persistent_of old.lasting) (persistent_of new.lasting))
     (leases : vec_capacity new.lasting.leases ≡ vec_capacity old.lasting.leases) (pending : vec_capacity new.lasting.pending ≡ vec_capacity old.lasting.pending)
     (stages : new.lasting.stages.room ≡ old.lasting.stages.room) (told : vec_capacity new.told ≡ vec_capacity old.told) where
   pub room-left : (given : Ready) → HasRoomFor given old → HasRoomFor given new

@@ -7,8 +7,8 @@ use Rattle.boss_model.specs.Ends.{shortened, shortened_if}
 use Rattle.boss_model.specs.Reversions.{reversion_of, courses}
 use Rattle.boss_model.specs.Sound.{Rising}
 use Rattle.boss_model.specs.State.{pending_slot}
-use Rattle.boss_laws.proofs.Filters.{each-always}
-use Rattle.boss_laws.proofs.Slots.{IsSameLease, course_slots-same, Rising-in_order-same}
+use Rattle.boss_time.proofs.Filters.{each-always}
+use Rattle.boss_time.proofs.Slots.{IsSameLease, course_slots-same, Rising-in_order-same}
 
 -- but for its end it is the same lease
 pub shortened-same : (which : Lease → Bool) (n : ℕ) (lease : Lease) → IsSameLease lease (shortened_if which n lease)

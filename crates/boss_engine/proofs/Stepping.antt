@@ -9,21 +9,21 @@ use Rattle.boss_model.specs.Settle.{settle}
 use Rattle.boss_model.specs.Sound.{IsAllowed, IsSound}
 use Rattle.boss_model.specs.State.{State}
 use Rattle.boss_marks.specs.Marks.{Marks}
-use Rattle.boss_laws.proofs.EndSound.{IsAt, at-tick}
-use Rattle.boss_laws.proofs.StepSound.{passed-sound, step-sound}
-use Rattle.boss_engine.specs.Playing.{IsPlayable}
+use Rattle.boss_soundness.proofs.EndSound.{IsAt, at-tick}
+use Rattle.boss_soundness.proofs.StepSound.{passed-sound, step-sound}
+use Rattle.boss_books.specs.Playing.{IsPlayable}
 use Rattle.boss_engine.proofs.Playable.{all-playable}
 use Rattle.boss_engine.proofs.Waiting.{length-settled}
 
-module _ (plant : List Actuator) (session : ℕ) (c : Command) (m n : ℕ) (s : State) (at : n ≡ max s.durable.now m)
+module _ (plant : List Actuator) (session : ℕ) (c : Command) (m n : ℕ) (s : State) (at : n ≡ max s.persistent.now m)
     (allowed : IsAllowed plant c) (small : m ≤ 2 ^ 60) (sound : IsSound plant s) (p : State) (passed : p ≡ pass_time plant n s) where
-  bounded : (s.durable.now ≤ n) × (n ≤ 2 ^ 60)
-  bounded = let now : s.durable.now ≤ 2 ^ 60 = sound.durable.now in (omega arith, omega arith)
+  bounded : (s.persistent.now ≤ n) × (n ≤ 2 ^ 60)
+  bounded = let now : s.persistent.now ≤ 2 ^ 60 = sound.persistent.now in (omega arith, omega arith)
 
-  pub passed-at : IsAt n p.durable
-  passed-at = subst (λ t. IsAt n t.durable) (sym passed) (at-tick s.durable n bounded.0)
+  pub passed-at : IsAt n p.persistent
+  passed-at = subst (λ t. IsAt n t.persistent) (sym passed) (at-tick s.persistent n bounded.0)
 
-  pub passed-moment : (p.durable.now ≤ n) × (n ≤ 2 ^ 60)
+  pub passed-moment : (p.persistent.now ≤ n) × (n ≤ 2 ^ 60)
   passed-moment = (passed-at.reached, bounded.1)
 
   pub passed-well : IsSound plant p
@@ -40,9 +40,9 @@ module _ (plant : List Actuator) (session : ℕ) (c : Command) (m n : ℕ) (s : 
   pub settled-well : (a : State) → a ≡ (act plant session n c p).state → IsSound plant (settle plant a)
   settled-well a is = subst (IsSound plant) (sym (stepped a is)) (step-sound plant session c m s allowed small sound)
 
-  pub acted-playable : (a : State) → a ≡ (act plant session n c p).state → AllByRecursion IsPlayable a.durable.pending
-  acted-playable a is = all-playable plant a.durable (settled-well a is).durable
+  pub acted-playable : (a : State) → a ≡ (act plant session n c p).state → AllByRecursion IsPlayable a.persistent.pending
+  acted-playable a is = all-playable plant a.persistent (settled-well a is).persistent
 
   pub acted-number : (a : State) → a ≡ (act plant session n c p).state → (marks : Marks) → a.proxies ≡ marks.proxies → length marks.proxies ≡ length plant
   acted-number a is marks same =
-      sym (ap length same) ∙ sym (length-settled plant a.durable (record { drivers = []; proxies = a.proxies; wants = a.wants })) ∙ (settled-well a is).proxies
+      sym (ap length same) ∙ sym (length-settled plant a.persistent (record { drivers = []; proxies = a.proxies; wants = a.wants })) ∙ (settled-well a is).proxies

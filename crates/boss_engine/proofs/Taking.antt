@@ -6,9 +6,9 @@ use Rattle.boss_model.specs.Order.{put, in_order}
 use Rattle.boss_model.specs.Sound.{Rising}
 use Rattle.boss_model.specs.State.{lease_slot}
 use Rattle.boss_model.specs.Submit.{is_taken}
-use Rattle.boss_laws.proofs.Filters.{Apart, in_order-middle}
-use Rattle.boss_laws.proofs.Orders.{in_order-Rising, Rising-filter, each-map, each-passed}
-use Rattle.boss_laws.proofs.SubmitSound.{not-taken, apart-turn}
+use Rattle.boss_time.proofs.Filters.{Apart, in_order-middle}
+use Rattle.boss_time.proofs.Orders.{in_order-Rising, Rising-filter, each-map, each-passed}
+use Rattle.boss_soundness.proofs.SubmitSound.{not-taken, apart-turn}
 
 -- the last of the items is put in first
 abbrev pub put_all : {X : Type 0} → (X → List ℕ) → List X → List X → List X

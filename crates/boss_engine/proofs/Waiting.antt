@@ -9,11 +9,11 @@ use Rattle.boss_model.specs.Devices.{next, wanting, hand_out}
 use Rattle.boss_model.specs.Lists.{without}
 use Rattle.boss_model.specs.Order.{least}
 use Rattle.boss_model.specs.Settle.{is_retried, retried, is_moved, recommanded}
-use Rattle.boss_model.specs.State.{Durable, Attachment}
+use Rattle.boss_model.specs.State.{Persistent, Attachment}
 use Rattle.boss_marks.specs.declared.marks.Want.{Want}
 use Rattle.boss_marks.specs.Marks.{Marks, want_of, first_want, handed_out, retried_all}
 use Rattle.boss_marks.specs.Wants.{first_of, least_wanting}
-use Rattle.boss_marks.proofs.Rounds.{length-changed_if}
+use Rattle.boss_model.proofs.Changed.{length-changed_if}
 use Rattle.boss_engine.specs.Settling.{settled_by}
 use Rattle.boss_engine.specs.Waiting.{drivers_of, state_of, want_answer}
 
@@ -34,7 +34,7 @@ wants-drivers plant (w ∷ ws) = grind (arith, common_steps, driver-read plant w
 
 -- ---- what is handed out, and what a report comes to
 
-module _ (plant : List Actuator) (d : Durable) (attached : List Attachment) (marks : Marks) where
+module _ (plant : List Actuator) (d : Persistent) (attached : List Attachment) (marks : Marks) where
   next_found : (found : Option ℕ) → hand_out found (state_of d attached marks)
       ≡ record {
         answer = want_answer (option_map (want_of marks) found);
@@ -60,5 +60,5 @@ module _ (plant : List Actuator) (d : Durable) (attached : List Attachment) (mar
 pub length-retried : (n : ℕ) (marks : Marks) → length (retried_all n marks).proxies ≡ length marks.proxies
 length-retried n marks = length-changed_if (is_retried n) retried marks.proxies
 
-pub length-settled : (plant : List Actuator) (d : Durable) (marks : Marks) → length (settled_by plant d marks).proxies ≡ length marks.proxies
+pub length-settled : (plant : List Actuator) (d : Persistent) (marks : Marks) → length (settled_by plant d marks).proxies ≡ length marks.proxies
 length-settled plant d marks = length-changed_if (is_moved plant d) (recommanded plant d) marks.proxies

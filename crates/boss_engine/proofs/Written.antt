@@ -4,11 +4,11 @@ use Rattle.std.specs.Prelude.{◌≤ℤ◌}
 use Rattle.std.specs.List.{AllByRecursion}
 use Rattle.boss_model.specs.declared.command.Setting.{Setting}
 use Rattle.boss_model.specs.declared.state.Actuator.{Actuator}
-use Rattle.boss_model.specs.State.{Durable}
+use Rattle.boss_model.specs.State.{Persistent}
 use Rattle.boss_model.specs.Submit.{is_within, submit_refused}
-use Rattle.boss_laws.proofs.NotRefused.{IsWrite, submit-not-refused}
-use Rattle.boss_laws.proofs.Orders.{each-map}
-use Rattle.boss_laws.proofs.RenewSound.{positive}
+use Rattle.boss_soundness.proofs.NotRefused.{IsWrite, submit-not-refused}
+use Rattle.boss_time.proofs.Orders.{each-map}
+use Rattle.boss_soundness.proofs.RenewSound.{positive}
 use Rattle.boss_engine.specs.Writing.{IsWritable}
 
 within : (z : ℤ) (most : ℕ) → is_within (pos 1) (pos most) z ≡ true → (pos 1 ≤ℤ z) × (z ≤ℤ pos most)
@@ -19,5 +19,5 @@ is-writable : (plant : List Actuator) (write : Setting) → IsWrite plant write 
 is-writable plant write is =
     let lease = within write.lease 604800000 is.lasting in (within write.priority 16 (grind (arith, is.level)), lease.0, lease.1)
 
-pub all-writable : (plant : List Actuator) (writes : List Setting) (d : Durable) → submit_refused plant writes d ≡ None → AllByRecursion IsWritable writes
+pub all-writable : (plant : List Actuator) (writes : List Setting) (d : Persistent) → submit_refused plant writes d ≡ None → AllByRecursion IsWritable writes
 all-writable plant writes d none = each-map (IsWrite plant) IsWritable (is-writable plant) writes (submit-not-refused plant writes d none).allowed

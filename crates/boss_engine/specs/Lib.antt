@@ -1,16 +1,11 @@
-pub mod Books
-pub mod Due
-pub mod Gathered
 pub mod Inside
 pub mod Lasting
 pub mod Meant
-pub mod Playing
 pub mod Processes
 pub mod Ready
 pub mod Refusals
 pub mod Running
 pub mod Settling
 pub mod Slots
-pub mod Telling
 pub mod Waiting
 pub mod Writing

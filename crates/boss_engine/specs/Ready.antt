@@ -14,7 +14,7 @@ use Rattle.boss_engine.specs.declared.machine.Machine.{Machine}
 use Rattle.boss_engine.specs.declared.ready.Ready.{Ready}
 use Rattle.boss_engine.specs.declared.ready.Ready.TheVariants as ready
 
--- ---- which commands may want memory: those that are not refused, and take on what outlasts them or make a list
+-- ---- which commands may need memory: those that are not refused, and take on what outlasts them or make a list
 
 abbrev pub MayTakeOn : Option ℕ → Type 0
 MayTakeOn None = Unit {0}
@@ -22,19 +22,19 @@ MayTakeOn (Some process) = ⊥
 
 abbrev pub MaySubmit : List Actuator → List Setting → Option ℕ → State → Type 0
 MaySubmit plant writes None s = ⊥
-MaySubmit plant writes (Some owner) s = submit_refused plant writes s.durable ≡ None
+MaySubmit plant writes (Some owner) s = submit_refused plant writes s.persistent ≡ None
 
 abbrev pub MayList : Option (List ℕ) → Option ℕ → Type 0
 MayList (Some name) process = Unit {0}
 MayList None (Some process) = Unit {0}
 MayList None None = ⊥
 
-abbrev pub MayWant : List Actuator → ℕ → Command → State → Type 0
-MayWant plant session (command.Attach name) s =
-    (attach_refused session name s.attached s.durable ≡ None) × MayTakeOn (process_named s.durable.processes name)
-MayWant plant session (command.Submit writes policy) s = MaySubmit plant writes (process_of s.attached session) s
-MayWant plant session (command.Notices name from most) s = MayList name (process_of s.attached session)
-MayWant plant session other s = ⊥
+abbrev pub MayNeedMemory : List Actuator → ℕ → Command → State → Type 0
+MayNeedMemory plant session (command.Attach name) s =
+    (attach_refused session name s.attached s.persistent ≡ None) × MayTakeOn (process_named s.persistent.processes name)
+MayNeedMemory plant session (command.Submit writes policy) s = MaySubmit plant writes (process_of s.attached session) s
+MayNeedMemory plant session (command.Notices name from most) s = MayList name (process_of s.attached session)
+MayNeedMemory plant session other s = ⊥
 
 -- ---- what was made ready is what the command will use at moment n
 
@@ -44,26 +44,26 @@ MustBeThere (Some process) = Unit {0}
 
 -- the process of this name is there, or can be taken on
 abbrev pub CanTakeOn : List ℕ → Ready → State → Type 0
-CanTakeOn name (ready.Process ring) s = (process_named s.durable.processes name ≡ None) × (ring ≡ no_notices)
-CanTakeOn name ready.Nothing s = MustBeThere (process_named s.durable.processes name)
+CanTakeOn name (ready.Process ring) s = (process_named s.persistent.processes name ≡ None) × (ring ≡ no_notices)
+CanTakeOn name ready.Nothing s = MustBeThere (process_named s.persistent.processes name)
 CanTakeOn name other s = ⊥
 
 abbrev pub IsReadyToAttach : ℕ → List ℕ → Ready → State → Type 0
-IsReadyToAttach session name (ready.Refused why) s = attach_refused session name s.attached s.durable ≡ Some why
+IsReadyToAttach session name (ready.Refused why) s = attach_refused session name s.attached s.persistent ≡ Some why
 IsReadyToAttach session name (ready.Process ring) s =
-    (attach_refused session name s.attached s.durable ≡ None) × (process_named s.durable.processes name ≡ None) × (ring ≡ no_notices)
+    (attach_refused session name s.attached s.persistent ≡ None) × (process_named s.persistent.processes name ≡ None) × (ring ≡ no_notices)
 IsReadyToAttach session name ready.Nothing s =
-    (attach_refused session name s.attached s.durable ≡ None) × MustBeThere (process_named s.durable.processes name)
+    (attach_refused session name s.attached s.persistent ≡ None) × MustBeThere (process_named s.persistent.processes name)
 IsReadyToAttach session name other s = ⊥
 
 abbrev pub IsReadyToSubmit : List Actuator → Option ℕ → List Setting → Policy → ℕ → Ready → State → Type 0
 IsReadyToSubmit plant None writes policy n (ready.Refused why) s = why ≡ refusal.NotAttached
-IsReadyToSubmit plant (Some owner) writes policy n (ready.Refused why) s = submit_refused plant writes s.durable ≡ Some why
+IsReadyToSubmit plant (Some owner) writes policy n (ready.Refused why) s = submit_refused plant writes s.persistent ≡ Some why
 IsReadyToSubmit plant (Some owner) writes policy n (ready.Submit transaction leases) s =
-    (submit_refused plant writes s.durable ≡ None)
-    × (transaction.transaction ≡ begun owner policy s.durable.next writes)
+    (submit_refused plant writes s.persistent ≡ None)
+    × (transaction.transaction ≡ begun owner policy s.persistent.next writes)
     × (transaction.reverting ≡ [])
-    × (leases.items ≡ granted owner policy s.durable.next n writes)
+    × (leases.items ≡ granted owner policy s.persistent.next n writes)
 IsReadyToSubmit plant owner writes policy n given s = ⊥
 
 abbrev pub IsReadyToList : Option (List ℕ) → Option ℕ → ℕ → Ready → Type 0

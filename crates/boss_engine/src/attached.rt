@@ -5,7 +5,7 @@ use boss_model::{ProcId, SessionId};
 use std::marker::Model;
 
 /// A session that holds a process.
-#[derive(Clone, Copy, Debug, PartialEq, Eq)]
+#[derive(Clone, Copy)]
 pub struct Attachment {
     pub session: SessionId,
     pub process: ProcId,
@@ -60,23 +60,4 @@ pub fn detach(attached: &mut Vec<Attachment>, session: SessionId)
     ensures room { vec_capacity attached.new ≡ vec_capacity attached.old }
 {
     attached.retain(|attachment| attachment.session != session);
-}
-
-#[cfg(test)]
-mod tests {
-    use super::*;
-    use std::test::Fail;
-
-    #[test]
-    fn a_session_holds_a_process_until_it_is_detached(rt: HostRuntime) -> Result<(), Fail> {
-        let mut attached = Vec::with_capacity(rt.alloc(), 2)?;
-        attach(&mut attached, SessionId(5), ProcId(0));
-        attach(&mut attached, SessionId(9), ProcId(1));
-        assert_eq!(rt; process_of(&attached, SessionId(9)), Some(ProcId(1)));
-        assert_eq!(rt; session_of(&attached, ProcId(0)), Some(SessionId(5)));
-        detach(&mut attached, SessionId(5));
-        assert_eq!(rt; process_of(&attached, SessionId(5)), None);
-        assert_eq!(rt; process_of(&attached, SessionId(9)), Some(ProcId(1)));
-        Ok(())
-    }
 }

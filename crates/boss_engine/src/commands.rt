@@ -1,4 +1,4 @@
-ghost use Rattle.std.specs.Prelude.{◌≡◌, ℕ, ◌≤◌, ◌<◌, ◌+◌, ◌^◌, if◌then◌else◌, List, [], ◌∷◌, length, filter, Some, None, vec_len};
+ghost use Rattle.std.specs.Prelude.{◌≡◌, ℕ, ◌≤◌, ◌<◌, ◌+◌, if◌then◌else◌, List, [], ◌∷◌, length, filter, Some, None, vec_len};
 ghost use Rattle.std.specs.List.{AllByRecursion};
 ghost use Rattle.boss_model.specs.declared.state.Actuator.{Actuator};
 ghost use Rattle.boss_model.specs.declared.answer.Answer.TheVariants as answer;
@@ -9,24 +9,26 @@ ghost use Rattle.boss_model.specs.declared.notice.Cause.TheVariants as cause;
 ghost use Rattle.boss_model.specs.declared.state.Lease.{Lease};
 ghost use Rattle.boss_model.specs.Ends.{end_leases, fault, faulted, is_of, is_owned_by, lost};
 ghost use Rattle.boss_model.specs.Happenings.{tell};
+ghost use Rattle.boss_model.specs.Limits.{last_moment, last_number, most_processes, most_writes};
 ghost use Rattle.boss_model.specs.Machine.{act};
 ghost use Rattle.boss_model.specs.Processes.{enrol, number_of, process_named, process_of};
-ghost use Rattle.boss_model.specs.Sound.{IsSoundDurable};
+ghost use Rattle.boss_model.specs.Sound.{IsSoundPersistent};
 ghost use Rattle.boss_model.specs.Submit.{first_until, submitted};
 ghost use Rattle.boss_model.specs.Target.{in_force};
 ghost use Rattle.boss_engine.specs.Inside.{CanRun, HasPlaces, HasPlacesFor, state_of};
-ghost use Rattle.boss_engine.specs.Lasting.{IsPassed, IsSomeSubmit, IsSubmit, durable_of};
-ghost use Rattle.boss_engine.specs.Playing.{IsPlayable};
+ghost use Rattle.boss_engine.specs.Lasting.{IsSomeSubmit, IsSubmit, persistent_of};
+ghost use Rattle.boss_books.specs.Passed.{IsPassed};
+ghost use Rattle.boss_books.specs.Playing.{IsPlayable};
 ghost use Rattle.boss_engine.specs.Ready.{CanTakeOn, HasRoomFor, IsReadyToAttach, IsReadyToList, IsReadyToSubmit};
 
 use crate::attached::{attach, detach, process_of};
-use crate::happening::{Happening, Telling};
 use crate::machine::Machine;
 use crate::queries::{extend, first_until, first_until_of, notices};
 use crate::ready::Ready;
 use crate::refusals::{cancel_refused, renew_refused};
 use crate::slots::Which;
 use crate::target::{basis_of, in_force, slots_of, target_of};
+use boss_books::{Happening, Telling};
 use boss_marks::Reported;
 use boss_model::{
     Actuator, Answer, Cause, DriverId, Lease, Name, PointId, ProcId, Refusal, SessionId, Txn, What,
@@ -57,11 +59,11 @@ impl Machine {
 
     /// The process of this name, which is taken on if it is new.
     fn process_for(&mut self, name: &Name, n: u64, ready: Ready) -> ProcId
-        requires few { process_named self.old.lasting.processes name.now ≡ None → length self.old.lasting.processes < 256 }
+        requires few { process_named self.old.lasting.processes name.now ≡ None → length self.old.lasting.processes < most_processes }
         requires ready { CanTakeOn name.now ready (state_of self.old) }
         ensures process { result ≡ number_of self.old.lasting.processes (process_named self.old.lasting.processes name.now) }
         ensures known { result < length self.new.lasting.processes }
-        ensures after { durable_of self.new.lasting ≡ enrol name.now n (durable_of self.old.lasting) }
+        ensures after { persistent_of self.new.lasting ≡ enrol name.now n (persistent_of self.old.lasting) }
         ensures others { self.new ≡ record self.old { lasting = record self.old.lasting { moment = self.new.lasting.moment; processes = self.new.lasting.processes } } }
     {
         if let Some(process) = self.lasting.processes.named(name) {
@@ -78,7 +80,7 @@ impl Machine {
     /// The leases of a new transaction take their slots.
     pub fn submit(&mut self, n: u64, ready: Ready) -> Answer
         requires can_run { (plant : List Actuator) × CanRun plant self.old }
-        requires moment { (self.old.lasting.moment ≤ n) × (n ≤ 2 ^ 60) }
+        requires moment { (self.old.lasting.moment ≤ n) × (n ≤ last_moment) }
         requires ready { (plant : List Actuator) × (session : ℕ) × (writes : List Setting) × (policy : Policy) × (1 ≤ length writes) × IsReadyToSubmit plant (process_of self.old.attached.items session) writes policy n ready (state_of self.old) }
         requires room { HasRoomFor ready self.old }
         ensures answer { (plant : List Actuator) (session : ℕ) (writes : List Setting) (policy : Policy) → 1 ≤ length writes →
@@ -102,13 +104,13 @@ impl Machine {
     /// The same of a transaction that is not refused.
     fn begin(&mut self, transaction: Transaction, leases: Vec<Lease>, n: u64) -> Answer
         requires can_run { (plant : List Actuator) × CanRun plant self.old }
-        requires begun { IsSomeSubmit n transaction leases.items (durable_of self.old.lasting) }
-        requires next { self.old.lasting.next_txn < 2 ^ 62 }
+        requires begun { IsSomeSubmit n transaction leases.items (persistent_of self.old.lasting) }
+        requires next { self.old.lasting.next_txn < last_number }
         requires room { HasPlacesFor (vec_len leases) self.old }
         ensures answer { result ≡ answer.Accepted self.old.lasting.next_txn (first_until leases.items) }
         ensures after { (owner : ℕ) (policy : Policy) (writes : List Setting) →
-            IsSubmit n transaction leases.items (durable_of self.old.lasting) owner policy writes →
-            durable_of self.new.lasting ≡ submitted owner policy writes n (durable_of self.old.lasting) }
+            IsSubmit n transaction leases.items (persistent_of self.old.lasting) owner policy writes →
+            persistent_of self.new.lasting ≡ submitted owner policy writes n (persistent_of self.old.lasting) }
         ensures others { (self.new.marks ≡ self.old.marks) × (self.new.attached ≡ self.old.attached) }
         ensures places { (plant : List Actuator) → HasPlaces plant self.old → HasPlaces plant self.new }
     {
@@ -130,8 +132,8 @@ impl Machine {
         n: u64,
     ) -> Answer
         requires can_run { (plant : List Actuator) × CanRun plant self.old }
-        requires moment { (self.old.lasting.moment ≤ n) × (n ≤ 2 ^ 60) }
-        requires points { length points.now ≤ 32 }
+        requires moment { (self.old.lasting.moment ≤ n) × (n ≤ last_moment) }
+        requires points { length points.now ≤ most_writes }
         ensures answer { (plant : List Actuator) → result ≡ (act plant session n (command.Renew txn duration points.now) (state_of self.old)).answer }
         ensures state { (plant : List Actuator) → state_of self.new ≡ (act plant session n (command.Renew txn duration points.now) (state_of self.old)).state }
         ensures places { (plant : List Actuator) → HasPlaces plant self.old → HasPlaces plant self.new }
@@ -154,8 +156,8 @@ impl Machine {
     /// The live leases of a transaction end.
     pub fn cancel(&mut self, session: SessionId, txn: Txn, n: u64) -> Answer
         requires can_run { (plant : List Actuator) × CanRun plant self.old }
-        requires passed { IsPassed n (durable_of self.old.lasting) }
-        requires moment { (self.old.lasting.moment ≤ n) × (n ≤ 2 ^ 60) }
+        requires passed { IsPassed n (persistent_of self.old.lasting) }
+        requires moment { (self.old.lasting.moment ≤ n) × (n ≤ last_moment) }
         ensures answer { (plant : List Actuator) → result ≡ (act plant session n (command.Cancel txn) (state_of self.old)).answer }
         ensures state { (plant : List Actuator) → state_of self.new ≡ (act plant session n (command.Cancel txn) (state_of self.old)).state }
         ensures places { (plant : List Actuator) → HasPlaces plant self.old → HasPlaces plant self.new }
@@ -179,8 +181,8 @@ impl Machine {
     /// The session's process is lost: its live leases end, and the session no longer holds it.
     pub fn gone(&mut self, session: SessionId, n: u64) -> Answer
         requires can_run { (plant : List Actuator) × CanRun plant self.old }
-        requires passed { IsPassed n (durable_of self.old.lasting) }
-        requires moment { (self.old.lasting.moment ≤ n) × (n ≤ 2 ^ 60) }
+        requires passed { IsPassed n (persistent_of self.old.lasting) }
+        requires moment { (self.old.lasting.moment ≤ n) × (n ≤ last_moment) }
         ensures answer { (plant : List Actuator) → result ≡ (act plant session n (command.Gone) (state_of self.old)).answer }
         ensures state { (plant : List Actuator) → state_of self.new ≡ (act plant session n (command.Gone) (state_of self.old)).state }
         ensures places { (plant : List Actuator) → HasPlaces plant self.old → HasPlaces plant self.new }
@@ -196,10 +198,10 @@ impl Machine {
     /// The live leases of a process end, if it has any. The answer is how many it had.
     fn lose(&mut self, owner: ProcId, n: u64) -> u64
         requires can_run { (plant : List Actuator) × CanRun plant self.old }
-        requires passed { IsPassed n (durable_of self.old.lasting) }
-        requires moment { (self.old.lasting.moment ≤ n) × (n ≤ 2 ^ 60) }
+        requires passed { IsPassed n (persistent_of self.old.lasting) }
+        requires moment { (self.old.lasting.moment ≤ n) × (n ≤ last_moment) }
         ensures ended { result ≡ length (filter (is_owned_by owner) self.old.lasting.leases.items) }
-        ensures after { durable_of self.new.lasting ≡ lost owner n (durable_of self.old.lasting) }
+        ensures after { persistent_of self.new.lasting ≡ lost owner n (persistent_of self.old.lasting) }
         ensures others { (self.new.marks ≡ self.old.marks) × (self.new.attached ≡ self.old.attached) }
         ensures places { (plant : List Actuator) → HasPlaces plant self.old → HasPlaces plant self.new }
     {
@@ -232,8 +234,8 @@ impl Machine {
     /// Takes a device's answer to a write down.
     pub fn report(&mut self, point: PointId, version: u64, ok: bool, n: u64) -> Answer
         requires can_run { (plant : List Actuator) × CanRun plant self.old × (point < length plant) }
-        requires passed { IsPassed n (durable_of self.old.lasting) }
-        requires moment { (self.old.lasting.moment ≤ n) × (n ≤ 2 ^ 60) }
+        requires passed { IsPassed n (persistent_of self.old.lasting) }
+        requires moment { (self.old.lasting.moment ≤ n) × (n ≤ last_moment) }
         ensures answer { (plant : List Actuator) (session : ℕ) → HasPlaces plant self.old → result ≡ (act plant session n (command.Report point version ok) (state_of self.old)).answer }
         ensures state { (plant : List Actuator) (session : ℕ) → HasPlaces plant self.old → state_of self.new ≡ (act plant session n (command.Report point version ok) (state_of self.old)).state }
         ensures places { (plant : List Actuator) → HasPlaces plant self.old → HasPlaces plant self.new }
@@ -248,10 +250,10 @@ impl Machine {
 
     /// What follows for the lease in force on a point, whose device has failed to take its value, for the first time or again.
     fn follow_up(&mut self, point: PointId, first: bool, n: u64)
-        requires can_run { (plant : List Actuator) × IsSoundDurable plant (durable_of self.old.lasting) × HasPlaces plant self.old }
-        requires passed { IsPassed n (durable_of self.old.lasting) }
-        requires moment { (self.old.lasting.moment ≤ n) × (n ≤ 2 ^ 60) }
-        ensures after { durable_of self.new.lasting ≡ (if first then faulted (in_force (durable_of self.old.lasting).leases point) n (durable_of self.old.lasting) else durable_of self.old.lasting) }
+        requires can_run { (plant : List Actuator) × IsSoundPersistent plant (persistent_of self.old.lasting) × HasPlaces plant self.old }
+        requires passed { IsPassed n (persistent_of self.old.lasting) }
+        requires moment { (self.old.lasting.moment ≤ n) × (n ≤ last_moment) }
+        ensures after { persistent_of self.new.lasting ≡ (if first then faulted (in_force (persistent_of self.old.lasting).leases point) n (persistent_of self.old.lasting) else persistent_of self.old.lasting) }
         ensures others { (self.new.marks ≡ self.old.marks) × (self.new.attached ≡ self.old.attached) }
         ensures places { (plant : List Actuator) → HasPlaces plant self.old → HasPlaces plant self.new }
     {
@@ -268,11 +270,11 @@ impl Machine {
 
     /// The owner is told of a fault, and all live leases of the transaction end.
     fn abort(&mut self, happened: Happening, n: u64)
-        requires can_run { (plant : List Actuator) × IsSoundDurable plant (durable_of self.old.lasting) × HasPlaces plant self.old }
-        requires passed { IsPassed n (durable_of self.old.lasting) }
-        requires moment { (self.old.lasting.moment ≤ n) × (n ≤ 2 ^ 60) }
-        requires fault { (point : ℕ) × (lease : Lease) × (in_force (durable_of self.old.lasting).leases point ≡ Some lease) × (happened ≡ fault n lease) }
-        ensures after { durable_of self.new.lasting ≡ end_leases (is_of happened.txn) cause.Fault n (happened ∷ []) (durable_of self.old.lasting) }
+        requires can_run { (plant : List Actuator) × IsSoundPersistent plant (persistent_of self.old.lasting) × HasPlaces plant self.old }
+        requires passed { IsPassed n (persistent_of self.old.lasting) }
+        requires moment { (self.old.lasting.moment ≤ n) × (n ≤ last_moment) }
+        requires fault { (point : ℕ) × (lease : Lease) × (in_force (persistent_of self.old.lasting).leases point ≡ Some lease) × (happened ≡ fault n lease) }
+        ensures after { persistent_of self.new.lasting ≡ end_leases (is_of happened.txn) cause.Fault n (happened ∷ []) (persistent_of self.old.lasting) }
         ensures others { (self.new.marks ≡ self.old.marks) × (self.new.attached ≡ self.old.attached) }
         ensures places { (plant : List Actuator) → HasPlaces plant self.old → HasPlaces plant self.new }
     {
@@ -292,7 +294,7 @@ impl Machine {
     /// The owner is told of a fault.
     fn tell(&mut self, happened: Happening, n: u64)
         requires owner { happened.owner < length self.old.lasting.processes }
-        ensures after { durable_of self.new.lasting ≡ record (durable_of self.old.lasting) { now = n; processes = tell self.old.lasting.processes happened } }
+        ensures after { persistent_of self.new.lasting ≡ record (persistent_of self.old.lasting) { now = n; processes = tell self.old.lasting.processes happened } }
         ensures others { (self.new.marks ≡ self.old.marks) × (self.new.attached ≡ self.old.attached) }
         ensures places { (plant : List Actuator) → HasPlaces plant self.old → HasPlaces plant self.new }
     {

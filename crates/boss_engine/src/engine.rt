@@ -1,11 +1,12 @@
-ghost use Rattle.std.specs.Prelude.{◌≡◌, ◌≤◌, ◌^◌, length, IfOk, OnErr};
+ghost use Rattle.std.specs.Prelude.{◌≡◌, ◌≤◌, length, IfOk, OnErr};
 ghost use Rattle.boss_model.specs.Catalogue.{actuators};
 ghost use Rattle.boss_model.specs.Devices.{wanting};
+ghost use Rattle.boss_model.specs.Limits.{last_moment, most_points};
 ghost use Rattle.boss_model.specs.Machine.{step};
 ghost use Rattle.boss_model.specs.Settle.{first_state};
 ghost use Rattle.boss_model.specs.Sound.{IsAllowed, IsSound};
 ghost use Rattle.boss_points.specs.Seen.{seen};
-ghost use Rattle.boss_engine.specs.Ready.{MayWant};
+ghost use Rattle.boss_engine.specs.Ready.{MayNeedMemory};
 
 use crate::machine::Machine;
 use boss_model::{Actuator, Answer, Command, DriverId, NoMemory, PointId, SessionId};
@@ -49,7 +50,7 @@ impl Engine {
     /// The engine of a plant before anything was done: no process, no lease, and every point wants its
     /// default. Room is taken for sixteen slots of each point, 256 sessions, and what is told in a step.
     fn for_plant(alloc: Global, plant: Vec<Actuator>) -> Result<Engine, NoMemory>
-        requires { length plant.items ≤ 1024 }
+        requires { length plant.items ≤ most_points }
         ensures { IfOk result (λ engine. engine ≡ record { plant = plant.items; state = first_state plant.items }) }
     {
         let machine = Machine::first(alloc, &plant)?;
@@ -75,7 +76,7 @@ impl Engine {
         command: &Command,
         moment: u64,
     ) -> Result<Answer, NoMemory>
-        requires moment { moment ≤ 2 ^ 60 }
+        requires moment { moment ≤ last_moment }
         requires allowed { IsAllowed self.old.plant command.now }
 
         ensures answer { IfOk result (λ answer. answer ≡ (step self.old.plant session command.now moment self.old.state).answer) }
@@ -83,7 +84,7 @@ impl Engine {
         ensures sound { IsSound self.new.plant self.new.state }
         ensures plant { self.new.plant ≡ self.old.plant }
         ensures err { OnErr result (self.new ≡ self.old) }
-        ensures want { OnErr result (MayWant self.old.plant session command.now self.old.state) }
+        ensures memory { OnErr result (MayNeedMemory self.old.plant session command.now self.old.state) }
     {
         self.machine.step(&self.plant, session, command, moment)
     }
@@ -92,7 +93,7 @@ impl Engine {
 /// What the machine knows of a catalogue's points.
 fn plant_of(alloc: Global, catalogue: &Catalogue) -> Result<Vec<Actuator>, NoMemory>
     ensures points { IfOk result (λ plant. plant.items ≡ actuators catalogue.now) }
-    ensures few { IfOk result (λ plant. length plant.items ≤ 1024) }
+    ensures few { IfOk result (λ plant. length plant.items ≤ most_points) }
 {
     let mut plant = Vec::new(alloc);
     for place in 0..catalogue.count() {

@@ -6,7 +6,6 @@ mod attached;
 mod booking;
 mod commands;
 mod engine;
-mod happening;
 mod lasting;
 mod machine;
 mod preparing;

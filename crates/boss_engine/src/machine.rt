@@ -1,24 +1,23 @@
-ghost use Rattle.std.specs.Prelude.{◌≡◌, ◌≤◌, ◌^◌, length, map, IfOk, OnOk, OnErr};
+ghost use Rattle.std.specs.Prelude.{◌≡◌, ◌≤◌, length, map, IfOk, OnOk, OnErr};
+ghost use Rattle.boss_model.specs.Limits.{last_moment, most_points};
 ghost use Rattle.boss_model.specs.Machine.{act, pass_time, step};
 ghost use Rattle.boss_model.specs.Sound.{IsAllowed, IsSound};
 ghost use Rattle.boss_model.specs.Settle.{first_state};
 ghost use Rattle.boss_engine.specs.declared.ready.Ready.{Ready};
 ghost use Rattle.boss_engine.specs.Inside.{CanRun, HasPlaces, state_of};
-ghost use Rattle.boss_engine.specs.Lasting.{IsPassed, durable_of};
-ghost use Rattle.boss_engine.specs.Ready.{HasRoomFor, IsReadyFor, MayWant};
+ghost use Rattle.boss_engine.specs.Lasting.{persistent_of};
+ghost use Rattle.boss_books.specs.Passed.{IsPassed};
+ghost use Rattle.boss_engine.specs.Ready.{HasRoomFor, IsReadyFor, MayNeedMemory};
 
 use crate::attached::Attachment;
-use crate::happening::Telling;
 use crate::lasting::Lasting;
 use crate::queries::status;
 use crate::ready::Ready;
 use crate::settling::settle;
+use boss_books::Telling;
 use boss_marks::Marks;
-use boss_model::{Actuator, Answer, Command, DriverId, Items, NoMemory, SessionId};
+use boss_model::{Actuator, Answer, Command, DriverId, Items, MOST_PROCESSES, NoMemory, SessionId};
 use std::alloc::Global;
-
-/// The most sessions that hold a process.
-const MOST_ATTACHED: usize = 256;
 
 /// The most that one step tells of a point's slots: of each that a lease ended, and that its reversion did.
 const TOLD_OF_A_POINT: usize = 32;
@@ -37,14 +36,14 @@ pub struct Machine {
 impl Machine {
     /// The first state of a plant, with room for what its commands do.
     pub fn first(alloc: Global, plant: &[Actuator]) -> Result<Machine, NoMemory>
-        requires { length plant.now ≤ 1024 }
+        requires { length plant.now ≤ most_points }
         ensures state { IfOk result (λ machine. state_of machine ≡ first_state plant.now) }
         ensures ready { IfOk result (HasPlaces plant.now) }
     {
         Ok(Machine {
             alloc,
             lasting: Lasting::first(alloc, plant.len() as u32)?,
-            attached: Vec::with_capacity(alloc, MOST_ATTACHED)?,
+            attached: Vec::with_capacity(alloc, MOST_PROCESSES)?,
             marks: Marks::new(alloc, &devices_of(alloc, plant)?)?,
             told: Vec::with_capacity(alloc, plant.len() * TOLD_OF_A_POINT + 1)?,
         })
@@ -59,14 +58,14 @@ impl Machine {
         command: &Command,
         moment: u64,
     ) -> Result<Answer, NoMemory>
-        requires moment { moment ≤ 2 ^ 60 }
+        requires moment { moment ≤ last_moment }
         requires allowed { IsAllowed plant.now command.now }
         requires ready { CanRun plant.now self.old }
         ensures answer { IfOk result (λ answer. answer ≡ (step plant.now session command.now moment (state_of self.old)).answer) }
         ensures state { OnOk result (state_of self.new ≡ (step plant.now session command.now moment (state_of self.old)).state) }
         ensures ready { CanRun plant.now self.new }
         ensures err { OnErr result (state_of self.new ≡ state_of self.old) }
-        ensures want { OnErr result (MayWant plant.now session command.now (state_of self.old)) }
+        ensures memory { OnErr result (MayNeedMemory plant.now session command.now (state_of self.old)) }
     {
         let n = self.lasting.moment.max(moment);
         let ready = self.make_ready(plant, session, command, n)?;
@@ -78,7 +77,7 @@ impl Machine {
 
     /// Lets time pass up to `n`, failed devices be tried again, and the points settle.
     fn pass_time(&mut self, plant: &[Actuator], n: u64)
-        requires moment { (self.old.lasting.moment ≤ n) × (n ≤ 2 ^ 60) }
+        requires moment { (self.old.lasting.moment ≤ n) × (n ≤ last_moment) }
         requires ready { CanRun plant.now self.old }
         ensures state { state_of self.new ≡ pass_time plant.now n (state_of self.old) }
         ensures places { HasPlaces plant.now self.new }
@@ -98,8 +97,8 @@ impl Machine {
         n: u64,
         ready: Ready,
     ) -> Answer
-        requires passed { IsPassed n (durable_of self.old.lasting) }
-        requires moment { (self.old.lasting.moment ≤ n) × (n ≤ 2 ^ 60) }
+        requires passed { IsPassed n (persistent_of self.old.lasting) }
+        requires moment { (self.old.lasting.moment ≤ n) × (n ≤ last_moment) }
         requires allowed { IsAllowed plant.now command.now }
         requires can_run { CanRun plant.now self.old }
         requires ready { IsReadyFor plant.now session command.now n ready (state_of self.old) }

@@ -1,12 +1,13 @@
 ghost use Rattle.std.specs.Prelude.{◌≡◌, ◌≤◌, ◌<◌, ◌+◌, ◌^◌, List, [], length, map, unsigned_abs, None, vec_capacity, IfOk, OnOk, OnErr};
 ghost use Rattle.std.specs.List.{AllByRecursion};
 ghost use Rattle.boss_model.specs.declared.state.Actuator.{Actuator};
+ghost use Rattle.boss_model.specs.Limits.{last_moment, most_told, most_writes};
 ghost use Rattle.boss_model.specs.Processes.{attach_refused, process_named, process_of};
 ghost use Rattle.boss_model.specs.Sound.{IsAllowed};
 ghost use Rattle.boss_model.specs.Submit.{begun, granted, lease_of};
 ghost use Rattle.boss_engine.specs.Inside.{CanRun, HasPlaces, HasPlacesFor, state_of};
-ghost use Rattle.boss_engine.specs.Lasting.{IsKept, durable_of, most_told};
-ghost use Rattle.boss_engine.specs.Ready.{HasRoomFor, IsReadyFor, IsReadyToAttach, IsReadyToList, IsReadyToSubmit, MayList, MaySubmit, MayTakeOn, MayWant};
+ghost use Rattle.boss_engine.specs.Lasting.{IsKept, persistent_of, most_tellings};
+ghost use Rattle.boss_engine.specs.Ready.{HasRoomFor, IsReadyFor, IsReadyToAttach, IsReadyToList, IsReadyToSubmit, MayList, MaySubmit, MayTakeOn, MayNeedMemory};
 ghost use Rattle.boss_engine.specs.Writing.{IsWritable};
 
 use crate::attached::process_of;
@@ -22,9 +23,9 @@ use boss_notices::Ring;
 use boss_stages::Transaction;
 use std::alloc::Global;
 
-/// The memory that a command wants is taken before time passes.
+/// The memory that a command needs is taken before time passes.
 impl Machine {
-    /// Takes the memory that a command will want, if it is not refused. It changes nothing else.
+    /// Takes the memory that a command will need, if it is not refused. It changes nothing else.
     pub fn make_ready(
         &mut self,
         plant: &[Actuator],
@@ -34,12 +35,12 @@ impl Machine {
     ) -> Result<Ready, NoMemory>
         requires allowed { IsAllowed plant.now command.now }
         requires ready { CanRun plant.now self.old }
-        requires moment { n ≤ 2 ^ 60 }
+        requires moment { n ≤ last_moment }
         ensures state { state_of self.new ≡ state_of self.old }
         ensures places { HasPlaces plant.now self.new }
         ensures ready { IfOk result (λ ready. IsReadyFor plant.now session command.now n ready (state_of self.old)) }
         ensures room { IfOk result (λ ready. HasRoomFor ready self.new) }
-        ensures want { OnErr result (MayWant plant.now session command.now (state_of self.old)) }
+        ensures memory { OnErr result (MayNeedMemory plant.now session command.now (state_of self.old)) }
     {
         match command {
             Command::Attach { name } => self.ready_process(session, name),
@@ -56,7 +57,7 @@ impl Machine {
         requires { AllByRecursion (λ attachment. attachment.process < length self.now.lasting.processes) self.now.attached.items }
         ensures ready { IfOk result (λ ready. IsReadyToAttach session name.now ready (state_of self.now)) }
         ensures room { IfOk result (λ ready. HasRoomFor ready self.now) }
-        ensures want { OnErr result ((attach_refused session name.now self.now.attached.items (durable_of self.now.lasting) ≡ None) × MayTakeOn (process_named self.now.lasting.processes name.now)) }
+        ensures memory { OnErr result ((attach_refused session name.now self.now.attached.items (persistent_of self.now.lasting) ≡ None) × MayTakeOn (process_named self.now.lasting.processes name.now)) }
     {
         if let Some(why) = attach_refused(&self.lasting, &self.attached, session, name) {
             return Ok(Ready::Refused(why));
@@ -76,14 +77,14 @@ impl Machine {
         policy: Policy,
         n: u64,
     ) -> Result<Ready, NoMemory>
-        requires writes { length writes.now ≤ 32 }
+        requires writes { length writes.now ≤ most_writes }
         requires ready { CanRun plant.now self.old }
-        requires moment { n ≤ 2 ^ 60 }
+        requires moment { n ≤ last_moment }
         ensures state { state_of self.new ≡ state_of self.old }
         ensures places { HasPlaces plant.now self.new }
         ensures ready { IfOk result (λ ready. IsReadyToSubmit plant.now (process_of self.old.attached.items session) writes.now policy n ready (state_of self.old)) }
         ensures room { IfOk result (λ ready. HasRoomFor ready self.new) }
-        ensures want { OnErr result (MaySubmit plant.now writes.now (process_of self.old.attached.items session) (state_of self.old)) }
+        ensures memory { OnErr result (MaySubmit plant.now writes.now (process_of self.old.attached.items session) (state_of self.old)) }
     {
         let Some(owner) = process_of(&self.attached, session) else {
             return Ok(Ready::Refused(Refusal::NotAttached));
@@ -101,14 +102,14 @@ impl Machine {
 
     /// Makes room for a transaction of so many writes.
     fn make_room(&mut self, writes: usize) -> Result<(), NoMemory>
-        requires writes { writes ≤ 32 }
+        requires writes { writes ≤ most_writes }
         requires rows { IsKept self.old.lasting }
-        requires told { most_told self.old.lasting ≤ vec_capacity self.old.told }
+        requires told { most_tellings self.old.lasting ≤ vec_capacity self.old.told }
         ensures state { state_of self.new ≡ state_of self.old }
         ensures places { (plant : List Actuator) → HasPlaces plant self.old → HasPlaces plant self.new }
         ensures room { OnOk result (HasPlacesFor writes self.new) }
     {
-        let most = most_told(&self.lasting) + 2 * writes;
+        let most = most_tellings(&self.lasting) + 2 * writes;
         self.lasting
             .pending
             .reserve(self.lasting.leases.len() + writes)?;
@@ -127,10 +128,10 @@ impl Machine {
         name: &Option<Name>,
         max: u64,
     ) -> Result<Ready, NoMemory>
-        requires { max ≤ 64 }
+        requires { max ≤ most_told }
         ensures ready { IfOk result (IsReadyToList name.now (process_of self.now.attached.items session) max) }
         ensures room { IfOk result (λ ready. HasRoomFor ready self.now) }
-        ensures want { OnErr result (MayList name.now (process_of self.now.attached.items session)) }
+        ensures memory { OnErr result (MayList name.now (process_of self.now.attached.items session)) }
     {
         if name.is_none() && process_of(&self.attached, session).is_none() {
             return Ok(Ready::Refused(Refusal::NotAttached));
@@ -140,9 +141,9 @@ impl Machine {
 }
 
 /// The most that one step tells of these rows.
-fn most_told(lasting: &Lasting) -> usize
-    requires { most_told lasting.now < 2 ^ 63 }
-    ensures { result ≡ most_told lasting.now }
+fn most_tellings(lasting: &Lasting) -> usize
+    requires { most_tellings lasting.now < 2 ^ 63 }
+    ensures { result ≡ most_tellings lasting.now }
 {
     2 * lasting.leases.len() + lasting.pending.len() + 1
 }
@@ -157,7 +158,7 @@ fn granted(
     writes: &[Setting],
 ) -> Result<Vec<Lease>, NoMemory>
     requires writes { AllByRecursion IsWritable writes.now }
-    requires moment { n ≤ 2 ^ 60 }
+    requires moment { n ≤ last_moment }
     ensures { IfOk result (λ leases. leases.items ≡ granted owner policy txn n writes.now) }
 {
     let mut leases = Vec::with_capacity(alloc, writes.len())?;
@@ -177,7 +178,7 @@ fn lease_of(
     write: &Setting,
 ) -> Result<Lease, NoMemory>
     requires write { IsWritable write.now }
-    requires moment { n ≤ 2 ^ 60 }
+    requires moment { n ≤ last_moment }
     ensures { IfOk result (λ lease. lease ≡ lease_of owner policy txn n write.now) }
 {
     let revert = Vec::from_slice(alloc, write.revert.slice())?;

@@ -1,18 +1,16 @@
 ghost use Rattle.std.specs.Prelude.{◌≡◌, ◌<◌, ◌≤◌, ◌+◌, [], ◌∷◌, ◌++◌, length, slice_get, unwrap_or, vec_capacity, IfOk, OnOk, OnErr, Some};
 ghost use Rattle.boss_model.specs.Happenings.{post, tell};
+ghost use Rattle.boss_model.specs.Limits.{most_processes};
 ghost use Rattle.boss_model.specs.Processes.{name_of, next_notice, process_named};
 ghost use Rattle.boss_model.specs.Queries.{first_kept, numbered_from, start};
 ghost use Rattle.boss_notices.specs.Rings.{no_notices};
 ghost use Rattle.boss_engine.specs.Processes.{process_at};
 
-use crate::happening::Happening;
-use boss_model::{Name, NoMemory, Notice, ProcId, Txn, What};
+use boss_books::Happening;
+use boss_model::{MOST_PROCESSES, Name, NoMemory, Notice, ProcId, Txn, What};
 use boss_notices::{Ring, Rings};
 use std::alloc::Global;
 use std::marker::Model;
-
-/// The most processes that there may be.
-pub const MOST_PROCESSES: usize = 256;
 
 /// The control processes, by their places: their names, and what they were told.
 #[derive(Drop)]
@@ -23,6 +21,7 @@ pub struct Processes {
 
 impl Model for Processes {
     ghost use Rattle.std.specs.Prelude.{◌≡◌, List, ◌≤◌, length, vec_capacity};
+    ghost use Rattle.boss_model.specs.Limits.{most_processes};
     ghost use Rattle.boss_model.specs.State.{Process};
     ghost use Rattle.boss_engine.specs.Processes.{processes_of};
 
@@ -30,7 +29,7 @@ impl Model for Processes {
 
     ghost view = { λ p. processes_of p.names.items p.rings };
 
-    ghost invariant = { λ p. (length p.names.items ≡ length p.rings) × (length p.rings ≤ 256) × (256 ≤ vec_capacity p.names) };
+    ghost invariant = { λ p. (length p.names.items ≡ length p.rings) × (length p.rings ≤ most_processes) × (most_processes ≤ vec_capacity p.names) };
 }
 
 impl Processes {
@@ -81,7 +80,7 @@ impl Processes {
 
     /// Takes a process of this name on, which has been told nothing.
     pub fn enrol(&mut self, name: Name, ring: Ring)
-        requires few { length self.old < 256 }
+        requires few { length self.old < most_processes }
         requires empty { ring ≡ no_notices }
         ensures { self.new ≡ self.old ++ (record { name = name; count = 0; kept = [] }) ∷ [] }
     {
@@ -113,49 +112,5 @@ impl Processes {
         ensures list { into.new.items ≡ numbered_from (start (process_at self.now process) from) max (process_at self.now process).kept }
     {
         self.rings.from(process, from, max, into)
-    }
-}
-
-#[cfg(test)]
-mod tests {
-    use super::*;
-    use boss_model::PointId;
-    use std::test::Fail;
-
-    const FAN: PointId = PointId(3);
-
-    fn name(bytes: &[u8]) -> Result<Name, Fail> {
-        let name = Name::new(bytes).ok_or("a name")?;
-        Ok(name)
-    }
-
-    #[test]
-    fn processes_go_by_their_names(rt: HostRuntime) -> Result<(), Fail> {
-        let mut processes = Processes::new(rt.alloc())?;
-        assert_eq!(rt; processes.named(&name(b"night")?), None);
-        processes.enrol(name(b"night")?, Ring::new(rt.alloc())?);
-        processes.enrol(name(b"day")?, Ring::new(rt.alloc())?);
-        assert_eq!(rt; processes.count(), 2);
-        assert_eq!(rt; processes.named(&name(b"day")?), Some(ProcId(1)));
-        assert_eq!(rt; processes.named(&name(b"days")?), None);
-        assert_eq!(rt; processes.name(ProcId(0)).bytes(), b"night".as_slice());
-        Ok(())
-    }
-
-    #[test]
-    fn a_process_has_the_notices_that_it_was_told(rt: HostRuntime) -> Result<(), Fail> {
-        let mut processes = Processes::new(rt.alloc())?;
-        processes.enrol(name(b"night")?, Ring::new(rt.alloc())?);
-        processes.tell(&Happening {
-            at: 7000,
-            txn: Txn(1),
-            owner: ProcId(0),
-            what: What::Reverted { point: FAN },
-        });
-        assert_eq!(rt; processes.next_notice(ProcId(0)), 2);
-        let mut list = Vec::with_capacity(rt.alloc(), 4)?;
-        assert_eq!(rt; processes.notices(ProcId(0), 1, 4, &mut list), (1, 2));
-        assert_eq!(rt; list.len(), 1);
-        Ok(())
     }
 }

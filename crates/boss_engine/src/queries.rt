@@ -5,7 +5,7 @@ ghost use Rattle.boss_model.specs.Lists.{member};
 ghost use Rattle.boss_model.specs.Queries.{notices, stage_of, status, status_of};
 ghost use Rattle.boss_model.specs.Renew.{extended_if, is_meant};
 ghost use Rattle.boss_model.specs.Submit.{first_until};
-ghost use Rattle.boss_engine.specs.Lasting.{durable_of};
+ghost use Rattle.boss_engine.specs.Lasting.{persistent_of};
 
 use crate::lasting::Lasting;
 use boss_model::{Answer, Items, Lease, Notice, Pending, PointId, ProcId, Refusal, Stage, Txn};
@@ -13,8 +13,8 @@ use boss_stages::Transaction;
 
 /// How far the transaction has come.
 pub fn status(lasting: &Lasting, txn: Txn) -> Answer
-    requires { AllByRecursion (λ transaction. transaction.owner < length (durable_of lasting.now).processes) (durable_of lasting.now).txns }
-    ensures { result ≡ status txn (durable_of lasting.now) }
+    requires { AllByRecursion (λ transaction. transaction.owner < length (persistent_of lasting.now).processes) (persistent_of lasting.now).txns }
+    ensures { result ≡ status txn (persistent_of lasting.now) }
 {
     match lasting.stages.find(txn) {
         Some(transaction) => status_of(lasting, transaction),
@@ -24,8 +24,8 @@ pub fn status(lasting: &Lasting, txn: Txn) -> Answer
 
 /// The same of a transaction that is kept.
 fn status_of(lasting: &Lasting, transaction: &Transaction) -> Answer
-    requires { transaction.now.transaction.owner < length (durable_of lasting.now).processes }
-    ensures { result ≡ status_of (Some transaction.now.transaction) (durable_of lasting.now) }
+    requires { transaction.now.transaction.owner < length (persistent_of lasting.now).processes }
+    ensures { result ≡ status_of (Some transaction.now.transaction) (persistent_of lasting.now) }
 {
     let txn = Txn(transaction.number());
     let live = live_of(&lasting.leases, txn);
@@ -77,9 +77,9 @@ pub fn notices(
     max: u64,
     into: Vec<Notice>,
 ) -> Answer
-    requires process { IfSome process (λ process. process < length (durable_of lasting.now).processes) }
+    requires process { IfSome process (λ process. process < length (persistent_of lasting.now).processes) }
     requires room { max ≤ vec_capacity into }
-    ensures { result ≡ notices process from max (durable_of lasting.now) }
+    ensures { result ≡ notices process from max (persistent_of lasting.now) }
 {
     let mut list = into;
     let (first, next) = match process {

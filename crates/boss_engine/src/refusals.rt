@@ -3,35 +3,26 @@ ghost use Rattle.std.specs.List.{AllByRecursion, list_any};
 ghost use Rattle.std.specs.Option.{option_and_then, option_map};
 ghost use Rattle.boss_model.specs.Catalogue.{fits_at};
 ghost use Rattle.boss_model.specs.Ends.{cancel_refused, is_of};
+ghost use Rattle.boss_model.specs.Limits.{most_writes};
 ghost use Rattle.boss_model.specs.Lists.{first_some, latest};
 ghost use Rattle.boss_model.specs.Processes.{attach_refused, is_full, session_of};
 ghost use Rattle.boss_model.specs.Renew.{named_parts, part_on, renew_refused, wrote};
 ghost use Rattle.boss_model.specs.Submit.{is_length, is_level, is_reversion, is_step, repeated, submit_refused};
 ghost use Rattle.boss_engine.specs.Refusals.{parts_refused};
-ghost use Rattle.boss_engine.specs.Lasting.{durable_of};
+ghost use Rattle.boss_engine.specs.Lasting.{persistent_of};
 
 use crate::attached::{Attachment, process_of, session_of};
 use crate::lasting::Lasting;
-use crate::processes::MOST_PROCESSES;
-use boss_model::{Actuator, Lease, Name, PointId, ProcId, Refusal, SessionId, Setting, Step, Txn};
+use boss_model::{
+    Actuator, LAST_NUMBER, LONGEST_HOLD, LONGEST_LEASE, Lease, MOST_PROCESSES, MOST_STEPS, Name,
+    PointId, ProcId, Refusal, SessionId, Setting, Step, Txn,
+};
 use boss_stages::{End, Part};
-
-/// The number after the last transaction's.
-const SPENT: u64 = 1 << 62;
-
-/// The longest lease, in milliseconds: a week.
-const LONGEST_LEASE: i64 = 604_800_000;
-
-/// The longest hold of a step, in milliseconds: a day.
-const LONGEST_HOLD: i64 = 86_400_000;
-
-/// The most steps of a reversion.
-const MOST_STEPS: usize = 8;
 
 /// Why a submit is refused, if it is.
 pub fn submit_refused(plant: &[Actuator], writes: &[Setting], lasting: &Lasting) -> Option<Refusal>
-    requires { length writes.now ≤ 32 }
-    ensures { result ≡ submit_refused plant.now writes.now (durable_of lasting.now) }
+    requires { length writes.now ≤ most_writes }
+    ensures { result ≡ submit_refused plant.now writes.now (persistent_of lasting.now) }
 {
     if let Some(index) = repeated(writes) {
         return Some(Refusal::SamePoint { index });
@@ -48,7 +39,7 @@ pub fn submit_refused(plant: &[Actuator], writes: &[Setting], lasting: &Lasting)
     if let Some(index) = first_bad_reversion(plant, writes) {
         return Some(Refusal::BadReversion { index });
     }
-    if lasting.next_txn == SPENT {
+    if lasting.next_txn == LAST_NUMBER {
         return Some(Refusal::Spent);
     }
     None
@@ -56,7 +47,7 @@ pub fn submit_refused(plant: &[Actuator], writes: &[Setting], lasting: &Lasting)
 
 /// The first place whose point stands at an earlier one.
 fn repeated(writes: &[Setting]) -> Option<u32>
-    requires { length writes.now ≤ 32 }
+    requires { length writes.now ≤ most_writes }
     ensures { result ≡ repeated [] 0 writes.now }
 {
     for place in 0..writes.len() {
@@ -87,7 +78,7 @@ fn has_point(writes: &[Setting], point: PointId) -> bool
 
 /// The first place whose level may not be written at.
 fn first_bad_level(writes: &[Setting]) -> Option<u32>
-    requires { length writes.now ≤ 32 }
+    requires { length writes.now ≤ most_writes }
     ensures { result ≡ position (λ write. not (is_level write.priority)) writes.now }
 {
     told(writes.iter().position(|write| !is_level(write.priority)))
@@ -103,7 +94,7 @@ fn is_level(priority: i64) -> bool
 
 /// The first place whose value its point does not take.
 fn first_out_of_range(plant: &[Actuator], writes: &[Setting]) -> Option<u32>
-    requires { length writes.now ≤ 32 }
+    requires { length writes.now ≤ most_writes }
     ensures { result ≡ position (λ write. not (fits_at plant.now write.point write.value)) writes.now }
 {
     told(
@@ -125,7 +116,7 @@ fn fits_at(plant: &[Actuator], point: PointId, value: i64) -> bool
 
 /// The first place whose lease is too short or too long.
 fn first_bad_lease(writes: &[Setting]) -> Option<u32>
-    requires { length writes.now ≤ 32 }
+    requires { length writes.now ≤ most_writes }
     ensures { result ≡ position (λ write. not (is_length write.lease)) writes.now }
 {
     told(writes.iter().position(|write| !is_length(write.lease)))
@@ -140,7 +131,7 @@ fn is_length(length: i64) -> bool
 
 /// The first place with a reversion that its point can't play.
 fn first_bad_reversion(plant: &[Actuator], writes: &[Setting]) -> Option<u32>
-    requires { length writes.now ≤ 32 }
+    requires { length writes.now ≤ most_writes }
     ensures { result ≡ position (λ write. not (is_reversion plant.now write.point write.revert)) writes.now }
 {
     told(writes.iter().position(|write| !is_reversion(plant, write.point, write.revert.slice())))
@@ -169,8 +160,8 @@ pub fn renew_refused(
     points: &[PointId],
     n: u64,
 ) -> Option<Refusal>
-    requires { length points.now ≤ 32 }
-    ensures { result ≡ renew_refused owner txn duration points.now n (durable_of lasting.now) }
+    requires { length points.now ≤ most_writes }
+    ensures { result ≡ renew_refused owner txn duration points.now n (persistent_of lasting.now) }
 {
     if !is_length(duration) {
         return Some(Refusal::BadLease { index: 0 });
@@ -186,7 +177,7 @@ pub fn renew_refused(
 
 /// Why a renewal of these parts at moment `n` is refused, if it is.
 fn parts_refused(parts: &[Part], points: &[PointId], n: u64) -> Option<Refusal>
-    requires { length points.now ≤ 32 }
+    requires { length points.now ≤ most_writes }
     ensures { result ≡ parts_refused parts.now points.now n }
 {
     if let Some(index) = first_unwritten(parts, points) {
@@ -204,7 +195,7 @@ fn parts_refused(parts: &[Part], points: &[PointId], n: u64) -> Option<Refusal>
 
 /// The first place of a point that the transaction did not write.
 fn first_unwritten(parts: &[Part], points: &[PointId]) -> Option<u32>
-    requires { length points.now ≤ 32 }
+    requires { length points.now ≤ most_writes }
     ensures { result ≡ position (λ point. not (wrote parts.now point)) points.now }
 {
     told(points.iter().position(|point| !wrote(parts, *point)))
@@ -259,7 +250,7 @@ fn end_on(parts: &[Part], point: PointId) -> Option<End>
 
 /// Why a cancel by this process is refused, if it is.
 pub fn cancel_refused(lasting: &Lasting, owner: ProcId, txn: Txn) -> Option<Refusal>
-    ensures { result ≡ cancel_refused owner txn (durable_of lasting.now) }
+    ensures { result ≡ cancel_refused owner txn (persistent_of lasting.now) }
 {
     let Some(transaction) = lasting.stages.find(txn) else {
         return Some(Refusal::UnknownTxn);
@@ -302,8 +293,8 @@ pub fn attach_refused(
     session: SessionId,
     name: &Name,
 ) -> Option<Refusal>
-    requires { AllByRecursion (λ attachment. attachment.process < length (durable_of lasting.now).processes) attached.now }
-    ensures { result ≡ attach_refused session name.now attached.now (durable_of lasting.now) }
+    requires { AllByRecursion (λ attachment. attachment.process < length (persistent_of lasting.now).processes) attached.now }
+    ensures { result ≡ attach_refused session name.now attached.now (persistent_of lasting.now) }
 {
     if let Some(process) = process_of(attached, session) {
         return Some(Refusal::Already {
@@ -328,7 +319,7 @@ fn taken(attached: &[Attachment], process: ProcId) -> Option<Refusal>
 
 /// There are as many processes as there may be.
 fn full(lasting: &Lasting) -> Option<Refusal>
-    ensures { result ≡ (if is_full (durable_of lasting.now).processes then Some Refusal.TooManyProcesses else None) }
+    ensures { result ≡ (if is_full (persistent_of lasting.now).processes then Some Refusal.TooManyProcesses else None) }
 {
     if MOST_PROCESSES <= lasting.processes.count() {
         return Some(Refusal::TooManyProcesses);

@@ -1,6 +1,6 @@
 ghost use Rattle.std.specs.Prelude.{◌≡◌, ◌≤◌, ◌+◌, ◌^◌, nat_lt};
 ghost use Rattle.boss_model.specs.Reversions.{end_of, hold, over, value_at, value_from};
-ghost use Rattle.boss_engine.specs.Playing.{CanPlay, IsPlayable, last_turn};
+ghost use Rattle.boss_books.specs.Playing.{CanPlay, IsPlayable, last_turn};
 
 use boss_model::{Pending, Step};
 

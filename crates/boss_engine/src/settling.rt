@@ -1,7 +1,7 @@
 ghost use Rattle.std.specs.Prelude.{◌≡◌, length};
 ghost use Rattle.std.specs.List.{AllByRecursion};
-ghost use Rattle.boss_engine.specs.Playing.{IsPlayable};
-ghost use Rattle.boss_engine.specs.Lasting.{durable_of};
+ghost use Rattle.boss_books.specs.Playing.{IsPlayable};
+ghost use Rattle.boss_engine.specs.Lasting.{persistent_of};
 ghost use Rattle.boss_engine.specs.Settling.{settled_by};
 
 use crate::lasting::Lasting;
@@ -13,7 +13,7 @@ use boss_model::{Actuator, PointId};
 pub fn settle(plant: &[Actuator], lasting: &Lasting, marks: &mut Marks)
     requires number { length marks.old.proxies ≡ length plant.now }
     requires pending { AllByRecursion IsPlayable lasting.now.pending.items }
-    ensures { marks.new ≡ settled_by plant.now (durable_of lasting.now) marks.old }
+    ensures { marks.new ≡ settled_by plant.now (persistent_of lasting.now) marks.old }
 {
     for place in 0..marks.count() {
         let point = PointId(place as u32);

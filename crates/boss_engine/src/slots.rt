@@ -16,7 +16,7 @@ use crate::target::lease_holds;
 use boss_model::{Lease, Pending, PointId, Priority, ProcId, Txn};
 
 /// Which leases are to end before their time.
-#[derive(Clone, Copy, Debug, PartialEq, Eq)]
+#[derive(Clone, Copy)]
 pub enum Which {
     /// All those of a transaction.
     OfTransaction(Txn),

@@ -5,7 +5,7 @@ ghost use Rattle.boss_model.specs.Order.{kept};
 ghost use Rattle.boss_model.specs.Queries.{playing_slot};
 ghost use Rattle.boss_model.specs.Reversions.{value_at};
 ghost use Rattle.boss_model.specs.Target.{basis_of, in_force, playing, value_of};
-ghost use Rattle.boss_engine.specs.Playing.{IsPlayable};
+ghost use Rattle.boss_books.specs.Playing.{IsPlayable};
 ghost use Rattle.boss_engine.specs.Slots.{slot_in, slots_in};
 
 use crate::reversions::{end_of, value_at};

@@ -3,14 +3,14 @@ ghost use Rattle.std.specs.List.{AllByRecursion};
 ghost use Rattle.boss_model.specs.Ends.{shortened};
 ghost use Rattle.boss_model.specs.Reversions.{reversion_of};
 ghost use Rattle.boss_model.specs.Submit.{cut, is_taken, superseded};
-ghost use Rattle.boss_engine.specs.Due.{last_of_lease, last_of_pending};
-ghost use Rattle.boss_engine.specs.Gathered.{end_tellings, ended_with, lease_tellings, pending_tellings, plain};
+ghost use Rattle.boss_books.specs.Due.{last_of_lease, last_of_pending};
+ghost use Rattle.boss_books.specs.Gathered.{end_tellings, ended_with, lease_tellings, pending_tellings, plain};
 ghost use Rattle.boss_engine.specs.Meant.{is_meant};
-ghost use Rattle.boss_engine.specs.Playing.{IsEndable, IsPlayable};
+ghost use Rattle.boss_books.specs.Playing.{IsEndable, IsPlayable};
 
-use crate::happening::{Happening, Telling};
 use crate::reversions::{end_of, last_turn, over};
 use crate::slots::{Which, is_meant, is_taken};
+use boss_books::{Happening, Telling};
 use boss_model::{Cause, Lease, Pending, PointId, ProcId, Txn, What};
 
 /// The last moment up to `n` at which something is due, or `now` where nothing is.

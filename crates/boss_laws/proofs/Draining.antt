@@ -1,5 +1,5 @@
 -- A want that is served takes a want away, or leases.
-use Rattle.std.proofs.Common.{◌≡◌, ℕ, suc, ◌+◌, ◌*◌, ◌^◌, ◌<◌, ◌≤◌, ◌==◌, max, nat_lt, List, [], ◌∷◌, length, map, set, Bool, true, false, not, cond, Option, Some, None, refl, ap, sym, ◌∙◌, subst, arith, zero-add}
+use Rattle.std.proofs.Common.{◌≡◌, ℕ, suc, ◌+◌, ◌*◌, ◌<◌, ◌≤◌, ◌==◌, max, nat_lt, List, [], ◌∷◌, length, map, set, Bool, true, false, not, cond, Option, Some, None, refl, ap, sym, ◌∙◌, subst, arith, zero-add}
 use Rattle.std.specs.List.{filter, find, AllByRecursion, list_any}
 use Rattle.std.proofs.Math.ListN.{length-set}
 use Rattle.std.proofs.Math.Nat.{mul-le-mul_right}
@@ -15,22 +15,23 @@ use Rattle.boss_model.specs.declared.state.Proxy.{Proxy}
 use Rattle.boss_model.specs.Catalogue.{driver_of}
 use Rattle.boss_model.specs.Devices.{Reply, proxy_of, hand_out, next, wanting, is_current, taken, not_taken, faulted_first, heard, report}
 use Rattle.boss_model.specs.Ends.{is_of, shortened_if, faulted_under, faulted}
+use Rattle.boss_model.specs.Limits.{last_moment}
 use Rattle.boss_model.specs.Lists.{without}
 use Rattle.boss_model.specs.Machine.{pass_time, settle_after, step}
 use Rattle.boss_model.specs.Order.{least}
 use Rattle.boss_model.specs.Settle.{settle}
-use Rattle.boss_model.specs.Sound.{Distinct, IsWant, IsSound}
-use Rattle.boss_model.specs.State.{Durable, State}
+use Rattle.boss_model.specs.Sound.{IsWant, IsSound}
+use Rattle.boss_model.specs.State.{Persistent, State}
 use Rattle.boss_model.specs.Target.{in_force, target}
 use Rattle.boss_model.specs.Time.{live}
-use Rattle.boss_model.proofs.Members.{member-without_same, length-le_from_Distinct}
+use Rattle.boss_model.proofs.Members.{member-without_same}
 use Rattle.boss_laws.specs.Draining.{reported, serve, load}
-use Rattle.boss_laws.proofs.Filters.{any-map, few-filter}
-use Rattle.boss_laws.proofs.NothingDue.{nothing-due}
-use Rattle.boss_laws.proofs.Orders.{each-map, each-filter, each-passed, least-of}
-use Rattle.boss_laws.proofs.Places.{member-each, proxy_of-set, proxy_of-other}
+use Rattle.boss_time.proofs.Filters.{any-map, few-filter}
+use Rattle.boss_time.proofs.NothingDue.{nothing-due}
+use Rattle.boss_time.proofs.Orders.{each-map, each-filter, each-passed, least-of}
+use Rattle.boss_time.proofs.Places.{at-most, member-each, proxy_of-set, proxy_of-other}
 use Rattle.boss_laws.proofs.Resting.{IsResting, IsWaiting, settled-at, settle-none, pass-resting, resting-step}
-use Rattle.boss_laws.proofs.SubmitSound.{left-live}
+use Rattle.boss_soundness.proofs.SubmitSound.{left-live}
 use Rattle.boss_laws.proofs.Targets.{target-stays}
 
 -- ---- lists
@@ -46,10 +47,6 @@ shorter test (x ∷ xs) some = cond_both (test x) true false (λ b. test x ≡ b
 some-of : {X : Type 0} (test : X → X → Bool) → ((x : X) → test x x ≡ true) → (xs : List X) → AllByRecursion (λ x. list_any (test x) xs ≡ true) xs
 some-of test self [] = tt
 some-of test self (x ∷ xs) = (grind (arith, self x), each-map (λ y. list_any (test y) xs ≡ true) (λ y. list_any (test y) (x ∷ xs) ≡ true) (λ y there. grind (arith)) xs (some-of test self xs))
-
--- numbers below n that are all different are at most n
-pub at-most : (n : ℕ) (xs : List ℕ) → Distinct xs → AllByRecursion (λ x. x < n) xs → length xs ≤ n
-at-most n xs once below = length-le_from_Distinct xs n once (λ x there. member-each (λ y. y < n) x xs below there)
 
 few-wants : (plant : List Actuator) (s : State) → IsSound plant s → length s.wants ≤ length plant
 few-wants plant s sound = at-most (length plant) s.wants sound.once
@@ -79,7 +76,7 @@ none-wanted plant (w ∷ ws) none = cc
 
 -- ---- one round
 
-module _ (plant : List Actuator) (m n : ℕ) (small : m ≤ 2 ^ 60) where
+module _ (plant : List Actuator) (m n : ℕ) (small : m ≤ last_moment) where
   hand-step : (s : State) (driver point : ℕ) → IsResting plant m n s → find (λ p. driver_of plant p == driver) s.wants ≡ Some point →
       step plant 0 (command.Next driver) m s
       ≡ record { answer = answer.Want point (proxy_of s.proxies point).version (proxy_of s.proxies point).commanded; state = record s { wants = without point s.wants } }
@@ -90,7 +87,7 @@ module _ (plant : List Actuator) (m n : ℕ) (small : m ≤ 2 ^ 60) where
       ∙ ap (λ f. settle_after plant (hand_out f s)) found
       ∙ ap (λ t. record { answer = answer.Want point (proxy_of s.proxies point).version (proxy_of s.proxies point).commanded; state = t })
       (settle-none plant (record s { wants = without point s.wants })
-      (λ k within. settled-at plant s.durable 0 s.proxies rests.sound.commanded k within ∙ ap (target plant s.durable) (zero-add k)))
+      (λ k within. settled-at plant s.persistent 0 s.proxies rests.sound.commanded k within ∙ ap (target plant s.persistent) (zero-add k)))
 
   hand-waits : (found : Option ℕ) (s : State) → ((k : ℕ) → k < length s.proxies → IsWaiting n (proxy_of s.proxies k)) →
       (k : ℕ) → k < length (hand_out found s).state.proxies → IsWaiting n (proxy_of (hand_out found s).state.proxies k)
@@ -133,11 +130,11 @@ module _ (plant : List Actuator) (m n : ℕ) (small : m ≤ 2 ^ 60) where
       ∙ ap (λ b. settle plant (cond {A = Reply} b (record { answer = answer.Noted true; state = heard n point ok s }) (record { answer = answer.Noted false; state = s })).state) current
 
   -- a device's report that leaves the targets leaves the wants
-  marked-stays : (s : State) (d : Durable) (point : ℕ) (q : Proxy) → IsResting plant m n s → point < length s.proxies → q.commanded ≡ (proxy_of s.proxies point).commanded →
-      ((k : ℕ) → target plant d k ≡ target plant s.durable k) → settle plant (record s { durable = d; proxies = set s.proxies point q }) ≡ record s { durable = d; proxies = set s.proxies point q }
-  marked-stays s d point q rests known same targets = settle-none plant (record s { durable = d; proxies = set s.proxies point q }) (λ k within.
-      let before : (proxy_of s.proxies k).commanded ≡ target plant s.durable k =
-      settled-at plant s.durable 0 s.proxies rests.sound.commanded k (omega (arith, length-set s.proxies point q)) ∙ ap (target plant s.durable) (zero-add k) in
+  marked-stays : (s : State) (d : Persistent) (point : ℕ) (q : Proxy) → IsResting plant m n s → point < length s.proxies → q.commanded ≡ (proxy_of s.proxies point).commanded →
+      ((k : ℕ) → target plant d k ≡ target plant s.persistent k) → settle plant (record s { persistent = d; proxies = set s.proxies point q }) ≡ record s { persistent = d; proxies = set s.proxies point q }
+  marked-stays s d point q rests known same targets = settle-none plant (record s { persistent = d; proxies = set s.proxies point q }) (λ k within.
+      let before : (proxy_of s.proxies k).commanded ≡ target plant s.persistent k =
+      settled-at plant s.persistent 0 s.proxies rests.sound.commanded k (omega (arith, length-set s.proxies point q)) ∙ ap (target plant s.persistent) (zero-add k) in
       cond_both (k == point) true false (λ b. (k == point) ≡ b → (proxy_of (set s.proxies point q) k).commanded ≡ target plant d k)
       (λ is _. let here : k ≡ point = grind (arith, nat_tests) in
       ap (λ j. (proxy_of (set s.proxies point q) j).commanded) here ∙ ap (λ p. p.commanded) (proxy_of-set s.proxies point q known) ∙ same
@@ -163,46 +160,46 @@ module _ (plant : List Actuator) (m n : ℕ) (small : m ≤ 2 ^ 60) where
     less = shorter (λ y. y == point) s.wants wanted
 
     -- a mark that leaves leases and targets
-    lighter-mark : (d : Durable) (q : Proxy) → q.commanded ≡ (proxy_of s.proxies point).commanded → length d.leases ≡ length s.durable.leases →
-        ((k : ℕ) → target plant d k ≡ target plant s.durable k) → load plant (settle plant (record s1 { durable = d; proxies = set s.proxies point q })) < load plant s
+    lighter-mark : (d : Persistent) (q : Proxy) → q.commanded ≡ (proxy_of s.proxies point).commanded → length d.leases ≡ length s.persistent.leases →
+        ((k : ℕ) → target plant d k ≡ target plant s.persistent k) → load plant (settle plant (record s1 { persistent = d; proxies = set s.proxies point q })) < load plant s
     lighter-mark d q same leases targets = subst (λ t. load plant t < load plant s) (sym (marked-stays s1 d point q rests1 known same targets))
-        (fewer-wants (length d.leases) (length s.durable.leases) (length (without point s.wants)) (length s.wants) leases less)
+        (fewer-wants (length d.leases) (length s.persistent.leases) (length (without point s.wants)) (length s.wants) leases less)
 
-    within : s.durable.now ≤ n
-    within = let moment : max s.durable.now m ≡ n = rests.moment in omega arith
+    within : s.persistent.now ≤ n
+    within = let moment : max s.persistent.now m ≡ n = rests.moment in omega arith
 
-    all-live : AllByRecursion (λ lease. n < lease.until) s.durable.leases
-    all-live = subst (AllByRecursion (λ lease. n < lease.until)) (ap (λ d. d.leases) (nothing-due plant s.durable n rests.sound.durable within rests.nothing))
-        (each-passed (λ lease. n < lease.until) (λ lease. nat_lt n lease.until) (λ lease passed. grind (arith, nat_tests)) s.durable.leases)
+    all-live : AllByRecursion (λ lease. n < lease.until) s.persistent.leases
+    all-live = subst (AllByRecursion (λ lease. n < lease.until)) (ap (λ d. d.leases) (nothing-due plant s.persistent n rests.sound.persistent within rests.nothing))
+        (each-passed (λ lease. n < lease.until) (λ lease. nat_lt n lease.until) (λ lease passed. grind (arith, nat_tests)) s.persistent.leases)
 
-    lighter-fault : (policy : Policy) (lease : Lease) (q : Proxy) → q.commanded ≡ (proxy_of s.proxies point).commanded → list_any (is_of lease.txn) s.durable.leases ≡ true →
-        length (settle plant (record s1 { durable = faulted_under policy lease n s.durable; proxies = set s.proxies point q })).wants ≤ length plant →
-        load plant (settle plant (record s1 { durable = faulted_under policy lease n s.durable; proxies = set s.proxies point q })) < load plant s
-    lighter-fault Keep lease q same held few = lighter-mark (faulted_under Keep lease n s.durable) q same refl
-        (λ k. target-stays plant s.durable n k rests.sound.durable within rests.nothing)
+    lighter-fault : (policy : Policy) (lease : Lease) (q : Proxy) → q.commanded ≡ (proxy_of s.proxies point).commanded → list_any (is_of lease.txn) s.persistent.leases ≡ true →
+        length (settle plant (record s1 { persistent = faulted_under policy lease n s.persistent; proxies = set s.proxies point q })).wants ≤ length plant →
+        load plant (settle plant (record s1 { persistent = faulted_under policy lease n s.persistent; proxies = set s.proxies point q })) < load plant s
+    lighter-fault Keep lease q same held few = lighter-mark (faulted_under Keep lease n s.persistent) q same refl
+        (λ k. target-stays plant s.persistent n k rests.sound.persistent within rests.nothing)
     lighter-fault Abort lease q same held few =
-        let w = length (settle plant (record s1 { durable = faulted_under Abort lease n s.durable; proxies = set s.proxies point q })).wants in
-        let fewer : length (live n (map (shortened_if (is_of lease.txn) n) s.durable.leases)) < length s.durable.leases =
-        subst (λ ls. length ls < length s.durable.leases) (sym (left-live (is_of lease.txn) n s.durable.leases all-live)) (shorter (is_of lease.txn) s.durable.leases held) in
-        fewer-leases (length (live n (map (shortened_if (is_of lease.txn) n) s.durable.leases))) (length s.durable.leases) w (length s.wants) fewer few
+        let w = length (settle plant (record s1 { persistent = faulted_under Abort lease n s.persistent; proxies = set s.proxies point q })).wants in
+        let fewer : length (live n (map (shortened_if (is_of lease.txn) n) s.persistent.leases)) < length s.persistent.leases =
+        subst (λ ls. length ls < length s.persistent.leases) (sym (left-live (is_of lease.txn) n s.persistent.leases all-live)) (shorter (is_of lease.txn) s.persistent.leases held) in
+        fewer-leases (length (live n (map (shortened_if (is_of lease.txn) n) s.persistent.leases))) (length s.persistent.leases) w (length s.wants) fewer few
 
-    lighter-found : (found : Option Lease) (q : Proxy) → in_force s.durable.leases point ≡ found → q.commanded ≡ (proxy_of s.proxies point).commanded →
-        length (settle plant (record s1 { durable = faulted found n s.durable; proxies = set s.proxies point q })).wants ≤ length plant →
-        load plant (settle plant (record s1 { durable = faulted found n s.durable; proxies = set s.proxies point q })) < load plant s
-    lighter-found None q is same few = lighter-mark s.durable q same refl (λ k. refl)
+    lighter-found : (found : Option Lease) (q : Proxy) → in_force s.persistent.leases point ≡ found → q.commanded ≡ (proxy_of s.proxies point).commanded →
+        length (settle plant (record s1 { persistent = faulted found n s.persistent; proxies = set s.proxies point q })).wants ≤ length plant →
+        load plant (settle plant (record s1 { persistent = faulted found n s.persistent; proxies = set s.proxies point q })) < load plant s
+    lighter-found None q is same few = lighter-mark s.persistent q same refl (λ k. refl)
     lighter-found (Some lease) q is same few = lighter-fault lease.policy lease q same
-        (least-of (λ l. list_any (is_of l.txn) s.durable.leases ≡ true) (λ l. l.priority) (filter (λ l. l.point == point) s.durable.leases) lease
-        (each-filter (λ l. list_any (is_of l.txn) s.durable.leases ≡ true) (λ l. l.point == point) s.durable.leases (some-of (λ x y. y.txn == x.txn) (λ x. grind (arith, nat_tests)) s.durable.leases)) is) few
+        (least-of (λ l. list_any (is_of l.txn) s.persistent.leases ≡ true) (λ l. l.priority) (filter (λ l. l.point == point) s.persistent.leases) lease
+        (each-filter (λ l. list_any (is_of l.txn) s.persistent.leases ≡ true) (λ l. l.point == point) s.persistent.leases (some-of (λ x y. y.txn == x.txn) (λ x. grind (arith, nat_tests)) s.persistent.leases)) is) few
 
     lighter-heard : (ok : Bool) → length (settle plant (heard n point ok s1)).wants ≤ length plant → load plant (settle plant (heard n point ok s1)) < load plant s
-    lighter-heard true few = lighter-mark s.durable (taken (proxy_of s.proxies point)) refl refl (λ k. refl)
+    lighter-heard true few = lighter-mark s.persistent (taken (proxy_of s.proxies point)) refl refl (λ k. refl)
     lighter-heard false few = by (proxy_of s.proxies point).failed few
       where
         by : (failed : Bool) →
-            length (settle plant (record s1 { durable = faulted_first failed point n s.durable; proxies = set s.proxies point (not_taken n (proxy_of s.proxies point)) })).wants ≤ length plant →
-            load plant (settle plant (record s1 { durable = faulted_first failed point n s.durable; proxies = set s.proxies point (not_taken n (proxy_of s.proxies point)) })) < load plant s
-        by true few_wants = lighter-mark s.durable (not_taken n (proxy_of s.proxies point)) refl refl (λ k. refl)
-        by false few_wants = lighter-found (in_force s.durable.leases point) (not_taken n (proxy_of s.proxies point)) refl refl few_wants
+            length (settle plant (record s1 { persistent = faulted_first failed point n s.persistent; proxies = set s.proxies point (not_taken n (proxy_of s.proxies point)) })).wants ≤ length plant →
+            load plant (settle plant (record s1 { persistent = faulted_first failed point n s.persistent; proxies = set s.proxies point (not_taken n (proxy_of s.proxies point)) })) < load plant s
+        by true few_wants = lighter-mark s.persistent (not_taken n (proxy_of s.proxies point)) refl refl (λ k. refl)
+        by false few_wants = lighter-found (in_force s.persistent.leases point) (not_taken n (proxy_of s.proxies point)) refl refl few_wants
 
   -- a served want leaves a state at rest with a lighter load
   pub served-found : (s : State) (driver point : ℕ) (ok : Bool) → IsResting plant m n s → find (λ p. driver_of plant p == driver) s.wants ≡ Some point →

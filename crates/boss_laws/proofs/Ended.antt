@@ -1,5 +1,5 @@
 -- An ended refusal is a renewal's, and tells the end that is kept.
-use Rattle.std.proofs.Common.{◌≡◌, ℕ, ◌^◌, ◌≤◌, ◌==◌, max, ℤ, List, [], ◌∷◌, map, Bool, true, false, not, cond, Option, Some, None, refl, ap, sym, ◌∙◌, subst, arith}
+use Rattle.std.proofs.Common.{◌≡◌, ℕ, ◌≤◌, ◌==◌, max, ℤ, List, [], ◌∷◌, map, Bool, true, false, not, cond, Option, Some, None, refl, ap, sym, ◌∙◌, subst, arith}
 use Rattle.std.specs.Option.{option_map}
 use Rattle.std.specs.List.{find, filter_map, cons_option, AllByRecursion, list_any, position}
 use Rattle.std.proofs.lemmas.Bool.{cond_both}
@@ -15,6 +15,7 @@ use Rattle.boss_model.specs.declared.state.Actuator.{Actuator}
 use Rattle.boss_model.specs.Catalogue.{fits_at, driver_of}
 use Rattle.boss_model.specs.Devices.{Reply, hand_out, is_current, heard, report}
 use Rattle.boss_model.specs.Ends.{is_of, last_part_end, cancel, cancel_refused, gone}
+use Rattle.boss_model.specs.Limits.{last_moment, last_number}
 use Rattle.boss_model.specs.Lists.{first_some}
 use Rattle.boss_model.specs.Machine.{answered, after, if_attached, joined, parted, notices_asked, act, pass_time, step}
 use Rattle.boss_model.specs.Outcomes.{unless}
@@ -23,15 +24,15 @@ use Rattle.boss_model.specs.Queries.{notices, notices_of, named, status_of}
 use Rattle.boss_model.specs.Records.{End, Part, Transaction}
 use Rattle.boss_model.specs.Renew.{transaction_of, if_own, part_on, wrote, named_parts, ended_at, renew, renew_refused}
 use Rattle.boss_model.specs.Reversions.{courses}
-use Rattle.boss_model.specs.Sound.{IsPast, IsPart, IsTransaction, IsSoundDurable}
-use Rattle.boss_model.specs.State.{Process, Durable, Attachment, State}
+use Rattle.boss_model.specs.Sound.{IsPast, IsPart, IsTransaction, IsSoundPersistent}
+use Rattle.boss_model.specs.State.{Process, Persistent, Attachment, State}
 use Rattle.boss_model.specs.Submit.{is_level, is_length, is_reversion, repeated, submit, submit_refused}
 use Rattle.boss_model.specs.Time.{moment_of}
 use Rattle.boss_laws.specs.Ended.{IsKeptEnd}
-use Rattle.boss_laws.proofs.Coming.{now_after-within}
-use Rattle.boss_laws.proofs.Filters.{each-found}
-use Rattle.boss_laws.proofs.Orders.{each-map}
-use Rattle.boss_laws.proofs.TickSound.{tick-sound}
+use Rattle.boss_time.proofs.Coming.{now_after-within}
+use Rattle.boss_time.proofs.Filters.{each-found}
+use Rattle.boss_time.proofs.Orders.{each-map}
+use Rattle.boss_time.proofs.TickSound.{tick-sound}
 
 -- ---- answers that are not ended refusals
 
@@ -61,11 +62,11 @@ module _ (cause : Cause) (at moment : ℕ) where
   other-own owner why None each = λ is. cc
   other-own owner why (Some t) each = other-if (t.owner == owner) (why t) (Some refusal.NotYours) (each t) (λ is. cc)
 
-  other-unless : (s : State) (why : Option Refusal) (given : Answer) (d : Durable) → IsOther why → NotEnded given → NotEnded (after s (unless why given d)).answer
+  other-unless : (s : State) (why : Option Refusal) (given : Answer) (d : Persistent) → IsOther why → NotEnded given → NotEnded (after s (unless why given d)).answer
   other-unless s None given d here there = there
   other-unless s (Some x) given d here there = λ is. here (cc)
 
-  other-joined : (session process : ℕ) (s : State) (why : Option Refusal) (given : Answer) (d : Durable) → IsOther why → NotEnded given → NotEnded (joined session process s (unless why given d)).answer
+  other-joined : (session process : ℕ) (s : State) (why : Option Refusal) (given : Answer) (d : Persistent) → IsOther why → NotEnded given → NotEnded (joined session process s (unless why given d)).answer
   other-joined session process s None given d here there = there
   other-joined session process s (Some x) given d here there = λ is. here (cc)
 
@@ -73,7 +74,7 @@ module _ (cause : Cause) (at moment : ℕ) where
   other-held None go s each = λ is. cc
   other-held (Some p) go s each = each p
 
-  other-submit : (plant : List Actuator) (writes : List Setting) (d : Durable) → IsOther (submit_refused plant writes d)
+  other-submit : (plant : List Actuator) (writes : List Setting) (d : Persistent) → IsOther (submit_refused plant writes d)
   other-submit plant writes d =
       other-first (option_map refusal.SamePoint (repeated [] 0 writes)) _ (other-mapped refusal.SamePoint (repeated [] 0 writes) (λ y is. cc))
       (other-first (option_map refusal.BadPriority (position (λ write. not (is_level write.priority)) writes)) _ (other-mapped refusal.BadPriority (position (λ write. not (is_level write.priority)) writes) (λ y is. cc))
@@ -81,18 +82,18 @@ module _ (cause : Cause) (at moment : ℕ) where
       (other-first (option_map refusal.BadLease (position (λ write. not (is_length write.lease)) writes)) _ (other-mapped refusal.BadLease (position (λ write. not (is_length write.lease)) writes) (λ y is. cc))
       (other-first (option_map refusal.BadReversion (position (λ write. not (is_reversion plant write.point write.revert)) writes)) _
       (other-mapped refusal.BadReversion (position (λ write. not (is_reversion plant write.point write.revert)) writes) (λ y is. cc))
-      (other-first (cond (d.next == 2 ^ 62) (Some refusal.Spent) None) [] (other-if (d.next == 2 ^ 62) (Some refusal.Spent) None (λ is. cc) (λ is. cc)) (λ is. cc))))))
+      (other-first (cond (d.next == last_number) (Some refusal.Spent) None) [] (other-if (d.next == last_number) (Some refusal.Spent) None (λ is. cc) (λ is. cc)) (λ is. cc))))))
 
-  other-process : (d : Durable) (attached : List Attachment) (found : Option ℕ) → IsOther (process_refused d.processes attached found)
+  other-process : (d : Persistent) (attached : List Attachment) (found : Option ℕ) → IsOther (process_refused d.processes attached found)
   other-process d attached None = other-if (is_full d.processes) (Some refusal.TooManyProcesses) None (λ is. cc) (λ is. cc)
   other-process d attached (Some p) = other-mapped refusal.Taken (session_of attached p) (λ y is. cc)
 
-  other-attach : (session : ℕ) (name : List ℕ) (attached : List Attachment) (d : Durable) → IsOther (attach_refused session name attached d)
+  other-attach : (session : ℕ) (name : List ℕ) (attached : List Attachment) (d : Persistent) → IsOther (attach_refused session name attached d)
   other-attach session name attached d = other-first (option_map (λ process. refusal.Already (name_of d.processes process)) (process_of attached session)) _
       (other-mapped (λ process. refusal.Already (name_of d.processes process)) (process_of attached session) (λ y is. cc))
       (other-first (process_refused d.processes attached (process_named d.processes name)) [] (other-process d attached (process_named d.processes name)) (λ is. cc))
 
-  other-cancel : (owner txn : ℕ) (d : Durable) → IsOther (cancel_refused owner txn d)
+  other-cancel : (owner txn : ℕ) (d : Persistent) → IsOther (cancel_refused owner txn d)
   other-cancel owner txn d = other-own owner (λ t. cond (list_any (is_of txn) d.leases) None (Some (refusal.Over (last_part_end t)))) (transaction_of d.txns txn)
       (λ t. other-if (list_any (is_of txn) d.leases) None (Some (refusal.Over (last_part_end t))) (λ is. cc) (λ is. cc))
 
@@ -109,11 +110,11 @@ module _ (cause : Cause) (at moment : ℕ) where
   other-notices_of (Some p) from most is = cc
 
   other-notices : (name : Option (List ℕ)) (session from most : ℕ) (s : State) → NotEnded (notices_asked name session from most s).answer
-  other-notices (Some name) session from most s = other-notices_of (named s.durable.processes (process_named s.durable.processes name)) from most
-  other-notices None session from most s = other-held (process_of s.attached session) (λ p. answered (notices (Some p) from most s.durable) s) s
-      (λ p. other-notices_of (named s.durable.processes (Some p)) from most)
+  other-notices (Some name) session from most s = other-notices_of (named s.persistent.processes (process_named s.persistent.processes name)) from most
+  other-notices None session from most s = other-held (process_of s.attached session) (λ p. answered (notices (Some p) from most s.persistent) s) s
+      (λ p. other-notices_of (named s.persistent.processes (Some p)) from most)
 
-  other-status : (t : Option Transaction) (d : Durable) → NotEnded (status_of t d)
+  other-status : (t : Option Transaction) (d : Persistent) → NotEnded (status_of t d)
   other-status None d is = cc
   other-status (Some t) d is = cc
 
@@ -141,14 +142,15 @@ module _ (cause : Cause) (at moment : ℕ) where
       let now : n ≡ moment = cc in
       ((λ i. Some (record { cause = why i; at = when i })), sym now)
 
-  found-renew : (owner txn : ℕ) (asked : ℤ) (points : List ℕ) (n : ℕ) (d : Durable) → renew_refused owner txn asked points n d ≡ Some E →
+  found-renew : (owner txn : ℕ) (asked : ℤ) (points : List ℕ) (n : ℕ) (d : Persistent) → renew_refused owner txn asked points n d ≡ Some E →
       (t : Transaction) × (transaction_of d.txns txn ≡ Some t) × (first_some (map (λ part. part.end) (named_parts points t.parts)) ≡ Some (record { cause = cause; at = at })) × (moment ≡ n)
   found-renew owner txn asked points n d is =
       let why = λ (t : Transaction). first_some (
       option_map refusal.NotInTxn (position (λ point. not (wrote t.parts point)) points) ∷ option_map (ended_at n) (first_some (map (λ part. part.end) (named_parts points t.parts))) ∷ []) in
-      let rest = found-first (cond (is_length asked) None (Some (refusal.BadLease 0))) _ (other-if (is_length asked) None (Some (refusal.BadLease 0)) (λ e. cc) (λ e. cc)) is in
+      let rest = found-first (cond (is_length asked) None (Some (refusal.BadLease 0))) (if_own owner why (transaction_of d.txns txn) ∷ []) (other-if (is_length asked) None (Some (refusal.BadLease 0)) (λ e. cc) (λ e. cc)) is in
       let own = found-own owner why (transaction_of d.txns txn) (found-alone (if_own owner why (transaction_of d.txns txn)) rest) in
-      let last = found-first (option_map refusal.NotInTxn (position (λ point. not (wrote own.0.parts point)) points)) _
+      let last = found-first (option_map refusal.NotInTxn (position (λ point. not (wrote own.0.parts point)) points))
+      (option_map (ended_at n) (first_some (map (λ part. part.end) (named_parts points own.0.parts))) ∷ [])
       (other-mapped refusal.NotInTxn (position (λ point. not (wrote own.0.parts point)) points) (λ y e. cc)) own.2 in
       let end = found-end n (first_some (map (λ part. part.end) (named_parts points own.0.parts))) (found-alone (option_map (ended_at n) (first_some (map (λ part. part.end) (named_parts points own.0.parts)))) last) in
       (own.0, own.1, end.0, end.1)
@@ -176,7 +178,7 @@ mapped-past : (now : ℕ) (parts : List Part) → AllByRecursion (λ part. IsPas
 mapped-past now [] all = tt
 mapped-past now (part ∷ parts) all = (all.0, mapped-past now parts all.1)
 
-renew-kept : (plant : List Actuator) (owner txn : ℕ) (asked : ℤ) (points : List ℕ) (n : ℕ) (d : Durable) (cause : Cause) (at moment : ℕ) → IsSoundDurable plant d → d.now ≤ n →
+renew-kept : (plant : List Actuator) (owner txn : ℕ) (asked : ℤ) (points : List ℕ) (n : ℕ) (d : Persistent) (cause : Cause) (at moment : ℕ) → IsSoundPersistent plant d → d.now ≤ n →
     renew_refused owner txn asked points n d ≡ Some (refusal.Ended cause at moment) → IsKeptEnd (command.Renew txn asked points) n d cause at moment
 renew-kept plant owner txn asked points n d cause at moment sound reached is =
     let found = found-renew cause at moment owner txn asked points n d is in
@@ -187,48 +189,48 @@ renew-kept plant owner txn asked points n d cause at moment sound reached is =
     (each-map (IsPart plant d.now t.txn d.leases) (λ part. IsPast d.now part.end) (λ part p. p.past) t.parts whole.parts))) found.2 in
     record { txn = txn; length = asked; points = points; transaction = t; renewal = refl; known = found.1; end = found.2; past = omega (arith, found.3); told = found.3 }
 
-owner-kept : (plant : List Actuator) (owner txn : ℕ) (asked : ℤ) (points : List ℕ) (n : ℕ) (s : State) (cause : Cause) (at moment : ℕ) (why : Option Refusal) (given : Answer) (d : Durable) →
-    renew_refused owner txn asked points n s.durable ≡ why → IsSoundDurable plant s.durable → s.durable.now ≤ n → NotEnded cause at moment given →
+owner-kept : (plant : List Actuator) (owner txn : ℕ) (asked : ℤ) (points : List ℕ) (n : ℕ) (s : State) (cause : Cause) (at moment : ℕ) (why : Option Refusal) (given : Answer) (d : Persistent) →
+    renew_refused owner txn asked points n s.persistent ≡ why → IsSoundPersistent plant s.persistent → s.persistent.now ≤ n → NotEnded cause at moment given →
     (after s (unless why given d)).answer ≡ answer.Refused (refusal.Ended cause at moment) →
-    IsKeptEnd (command.Renew txn asked points) n (after s (unless why given d)).state.durable cause at moment
+    IsKeptEnd (command.Renew txn asked points) n (after s (unless why given d)).state.persistent cause at moment
 owner-kept plant owner txn asked points n s cause at moment None given d same sound reached other is = cc (other is)
 owner-kept plant owner txn asked points n s cause at moment (Some x) given d same sound reached other is =
-    renew-kept plant owner txn asked points n s.durable cause at moment sound reached (let that : x ≡ refusal.Ended cause at moment = cc in same ∙ ap Some that)
+    renew-kept plant owner txn asked points n s.persistent cause at moment sound reached (let that : x ≡ refusal.Ended cause at moment = cc in same ∙ ap Some that)
 
-held-kept : (plant : List Actuator) (txn : ℕ) (asked : ℤ) (points : List ℕ) (n : ℕ) (s : State) (cause : Cause) (at moment : ℕ) (held : Option ℕ) → IsSoundDurable plant s.durable → s.durable.now ≤ n →
-    (if_attached held (λ owner. after s (renew owner txn asked points n s.durable)) s).answer ≡ answer.Refused (refusal.Ended cause at moment) →
-    IsKeptEnd (command.Renew txn asked points) n (if_attached held (λ owner. after s (renew owner txn asked points n s.durable)) s).state.durable cause at moment
+held-kept : (plant : List Actuator) (txn : ℕ) (asked : ℤ) (points : List ℕ) (n : ℕ) (s : State) (cause : Cause) (at moment : ℕ) (held : Option ℕ) → IsSoundPersistent plant s.persistent → s.persistent.now ≤ n →
+    (if_attached held (λ owner. after s (renew owner txn asked points n s.persistent)) s).answer ≡ answer.Refused (refusal.Ended cause at moment) →
+    IsKeptEnd (command.Renew txn asked points) n (if_attached held (λ owner. after s (renew owner txn asked points n s.persistent)) s).state.persistent cause at moment
 held-kept plant txn asked points n s cause at moment None sound reached is = cc
 held-kept plant txn asked points n s cause at moment (Some owner) sound reached is =
-    owner-kept plant owner txn asked points n s cause at moment (renew_refused owner txn asked points n s.durable) (answer.Renewed _ _) _ refl sound reached (λ e. cc) is
+    owner-kept plant owner txn asked points n s cause at moment (renew_refused owner txn asked points n s.persistent) (answer.Renewed _ _) _ refl sound reached (λ e. cc) is
 
-ended-act : (plant : List Actuator) (session n : ℕ) (c : Command) (s : State) (cause : Cause) (at moment : ℕ) → IsSoundDurable plant s.durable → s.durable.now ≤ n →
-    (act plant session n c s).answer ≡ answer.Refused (refusal.Ended cause at moment) → IsKeptEnd c n (act plant session n c s).state.durable cause at moment
+ended-act : (plant : List Actuator) (session n : ℕ) (c : Command) (s : State) (cause : Cause) (at moment : ℕ) → IsSoundPersistent plant s.persistent → s.persistent.now ≤ n →
+    (act plant session n c s).answer ≡ answer.Refused (refusal.Ended cause at moment) → IsKeptEnd c n (act plant session n c s).state.persistent cause at moment
 ended-act plant session n (command.Attach name) s cause at moment sound reached is =
-    cc (other-joined cause at moment session _ s (attach_refused session name s.attached s.durable) (answer.Attached name _) _ (other-attach cause at moment session name s.attached s.durable) (λ e. cc) is)
+    cc (other-joined cause at moment session _ s (attach_refused session name s.attached s.persistent) (answer.Attached name _) _ (other-attach cause at moment session name s.attached s.persistent) (λ e. cc) is)
 ended-act plant session n (command.Submit writes policy) s cause at moment sound reached is =
-    cc (other-held cause at moment (process_of s.attached session) (λ p. after s (submit plant p policy writes n s.durable)) s
-    (λ p. other-unless cause at moment s (submit_refused plant writes s.durable) (answer.Accepted _ _) _ (other-submit cause at moment plant writes s.durable) (λ e. cc)) is)
+    cc (other-held cause at moment (process_of s.attached session) (λ p. after s (submit plant p policy writes n s.persistent)) s
+    (λ p. other-unless cause at moment s (submit_refused plant writes s.persistent) (answer.Accepted _ _) _ (other-submit cause at moment plant writes s.persistent) (λ e. cc)) is)
 ended-act plant session n (command.Renew txn asked points) s cause at moment sound reached is = held-kept plant txn asked points n s cause at moment (process_of s.attached session) sound reached is
 ended-act plant session n (command.Cancel txn) s cause at moment sound reached is =
-    cc (other-held cause at moment (process_of s.attached session) (λ p. after s (cancel p txn n s.durable)) s
-    (λ p. other-unless cause at moment s (cancel_refused p txn s.durable) (answer.Cancelled _ _) _ (other-cancel cause at moment p txn s.durable) (λ e. cc)) is)
+    cc (other-held cause at moment (process_of s.attached session) (λ p. after s (cancel p txn n s.persistent)) s
+    (λ p. other-unless cause at moment s (cancel_refused p txn s.persistent) (answer.Cancelled _ _) _ (other-cancel cause at moment p txn s.persistent) (λ e. cc)) is)
 ended-act plant session n command.Gone s cause at moment sound reached is =
-    cc (other-held cause at moment (process_of s.attached session) (λ p. parted session s (gone p n s.durable)) s (λ p e. cc) is)
+    cc (other-held cause at moment (process_of s.attached session) (λ p. parted session s (gone p n s.persistent)) s (λ p e. cc) is)
 ended-act plant session n command.Tick s cause at moment sound reached is = cc
 ended-act plant session n (command.Next driver) s cause at moment sound reached is = cc (other-hand_out cause at moment (find (λ point. driver_of plant point == driver) s.wants) s is)
 ended-act plant session n (command.Report point version ok) s cause at moment sound reached is = cc (other-report cause at moment n point version ok s is)
 ended-act plant session n (command.Read point) s cause at moment sound reached is = cc
 ended-act plant session n (command.Array point) s cause at moment sound reached is = cc
-ended-act plant session n (command.Status txn) s cause at moment sound reached is = cc (other-status cause at moment (transaction_of s.durable.txns txn) s.durable is)
+ended-act plant session n (command.Status txn) s cause at moment sound reached is = cc (other-status cause at moment (transaction_of s.persistent.txns txn) s.persistent is)
 ended-act plant session n (command.Notices name from most) s cause at moment sound reached is = cc (other-notices cause at moment name session from most s is)
 
-pub ended-step : (plant : List Actuator) (s : State) (session : ℕ) (c : Command) (m : ℕ) (cause : Cause) (at moment : ℕ) → IsSoundDurable plant s.durable → m ≤ 2 ^ 60 →
+pub ended-step : (plant : List Actuator) (s : State) (session : ℕ) (c : Command) (m : ℕ) (cause : Cause) (at moment : ℕ) → IsSoundPersistent plant s.persistent → m ≤ last_moment →
     (step plant session c m s).answer ≡ answer.Refused (refusal.Ended cause at moment) →
-    IsKeptEnd c (moment_of s.durable m) (step plant session c m s).state.durable cause at moment
+    IsKeptEnd c (moment_of s.persistent m) (step plant session c m s).state.persistent cause at moment
 unfolding step
 ended-step plant s session c m cause at moment sound small is =
-    let n = max s.durable.now m in
-    let now : s.durable.now ≤ 2 ^ 60 = sound.now in
-    ended-act plant session n c (pass_time plant n s) cause at moment (tick-sound plant s.durable n sound (omega arith) (omega arith))
-    (now_after-within n s.durable.now (courses s.durable.pending s.durable.leases) s.durable.txns (omega arith)) is
+    let n = max s.persistent.now m in
+    let now : s.persistent.now ≤ last_moment = sound.now in
+    ended-act plant session n c (pass_time plant n s) cause at moment (tick-sound plant s.persistent n sound (omega arith) (omega arith))
+    (now_after-within n s.persistent.now (courses s.persistent.pending s.persistent.leases) s.persistent.txns (omega arith)) is

@@ -1,9 +1,9 @@
 -- A settled point has the value that its device told to have taken.
-use Rattle.std.proofs.Common.{◌≡◌, ℕ, zero, suc, ◌+◌, ◌<◌, ◌==◌, ℤ, List, [], ◌∷◌, length, map, set, Bool, true, false, not, ◌&&◌, ◌||◌, cond, Option, Some, None, refl, ap, sym, ◌∙◌, subst, arith, zero-add}
+use Rattle.std.proofs.Common.{◌≡◌, ◌⊎◌, inl, inr, ℕ, zero, suc, ◌+◌, ◌<◌, ◌==◌, List, [], ◌∷◌, length, set, Bool, true, false, not, ◌&&◌, ◌||◌, cond, Option, Some, None, refl, ap, sym, ◌∙◌, subst, arith, zero-add}
 use Rattle.std.specs.List.{find, range_with_len}
 use Rattle.std.proofs.Math.ListN.{length-set}
 use Rattle.std.proofs.lemmas.Bool.{cond_both}
-use Rattle.std.proofs.lemmas.Bool.Decides.{nat_tests, Decides-int_eq}
+use Rattle.std.proofs.lemmas.Bool.Decides.{nat_tests}
 use Rattle.boss_model.specs.declared.answer.Answer.{Answer}
 use Rattle.boss_model.specs.declared.answer.Answer.TheVariants as answer
 use Rattle.boss_model.specs.declared.answer.Mark.TheVariants as mark
@@ -24,13 +24,14 @@ use Rattle.boss_model.specs.Records.{Transaction}
 use Rattle.boss_model.specs.Renew.{renew, transaction_of}
 use Rattle.boss_model.specs.Run.{Call, run}
 use Rattle.boss_model.specs.Settle.{fresh, opened, places, changed_if, wanted_anew, is_retried, retried, is_moved, recommanded, settle}
-use Rattle.boss_model.specs.State.{Process, Durable, State}
+use Rattle.boss_model.specs.State.{Process, Persistent, State}
 use Rattle.boss_model.specs.Submit.{submit}
 use Rattle.boss_model.specs.Target.{target}
 use Rattle.boss_model.specs.Time.{moment_of}
 use Rattle.boss_model.proofs.Members.{member-filter}
 use Rattle.boss_laws.specs.Heard.{Sent, Heard, nothing_heard, asked_by, took_by, heard_after, last_heard}
-use Rattle.boss_laws.proofs.Places.{member-wanted_anew, length-changed, proxy_of-changed, change_at, member-places, proxy_of-set, proxy_of-other}
+use Rattle.boss_soundness.proofs.Fresh.{commanded-settled, fresh-at, length-range}
+use Rattle.boss_time.proofs.Places.{member-wanted_anew, length-changed, proxy_of-changed, change_at, member-places, proxy_of-set, proxy_of-other}
 
 abbrev sent : Proxy → Sent
 sent proxy = record { version = proxy.version; value = proxy.commanded }
@@ -63,29 +64,21 @@ module _ (test : ℕ × Proxy → Bool) (change : ℕ × Proxy → Proxy) (pendi
             (λ _ same. is.took (ap (λ q. q.mark) (sym same) ∙ settled) ∙ ap (λ q. Some (sent q)) (sym same)) there;
       }
 
-heard-durable : (point : ℕ) (s t : State) (h : Heard) → s.proxies ≡ t.proxies → s.wants ≡ t.wants → IsHeard point s h → IsHeard point t h
-heard-durable point s t h p w is = record {
+heard-persistent : (point : ℕ) (s t : State) (h : Heard) → s.proxies ≡ t.proxies → s.wants ≡ t.wants → IsHeard point s h → IsHeard point t h
+heard-persistent point s t h p w is = record {
   known = subst (λ ps. point < length ps) p is.known;
   asked = λ away. is.asked (ap (member point) w ∙ away) ∙ ap (λ ps. Some (sent (proxy_of ps point))) p;
   took = λ settled. is.took (ap (λ ps. (proxy_of ps point).mark) p ∙ settled) ∙ ap (λ ps. Some (sent (proxy_of ps point))) p;
 }
 
 heard-settled : (plant : List Actuator) (point : ℕ) (s : State) (h : Heard) → IsHeard point s h → IsHeard point (settle plant s) h
-heard-settled plant point s h is = heard-changed (is_moved plant s.durable) (recommanded plant s.durable) (λ place. refl) point s h is
+heard-settled plant point s h is = heard-changed (is_moved plant s.persistent) (recommanded plant s.persistent) (λ place. refl) point s h is
 
 heard-passed : (plant : List Actuator) (n point : ℕ) (s : State) (h : Heard) → IsHeard point s h → IsHeard point (pass_time plant n s) h
 heard-passed plant n point s h is =
-    heard-settled plant point _ h (heard-changed (is_retried n) retried (λ place. refl) point (ticked n s) h (heard-durable point s (ticked n s) h refl refl is))
+    heard-settled plant point _ h (heard-changed (is_retried n) retried (λ place. refl) point (ticked n s) h (heard-persistent point s (ticked n s) h refl refl is))
 
 -- after settling the commanded value is the target
-pub commanded-settled : (plant : List Actuator) (point : ℕ) (s : State) → point < length s.proxies →
-    (proxy_of (settle plant s).proxies point).commanded ≡ target plant s.durable point
-commanded-settled plant point s known =
-    let p = proxy_of s.proxies point in
-    ap (λ q. q.commanded) (proxy_of-changed (is_moved plant s.durable) (recommanded plant s.durable) point s.proxies known)
-    ∙ cond_both (is_moved plant s.durable (point, p)) (recommanded plant s.durable (point, p)) p (λ q. q.commanded ≡ target plant s.durable point)
-    (λ _. refl) (λ still. sym ((Decides-int_eq (target plant s.durable point) p.commanded).0 (grind (arith, nat_tests))))
-
 -- ---- commands
 
 -- a reply that leaves devices and wants as they are
@@ -98,11 +91,11 @@ record IsQuiet (s : State) (reply : Reply) : Type 0 where
 abbrev IsNoWant : Answer → Type 0
 IsNoWant given = (point : ℕ) (before : Option Sent) → asked_by point given before ≡ before
 
-quiet-after : (s : State) (refusal : Option Refusal) (given : Answer) (d : Durable) → IsNoWant given → IsQuiet s (after s (unless refusal given d))
+quiet-after : (s : State) (refusal : Option Refusal) (given : Answer) (d : Persistent) → IsNoWant given → IsQuiet s (after s (unless refusal given d))
 quiet-after s (Some why) given d none = record { proxies = refl; wants = refl; answer = λ point before. refl }
 quiet-after s None given d none = record { proxies = refl; wants = refl; answer = none }
 
-quiet-joined : (session process : ℕ) (s : State) (refusal : Option Refusal) (given : Answer) (d : Durable) → IsNoWant given →
+quiet-joined : (session process : ℕ) (s : State) (refusal : Option Refusal) (given : Answer) (d : Persistent) → IsNoWant given →
     IsQuiet s (joined session process s (unless refusal given d))
 quiet-joined session process s (Some why) given d none = record { proxies = refl; wants = refl; answer = λ point before. refl }
 quiet-joined session process s None given d none = record { proxies = refl; wants = refl; answer = none }
@@ -117,11 +110,11 @@ quiet-notices_of (Some process) from most point before = refl
 
 quiet-notices : (name : Option (List ℕ)) (session from most : ℕ) (s : State) → IsQuiet s (notices_asked name session from most s)
 quiet-notices (Some name) session from most s =
-    record { proxies = refl; wants = refl; answer = quiet-notices_of (named s.durable.processes (process_named s.durable.processes name)) from most }
-quiet-notices None session from most s = quiet-if (process_of s.attached session) (λ p. answered (notices (Some p) from most s.durable) s) s
-    (λ p. record { proxies = refl; wants = refl; answer = quiet-notices_of (named s.durable.processes (Some p)) from most })
+    record { proxies = refl; wants = refl; answer = quiet-notices_of (named s.persistent.processes (process_named s.persistent.processes name)) from most }
+quiet-notices None session from most s = quiet-if (process_of s.attached session) (λ p. answered (notices (Some p) from most s.persistent) s) s
+    (λ p. record { proxies = refl; wants = refl; answer = quiet-notices_of (named s.persistent.processes (Some p)) from most })
 
-quiet-status : (t : Option Transaction) (d : Durable) → IsNoWant (status_of t d)
+quiet-status : (t : Option Transaction) (d : Persistent) → IsNoWant (status_of t d)
 quiet-status None d point before = refl
 quiet-status (Some t) d point before = refl
 
@@ -146,7 +139,7 @@ heard-quiet : (point : ℕ) (c : Command) (s : State) (reply : Reply) (h : Heard
     IsHeard point reply.state (heard_after point c reply.answer h)
 heard-quiet point c s reply h other quiet is =
     let same : heard_after point c reply.answer h ≡ h = λ i. record { asked = quiet.answer point h.asked i; took = took-other point c reply.answer h other i } in
-    subst (IsHeard point reply.state) (sym same) (heard-durable point s reply.state h quiet.proxies quiet.wants is)
+    subst (IsHeard point reply.state) (sym same) (heard-persistent point s reply.state h quiet.proxies quiet.wants is)
 
 heard-hand_out : (point driver : ℕ) (found : Option ℕ) (s : State) (h : Heard) → IsHeard point s h →
     IsHeard point (hand_out found s).state (heard_after point (command.Next driver) (hand_out found s).answer h)
@@ -216,20 +209,20 @@ heard-act : (plant : List Actuator) (session n point : ℕ) (c : Command) (s : S
 heard-act plant session n point (command.Attach name) s h is = heard-quiet point (command.Attach name) s (act plant session n (command.Attach name) s) h (λ other version ok e. cc)
     (quiet-joined session _ s _ (answer.Attached name _) _ (λ point before. refl)) is
 heard-act plant session n point (command.Submit writes policy) s h is = heard-quiet point (command.Submit writes policy) s (act plant session n (command.Submit writes policy) s) h (λ other version ok e. cc)
-    (quiet-if (process_of s.attached session) (λ p. after s (submit plant p policy writes n s.durable)) s (λ p. quiet-after s _ (answer.Accepted _ _) _ (λ point before. refl))) is
+    (quiet-if (process_of s.attached session) (λ p. after s (submit plant p policy writes n s.persistent)) s (λ p. quiet-after s _ (answer.Accepted _ _) _ (λ point before. refl))) is
 heard-act plant session n point (command.Renew txn length points) s h is = heard-quiet point (command.Renew txn length points) s (act plant session n (command.Renew txn length points) s) h (λ other version ok e. cc)
-    (quiet-if (process_of s.attached session) (λ p. after s (renew p txn length points n s.durable)) s (λ p. quiet-after s _ (answer.Renewed _ _) _ (λ point before. refl))) is
+    (quiet-if (process_of s.attached session) (λ p. after s (renew p txn length points n s.persistent)) s (λ p. quiet-after s _ (answer.Renewed _ _) _ (λ point before. refl))) is
 heard-act plant session n point (command.Cancel txn) s h is = heard-quiet point (command.Cancel txn) s (act plant session n (command.Cancel txn) s) h (λ other version ok e. cc)
-    (quiet-if (process_of s.attached session) (λ p. after s (cancel p txn n s.durable)) s (λ p. quiet-after s _ (answer.Cancelled _ _) _ (λ point before. refl))) is
+    (quiet-if (process_of s.attached session) (λ p. after s (cancel p txn n s.persistent)) s (λ p. quiet-after s _ (answer.Cancelled _ _) _ (λ point before. refl))) is
 heard-act plant session n point command.Gone s h is = heard-quiet point command.Gone s (act plant session n command.Gone s) h (λ other version ok e. cc)
-    (quiet-if (process_of s.attached session) (λ p. parted session s (gone p n s.durable)) s (λ p. record { proxies = refl; wants = refl; answer = λ point before. refl })) is
+    (quiet-if (process_of s.attached session) (λ p. parted session s (gone p n s.persistent)) s (λ p. record { proxies = refl; wants = refl; answer = λ point before. refl })) is
 heard-act plant session n point command.Tick s h is = is
 heard-act plant session n point (command.Next driver) s h is = heard-hand_out point driver (find (λ p. driver_of plant p == driver) s.wants) s h is
 heard-act plant session n point (command.Report other version ok) s h is = heard-report n point other version ok s h is
 heard-act plant session n point (command.Read p) s h is = is
 heard-act plant session n point (command.Array p) s h is = is
 heard-act plant session n point (command.Status txn) s h is = heard-quiet point (command.Status txn) s (act plant session n (command.Status txn) s) h (λ other version ok e. cc)
-    (record { proxies = refl; wants = refl; answer = quiet-status (transaction_of s.durable.txns txn) s.durable }) is
+    (record { proxies = refl; wants = refl; answer = quiet-status (transaction_of s.persistent.txns txn) s.persistent }) is
 heard-act plant session n point (command.Notices name from most) s h is = heard-quiet point (command.Notices name from most) s (act plant session n (command.Notices name from most) s) h (λ other version ok e. cc)
     (quiet-notices name session from most s) is
 
@@ -237,18 +230,18 @@ heard-act plant session n point (command.Notices name from most) s h is = heard-
 
 heard-step : (plant : List Actuator) (session point m : ℕ) (c : Command) (s : State) (h : Heard) → IsHeard point s h →
     IsHeard point (step plant session c m s).state (heard_after point c (step plant session c m s).answer h)
-    × ((proxy_of (step plant session c m s).state.proxies point).commanded ≡ target plant (step plant session c m s).state.durable point)
+    × ((proxy_of (step plant session c m s).state.proxies point).commanded ≡ target plant (step plant session c m s).state.persistent point)
 unfolding step
 heard-step plant session point m c s h is =
-    let n = moment_of s.durable m in
+    let n = moment_of s.persistent m in
     let reply = act plant session n c (pass_time plant n s) in
     let acted : IsHeard point reply.state (heard_after point c reply.answer h) = heard-act plant session n point c (pass_time plant n s) h (heard-passed plant n point s h is) in
     (heard-settled plant point reply.state (heard_after point c reply.answer h) acted, commanded-settled plant point reply.state acted.known)
 
 heard-run : (plant : List Actuator) (point : ℕ) (calls : List Call) (s : State) (h : Heard) → IsHeard point s h →
-    (proxy_of s.proxies point).commanded ≡ target plant s.durable point →
+    (proxy_of s.proxies point).commanded ≡ target plant s.persistent point →
     IsHeard point (run plant s calls) (last_heard plant point s calls h)
-    × ((proxy_of (run plant s calls).proxies point).commanded ≡ target plant (run plant s calls).durable point)
+    × ((proxy_of (run plant s calls).proxies point).commanded ≡ target plant (run plant s calls).persistent point)
 heard-run plant point [] s h is same = (is, same)
 heard-run plant point (call ∷ calls) s h is same =
     let next = heard-step plant call.session point call.moment call.command s h is in
@@ -256,15 +249,6 @@ heard-run plant point (call ∷ calls) s h is same =
     heard-run plant point calls reply.state (heard_after point call.command reply.answer h) next.0 next.1
 
 -- ---- the opened state
-
-pub fresh-at : (f : ℕ → ℤ) (place k count : ℕ) → k < count → proxy_of (map (λ point. fresh (f point)) (range_with_len place count)) k ≡ fresh (f (place + k))
-fresh-at f place k zero within = absurd (omega arith)
-fresh-at f place zero (suc count) within = ap (λ n. fresh (f n)) (omega arith)
-fresh-at f place (suc k) (suc count) within = fresh-at f (place + 1) k count (omega arith) ∙ ap (λ n. fresh (f n)) (omega arith)
-
-pub length-range : (f : ℕ → Proxy) (place count : ℕ) → length (map f (range_with_len place count)) ≡ count
-length-range f place zero = refl
-length-range f place (suc count) = ap suc (length-range f (place + 1) count)
 
 pub member-range : (place k count : ℕ) → k < count → member (place + k) (range_with_len place count) ≡ true
 member-range place k zero within = absurd (omega arith)
@@ -274,7 +258,7 @@ member-range place (suc k) (suc count) within =
     let next : place + suc k ≡ place + 1 + k = omega arith in
     subst (λ n. member n (place ∷ range_with_len (place + 1) count) ≡ true) (sym next) (grind (arith, nat_tests))
 
-heard-opened : (plant : List Actuator) (d : Durable) (point : ℕ) → point < length plant → IsHeard point (opened plant d) nothing_heard
+heard-opened : (plant : List Actuator) (d : Persistent) (point : ℕ) → point < length plant → IsHeard point (opened plant d) nothing_heard
 heard-opened plant d point known =
     let here : proxy_of (opened plant d).proxies point ≡ fresh (target plant d (0 + point)) = fresh-at (λ p. target plant d p) 0 point (length plant) known in
     let wanted : member point (opened plant d).wants ≡ true = subst (λ n. member n (range_with_len 0 (length plant)) ≡ true) (zero-add point) (member-range 0 point (length plant) known) in
@@ -284,12 +268,54 @@ heard-opened plant d point known =
       took = λ settled. let both : mark.Pending ≡ mark.Settled = sym (ap (λ q. q.mark) here) ∙ settled in cc;
     }
 
-pub settled-run : (plant : List Actuator) (d : Durable) (calls : List Call) (point : ℕ) → point < length plant →
+pub settled-run : (plant : List Actuator) (d : Persistent) (calls : List Call) (point : ℕ) → point < length plant →
     (proxy_of (run plant (opened plant d) calls).proxies point).mark ≡ mark.Settled →
     (last_heard plant point (opened plant d) calls nothing_heard).took
-    ≡ Some (record { version = (proxy_of (run plant (opened plant d) calls).proxies point).version; value = target plant (run plant (opened plant d) calls).durable point })
+    ≡ Some (record { version = (proxy_of (run plant (opened plant d) calls).proxies point).version; value = target plant (run plant (opened plant d) calls).persistent point })
 settled-run plant d calls point known settled =
     let here : (proxy_of (opened plant d).proxies point).commanded ≡ target plant d point =
     ap (λ q. q.commanded) (fresh-at (λ p. target plant d p) 0 point (length plant) known) ∙ ap (target plant d) (zero-add point) in
     let ran = heard-run plant point calls (opened plant d) nothing_heard (heard-opened plant d point known) here in
     ran.0.took settled ∙ ap (λ x. Some (record { version = (proxy_of (run plant (opened plant d) calls).proxies point).version; value = x })) ran.1
+
+-- ---- what was taken changes only by a report of the point that tells so, and that counts
+
+abbrev IsTold : ℕ → Command → Answer → Heard → Type 0
+IsTold point c given h = (took_by point c given h ≡ h.took)
+    ⊎ ((version : ℕ) × (c ≡ command.Report point version true) × (given ≡ answer.Noted true) × (took_by point c given h ≡ h.asked))
+
+told-report : (point other version : ℕ) (given : Answer) (h : Heard) → IsTold point (command.Report other version true) given h
+told-report point other version (answer.Noted true) h = cond_both (other == point) h.asked h.took
+    (λ took. (other == point) ≡ (other == point) → (took ≡ h.took)
+    ⊎ ((number : ℕ) × (command.Report other version true ≡ command.Report point number true) × (answer.Noted true ≡ answer.Noted true) × (took ≡ h.asked)))
+    (λ here _. let same : other ≡ point = grind (arith, nat_tests) in inr (version, ap (λ k. command.Report k version true) same, refl, refl))
+    (λ apart _. inl refl) refl
+told-report point other version (answer.Noted false) h = inl refl
+told-report point other version (answer.Attached name next) h = inl refl
+told-report point other version (answer.Accepted txn until) h = inl refl
+told-report point other version (answer.Renewed txn until) h = inl refl
+told-report point other version (answer.Cancelled txn at) h = inl refl
+told-report point other version (answer.Gone ended) h = inl refl
+told-report point other version (answer.Ticked now) h = inl refl
+told-report point other version (answer.Want p number value) h = inl refl
+told-report point other version answer.Nothing h = inl refl
+told-report point other version (answer.Reading p value basis stands) h = inl refl
+told-report point other version (answer.Array p slots) h = inl refl
+told-report point other version (answer.Status txn owner stage live pending) h = inl refl
+told-report point other version (answer.Notices first next list) h = inl refl
+told-report point other version (answer.Refused why) h = inl refl
+
+pub told : (point : ℕ) (c : Command) (given : Answer) (h : Heard) → IsTold point c given h
+told point (command.Report other version true) given h = told-report point other version given h
+told point (command.Report other version false) given h = inl refl
+told point (command.Attach name) given h = inl refl
+told point (command.Submit writes policy) given h = inl refl
+told point (command.Renew txn length points) given h = inl refl
+told point (command.Cancel txn) given h = inl refl
+told point command.Gone given h = inl refl
+told point command.Tick given h = inl refl
+told point (command.Next driver) given h = inl refl
+told point (command.Read p) given h = inl refl
+told point (command.Array p) given h = inl refl
+told point (command.Status txn) given h = inl refl
+told point (command.Notices name from most) given h = inl refl

@@ -15,7 +15,7 @@ use Rattle.boss_model.specs.Processes.{process_of}
 use Rattle.boss_model.specs.Queries.{notices}
 use Rattle.boss_model.specs.Renew.{renew}
 use Rattle.boss_model.specs.Settle.{settle}
-use Rattle.boss_model.specs.State.{Durable, State}
+use Rattle.boss_model.specs.State.{Persistent, State}
 use Rattle.boss_model.specs.Submit.{submit}
 use Rattle.boss_model.specs.Time.{moment_of}
 
@@ -23,10 +23,10 @@ use Rattle.boss_model.specs.Time.{moment_of}
 abbrev pub Leaves : State → Reply → Type 0
 Leaves s reply = (why : Refusal) → reply.answer ≡ answer.Refused why → reply.state ≡ s
 
-leaves-after : (s : State) (refusal : Option Refusal) (given : Answer) (d : Durable) → ((why : Refusal) → given ≡ answer.Refused why → d ≡ s.durable) →
+leaves-after : (s : State) (refusal : Option Refusal) (given : Answer) (d : Persistent) → ((why : Refusal) → given ≡ answer.Refused why → d ≡ s.persistent) →
     Leaves s (after s (unless refusal given d))
 leaves-after s (Some found) given d never why is = refl
-leaves-after s None given d never why is = λ i. record s { durable = never why is i }
+leaves-after s None given d never why is = λ i. record s { persistent = never why is i }
 
 leaves-if : (held : Option ℕ) (go : ℕ → Reply) (s : State) → ((p : ℕ) → Leaves s (go p)) → Leaves s (if_attached held go s)
 leaves-if None go s each why is = refl
@@ -34,9 +34,9 @@ leaves-if (Some p) go s each why is = each p why is
 
 leaves-notices : (name : Option (List ℕ)) (session from most : ℕ) (s : State) → Leaves s (notices_asked name session from most s)
 leaves-notices (Some name) session from most s = λ why is. refl
-leaves-notices None session from most s = leaves-if (process_of s.attached session) (λ p. answered (notices (Some p) from most s.durable) s) s (λ p why is. refl)
+leaves-notices None session from most s = leaves-if (process_of s.attached session) (λ p. answered (notices (Some p) from most s.persistent) s) s (λ p why is. refl)
 
-leaves-joined : (session process : ℕ) (s : State) (refusal : Option Refusal) (name : List ℕ) (number : ℕ) (d : Durable) →
+leaves-joined : (session process : ℕ) (s : State) (refusal : Option Refusal) (name : List ℕ) (number : ℕ) (d : Persistent) →
     Leaves s (joined session process s (unless refusal (answer.Attached name number) d))
 leaves-joined session process s (Some found) name number d why is = refl
 leaves-joined session process s None name number d why is = cc
@@ -53,13 +53,13 @@ leaves-report n point version ok s = cond_both (is_current point version s)
 leaves-act : (plant : List Actuator) (session n : ℕ) (c : Command) (s : State) → Leaves s (act plant session n c s)
 leaves-act plant session n (command.Attach name) s = leaves-joined session _ s _ name _ _
 leaves-act plant session n (command.Submit writes policy) s = leaves-if (process_of s.attached session)
-    (λ p. after s (submit plant p policy writes n s.durable)) s (λ p. leaves-after s _ (answer.Accepted _ _) _ (λ why is. cc))
+    (λ p. after s (submit plant p policy writes n s.persistent)) s (λ p. leaves-after s _ (answer.Accepted _ _) _ (λ why is. cc))
 leaves-act plant session n (command.Renew txn length points) s = leaves-if (process_of s.attached session)
-    (λ p. after s (renew p txn length points n s.durable)) s (λ p. leaves-after s _ (answer.Renewed _ _) _ (λ why is. cc))
+    (λ p. after s (renew p txn length points n s.persistent)) s (λ p. leaves-after s _ (answer.Renewed _ _) _ (λ why is. cc))
 leaves-act plant session n (command.Cancel txn) s = leaves-if (process_of s.attached session)
-    (λ p. after s (cancel p txn n s.durable)) s (λ p. leaves-after s _ (answer.Cancelled _ _) _ (λ why is. cc))
+    (λ p. after s (cancel p txn n s.persistent)) s (λ p. leaves-after s _ (answer.Cancelled _ _) _ (λ why is. cc))
 leaves-act plant session n command.Gone s = leaves-if (process_of s.attached session)
-    (λ p. parted session s (gone p n s.durable)) s (λ p why is. cc)
+    (λ p. parted session s (gone p n s.persistent)) s (λ p why is. cc)
 leaves-act plant session n command.Tick s = λ why is. refl
 leaves-act plant session n (command.Next driver) s = leaves-hand_out _ s
 leaves-act plant session n (command.Report point version ok) s = leaves-report n point version ok s
@@ -72,4 +72,4 @@ pub refused-step : (plant : List Actuator) (s : State) (session other : ℕ) (c 
     (step plant session c m s).answer ≡ answer.Refused why → (step plant session c m s).state ≡ (step plant other command.Tick m s).state
 unfolding step
 refused-step plant s session other c m why is =
-    let n = moment_of s.durable m in ap (settle plant) (leaves-act plant session n c (pass_time plant n s) why is)
+    let n = moment_of s.persistent m in ap (settle plant) (leaves-act plant session n c (pass_time plant n s) why is)

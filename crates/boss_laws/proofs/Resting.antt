@@ -1,5 +1,5 @@
 -- A state in which nothing is due at a moment: a second step at this moment finds nothing that time would do.
-use Rattle.std.proofs.Common.{◌≡◌, ℕ, zero, suc, ◌+◌, ◌^◌, ◌<◌, ◌≤◌, max, nat_lt, nat_le, List, [], ◌∷◌, length, map, Bool, true, false, not, cond, refl, ap, sym, ◌∙◌, subst, arith, append-nil, zero-add}
+use Rattle.std.proofs.Common.{◌≡◌, ℕ, zero, suc, ◌+◌, ◌<◌, ◌≤◌, max, nat_lt, nat_le, List, [], ◌∷◌, length, map, Bool, true, false, not, cond, refl, ap, sym, ◌∙◌, subst, arith, append-nil, zero-add}
 use Rattle.std.specs.List.{filter, enumerate_from, AllByRecursion}
 use Rattle.std.specs.Ordering.{int_eq}
 use Rattle.std.proofs.lemmas.Bool.{cond_both}
@@ -10,25 +10,26 @@ use Rattle.boss_model.specs.declared.state.Actuator.{Actuator}
 use Rattle.boss_model.specs.declared.state.Proxy.{Proxy}
 use Rattle.boss_model.specs.Devices.{proxy_of}
 use Rattle.boss_model.specs.Happenings.{Happening, coming, rank}
+use Rattle.boss_model.specs.Limits.{last_moment}
 use Rattle.boss_model.specs.Lists.{member}
 use Rattle.boss_model.specs.Machine.{ticked, pass_time, settle_after, step}
 use Rattle.boss_model.specs.Machine as machine
 use Rattle.boss_model.specs.Reversions.{courses}
-use Rattle.boss_model.specs.Same.{same_durable}
+use Rattle.boss_model.specs.Same.{same_persistent}
 use Rattle.boss_model.specs.Settle.{places, changed_if, wanted_anew, is_failed, is_retried, retried, retry, is_moved, recommanded, settle}
 use Rattle.boss_model.specs.Sound.{Settled, IsAllowed, IsSound}
-use Rattle.boss_model.specs.State.{Durable, State}
+use Rattle.boss_model.specs.State.{Persistent, State}
 use Rattle.boss_model.specs.Target.{target}
 use Rattle.boss_model.specs.Time.{due, moment_of, tick_to}
-use Rattle.boss_laws.proofs.ActSound.{tick-length}
-use Rattle.boss_laws.proofs.Coming.{all_of, now_after-within, later-first}
-use Rattle.boss_laws.proofs.Filters.{filter-all, filter-none, each-always}
-use Rattle.boss_laws.proofs.NothingDue.{nothing-due}
-use Rattle.boss_laws.proofs.Orders.{each-in_order, each-passed}
-use Rattle.boss_laws.proofs.Places.{length-changed, proxy_of-changed, change_at}
+use Rattle.boss_soundness.proofs.ActSound.{tick-length}
+use Rattle.boss_time.proofs.Coming.{all_of, now_after-within, later-first}
+use Rattle.boss_time.proofs.Filters.{filter-all, filter-none, each-always}
+use Rattle.boss_time.proofs.NothingDue.{nothing-due}
+use Rattle.boss_time.proofs.Orders.{each-in_order, each-passed}
+use Rattle.boss_time.proofs.Places.{length-changed, proxy_of-changed, change_at}
 use Rattle.boss_laws.proofs.Replay.{act-acts}
-use Rattle.boss_laws.proofs.SameDecides.{durable-equal}
-use Rattle.boss_laws.proofs.StepSound.{step-sound}
+use Rattle.boss_laws.proofs.SameDecides.{persistent-equal}
+use Rattle.boss_soundness.proofs.StepSound.{step-sound}
 use Rattle.boss_laws.proofs.Targets.{none-due}
 
 -- ---- proxies that no test picks
@@ -50,16 +51,16 @@ module _ (test : ℕ × Proxy → Bool) (change : ℕ × Proxy → Proxy) where
 wanted-none : (wants : List ℕ) → wanted_anew [] wants ≡ wants
 wanted-none wants = append-nil (filter (λ want. not (member want [])) wants) ∙ filter-all (λ want. not (member want [])) wants (each-always (λ want. not (member want []) ≡ true) (λ want. refl) wants)
 
-pub settled-at : (plant : List Actuator) (d : Durable) (place : ℕ) (ps : List Proxy) → Settled plant d place ps → (k : ℕ) → k < length ps → (proxy_of ps k).commanded ≡ target plant d (place + k)
+pub settled-at : (plant : List Actuator) (d : Persistent) (place : ℕ) (ps : List Proxy) → Settled plant d place ps → (k : ℕ) → k < length ps → (proxy_of ps k).commanded ≡ target plant d (place + k)
 settled-at plant d place [] all k within = absurd (omega arith)
 settled-at plant d place (p ∷ ps) all zero within = all.0 ∙ ap (target plant d) (let same : place ≡ place + 0 = omega arith in same)
 settled-at plant d place (p ∷ ps) all (suc k) within = settled-at plant d (place + 1) ps all.1 k (omega arith) ∙ ap (target plant d) (let same : place + 1 + k ≡ place + suc k = omega arith in same)
 
 -- settling a state in which every point has its target leaves it
-pub settle-none : (plant : List Actuator) (s : State) → ((k : ℕ) → k < length s.proxies → (proxy_of s.proxies k).commanded ≡ target plant s.durable k) → settle plant s ≡ s
+pub settle-none : (plant : List Actuator) (s : State) → ((k : ℕ) → k < length s.proxies → (proxy_of s.proxies k).commanded ≡ target plant s.persistent k) → settle plant s ≡ s
 settle-none plant s same =
-    let none = none-changed (is_moved plant s.durable) (recommanded plant s.durable) s.proxies
-    (λ k within. let equal : int_eq (target plant s.durable k) (proxy_of s.proxies k).commanded ≡ true = (Decides-int_eq (target plant s.durable k) (proxy_of s.proxies k).commanded).1 (sym (same k within)) in grind (arith)) in
+    let none = none-changed (is_moved plant s.persistent) (recommanded plant s.persistent) s.proxies
+    (λ k within. let equal : int_eq (target plant s.persistent k) (proxy_of s.proxies k).commanded ≡ true = (Decides-int_eq (target plant s.persistent k) (proxy_of s.proxies k).commanded).1 (sym (same k within)) in grind (arith)) in
     λ i. record s { proxies = none.0 i; wants = (ap (λ points. wanted_anew points s.wants) none.1 ∙ wanted-none s.wants) i }
 
 -- ---- rest
@@ -70,20 +71,20 @@ IsWaiting n proxy = is_failed proxy.mark ≡ true → n < proxy.retry_at
 
 pub record IsResting (plant : List Actuator) (m n : ℕ) (s : State) : Type 0 where
   pub sound : IsSound plant s
-  pub moment : moment_of s.durable m ≡ n
-  pub nothing : due n s.durable ≡ []
+  pub moment : moment_of s.persistent m ≡ n
+  pub nothing : due n s.persistent ≡ []
   pub waiting : (k : ℕ) → k < length s.proxies → IsWaiting n (proxy_of s.proxies k)
 
 -- time does nothing to a state at rest
 pub pass-resting : (plant : List Actuator) (m n : ℕ) (s : State) → IsResting plant m n s → pass_time plant n s ≡ s
 pass-resting plant m n s rests =
-    let moment : max s.durable.now m ≡ n = rests.moment in
-    let tick : tick_to n s.durable ≡ s.durable = nothing-due plant s.durable n rests.sound.durable (omega arith) rests.nothing in
+    let moment : max s.persistent.now m ≡ n = rests.moment in
+    let tick : tick_to n s.persistent ≡ s.persistent = nothing-due plant s.persistent n rests.sound.persistent (omega arith) rests.nothing in
     let none = none-changed (is_retried n) retried s.proxies
     (λ k within. let waits : is_failed (proxy_of s.proxies k).mark ≡ true → n < (proxy_of s.proxies k).retry_at = rests.waiting k within in grind (arith, nat_tests)) in
-    ap (λ d. settle plant (retry n (record s { durable = d }))) tick
+    ap (λ d. settle plant (retry n (record s { persistent = d }))) tick
     ∙ ap (settle plant) (λ i. record s { proxies = none.0 i; wants = (ap (λ points. wanted_anew points s.wants) none.1 ∙ wanted-none s.wants) i })
-    ∙ settle-none plant s (λ k within. settled-at plant s.durable 0 s.proxies rests.sound.commanded k within ∙ ap (target plant s.durable) (zero-add k))
+    ∙ settle-none plant s (λ k within. settled-at plant s.persistent 0 s.proxies rests.sound.commanded k within ∙ ap (target plant s.persistent) (zero-add k))
 
 -- a test that fails on all pending ones leaves failed ones waiting
 waiting-changed : (test : ℕ × Proxy → Bool) (change : ℕ × Proxy → Proxy) (n : ℕ) (ps : List Proxy) → ((place : ℕ × Proxy) → (change place).mark ≡ mark.Pending) →
@@ -96,14 +97,14 @@ waiting-changed test change n ps pending waits k within =
 
 pub waiting-settled : (plant : List Actuator) (n : ℕ) (s : State) → ((k : ℕ) → k < length s.proxies → IsWaiting n (proxy_of s.proxies k)) →
     (k : ℕ) → k < length (settle plant s).proxies → IsWaiting n (proxy_of (settle plant s).proxies k)
-waiting-settled plant n s waits = waiting-changed (is_moved plant s.durable) (recommanded plant s.durable) n s.proxies (λ place. refl) (λ k known _. waits k known)
+waiting-settled plant n s waits = waiting-changed (is_moved plant s.persistent) (recommanded plant s.persistent) n s.proxies (λ place. refl) (λ k known _. waits k known)
 
 pub waiting-passed : (plant : List Actuator) (n : ℕ) (s : State) → (k : ℕ) → k < length (pass_time plant n s).proxies → IsWaiting n (proxy_of (pass_time plant n s).proxies k)
 waiting-passed plant n s = waiting-settled plant n (retry n (ticked n s))
     (waiting-changed (is_retried n) retried n s.proxies (λ place. refl) (λ k known still failed. grind (arith, nat_tests)))
 
 -- what was changed at n has nothing due up to n
-due-now : (d : Durable) (n : ℕ) → d.now ≡ n → due n d ≡ []
+due-now : (d : Persistent) (n : ℕ) → d.now ≡ n → due n d ≡ []
 due-now d n now =
     let all = all_of (courses d.pending d.leases) d.txns in
     let Q = λ (h : Happening). nat_le h.at n ≡ false in
@@ -111,32 +112,32 @@ due-now d n now =
     (each-passed Q (λ h. nat_lt d.now h.at) (λ h later. grind (arith, nat_tests)) all))
 
 -- after a step at moment n nothing is left that time would do up to n, if its command leaves failed devices waiting
-pub resting-step : (plant : List Actuator) (session : ℕ) (c : Command) (m n : ℕ) (s : State) → IsSound plant s → IsAllowed plant c → m ≤ 2 ^ 60 → moment_of s.durable m ≡ n →
+pub resting-step : (plant : List Actuator) (session : ℕ) (c : Command) (m n : ℕ) (s : State) → IsSound plant s → IsAllowed plant c → m ≤ last_moment → moment_of s.persistent m ≡ n →
     ((k : ℕ) → k < length (machine.act plant session n c (pass_time plant n s)).state.proxies → IsWaiting n (proxy_of (machine.act plant session n c (pass_time plant n s)).state.proxies k)) →
     IsResting plant m n (step plant session c m s).state
 unfolding step
 resting-step plant session c m n s sound allowed small moment waits =
-    let time : max s.durable.now m ≡ n = moment in
-    let now : s.durable.now ≤ 2 ^ 60 = sound.durable.now in
-    let within : s.durable.now ≤ n = omega arith in
-    let early : n ≤ 2 ^ 60 = omega arith in
-    let ticked = tick_to n s.durable in
+    let time : max s.persistent.now m ≡ n = moment in
+    let now : s.persistent.now ≤ last_moment = sound.persistent.now in
+    let within : s.persistent.now ≤ n = omega arith in
+    let early : n ≤ last_moment = omega arith in
+    let ticked = tick_to n s.persistent in
     let passed = pass_time plant n s in
-    let changed = (machine.act plant session n c passed).state.durable in
-    let last : ticked.now ≤ n = now_after-within n s.durable.now (courses s.durable.pending s.durable.leases) s.durable.txns within in
-    let first : s.durable.now ≤ ticked.now = later-first s.durable.now (due n s.durable) in
+    let changed = (machine.act plant session n c passed).state.persistent in
+    let last : ticked.now ≤ n = now_after-within n s.persistent.now (courses s.persistent.pending s.persistent.leases) s.persistent.txns within in
+    let first : s.persistent.now ≤ ticked.now = later-first s.persistent.now (due n s.persistent) in
     let attached : AllByRecursion (λ a. a.process < length ticked.processes) s.attached =
-    subst (λ k. AllByRecursion (λ a. a.process < k) s.attached) (sym (tick-length s.durable n)) sound.attached in
-    let acts : same_durable ticked changed ≡ false → changed.now ≡ n = λ differs. (act-acts plant n session passed attached c allowed differs).0 in
+    subst (λ k. AllByRecursion (λ a. a.process < k) s.attached) (sym (tick-length s.persistent n)) sound.attached in
+    let acts : same_persistent ticked changed ≡ false → changed.now ≡ n = λ differs. (act-acts plant n session passed attached c allowed differs).0 in
     let whole : (max changed.now m ≡ n) × (due n changed ≡ []) =
-    cond_both (same_durable ticked changed) true false (λ b. same_durable ticked changed ≡ b → (max changed.now m ≡ n) × (due n changed ≡ []))
-    (λ same _. let equal : ticked ≡ changed = durable-equal ticked changed same in
-    (subst (λ d. max d.now m ≡ n) equal (omega arith), subst (λ d. due n d ≡ []) equal (none-due plant s.durable n sound.durable within)))
+    cond_both (same_persistent ticked changed) true false (λ b. same_persistent ticked changed ≡ b → (max changed.now m ≡ n) × (due n changed ≡ []))
+    (λ same _. let equal : ticked ≡ changed = persistent-equal ticked changed same in
+    (subst (λ d. max d.now m ≡ n) equal (omega arith), subst (λ d. due n d ≡ []) equal (none-due plant s.persistent n sound.persistent within)))
     (λ differs _. let at : changed.now ≡ n = acts differs in (omega arith, due-now changed n at)) (grind (arith)) in
     record {
       sound = step-sound plant session c m s allowed small sound;
-      moment = subst (λ k. max (settle_after plant (machine.act plant session k c (pass_time plant k s))).state.durable.now m ≡ n) (sym moment) whole.0;
-      nothing = subst (λ k. due n (settle_after plant (machine.act plant session k c (pass_time plant k s))).state.durable ≡ []) (sym moment) whole.1;
+      moment = subst (λ k. max (settle_after plant (machine.act plant session k c (pass_time plant k s))).state.persistent.now m ≡ n) (sym moment) whole.0;
+      nothing = subst (λ k. due n (settle_after plant (machine.act plant session k c (pass_time plant k s))).state.persistent ≡ []) (sym moment) whole.1;
       waiting = subst (λ k. (j : ℕ) → j < length (settle_after plant (machine.act plant session k c (pass_time plant k s))).state.proxies → IsWaiting n (proxy_of (settle_after plant (machine.act plant session k c (pass_time plant k s))).state.proxies j))
           (sym moment) (waiting-settled plant n (machine.act plant session n c passed).state waits);
     }

@@ -1,4 +1,4 @@
--- The test of two durable parts says whether they are equal.
+-- The test of two persistent parts says whether they are equal.
 use Rattle.std.proofs.Common.{◌≡◌, ℕ, ◌==◌, nat_eq, List, [], ◌∷◌, Bool, true, cond, Option, Some, None, refl, ap, sym, ◌∙◌, arith}
 use Rattle.std.specs.Cmp.Lexicographic.{pointwise}
 use Rattle.std.proofs.lemmas.Bool.Decides.{nat_tests, Decides-int_eq}
@@ -13,8 +13,8 @@ use Rattle.boss_model.specs.declared.notice.What.TheVariants as what
 use Rattle.boss_model.specs.declared.state.Lease.{Lease}
 use Rattle.boss_model.specs.declared.state.Pending.{Pending}
 use Rattle.boss_model.specs.Records.{End, Part, Transaction}
-use Rattle.boss_model.specs.Same.{same_policy, cause_numbers, same_cause, what_numbers, same_what, same_step, same_lease, same_pending, same_end, same_part, same_transaction, same_notice, same_process, same_durable}
-use Rattle.boss_model.specs.State.{Process, Durable}
+use Rattle.boss_model.specs.Same.{same_policy, cause_numbers, same_cause, what_numbers, same_what, same_step, same_lease, same_pending, same_end, same_part, same_transaction, same_notice, same_process, same_persistent}
+use Rattle.boss_model.specs.State.{Process, Persistent}
 
 module _ {X : Type 0} (same : X → X → Bool) where
   pub lists-equal : ((x y : X) → same x y ≡ true → x ≡ y) → (xs ys : List X) → pointwise same xs ys ≡ true → xs ≡ ys
@@ -178,8 +178,8 @@ process-equal x y is =
 process-self : (x : Process) → same_process x x ≡ true
 process-self x = grind (arith, nat_tests, numbers-self x.name, lists-self same_notice notice-self x.kept)
 
-pub durable-equal : (x y : Durable) → same_durable x y ≡ true → x ≡ y
-durable-equal x y is =
+pub persistent-equal : (x y : Persistent) → same_persistent x y ≡ true → x ≡ y
+persistent-equal x y is =
     let a : x.now ≡ y.now = grind (arith, nat_tests) in
     let b : x.next ≡ y.next = grind (arith, nat_tests) in
     let l : x.leases ≡ y.leases = lists-equal same_lease lease-equal x.leases y.leases (grind (arith)) in
@@ -189,8 +189,8 @@ durable-equal x y is =
     let q : x.processes ≡ y.processes = lists-equal same_process process-equal x.processes y.processes (grind (arith)) in
     λ i. record { now = a i; next = b i; leases = l i; pending = p i; txns = t i; done = e i; processes = q i }
 
-pub durable-self : (x : Durable) → same_durable x x ≡ true
-durable-self x = grind (
+pub persistent-self : (x : Persistent) → same_persistent x x ≡ true
+persistent-self x = grind (
   arith,
   nat_tests,
   lists-self same_lease lease-self x.leases,

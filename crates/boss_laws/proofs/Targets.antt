@@ -1,5 +1,5 @@
 -- Targets change only at due moments and by commands.
-use Rattle.std.proofs.Common.{◌≡◌, ℕ, ◌+◌, ◌^◌, ◌≤◌, ◌==◌, ℤ, nat_lt, nat_le, List, [], ◌∷◌, map, false, ◌&&◌, Option, Some, None, refl, ap, ◌∙◌, subst, arith}
+use Rattle.std.proofs.Common.{◌≡◌, ℕ, ◌+◌, ◌≤◌, ◌==◌, ℤ, nat_lt, nat_le, List, [], ◌∷◌, map, false, ◌&&◌, Option, Some, None, refl, ap, ◌∙◌, subst, arith}
 use Rattle.std.specs.Prelude.{unwrap_or}
 use Rattle.std.specs.List.{filter, fold, flat_map, AllByRecursion}
 use Rattle.std.proofs.lemmas.Bool.Decides.{nat_tests}
@@ -9,18 +9,19 @@ use Rattle.boss_model.specs.declared.state.Lease.{Lease}
 use Rattle.boss_model.specs.declared.state.Pending.{Pending}
 use Rattle.boss_model.specs.Catalogue.{default_of}
 use Rattle.boss_model.specs.Happenings.{turned, reverted, happenings, done_last, coming, later}
+use Rattle.boss_model.specs.Limits.{last_moment}
 use Rattle.boss_model.specs.Records.{Transaction}
 use Rattle.boss_model.specs.Reversions.{hold, turns, value_from, value_at, courses}
-use Rattle.boss_model.specs.Sound.{IsPending, IsSoundDurable}
-use Rattle.boss_model.specs.State.{Durable}
+use Rattle.boss_model.specs.Sound.{IsPending, IsSoundPersistent}
+use Rattle.boss_model.specs.State.{Persistent}
 use Rattle.boss_model.specs.Target.{in_force, playing, value_of, target_at, target}
 use Rattle.boss_model.specs.Time.{due, tick_to}
-use Rattle.boss_laws.proofs.Coming.{now_after, now_after-within, quiet}
-use Rattle.boss_laws.proofs.Filters.{each-unmapped, filter-filter, filter-none, each-always}
-use Rattle.boss_laws.proofs.NothingDue.{sound-timed, of-pending}
-use Rattle.boss_laws.proofs.TickLaw.{due-after}
-use Rattle.boss_laws.proofs.Orders.{each-map, each-filter, each-both, each-front, each-back, least-of}
-use Rattle.boss_laws.proofs.TickSound.{tick-sound}
+use Rattle.boss_time.proofs.Coming.{now_after, now_after-within, quiet}
+use Rattle.boss_time.proofs.Filters.{each-unmapped, filter-filter, filter-none, each-always}
+use Rattle.boss_time.proofs.NothingDue.{sound-timed, of-pending}
+use Rattle.boss_time.proofs.TickLaw.{due-after}
+use Rattle.boss_time.proofs.Orders.{each-map, each-filter, each-both, each-front, each-back, least-of}
+use Rattle.boss_time.proofs.TickSound.{tick-sound}
 
 -- the value of a reversion stays where no step ends
 pub value-stays : (start a b : ℕ) (steps : List Step) → start ≤ a → a ≤ b → AllByRecursion (λ t. t ≤ b → t ≤ a) (turns start steps) → value_from start steps b ≡ value_from start steps a
@@ -49,7 +50,7 @@ value-of-stays default a b None None same = refl
 value-of-stays default a b None (Some p) same = ap (λ v. unwrap_or v default) (same p refl)
 
 -- where nothing is due up to a moment, every target is the same at that moment
-pub target-stays : (plant : List Actuator) (d : Durable) (m point : ℕ) → IsSoundDurable plant d → d.now ≤ m → due m d ≡ [] → target_at plant m d point ≡ target plant d point
+pub target-stays : (plant : List Actuator) (d : Persistent) (m point : ℕ) → IsSoundPersistent plant d → d.now ≤ m → due m d ≡ [] → target_at plant m d point ≡ target plant d point
 target-stays plant d m point sound within none =
     let cs = courses d.pending d.leases in
     let now_same : now_after m d.now cs d.txns ≡ d.now = ap (fold later d.now) none in
@@ -62,7 +63,7 @@ target-stays plant d m point sound within none =
     (λ p found. least-of V (λ r. r.priority) (filter (λ r. r.point == point) d.pending) p (each-filter V (λ r. r.point == point) d.pending values) found)
 
 -- after a tick to n nothing is due up to n
-pub none-due : (plant : List Actuator) (d : Durable) (n : ℕ) → IsSoundDurable plant d → d.now ≤ n → due n (tick_to n d) ≡ []
+pub none-due : (plant : List Actuator) (d : Persistent) (n : ℕ) → IsSoundPersistent plant d → d.now ≤ n → due n (tick_to n d) ≡ []
 none-due plant d n sound within =
     let all = coming d.now (courses d.pending d.leases) d.txns in
     due-after d n n (sound-timed plant d sound) within
@@ -70,6 +71,6 @@ none-due plant d n sound within =
     ∙ filter-none (λ h. nat_lt n h.at && nat_le h.at n) all (each-always (λ h. (nat_lt n h.at && nat_le h.at n) ≡ false) (λ h. grind (arith, nat_tests)) all)
 
 -- the targets after a tick to n are those at n
-pub target-ticked : (plant : List Actuator) (d : Durable) (n point : ℕ) → IsSoundDurable plant d → d.now ≤ n → n ≤ 2 ^ 60 → target_at plant n (tick_to n d) point ≡ target plant (tick_to n d) point
+pub target-ticked : (plant : List Actuator) (d : Persistent) (n point : ℕ) → IsSoundPersistent plant d → d.now ≤ n → n ≤ last_moment → target_at plant n (tick_to n d) point ≡ target plant (tick_to n d) point
 target-ticked plant d n point sound within small = target-stays plant (tick_to n d) n point (tick-sound plant d n sound within small)
     (now_after-within n d.now (courses d.pending d.leases) d.txns within) (none-due plant d n sound within)

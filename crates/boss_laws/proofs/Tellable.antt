@@ -1,5 +1,5 @@
 -- What a step answers can be told: its points are the catalogue's, and its notices few.
-use Rattle.std.proofs.Common.{◌≡◌, ℕ, ◌+◌, ◌-◌, ◌^◌, ◌<◌, ◌≤◌, ◌==◌, max, nat_lt, nat_le, List, [], ◌∷◌, length, Bool, true, false, ◌&&◌, Option, Some, None, refl, subst, arith}
+use Rattle.std.proofs.Common.{◌≡◌, ℕ, ◌+◌, ◌-◌, ◌<◌, ◌≤◌, ◌==◌, max, nat_lt, nat_le, List, [], ◌∷◌, length, Bool, true, false, ◌&&◌, Option, Some, None, refl, subst, arith}
 use Rattle.std.specs.List.{find, AllByRecursion}
 use Rattle.std.proofs.lemmas.Bool.{cond_both}
 use Rattle.std.proofs.lemmas.Bool.Decides.{nat_tests}
@@ -13,21 +13,22 @@ use Rattle.boss_model.specs.declared.notice.Notice.{Notice}
 use Rattle.boss_model.specs.Catalogue.{Catalogue, actuators, driver_of}
 use Rattle.boss_model.specs.Devices.{Reply, hand_out, is_current, heard, report}
 use Rattle.boss_model.specs.Ends.{cancel, gone}
+use Rattle.boss_model.specs.Limits.{most_told, last_moment}
 use Rattle.boss_model.specs.Machine.{answered, after, if_attached, joined, parted, notices_asked, act, pass_time, step}
 use Rattle.boss_model.specs.Outcomes.{unless}
 use Rattle.boss_model.specs.Processes.{process_of, process_named}
 use Rattle.boss_model.specs.Queries.{start, numbered_from, notices_of, named, notices, status_of}
 use Rattle.boss_model.specs.Records.{Transaction}
 use Rattle.boss_model.specs.Renew.{transaction_of, renew}
-use Rattle.boss_model.specs.Sound.{NumberedFrom, IsKnown, IsProcess, IsWant, IsSoundDurable, IsSound, IsAllowed}
-use Rattle.boss_model.specs.State.{Process, Durable, State}
+use Rattle.boss_model.specs.Sound.{NumberedFrom, IsKnown, IsProcess, IsWant, IsSoundPersistent, IsSound, IsAllowed}
+use Rattle.boss_model.specs.State.{Process, Persistent, State}
 use Rattle.boss_model.specs.Submit.{submit}
 use Rattle.boss_model.specs.Tellable.{IsTellableNotice, IsTellable}
 use Rattle.boss_laws.proofs.Draining.{find-member}
-use Rattle.boss_laws.proofs.GroupSound.{got}
-use Rattle.boss_laws.proofs.Orders.{each-filter}
-use Rattle.boss_laws.proofs.Places.{member-each}
-use Rattle.boss_laws.proofs.StepSound.{passed-sound}
+use Rattle.boss_time.proofs.GroupSound.{got}
+use Rattle.boss_time.proofs.Orders.{each-filter}
+use Rattle.boss_time.proofs.Places.{member-each}
+use Rattle.boss_soundness.proofs.StepSound.{passed-sound}
 
 -- ---- notices
 
@@ -46,7 +47,7 @@ few : (start most number : ℕ) (kept : List Notice) → NumberedFrom number kep
 few start most number kept numbers = let from : length (numbered_from start most kept) ≤ start + most - max number start = few-from start most number kept numbers in omega arith
 
 module _ (catalogue : Catalogue) where
-  told-process : (now : ℕ) (found : Option Process) (from most : ℕ) → ((p : Process) → found ≡ Some p → IsProcess (actuators catalogue) now p) → most ≤ 64 →
+  told-process : (now : ℕ) (found : Option Process) (from most : ℕ) → ((p : Process) → found ≡ Some p → IsProcess (actuators catalogue) now p) → most ≤ most_told →
       IsTellable catalogue (notices_of found from most)
   told-process now None from most is limit = (omega arith, tt)
   told-process now (Some process) from most is limit =
@@ -57,27 +58,27 @@ module _ (catalogue : Catalogue) where
             (subst (λ n. AllByRecursion (λ notice. IsKnown n notice.what) process.kept) (length-map catalogue.points (λ point. point.actuator)) good.known),
       )
 
-  told-notices : (process : Option ℕ) (from most : ℕ) (d : Durable) → IsSoundDurable (actuators catalogue) d → most ≤ 64 → IsTellable catalogue (notices process from most d)
+  told-notices : (process : Option ℕ) (from most : ℕ) (d : Persistent) → IsSoundPersistent (actuators catalogue) d → most ≤ most_told → IsTellable catalogue (notices process from most d)
   told-notices None from most d sound limit = told-process d.now None from most (λ p is. cc) limit
   told-notices (Some process) from most d sound limit = told-process d.now (named d.processes (Some process)) from most
       (λ p is. got (IsProcess (actuators catalogue) d.now) d.processes process p is sound.processes) limit
 
-  told-asked : (name : Option (List ℕ)) (session from most : ℕ) (s : State) → IsSoundDurable (actuators catalogue) s.durable → most ≤ 64 →
+  told-asked : (name : Option (List ℕ)) (session from most : ℕ) (s : State) → IsSoundPersistent (actuators catalogue) s.persistent → most ≤ most_told →
       IsTellable catalogue (notices_asked name session from most s).answer
-  told-asked (Some name) session from most s sound limit = told-notices (process_named s.durable.processes name) from most s.durable sound limit
+  told-asked (Some name) session from most s sound limit = told-notices (process_named s.persistent.processes name) from most s.persistent sound limit
   told-asked None session from most s sound limit = told-own (process_of s.attached session)
     where
-      told-own : (held : Option ℕ) → IsTellable catalogue (if_attached held (λ process. answered (notices (Some process) from most s.durable) s) s).answer
+      told-own : (held : Option ℕ) → IsTellable catalogue (if_attached held (λ process. answered (notices (Some process) from most s.persistent) s) s).answer
       told-own None = tt
-      told-own (Some process) = told-notices (Some process) from most s.durable sound limit
+      told-own (Some process) = told-notices (Some process) from most s.persistent sound limit
 
   -- ---- the other commands
 
-  told-after : (s : State) (refusal : Option Refusal) (given : Answer) (d : Durable) → IsTellable catalogue given → IsTellable catalogue (after s (unless refusal given d)).answer
+  told-after : (s : State) (refusal : Option Refusal) (given : Answer) (d : Persistent) → IsTellable catalogue given → IsTellable catalogue (after s (unless refusal given d)).answer
   told-after s (Some why) given d told = tt
   told-after s None given d told = told
 
-  told-joined : (session process : ℕ) (s : State) (refusal : Option Refusal) (name : List ℕ) (number : ℕ) (d : Durable) →
+  told-joined : (session process : ℕ) (s : State) (refusal : Option Refusal) (name : List ℕ) (number : ℕ) (d : Persistent) →
       IsTellable catalogue (joined session process s (unless refusal (answer.Attached name number) d)).answer
   told-joined session process s (Some why) name number d = tt
   told-joined session process s None name number d = tt
@@ -86,7 +87,7 @@ module _ (catalogue : Catalogue) where
   told-if None go s each = tt
   told-if (Some p) go s each = each p
 
-  told-status : (found : Option Transaction) (d : Durable) → IsTellable catalogue (status_of found d)
+  told-status : (found : Option Transaction) (d : Persistent) → IsTellable catalogue (status_of found d)
   told-status None d = tt
   told-status (Some transaction) d = tt
 
@@ -107,25 +108,25 @@ module _ (catalogue : Catalogue) where
   told-act : (session n : ℕ) (c : Command) (s : State) → IsSound (actuators catalogue) s → IsAllowed (actuators catalogue) c → IsTellable catalogue (act (actuators catalogue) session n c s).answer
   told-act session n (command.Attach name) s sound allowed = told-joined session _ s _ name _ _
   told-act session n (command.Submit writes policy) s sound allowed = told-if (process_of s.attached session)
-      (λ p. after s (submit (actuators catalogue) p policy writes n s.durable)) s (λ p. told-after s _ (answer.Accepted _ _) _ tt)
+      (λ p. after s (submit (actuators catalogue) p policy writes n s.persistent)) s (λ p. told-after s _ (answer.Accepted _ _) _ tt)
   told-act session n (command.Renew txn length points) s sound allowed = told-if (process_of s.attached session)
-      (λ p. after s (renew p txn length points n s.durable)) s (λ p. told-after s _ (answer.Renewed _ _) _ tt)
+      (λ p. after s (renew p txn length points n s.persistent)) s (λ p. told-after s _ (answer.Renewed _ _) _ tt)
   told-act session n (command.Cancel txn) s sound allowed = told-if (process_of s.attached session)
-      (λ p. after s (cancel p txn n s.durable)) s (λ p. told-after s _ (answer.Cancelled _ _) _ tt)
-  told-act session n command.Gone s sound allowed = told-if (process_of s.attached session) (λ p. parted session s (gone p n s.durable)) s (λ p. tt)
+      (λ p. after s (cancel p txn n s.persistent)) s (λ p. told-after s _ (answer.Cancelled _ _) _ tt)
+  told-act session n command.Gone s sound allowed = told-if (process_of s.attached session) (λ p. parted session s (gone p n s.persistent)) s (λ p. tt)
   told-act session n command.Tick s sound allowed = tt
   told-act session n (command.Next driver) s sound allowed = told-want (λ point. driver_of (actuators catalogue) point == driver) _ s sound refl
   told-act session n (command.Report point version ok) s sound allowed = told-report n point version ok s
   told-act session n (command.Read point) s sound allowed = of-catalogue point allowed
   told-act session n (command.Array point) s sound allowed = of-catalogue point allowed
-  told-act session n (command.Status txn) s sound allowed = told-status (transaction_of s.durable.txns txn) s.durable
-  told-act session n (command.Notices name from most) s sound allowed = told-asked name session from most s sound.durable allowed.3
+  told-act session n (command.Status txn) s sound allowed = told-status (transaction_of s.persistent.txns txn) s.persistent
+  told-act session n (command.Notices name from most) s sound allowed = told-asked name session from most s sound.persistent allowed.3
 
-pub tellable : (catalogue : Catalogue) (s : State) (session : ℕ) (c : Command) (m : ℕ) → IsSound (actuators catalogue) s → IsAllowed (actuators catalogue) c → m ≤ 2 ^ 60 →
+pub tellable : (catalogue : Catalogue) (s : State) (session : ℕ) (c : Command) (m : ℕ) → IsSound (actuators catalogue) s → IsAllowed (actuators catalogue) c → m ≤ last_moment →
     IsTellable catalogue (step (actuators catalogue) session c m s).answer
 unfolding step
 tellable catalogue s session c m sound allowed small =
-    let n = max s.durable.now m in
-    let now : s.durable.now ≤ 2 ^ 60 = sound.durable.now in
+    let n = max s.persistent.now m in
+    let now : s.persistent.now ≤ last_moment = sound.persistent.now in
     let passed : IsSound (actuators catalogue) (pass_time (actuators catalogue) n s) = passed-sound (actuators catalogue) n s (omega arith) (omega arith) sound in
     told-act catalogue session n c (pass_time (actuators catalogue) n s) passed allowed

@@ -1,5 +1,5 @@
 -- Draining ends: each round at one moment makes what is left less, the first one too.
-use Rattle.std.proofs.Common.{◌≡◌, ℕ, ◌^◌, ◌<◌, ◌≤◌, ◌==◌, max, ℤ, List, [], ◌∷◌, length, Bool, true, false, ◌||◌, Option, Some, None, refl, ap, sym, ◌∙◌, subst, arith}
+use Rattle.std.proofs.Common.{◌≡◌, ℕ, ◌<◌, ◌≤◌, ◌==◌, max, ℤ, List, [], ◌∷◌, length, Bool, true, false, ◌||◌, Option, Some, None, refl, ap, sym, ◌∙◌, subst, arith}
 use Rattle.std.specs.List.{find, list_any}
 use Rattle.std.proofs.lemmas.Bool.{cond_both}
 use Rattle.std.proofs.lemmas.Bool.Decides.{nat_tests}
@@ -9,6 +9,7 @@ use Rattle.boss_model.specs.declared.command.Command.TheVariants as command
 use Rattle.boss_model.specs.declared.state.Actuator.{Actuator}
 use Rattle.boss_model.specs.Catalogue.{driver_of}
 use Rattle.boss_model.specs.Devices.{proxy_of, hand_out, wanting}
+use Rattle.boss_model.specs.Limits.{last_moment}
 use Rattle.boss_model.specs.Lists.{member}
 use Rattle.boss_model.specs.Machine.{ticked, pass_time, settle_after, step}
 use Rattle.boss_model.specs.Machine as machine
@@ -18,11 +19,11 @@ use Rattle.boss_model.specs.Sound.{IsWant, IsSound}
 use Rattle.boss_model.specs.State.{State}
 use Rattle.boss_model.specs.Time.{due, moment_of, tick_to}
 use Rattle.boss_laws.specs.Draining.{reported, serve, serve_if, drain, load, weight, IsWantOf}
-use Rattle.boss_laws.proofs.Coming.{now_after-within, later-first}
+use Rattle.boss_time.proofs.Coming.{now_after-within, later-first}
 use Rattle.boss_laws.proofs.Draining.{find-some, find-member, wanted-point, none-wanted, served-found}
-use Rattle.boss_laws.proofs.Places.{member-each, member-wanted_anew}
+use Rattle.boss_time.proofs.Places.{member-each, member-wanted_anew}
 use Rattle.boss_laws.proofs.Resting.{IsResting, pass-resting, waiting-passed}
-use Rattle.boss_laws.proofs.StepSound.{passed-sound}
+use Rattle.boss_soundness.proofs.StepSound.{passed-sound}
 use Rattle.boss_laws.proofs.Targets.{none-due}
 
 -- ---- lists
@@ -46,7 +47,7 @@ module _ (plant : List Actuator) (n : ℕ) (s : State) where
   still-wanted point there =
       let retries = places (is_retried n) s.proxies in
       let tried : member point (retry n (ticked n s)).wants ≡ true = member-wanted_anew point retries s.wants ∙ ap (λ b. b || member point retries) there in
-      let moves = places (is_moved plant (tick_to n s.durable)) (retry n (ticked n s)).proxies in
+      let moves = places (is_moved plant (tick_to n s.persistent)) (retry n (ticked n s)).proxies in
       member-wanted_anew point moves (retry n (ticked n s)).wants ∙ ap (λ b. b || member point moves) tried
 
   -- A driver that wants still wants when time has passed. Its first want may be another one then, and a lesser driver may
@@ -58,25 +59,25 @@ module _ (plant : List Actuator) (n : ℕ) (s : State) where
       find-some test (pass_time plant n s).wants (any-member test before.0 (pass_time plant n s).wants (find-passes test s.wants before.0 before.1)
       (still-wanted before.0 (find-member test s.wants before.0 before.1)))
 
-module _ (plant : List Actuator) (m : ℕ) (small : m ≤ 2 ^ 60) (s : State) (sound : IsSound plant s) where
+module _ (plant : List Actuator) (m : ℕ) (small : m ≤ last_moment) (s : State) (sound : IsSound plant s) where
   abbrev n : ℕ
-  n = moment_of s.durable m
+  n = moment_of s.persistent m
 
   abbrev passed : State
   passed = pass_time plant n s
 
-  within : s.durable.now ≤ n
-  within = let bound : s.durable.now ≤ max s.durable.now m = omega arith in bound
+  within : s.persistent.now ≤ n
+  within = let bound : s.persistent.now ≤ max s.persistent.now m = omega arith in bound
 
   passed-rests : IsResting plant m n passed
   passed-rests =
-      let now : s.durable.now ≤ 2 ^ 60 = sound.durable.now in
-      let last : (tick_to n s.durable).now ≤ n = now_after-within n s.durable.now (courses s.durable.pending s.durable.leases) s.durable.txns within in
-      let first : s.durable.now ≤ (tick_to n s.durable).now = later-first s.durable.now (due n s.durable) in
+      let now : s.persistent.now ≤ last_moment = sound.persistent.now in
+      let last : (tick_to n s.persistent).now ≤ n = now_after-within n s.persistent.now (courses s.persistent.pending s.persistent.leases) s.persistent.txns within in
+      let first : s.persistent.now ≤ (tick_to n s.persistent).now = later-first s.persistent.now (due n s.persistent) in
       record {
         sound = passed-sound plant n s within (omega arith) sound;
         moment = omega arith;
-        nothing = none-due plant s.durable n sound.durable within;
+        nothing = none-due plant s.persistent n sound.persistent within;
         waiting = waiting-passed plant n s;
       }
 
@@ -100,10 +101,10 @@ unfolding weight
 weight-resting plant m n s rests = (λ i. load plant (pass_time plant (rests.moment i) s)) ∙ ap (load plant) (pass-resting plant m n s rests)
 
 -- a round in which the least driver that has a want is served leaves a sound state that weighs less, whatever the device answers
-pub round-lighter : (plant : List Actuator) (m : ℕ) (s : State) (driver : ℕ) (ok : Bool) → m ≤ 2 ^ 60 → IsSound plant s → wanting plant s ≡ Some driver →
+pub round-lighter : (plant : List Actuator) (m : ℕ) (s : State) (driver : ℕ) (ok : Bool) → m ≤ last_moment → IsSound plant s → wanting plant s ≡ Some driver →
     IsSound plant (serve plant m ok driver s) × (weight plant m (serve plant m ok driver s) < weight plant m s)
 round-lighter plant m s driver ok small sound is =
-    let n = moment_of s.durable m in
+    let n = moment_of s.persistent m in
     let found = still-wanting plant n s driver is in
     let after = served-found plant m n small (pass_time plant n s) driver found.0 ok (passed-rests plant m small s sound) found.1 in
     let rests : IsResting plant m n (serve plant m ok driver s) = subst (IsResting plant m n) (sym (passed-serve plant m small s sound driver ok)) after.0 in
@@ -112,7 +113,7 @@ round-lighter plant m s driver ok small sound is =
     (rests.sound, omega (arith, weight-resting plant m n (serve plant m ok driver s) rests, weight-passed plant m small s sound, less))
 
 -- the same of the two steps that a round is made of
-pub report-lighter : (plant : List Actuator) (m : ℕ) (s : State) (driver point version : ℕ) (value : ℤ) (ok : Bool) → m ≤ 2 ^ 60 → IsSound plant s → wanting plant s ≡ Some driver →
+pub report-lighter : (plant : List Actuator) (m : ℕ) (s : State) (driver point version : ℕ) (value : ℤ) (ok : Bool) → m ≤ last_moment → IsSound plant s → wanting plant s ≡ Some driver →
     (step plant 0 (command.Next driver) m s).answer ≡ answer.Want point version value →
     IsSound plant (step plant 0 (command.Report point version ok) m (step plant 0 (command.Next driver) m s).state).state
     × (weight plant m (step plant 0 (command.Report point version ok) m (step plant 0 (command.Next driver) m s).state).state < weight plant m s)
@@ -121,11 +122,11 @@ report-lighter plant m s driver point version value ok small sound is asked =
     (round-lighter plant m s driver ok small sound is)
 
 -- what a driver that wants is given, though time passes before it is
-pub want-of : (plant : List Actuator) (m : ℕ) (s : State) (driver : ℕ) → m ≤ 2 ^ 60 → IsSound plant s → wanting plant s ≡ Some driver →
+pub want-of : (plant : List Actuator) (m : ℕ) (s : State) (driver : ℕ) → m ≤ last_moment → IsSound plant s → wanting plant s ≡ Some driver →
     IsWantOf plant driver (step plant 0 (command.Next driver) m s).answer
 unfolding step
 want-of plant m s driver small sound is =
-    let n = moment_of s.durable m in
+    let n = moment_of s.persistent m in
     let passed = pass_time plant n s in
     let rests = passed-rests plant m small s sound in
     let found = still-wanting plant n s driver is in
@@ -143,7 +144,7 @@ want-of plant m s driver small sound is =
 
 -- ---- rounds until there is no want left
 
-module _ (plant : List Actuator) (m : ℕ) (small : m ≤ 2 ^ 60) where
+module _ (plant : List Actuator) (m : ℕ) (small : m ≤ last_moment) where
   none-drained : (results : List Bool) (s : State) → wanting plant s ≡ None → (drain plant m results s).wants ≡ s.wants
   none-drained [] s none = refl
   none-drained (ok ∷ results) s none = ap (λ w. (drain plant m results (serve_if plant m ok w s)).wants) none ∙ none-drained results s none
@@ -163,6 +164,6 @@ module _ (plant : List Actuator) (m : ℕ) (small : m ≤ 2 ^ 60) where
           let after = round-lighter plant m s driver ok small sound is in
           ap (λ w. (drain plant m results (serve_if plant m ok w s)).wants) is ∙ go (serve plant m ok driver s) after.0 (omega (arith, after.1))
 
-pub draining-ends : (plant : List Actuator) (s : State) (m : ℕ) → IsSound plant s → m ≤ 2 ^ 60 →
+pub draining-ends : (plant : List Actuator) (s : State) (m : ℕ) → IsSound plant s → m ≤ last_moment →
     (count : ℕ) × ((results : List Bool) → count ≤ length results → (drain plant m results s).wants ≡ [])
 draining-ends plant s m sound small = (weight plant m s, λ results many. drained plant m small results s sound many)

@@ -1,6 +1,7 @@
 use Rattle.std.specs.Prelude.{Bool, true, false, Some}
 use Rattle.boss_model.specs.declared.answer.Answer.{Answer}
 use Rattle.boss_model.specs.declared.answer.Answer.TheVariants as answer
+use Rattle.boss_model.specs.declared.answer.Mark.{Mark}
 use Rattle.boss_model.specs.declared.answer.Mark.TheVariants as mark
 use Rattle.boss_model.specs.declared.command.Command.{Command}
 use Rattle.boss_model.specs.declared.command.Command.TheVariants as command
@@ -24,3 +25,8 @@ is_question c = false
 abbrev pub unmarked : Answer → Answer
 unmarked (answer.Reading point value basis stands) = answer.Reading point value basis mark.Pending
 unmarked given = given
+
+-- a reading with this mark; every other answer as it is
+abbrev pub marked : Mark → Answer → Answer
+marked stands (answer.Reading point value basis other) = answer.Reading point value basis stands
+marked stands given = given

@@ -30,11 +30,11 @@ drain plant moment (ok ∷ results) s = drain plant moment results (serve_if pla
 
 -- how much there is to do at most: each lease that ends may make every point wanted
 abbrev pub load : List Actuator → State → ℕ
-load plant s = length s.durable.leases * suc (length plant) + length s.wants
+load plant s = length s.persistent.leases * suc (length plant) + length s.wants
 
 -- the load once time has passed up to a moment, which each want that is served at that moment makes less
 unfoldable pub weight : List Actuator → ℕ → State → ℕ
-weight plant moment s = load plant (pass_time plant (moment_of s.durable moment) s)
+weight plant moment s = load plant (pass_time plant (moment_of s.persistent moment) s)
 
 -- an answer that hands a want of the driver out
 pub record IsWantOf (plant : List Actuator) (driver : ℕ) (given : Answer) : Type 0 where

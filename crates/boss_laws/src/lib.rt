@@ -6,8 +6,8 @@ mod answers;
 mod bridges;
 mod devices;
 mod effects;
+mod limits;
 mod refusals;
-mod soundness;
 mod ticks;
 
 pub use answers::{an_answer_can_be_told, questions_rest_on_what_lasts};
@@ -17,6 +17,6 @@ pub use bridges::{
 };
 pub use devices::a_settled_point_has_what_was_taken;
 pub use effects::{an_event_does_the_same_again, events_of_a_run_lead_to_its_end};
+pub use limits::limits_are_those_of_the_definitions;
 pub use refusals::{a_refused_command_is_its_tick, an_ended_refusal_tells_the_kept_end};
-pub use soundness::{a_step_keeps_a_sound_state_sound, an_opened_state_is_sound};
-pub use ticks::{tick_before_a_command, tick_before_a_reading, ticks_compose};
+pub use ticks::{tick_before_a_command, tick_before_a_reading};

@@ -1,4 +1,4 @@
-ghost use Rattle.std.specs.Prelude.{◌≡◌, ℕ, ◌≤◌, ◌^◌, List};
+ghost use Rattle.std.specs.Prelude.{◌≡◌, ℕ, ◌≤◌, List};
 ghost use Rattle.boss_model.specs.declared.answer.Answer.TheVariants as answer;
 ghost use Rattle.boss_model.specs.declared.answer.Refusal.{Refusal};
 ghost use Rattle.boss_model.specs.declared.answer.Refusal.TheVariants as refusal;
@@ -6,8 +6,9 @@ ghost use Rattle.boss_model.specs.declared.command.Command.{Command};
 ghost use Rattle.boss_model.specs.declared.command.Command.TheVariants as command;
 ghost use Rattle.boss_model.specs.declared.notice.Cause.{Cause};
 ghost use Rattle.boss_model.specs.declared.state.Actuator.{Actuator};
+ghost use Rattle.boss_model.specs.Limits.{last_moment};
 ghost use Rattle.boss_model.specs.Machine.{step};
-ghost use Rattle.boss_model.specs.Sound.{IsSoundDurable};
+ghost use Rattle.boss_model.specs.Sound.{IsSoundPersistent};
 ghost use Rattle.boss_model.specs.State.{State};
 ghost use Rattle.boss_model.specs.Time.{moment_of};
 ghost use Rattle.boss_laws.specs.Ended.{IsKeptEnd};
@@ -23,7 +24,7 @@ pub fn a_refused_command_is_its_tick()
 /// has ended. That end is no later than the moment that the refusal shows, which is that of the step.
 pub fn an_ended_refusal_tells_the_kept_end()
     ensures { (plant : List Actuator) (s : State) (session : ℕ) (c : Command) (m : ℕ) (cause : Cause) (at moment : ℕ) →
-        IsSoundDurable plant s.durable → m ≤ 2 ^ 60 →
+        IsSoundPersistent plant s.persistent → m ≤ last_moment →
         (step plant session c m s).answer ≡ answer.Refused (refusal.Ended cause at moment) →
-        IsKeptEnd c (moment_of s.durable m) (step plant session c m s).state.durable cause at moment }
+        IsKeptEnd c (moment_of s.persistent m) (step plant session c m s).state.persistent cause at moment }
 {}

@@ -1,3 +1,4 @@
 pub mod LineEndLemmas
 pub mod LinesLemmas
+pub mod TakenLemmas
 pub mod WindowLemmas

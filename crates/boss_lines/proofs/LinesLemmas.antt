@@ -3,7 +3,7 @@ use Rattle.std.specs.List.{onto_first}
 use Rattle.std.proofs.lemmas.Bool.{ne_eqb}
 use Rattle.std.proofs.lemmas.List.{get_or_append_left, length-append, take_all, drop_all}
 use Rattle.boss_model.specs.Lines.{lines}
-use Rattle.boss_lines.specs.declared.window.TheConstants.{LONGEST_LINE}
+use Rattle.boss_model.specs.Limits.{longest_line}
 use Rattle.boss_lines.specs.declared.reader.Next.{Next}
 use Rattle.boss_lines.specs.declared.reader.Next.TheVariants.{Line, Finish, TooLong, ReadFault}
 use Rattle.boss_lines.specs.Lines.{Answers, BeginsTooLong, EndsLine, Leaves, LeavesAhead, NextCause, StopsAt}
@@ -66,7 +66,7 @@ IsTooLong-append bytes more long =
 -- what is too long begins with a line that is too long
 pub BeginsTooLong-lines : (bytes : List ℕ) → IsTooLong bytes → BeginsTooLong (lines bytes)
 unfolding BeginsLonger
-BeginsTooLong-lines bytes long = BeginsLonger-lines bytes LONGEST_LINE long.1 long.0
+BeginsTooLong-lines bytes long = BeginsLonger-lines bytes longest_line long.1 long.0
 
 -- where the first line end stands among the bytes that are held, the bytes before it are the line
 pub Answers-line : (held left old : List ℕ) (place : ℕ) → held ++ left ≡ old → Shows held (LineEnd place)

@@ -1,3 +1,4 @@
+pub mod Given
 pub mod Inside
 pub mod Lines
 pub mod Window

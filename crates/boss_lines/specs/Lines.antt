@@ -3,7 +3,7 @@ use Rattle.boss_model.specs.Lines.{lines}
 use Rattle.boss_outside.specs.Counts.{Rose}
 use Rattle.boss_lines.specs.declared.reader.Next.{Next}
 use Rattle.boss_lines.specs.declared.reader.Next.TheVariants.{Line, Finish, TooLong, ReadFault}
-use Rattle.boss_lines.specs.declared.window.TheConstants.{LONGEST_LINE}
+use Rattle.boss_model.specs.Limits.{longest_line}
 use Rattle.boss_lines.specs.Window.{IsTooLong, NoLineEnd}
 
 -- a reader of lines: the line that it gave last, the bytes behind it that were read ahead, and the answer that it stopped at
@@ -14,7 +14,7 @@ pub record Progress : Type 0 where
 
 -- the first line of these bytes is longer than a line may be
 abbrev pub BeginsTooLong : List (List ℕ) → Type 0
-BeginsTooLong all = (line : List ℕ) × (more : List (List ℕ)) × (all ≡ line ∷ more) × (LONGEST_LINE < length line)
+BeginsTooLong all = (line : List ℕ) × (more : List (List ℕ)) × (all ≡ line ∷ more) × (longest_line < length line)
 
 -- what an answer says of the bytes that were ahead of it, of those that are ahead now, and of the line
 abbrev pub Answers : List ℕ → List ℕ → List ℕ → Next → Type 0
@@ -37,7 +37,7 @@ LeavesAhead ahead ReadFault = NoLineEnd (length ahead) ahead
 
 -- what an answer leaves: the line, and the bytes that were read ahead
 abbrev pub Leaves : List ℕ → List ℕ → Next → Type 0
-Leaves line ahead Line = length line ≤ LONGEST_LINE
+Leaves line ahead Line = length line ≤ longest_line
 Leaves line ahead answer = (line ≡ []) × LeavesAhead ahead answer
 
 -- the answer is a read fault exactly where the source's count rose
@@ -51,10 +51,3 @@ NextCause before now ReadFault = Rose before now
 abbrev pub StopsAt : Next → Option Next → Type 0
 StopsAt Line stopped = (stopped ≡ None) ⊎ (stopped ≡ Some Finish)
 StopsAt answer stopped = stopped ≡ Some answer
-
--- what the lines of a source were, where these were given and then this answer, and what is known of all its lines
-abbrev pub GivesAll : List (List ℕ) → List (List ℕ) → Next → Type 0
-GivesAll all given Line = (rest : List (List ℕ)) × (all ≡ given ++ rest)
-GivesAll all given Finish = all ≡ given
-GivesAll all given TooLong = (rest : List (List ℕ)) × (all ≡ given ++ rest) × BeginsTooLong rest
-GivesAll all given ReadFault = (rest : List (List ℕ)) × (all ≡ given ++ rest)

@@ -2,7 +2,7 @@ use Rattle.std.specs.Prelude.{◌≡◌, ◌≢◌, ℕ, ◌+◌, ◌<◌, ◌�
 use Rattle.boss_outside.specs.Counts.{Rose}
 use Rattle.boss_outside.specs.declared.source.Got.{Got}
 use Rattle.boss_outside.specs.declared.source.Got.TheVariants.{Bytes, Finish, Failed}
-use Rattle.boss_lines.specs.declared.window.TheConstants.{LONGEST_LINE}
+use Rattle.boss_model.specs.Limits.{longest_line}
 use Rattle.boss_lines.specs.declared.window.Found.{Found}
 use Rattle.boss_lines.specs.declared.window.Found.TheVariants.{LineEnd, SourceEnd, TooFar, Fault}
 
@@ -12,7 +12,7 @@ NoLineEnd count bytes = (k : ℕ) → k < count → slice_index bytes k ≢ 10
 
 -- more bytes than a line may have come before the first line end
 abbrev pub IsTooLong : List ℕ → Type 0
-IsTooLong bytes = (LONGEST_LINE < length bytes) × NoLineEnd (LONGEST_LINE + 1) bytes
+IsTooLong bytes = (longest_line < length bytes) × NoLineEnd (longest_line + 1) bytes
 
 -- what a read adds to the bytes that are held
 abbrev pub Adds : List ℕ → List ℕ → Got → Type 0
@@ -22,8 +22,8 @@ Adds old new Failed = new ≡ old
 
 -- what the bytes that are held show, once the line end was sought
 abbrev pub Shows : List ℕ → Found → Type 0
-Shows bytes (LineEnd place) = NoLineEnd place bytes × (place < length bytes) × (slice_index bytes place ≡ 10) × (place ≤ LONGEST_LINE)
-Shows bytes SourceEnd = NoLineEnd (length bytes) bytes × (length bytes ≤ LONGEST_LINE)
+Shows bytes (LineEnd place) = NoLineEnd place bytes × (place < length bytes) × (slice_index bytes place ≡ 10) × (place ≤ longest_line)
+Shows bytes SourceEnd = NoLineEnd (length bytes) bytes × (length bytes ≤ longest_line)
 Shows bytes TooFar = IsTooLong bytes
 Shows bytes Fault = NoLineEnd (length bytes) bytes
 

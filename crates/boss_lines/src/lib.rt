@@ -2,11 +2,8 @@
 #![tactic(auto)]
 
 mod reader;
-#[cfg(test)]
-mod tests;
 mod whole;
 mod window;
 
 pub use reader::{Lines, Next};
 pub use whole::{LinesRead, read_lines};
-pub use window::LONGEST_LINE;

@@ -1,7 +1,8 @@
 ghost use Rattle.std.specs.Prelude.{◌≡◌, ◌≢◌, ◌≤◌, ℕ, [], ◌++◌, length, Some, None, IfOk, IfSome};
+ghost use Rattle.boss_model.specs.Limits.{longest_line};
 ghost use Rattle.boss_lines.specs.Lines.{Answers, EndsLine, Leaves, NextCause, StopsAt};
 
-use crate::window::{Found, LONGEST_LINE, Window};
+use crate::window::{Found, Window};
 use boss_model::NoMemory;
 use boss_outside::Source;
 use std::alloc::Global;
@@ -61,7 +62,7 @@ impl Lines {
     /// The line that the last call of `next` came to, and nothing where it came to none.
     pub fn line(&self) -> &[u8]
         ensures value { result.now ≡ self.now.line }
-        ensures within { length self.now.line ≤ LONGEST_LINE }
+        ensures within { length self.now.line ≤ longest_line }
     {
         &self.window.bytes()[..self.line]
     }

@@ -1,8 +1,9 @@
 ghost use Rattle.std.specs.Prelude.{◌≡◌, ◌≤◌, length, All, IfOk};
-ghost use Rattle.boss_model.specs.Lines.{lines};
-ghost use Rattle.boss_lines.specs.Lines.{GivesAll, NextCause};
+ghost use Rattle.boss_model.specs.Limits.{longest_line};
+ghost use Rattle.boss_lines.specs.Given.{GivesLines};
+ghost use Rattle.boss_lines.specs.Lines.{NextCause};
 
-use crate::{LONGEST_LINE, Lines, Next};
+use crate::{Lines, Next};
 use boss_model::{Items, NoMemory};
 use boss_outside::Source;
 use std::alloc::Global;
@@ -14,18 +15,18 @@ pub struct LinesRead {
     pub end: Next,
 }
 
-/// Reads lines until one call of `Lines::next` comes to none, or until there are `limit` of them: the end is then
-/// `Next::Line`. Where memory is wanting, what was read is lost.
+/// Reads lines until one call of `Lines::next` comes to none, and gives at most `limit` of them: one more is not given, and
+/// the end is `Next::Line` then. Where memory is wanting, what was read is lost.
 pub fn read_lines<S: Source>(
     alloc: Global,
     source: &mut S,
     limit: u64,
 ) -> Result<LinesRead, NoMemory>
-    // Of a source that tells its bytes: the lines are the first of its lines, and all of them at its end.
-    ensures all { S.tells → IfOk result (λ read. GivesAll (lines (S.left source.old)) read.lines read.end) }
+    // Of a source that tells its bytes.
+    ensures all { S.tells → IfOk result (λ read. GivesLines limit (S.left source.old) (S.left source.new) read.lines read.end) }
 
     // Of every source.
-    ensures short { IfOk result (λ read. All (λ line. length line ≤ LONGEST_LINE) read.lines) }
+    ensures short { IfOk result (λ read. All (λ line. length line ≤ longest_line) read.lines) }
     ensures limit { IfOk result (λ read. length read.lines ≤ limit) }
     ensures full { IfOk result (λ read. read.end ≡ Next.Line → length read.lines ≡ limit) }
     ensures cause { IfOk result (λ read. NextCause (S.faults source.old) (S.faults source.new) read.end) }
@@ -38,8 +39,6 @@ pub fn read_lines<S: Source>(
             end => return Ok(LinesRead { lines, end }),
         }
     }
-    Ok(LinesRead {
-        lines,
-        end: Next::Line,
-    })
+    let end = reader.next(source);
+    Ok(LinesRead { lines, end })
 }

@@ -1,15 +1,13 @@
 ghost use Rattle.std.specs.Prelude.{◌≡◌, ℕ, ◌+◌, ◌-◌, ◌<◌, ◌≤◌, List, [], ◌++◌, length, take, drop, slice_index, IfOk, IfSome, IfNone};
+ghost use Rattle.boss_model.specs.Limits.{longest_line};
 ghost use Rattle.boss_outside.specs.Streams.{FitsRoom, Reads, ReadCause};
 ghost use Rattle.boss_lines.specs.Window.{Adds, NoLineEnd, Shows, IsAtEnd, FoundCause};
 
-use boss_model::NoMemory;
+use boss_model::{LONGEST_LINE, NoMemory};
 use boss_outside::{Got, Source};
 use memchr::memchr;
 use std::alloc::Global;
 use std::marker::Model;
-
-/// The most bytes that a line may have before its end.
-pub const LONGEST_LINE: usize = 65_535;
 
 /// Room for two lines of that length with their ends: so a line that reaches the end of the room fits in front of its own
 /// place.
@@ -80,7 +78,7 @@ impl Window {
 
     /// Reads some bytes behind those that are held.
     fn fill<S: Source>(&mut self, source: &mut S) -> Got
-        requires { length self.old ≤ LONGEST_LINE }
+        requires { length self.old ≤ longest_line }
         ensures adds { Adds self.old self.new result }
         ensures bytes { S.tells → self.new ++ S.left source.new ≡ self.old ++ S.left source.old }
         ensures finish { S.tells → result ≡ Got.Finish → S.left source.new ≡ [] }
@@ -141,7 +139,7 @@ fn line_end_from(bytes: &[u8], from: usize) -> Option<usize>
 /// none they start at the front.
 fn make_room(bytes: &mut [u8], start: usize, count: usize) -> usize
     requires within { start + count ≤ length bytes.old }
-    requires few { count ≤ LONGEST_LINE }
+    requires few { count ≤ longest_line }
     requires room { length bytes.old ≡ ROOM }
     ensures kept { take count (drop result bytes.new) ≡ take count (drop start bytes.old) }
     ensures room { result + count < length bytes.new }

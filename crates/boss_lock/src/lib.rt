@@ -10,8 +10,6 @@ mod lock;
 mod plays;
 mod seat;
 mod steps;
-#[cfg(test)]
-mod tests;
 mod view;
 
 pub use lock::{NoMemory, Ruled};

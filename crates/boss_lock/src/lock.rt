@@ -9,6 +9,8 @@ use crate::steps::{begin_turn, divide, end_turn, take_in};
 use crate::view::{Known, Made, OneHistory, Stands, Terms};
 use atomic_table::{Closed, Refused, Table};
 use std::alloc::{AllocFailed, Global};
+use std::error::Error;
+use std::fmt;
 use std::marker::Model;
 use std::snapshot::Snapshot;
 use std::sync::Wait;
@@ -16,6 +18,14 @@ use std::sync::Wait;
 /// There was no memory. The call that answers it has changed nothing.
 #[derive(Clone, Copy, Debug, PartialEq, Eq)]
 pub struct NoMemory;
+
+impl fmt::Display for NoMemory {
+    fn fmt<W: fmt::Write>(&self, f: &mut fmt::Formatter<W>) -> fmt::Result {
+        f.write_str("out of memory")
+    }
+}
+
+impl Error for NoMemory {}
 
 /// A lock that keeps a value, which stands for a list of entries, the history, from the start that the
 /// first value told.

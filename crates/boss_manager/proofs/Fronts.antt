@@ -4,15 +4,15 @@ use Rattle.std.proofs.lemmas.Bool.{cond_both}
 use Rattle.boss_model.specs.declared.answer.Answer.{Answer}
 use Rattle.boss_model.specs.declared.answer.Answer.TheVariants as answer
 use Rattle.boss_model.specs.declared.command.Command.TheVariants as command
-use Rattle.boss_model.specs.declared.form.Form.TheVariants as form
-use Rattle.boss_model.specs.Call.{Call}
+use Rattle.boss_wire.specs.declared.form.Form.TheVariants as form
+use Rattle.boss_model.specs.DeviceCall.{DeviceCall}
 use Rattle.boss_model.specs.Catalogue.{Catalogue, actuators}
 use Rattle.boss_model.specs.Devices.{wanting}
 use Rattle.boss_model.specs.Lines.{is_blank}
 use Rattle.boss_model.specs.Machine.{step}
-use Rattle.boss_model.specs.Requests.{Reading, asks, wrong, Request, reading}
-use Rattle.boss_model.specs.Script.{Run, cut_short, say, serve, carry_out, if_wanting, drain, is_too_long, answered, replied, line_read}
-use Rattle.boss_model.specs.Texts.{answer_text, device_text, line_of, refusal_text, too_long_text}
+use Rattle.boss_wire.specs.Requests.{Parsed, asks, wrong, Request, parsed}
+use Rattle.boss_wire.specs.Script.{Run, cut_short, say, serve, carry_out, if_wanting, drain, is_too_long, answered, replied, line_read}
+use Rattle.boss_wire.specs.Texts.{answer_text, device_text, line_of, refusal_text, too_long_text}
 use Rattle.boss_manager.specs.Runs.{IsFrontOf, Covers, served, lines_taken}
 
 -- ---- fronts
@@ -26,7 +26,7 @@ front-trans xs ys zs first second = (first.0 ++ second.0, second.1 ∙ ap (λ fr
 pub front-under : {A : Type 0} (before xs ys : List A) → IsFrontOf xs ys → IsFrontOf (before ++ xs) (before ++ ys)
 front-under before xs ys front = (front.0, ap (λ rest. before ++ rest) front.1 ∙ sym (append_assoc before xs front.0))
 
-pub covers-trans : (run later : Run) (text : List ℕ) (calls : List Call) → Covers later run.text run.calls → Covers run text calls → Covers later text calls
+pub covers-trans : (run later : Run) (text : List ℕ) (calls : List DeviceCall) → Covers later run.text run.calls → Covers run text calls → Covers later text calls
 covers-trans run later text calls second first = (front-trans text run.text later.text first.0 second.0, front-trans calls run.calls later.calls first.1 second.1)
 
 -- ---- each part of a script goes on
@@ -39,7 +39,7 @@ carry-covers catalogue moment (answer.Want point version value) ok run =
     ((line_of (device_text catalogue point value ok), refl), (record { point = point; value = value; ok = ok } ∷ [], refl))
 carry-covers catalogue moment given ok run = stays run
 
-if-covers : (found : Option ℕ) (go : ℕ → Run) (run : Run) (text : List ℕ) (calls : List Call) → ((driver : ℕ) → Covers (go driver) text calls) → Covers run text calls →
+if-covers : (found : Option ℕ) (go : ℕ → Run) (run : Run) (text : List ℕ) (calls : List DeviceCall) → ((driver : ℕ) → Covers (go driver) text calls) → Covers run text calls →
     Covers (if_wanting found go run) text calls
 if-covers None go run text calls goes rests = rests
 if-covers (Some driver) go run text calls goes rests = goes driver
@@ -66,19 +66,19 @@ answered-covers catalogue request run =
     covers-trans told (answered catalogue request run) run.text run.calls (drain-covers catalogue request.at run.results told)
     ((line_of (answer_text catalogue done.answer), refl), front-whole run.calls)
 
-replied-covers : (catalogue : Catalogue) (asked : Reading Request) (run : Run) → Covers (replied catalogue asked run) run.text run.calls
+replied-covers : (catalogue : Catalogue) (asked : Parsed Request) (run : Run) → Covers (replied catalogue asked run) run.text run.calls
 replied-covers catalogue (wrong why) run = ((line_of (refusal_text why), refl), front-whole run.calls)
 replied-covers catalogue (asks request) run = answered-covers catalogue request run
 
 pub line-covers : (catalogue : Catalogue) (line : List ℕ) (run : Run) → Covers (line_read catalogue run line) run.text run.calls
 line-covers catalogue line run =
-    let reply = replied catalogue (reading catalogue form.Script line) run in
+    let reply = replied catalogue (parsed catalogue form.Script line) run in
     let long : Run = record (say too_long_text run) { over = true } in
     cond_both (run.short || run.over) run (if is_too_long line then long else (if is_blank line then run else reply)) (λ later. Covers later run.text run.calls)
     (λ _. stays run)
     (λ _. cond_both (is_too_long line) long (if is_blank line then run else reply) (λ later. Covers later run.text run.calls)
     (λ _. ((line_of too_long_text, refl), front-whole run.calls))
-    (λ _. cond_both (is_blank line) run reply (λ later. Covers later run.text run.calls) (λ _. stays run) (λ _. replied-covers catalogue (reading catalogue form.Script line) run)))
+    (λ _. cond_both (is_blank line) run reply (λ later. Covers later run.text run.calls) (λ _. stays run) (λ _. replied-covers catalogue (parsed catalogue form.Script line) run)))
 
 pub lines-cover : (catalogue : Catalogue) (all : List (List ℕ)) (run : Run) → Covers (lines_taken catalogue all run) run.text run.calls
 lines-cover catalogue [] run = stays run

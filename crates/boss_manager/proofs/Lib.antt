@@ -1,8 +1,9 @@
+pub mod Answering
 pub mod Fronts
 pub mod InputLemmas
+pub mod JobLemmas
 pub mod LineLemmas
 pub mod Places
-pub mod ReadLemmas
 pub mod Results
 pub mod RunLemmas
 pub mod ScriptLemmas

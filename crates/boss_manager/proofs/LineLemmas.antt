@@ -4,22 +4,23 @@ use Rattle.std.proofs.lemmas.Bool.Decides.{nat_tests}
 use Rattle.boss_laws.proofs.Tellable.{tellable}
 use Rattle.boss_model.specs.declared.answer.Refusal.{Refusal}
 use Rattle.boss_model.specs.declared.command.Command.{Command}
-use Rattle.boss_model.specs.declared.form.Form.TheVariants as form
+use Rattle.boss_wire.specs.declared.form.Form.TheVariants as form
 use Rattle.boss_model.specs.declared.state.Actuator.{Actuator}
-use Rattle.boss_model.specs.Call.{Call}
+use Rattle.boss_model.specs.DeviceCall.{DeviceCall}
 use Rattle.boss_model.specs.Catalogue.{Catalogue, actuators}
 use Rattle.boss_model.specs.Lines.{is_blank}
 use Rattle.boss_model.specs.Machine.{step}
-use Rattle.boss_model.specs.Requests.{Reading, asks, wrong, Request, reading}
-use Rattle.boss_model.specs.Script.{Run, is_too_long, answered, replied, line_read}
+use Rattle.boss_wire.specs.Requests.{Parsed, asks, wrong, Request, parsed}
+use Rattle.boss_wire.specs.Script.{Run, is_too_long, answered, replied, line_read}
 use Rattle.boss_model.specs.Sound.{IsAllowed, IsSound}
 use Rattle.boss_model.specs.State.{State}
 use Rattle.boss_model.specs.Tellable.{IsTellable}
-use Rattle.boss_model.specs.Texts.{answer_text, line_of, refusal_text}
+use Rattle.boss_wire.specs.Texts.{answer_text, line_of, refusal_text}
 use Rattle.boss_outside.specs.Streams.{TakesFront}
+use Rattle.boss_manager.specs.Outside.{Trace}
 use Rattle.boss_manager.specs.Runs.{at, Did, Broke, Leads, line_taken, lines_taken, served, stop}
 use Rattle.boss_manager.proofs.Fronts.{served-covers, lines-cover, front-whole}
-use Rattle.boss_manager.proofs.RunLemmas.{broke-told, broke-then, broke-under, broke-same, dealt-none, did-told, did-nothing, did-then, did-under, did-same}
+use Rattle.boss_manager.proofs.RunLemmas.{broke-tell, broke-then, broke-under, broke-same, did-tell, did-nothing, did-then, did-under, did-same}
 
 -- a sound state's answer to a request can be told
 pub told-step : (catalogue : Catalogue) (plant : List Actuator) (s : State) (session : ℕ) (c : Command) (moment : ℕ) → plant ≡ actuators catalogue → IsSound plant s →
@@ -42,15 +43,13 @@ module _ (catalogue : Catalogue) (request : Request) (plant : List Actuator) (s 
       ap (λ p. served catalogue request.at (at (step p request.on request.command request.at s).state (text ++ line_of (answer_text catalogue (step p request.on request.command request.at s).answer)) earlier more)) (sym same)
       ∙ ap (λ cs. served catalogue request.at (at after (text ++ answering) cs more)) (sym (append-nil earlier))
 
-  module _ (old mid : List ℕ) (before : List (List Call)) (was : Type 0) where
+  module _ (old : Trace) (taken : List ℕ) where
     -- the answer is told, and then the wants that it leaves are served
-    pub did-answer : mid ≡ old ++ answering → Did (actuators catalogue) (answered catalogue request) (served catalogue request.at) s after old mid before before was was
-    did-answer told = did-told (actuators catalogue) (answered catalogue request) (served catalogue request.at) s after answering [] [] old mid before before was was
-        answered-leads told (λ all. (all, sym (dealt-none (actuators catalogue) before)))
+    pub did-answer : taken ≡ old.taken ++ answering → Did (actuators catalogue) (answered catalogue request) (served catalogue request.at) s after old (record old { taken = taken })
+    did-answer told = did-tell answering old taken answered-leads told
 
-    pub broke-answer : TakesFront old mid answering → Broke (actuators catalogue) (answered catalogue request) s old mid before before was was
-    broke-answer takes = broke-told (actuators catalogue) (answered catalogue request) (served catalogue request.at) s after answering [] [] old mid before before was was
-        answered-leads (served-covers catalogue request.at) takes (λ all. (all, sym (dealt-none (actuators catalogue) before)))
+    pub broke-answer : TakesFront old.taken taken answering → Broke (actuators catalogue) (answered catalogue request) s old (record old { taken = taken })
+    broke-answer takes = broke-tell (served catalogue request.at) after answering old taken answered-leads (served-covers catalogue request.at) takes
 
 -- ---- a line
 
@@ -62,37 +61,36 @@ is-long line past = grind (arith, nat_tests)
 
 module _ (catalogue : Catalogue) (line : List ℕ) (short : is_too_long line ≡ false) where
   -- a blank line does nothing
-  blank-same : is_blank line ≡ true → (s : State) (text : List ℕ) (earlier : List Call) (results : List Bool) → line_taken catalogue line (at s text earlier results) ≡ stop (at s text earlier results)
+  blank-same : is_blank line ≡ true → (s : State) (text : List ℕ) (earlier : List DeviceCall) (results : List Bool) → line_taken catalogue line (at s text earlier results) ≡ stop (at s text earlier results)
   blank-same blank s text earlier results = rw (short, blank) refl
 
   -- any other is replied to
-  replied-same : is_blank line ≡ false → (read : Reading Request) → reading catalogue form.Script line ≡ read → (s : State) (text : List ℕ) (earlier : List Call) (results : List Bool) →
+  replied-same : is_blank line ≡ false → (read : Parsed Request) → parsed catalogue form.Script line ≡ read → (s : State) (text : List ℕ) (earlier : List DeviceCall) (results : List Bool) →
       line_taken catalogue line (at s text earlier results) ≡ replied catalogue read (at s text earlier results)
   replied-same full read is s text earlier results = rw (short, full, is) refl
 
-  pub did-blank : is_blank line ≡ true → (s : State) (old : List ℕ) (before : List (List Call)) (whole : Type 0) →
-      Did (actuators catalogue) (line_taken catalogue line) stop s s old old before before whole whole
-  did-blank blank s old before whole = did-same (actuators catalogue) (line_taken catalogue line) stop stop s s old old before before whole whole (blank-same blank)
-      (did-nothing (actuators catalogue) stop s old before whole)
+  pub did-blank : is_blank line ≡ true → (s : State) (old : Trace) → Did (actuators catalogue) (line_taken catalogue line) stop s s old old
+  did-blank blank s old = did-same (line_taken catalogue line) (blank-same blank) (did-nothing stop s old)
 
-  pub broke-request : is_blank line ≡ false → (request : Request) → reading catalogue form.Script line ≡ asks request → (s : State) (old new : List ℕ) (before after : List (List Call)) (was now : Type 0) →
-      Broke (actuators catalogue) (answered catalogue request) s old new before after was now → Broke (actuators catalogue) (line_taken catalogue line) s old new before after was now
-  broke-request full request is s old new before after was now broke =
-      broke-same (actuators catalogue) (line_taken catalogue line) (answered catalogue request) s old new before after was now (replied-same full (asks request) is) broke
+  pub broke-request : is_blank line ≡ false → (request : Request) → parsed catalogue form.Script line ≡ asks request → {s : State} {old new : Trace} →
+      Broke (actuators catalogue) (answered catalogue request) s old new → Broke (actuators catalogue) (line_taken catalogue line) s old new
+  broke-request full request is broke = broke-same (line_taken catalogue line) (replied-same full (asks request) is) broke
+
+  pub did-request : is_blank line ≡ false → (request : Request) → parsed catalogue form.Script line ≡ asks request → {s s' : State} {old new : Trace} →
+      Did (actuators catalogue) (answered catalogue request) stop s s' old new → Did (actuators catalogue) (line_taken catalogue line) stop s s' old new
+  did-request full request is did = did-same (line_taken catalogue line) (replied-same full (asks request) is) did
 
   -- a refusal
-  module _ (full : is_blank line ≡ false) (why : Refusal) (is : reading catalogue form.Script line ≡ wrong why) (s : State) (old new : List ℕ) (before : List (List Call)) (whole : Type 0) where
+  module _ (full : is_blank line ≡ false) (why : Refusal) (is : parsed catalogue form.Script line ≡ wrong why) (s : State) (old : Trace) (taken : List ℕ) where
     refused-leads : Leads (line_taken catalogue line) stop s s (line_of (refusal_text why)) [] []
     refused-leads more text earlier = replied-same full (wrong why) is s text earlier more
         ∙ ap (λ cs. at s (text ++ line_of (refusal_text why)) cs more) (sym (append-nil earlier))
 
-    pub did-refusal : new ≡ old ++ line_of (refusal_text why) → Did (actuators catalogue) (line_taken catalogue line) stop s s old new before before whole whole
-    did-refusal told = did-told (actuators catalogue) (line_taken catalogue line) stop s s (line_of (refusal_text why)) [] [] old new before before whole whole
-        refused-leads told (λ all. (all, sym (dealt-none (actuators catalogue) before)))
+    pub did-refusal : taken ≡ old.taken ++ line_of (refusal_text why) → Did (actuators catalogue) (line_taken catalogue line) stop s s old (record old { taken = taken })
+    did-refusal told = did-tell (line_of (refusal_text why)) old taken refused-leads told
 
-    pub broke-refusal : TakesFront old new (line_of (refusal_text why)) → Broke (actuators catalogue) (line_taken catalogue line) s old new before before whole whole
-    broke-refusal takes = broke-told (actuators catalogue) (line_taken catalogue line) stop s s (line_of (refusal_text why)) [] [] old new before before whole whole
-        refused-leads (λ run. (front-whole run.text, front-whole run.calls)) takes (λ all. (all, sym (dealt-none (actuators catalogue) before)))
+    pub broke-refusal : TakesFront old.taken taken (line_of (refusal_text why)) → Broke (actuators catalogue) (line_taken catalogue line) s old (record old { taken = taken })
+    broke-refusal takes = broke-tell stop s (line_of (refusal_text why)) old taken refused-leads (λ run. (front-whole run.text, front-whole run.calls)) takes
 
 -- ---- lines
 
@@ -100,27 +98,18 @@ taken-append : (catalogue : Catalogue) (first rest : List (List ℕ)) (run : Run
 taken-append catalogue [] rest run = refl
 taken-append catalogue (line ∷ first) rest run = taken-append catalogue first rest (line_read catalogue run line)
 
-module _ (catalogue : Catalogue) (given : List (List ℕ)) (s s' : State) (old mid : List ℕ) (before between : List (List Call)) (was half : Type 0)
-    (first : Did (actuators catalogue) (lines_taken catalogue given) stop s s' old mid before between was half) where
+module _ (catalogue : Catalogue) (given : List (List ℕ)) {s s' : State} {old mid : Trace} (first : Did (actuators catalogue) (lines_taken catalogue given) stop s s' old mid) where
   -- lines and then others
-  pub did-before : (more : List (List ℕ)) → Did (actuators catalogue) (lines_taken catalogue (given ++ more)) (lines_taken catalogue more) s s' old mid before between was half
-  did-before more = did-same (actuators catalogue) (lines_taken catalogue (given ++ more)) (λ run. lines_taken catalogue more (lines_taken catalogue given run)) (lines_taken catalogue more)
-      s s' old mid before between was half (λ t text earlier results. taken-append catalogue given more (at t text earlier results))
-      (did-under (actuators catalogue) (lines_taken catalogue given) (lines_taken catalogue more) s s' old mid before between was half first)
+  pub did-before : (more : List (List ℕ)) → Did (actuators catalogue) (lines_taken catalogue (given ++ more)) (lines_taken catalogue more) s s' old mid
+  did-before more = did-same (lines_taken catalogue (given ++ more)) (λ t text earlier results. taken-append catalogue given more (at t text earlier results))
+      (did-under (lines_taken catalogue more) first)
 
   -- one line more
-  pub did-one-more : (line : List ℕ) (s'' : State) (new : List ℕ) (after : List (List Call)) (now : Type 0) →
-      Did (actuators catalogue) (line_taken catalogue line) stop s' s'' mid new between after half now →
-      Did (actuators catalogue) (lines_taken catalogue (given ++ line ∷ [])) stop s s'' old new before after was now
-  did-one-more line s'' new after now second =
-      did-then (actuators catalogue) (lines_taken catalogue (given ++ line ∷ [])) (lines_taken catalogue (line ∷ [])) stop s s' s'' old mid new before between after was half now
-      (did-before (line ∷ [])) second
+  pub did-one-more : (line : List ℕ) {s'' : State} {new : Trace} → Did (actuators catalogue) (line_taken catalogue line) stop s' s'' mid new →
+      Did (actuators catalogue) (lines_taken catalogue (given ++ line ∷ [])) stop s s'' old new
+  did-one-more line second = did-then (did-before (line ∷ [])) second
 
   -- the next line broke off
-  pub broke-next : (line : List ℕ) (more : List (List ℕ)) (new : List ℕ) (after : List (List Call)) (now : Type 0) →
-      Broke (actuators catalogue) (line_taken catalogue line) s' mid new between after half now →
-      Broke (actuators catalogue) (lines_taken catalogue (given ++ line ∷ more)) s old new before after was now
-  broke-next line more new after now broke =
-      broke-then (actuators catalogue) (lines_taken catalogue (given ++ line ∷ more)) (lines_taken catalogue (line ∷ more)) s s' old mid new before between after was half now
-      (did-before (line ∷ more))
-      (broke-under (actuators catalogue) (line_taken catalogue line) (lines_taken catalogue more) s' mid new between after half now (lines-cover catalogue more) broke)
+  pub broke-next : (line : List ℕ) (more : List (List ℕ)) {new : Trace} → Broke (actuators catalogue) (line_taken catalogue line) s' mid new →
+      Broke (actuators catalogue) (lines_taken catalogue (given ++ line ∷ more)) s old new
+  broke-next line more broke = broke-then (did-before (line ∷ more)) (broke-under (lines_taken catalogue more) (lines-cover catalogue more) broke)

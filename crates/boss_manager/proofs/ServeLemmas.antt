@@ -5,19 +5,20 @@ use Rattle.boss_laws.proofs.Weighing.{want-of}
 use Rattle.boss_model.specs.declared.answer.Answer.TheVariants as answer
 use Rattle.boss_model.specs.declared.command.Command.TheVariants as command
 use Rattle.boss_model.specs.declared.state.Actuator.{Actuator}
-use Rattle.boss_model.specs.Call.{Call}
+use Rattle.boss_model.specs.DeviceCall.{DeviceCall}
 use Rattle.boss_model.specs.Catalogue.{Catalogue, actuators, driver_of}
 use Rattle.boss_model.specs.Devices.{wanting}
 use Rattle.boss_model.specs.Machine.{step}
-use Rattle.boss_model.specs.Script.{drain, serve, carry_out, if_wanting}
+use Rattle.boss_wire.specs.Script.{drain, serve, carry_out, if_wanting}
 use Rattle.boss_model.specs.Sound.{IsSound}
 use Rattle.boss_model.specs.State.{State}
-use Rattle.boss_model.specs.Texts.{device_text, line_of}
+use Rattle.boss_wire.specs.Texts.{device_text, line_of}
 use Rattle.boss_outside.specs.Streams.{TakesFront}
 use Rattle.boss_manager.specs.Devices.{HasDevices}
+use Rattle.boss_manager.specs.Outside.{Answered, Trace}
 use Rattle.boss_manager.specs.Runs.{at, Did, Broke, Leads, gained, dealt, served, stop}
 use Rattle.boss_manager.proofs.Fronts.{served-covers}
-use Rattle.boss_manager.proofs.RunLemmas.{broke-told, dealt-none, dealt-one, did-then, did-told}
+use Rattle.boss_manager.proofs.RunLemmas.{broke-told, dealt-one, did-tell, did-then, did-told}
 
 -- a want of a driver names a point of the catalogue that is behind this driver
 pub want-there : (catalogue : Catalogue) (driver moment point version : ℕ) (value : ℤ) (plant : List Actuator) (s : State) → plant ≡ actuators catalogue → moment ≤ 2 ^ 60 →
@@ -40,7 +41,7 @@ module _ (catalogue : Catalogue) (driver moment point version : ℕ) (value : �
   abbrev line : List ℕ
   line = line_of (device_text catalogue point value ok)
 
-  abbrev call : Call
+  abbrev call : DeviceCall
   call = record { point = point; value = value; ok = ok }
 
   abbrev reported : State
@@ -56,19 +57,17 @@ module _ (catalogue : Catalogue) (driver moment point version : ℕ) (value : �
       ∙ ap (λ a. drain catalogue moment more (carry_out catalogue moment a ok (at asked text earlier more))) is
       ∙ ap (λ p. drain catalogue moment more (at (step p 0 (command.Report point version ok) moment asked).state (text ++ line) (earlier ++ call ∷ []) more)) (sym same)
 
-  module _ (old new : List ℕ) (before after : List (List Call)) (was now : Type 0) (same : plant ≡ actuators catalogue) (wants : wanting plant s ≡ Some driver)
-      (is : (step plant 0 (command.Next driver) moment s).answer ≡ answer.Want point version value) (behind : driver_of (actuators catalogue) point ≡ driver) (within : driver < length before)
-      (gain : now → was × (after ≡ gained driver call before)) where
-    dealing : now → was × (after ≡ dealt (actuators catalogue) (call ∷ []) before)
-    dealing all = let one = gain all in (one.0, one.1 ∙ dealt-one (actuators catalogue) driver call before behind within)
+  module _ (old new : Trace) (same : plant ≡ actuators catalogue) (wants : wanting plant s ≡ Some driver)
+      (is : (step plant 0 (command.Next driver) moment s).answer ≡ answer.Want point version value) (behind : driver_of (actuators catalogue) point ≡ driver) (within : driver < length old.calls)
+      (answered : Answered (ok ∷ []) old.faults new.faults) (gain : new.whole → old.whole × (new.calls ≡ gained driver call old.calls)) where
+    dealing : new.whole → old.whole × (new.calls ≡ dealt (actuators catalogue) (call ∷ []) old.calls)
+    dealing all = let one = gain all in (one.0, one.1 ∙ dealt-one (actuators catalogue) driver call old.calls behind within)
 
-    pub did-serve : new ≡ old ++ line → Did (actuators catalogue) (served catalogue moment) (served catalogue moment) s reported old new before after was now
-    did-serve told = did-told (actuators catalogue) (served catalogue moment) (served catalogue moment) s reported line (call ∷ []) (ok ∷ []) old new before after was now
-        (serve-leads same wants is) told dealing
+    pub did-serve : new.taken ≡ old.taken ++ line → Did (actuators catalogue) (served catalogue moment) (served catalogue moment) s reported old new
+    did-serve told = did-told line (call ∷ []) (ok ∷ []) old new (serve-leads same wants is) told answered dealing
 
-    pub broke-serve : TakesFront old new line → Broke (actuators catalogue) (served catalogue moment) s old new before after was now
-    broke-serve takes = broke-told (actuators catalogue) (served catalogue moment) (served catalogue moment) s reported line (call ∷ []) (ok ∷ []) old new before after was now
-        (serve-leads same wants is) (served-covers catalogue moment) takes dealing
+    pub broke-serve : TakesFront old.taken new.taken line → Broke (actuators catalogue) (served catalogue moment) s old new
+    broke-serve takes = broke-told (served catalogue moment) reported line (call ∷ []) (ok ∷ []) old new (serve-leads same wants is) (served-covers catalogue moment) takes answered dealing
 
 -- where nothing is wanted nothing is done
 drained-leads : (catalogue : Catalogue) (moment : ℕ) (s : State) → wanting (actuators catalogue) s ≡ None → Leads (served catalogue moment) stop s s [] [] []
@@ -81,15 +80,10 @@ drained-leads catalogue moment s wants (ok ∷ more) text earlier =
     ∙ ap₂ (λ t cs. at s t cs (ok ∷ more)) (sym (append-nil text)) (sym (append-nil earlier))
 
 -- once nothing is wanted, all wants of the moment are served
-pub did-drained : (catalogue : Catalogue) (moment : ℕ) (plant : List Actuator) (s s' : State) (old new : List ℕ) (before after : List (List Call)) (was now : Type 0) →
-    plant ≡ actuators catalogue → wanting plant s' ≡ None →
-    Did (actuators catalogue) (served catalogue moment) (served catalogue moment) s s' old new before after was now →
-    Did (actuators catalogue) (served catalogue moment) stop s s' old new before after was now
-did-drained catalogue moment plant s s' old new before after was now same wants did =
-    let wants' : wanting (actuators catalogue) s' ≡ None = subst (λ p. wanting p s' ≡ None) same wants in
-    did-then (actuators catalogue) (served catalogue moment) (served catalogue moment) stop s s' s' old new new before after after was now now did
-    (did-told (actuators catalogue) (served catalogue moment) stop s' s' [] [] [] new new after after now now (drained-leads catalogue moment s' wants') (sym (append-nil new))
-    (λ all. (all, sym (dealt-none (actuators catalogue) after))))
+pub did-drained : (catalogue : Catalogue) (moment : ℕ) (plant : List Actuator) (s s' : State) (old new : Trace) → plant ≡ actuators catalogue → wanting plant s' ≡ None →
+    Did (actuators catalogue) (served catalogue moment) (served catalogue moment) s s' old new → Did (actuators catalogue) (served catalogue moment) stop s s' old new
+did-drained catalogue moment plant s s' old new same wants did =
+    did-then did (did-tell [] new new.taken (drained-leads catalogue moment s' (subst (λ p. wanting p s' ≡ None) same wants)) (sym (append-nil new.taken)))
 
 driver-there : (count : ℕ) (plant : List Actuator) → HasDevices count plant → (point : ℕ) → point < length plant → driver_of plant point < count
 driver-there count [] all point within = absurd (omega arith)

@@ -1,5 +1,5 @@
 -- Why a part of a script broke off, by the counts of faults of what it called.
-use Rattle.std.specs.Prelude.{◌≡◌, ◌≢◌, ℕ, Result, Ok, Err}
+use Rattle.std.specs.Prelude.{◌≡◌, ℕ, Result, Ok, Err}
 use Rattle.boss_outside.specs.Counts.{Rose}
 use Rattle.boss_lines.specs.Lines.{NextCause}
 use Rattle.boss_lines.specs.declared.reader.Next.{Next}
@@ -26,7 +26,3 @@ status_of (Err WriteFault) = 7
 status_of (Err NoMemory) = 8
 status_of (Ok TooLong) = 13
 status_of (Ok Line) = 14
-
--- this status comes exactly where the count rose
-abbrev pub Tells : ℕ → ℕ → ℕ → ℕ → Type 0
-Tells status told before now = (status ≡ told → Rose before now) × (status ≢ told → now ≡ before)

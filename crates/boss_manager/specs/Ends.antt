@@ -1,36 +1,25 @@
--- How a run of the program ended.
-use Rattle.std.specs.Prelude.{◌≡◌, ◌⊎◌, ℕ, List, Option, Some, None, Ok, Err}
+-- How a script ended.
+use Rattle.std.specs.Prelude.{◌≡◌, ◌⊎◌, ℕ, ◌≤◌, false, length, Result, OnErr}
+use Rattle.boss_lines.specs.declared.reader.Next.{Next}
 use Rattle.boss_model.specs.Catalogue.{Catalogue}
-use Rattle.boss_outside.specs.Streams.{TakesFront}
-use Rattle.boss_points.specs.declared.CatalogueRefusal.{CatalogueRefusal}
-use Rattle.boss_manager.specs.Programs.{refusal_line, usable, usage_line}
+use Rattle.boss_model.specs.Limits.{most_lines}
+use Rattle.boss_model.specs.Lines.{lines}
+use Rattle.boss_outside.specs.Counts.{Rose}
+use Rattle.boss_manager.specs.declared.broken.Broken.{Broken}
+use Rattle.boss_manager.specs.Causes.{ReadCause, WriteCause, status_of}
+use Rattle.boss_manager.specs.Inputs.{Ended, has_too_long}
+use Rattle.boss_manager.specs.Outside.{Outside}
+use Rattle.boss_manager.specs.Scripts.{BrokeScript}
 
--- the statuses of a script
-abbrev pub IsScriptStatus : ℕ → Type 0
-IsScriptStatus status = (status ≡ 0) ⊎ (status ≡ 6) ⊎ (status ≡ 7) ⊎ (status ≡ 8) ⊎ (status ≡ 13) ⊎ (status ≡ 14)
-
--- the statuses of the program, which are 2, 3 and 5 beside those of a script
-abbrev pub IsStatus : ℕ → Type 0
-IsStatus status = (status ≡ 2) ⊎ (status ≡ 3) ⊎ (status ≡ 5) ⊎ IsScriptStatus status
-
--- the statuses that are answered where others hold too: a write failed, or no memory was to be had
-abbrev pub MayYield : ℕ → Type 0
-MayYield status = (status ≡ 7) ⊎ (status ≡ 8)
-
--- the words name a file that is there, and its catalogue is refused; more is said of the refusal
-abbrev pub Refuses : Option (List ℕ) → (List ℕ → Option (List ℕ)) → ℕ → (CatalogueRefusal → Type 0) → Type 0
-Refuses word holds count Told = (name : List ℕ) × (file : List ℕ) × (refusal : CatalogueRefusal)
-    × (word ≡ Some name) × (holds name ≡ Some file) × (usable count file ≡ Err refusal) × Told refusal
-
--- the words name a file that is there, and its catalogue can be used; more is said of the catalogue
-abbrev pub Uses : Option (List ℕ) → (List ℕ → Option (List ℕ)) → ℕ → (Catalogue → Type 0) → Type 0
-Uses word holds count Ran = (name : List ℕ) × (file : List ℕ) × (catalogue : Catalogue)
-    × (word ≡ Some name) × (holds name ≡ Some file) × (usable count file ≡ Ok catalogue) × Ran catalogue
-
--- A program broke off before it called a device, and told nothing, or the front of what tells the usage or a refusal; or
--- the script of its catalogue broke off.
-abbrev pub BrokeProgram : Option (List ℕ) → (List ℕ → Option (List ℕ)) → ℕ → List ℕ → List ℕ → Type 0 → (Catalogue → Type 0) → Type 0
-BrokeProgram word holds count old new Uncalled Broke = ((new ≡ old) × Uncalled)
-    ⊎ ((word ≡ None) × TakesFront old new usage_line × Uncalled)
-    ⊎ Refuses word holds count (λ refusal. TakesFront old new (refusal_line refusal) × Uncalled)
-    ⊎ Uses word holds count Broke
+-- A script over what was left of a source ended with this status, which tells its end: 0, 6, 13 and 14 that of its lines, 7 and 8
+-- that a write failed or memory was wanting. Where it broke off, the sink took the front of its text.
+pub record EndsScript (catalogue : Catalogue) (old new : Outside) (status : ℕ) : Type 0 where
+  pub end : Result Next Broken
+  pub told : status ≡ status_of end
+  pub ended : old.source_tells → Ended catalogue old new end
+  pub broke : OnErr end (old.source_tells → old.sink_tells → BrokeScript catalogue (lines old.left) old.trace new.trace)
+  pub read_fault : ReadCause old.read_faults new.read_faults end
+  pub write_fault : WriteCause old.write_faults new.write_faults end
+  -- where nothing failed, no line is too long and the lines are not too many, it runs to its end, or memory is wanting
+  pub complete : old.source_tells → ¬ Rose old.read_faults new.read_faults → ¬ Rose old.write_faults new.write_faults
+      → has_too_long (lines old.left) ≡ false → length (lines old.left) ≤ most_lines → (status ≡ 0) ⊎ (status ≡ 8)

@@ -1,4 +1,4 @@
-use Rattle.std.specs.Prelude.{◌≡◌, ℕ, List, Option, Some, Result, Ok, Err}
+use Rattle.std.specs.Prelude.{◌≡◌, ◌⊎◌, ℕ, List, [], ◌∷◌, ◌++◌, Option, Some, Result, Ok, Err}
 use Rattle.boss_model.specs.Catalogue.{Catalogue}
 use Rattle.boss_outside.specs.Counts.{Rose}
 use Rattle.boss_manager.specs.declared.catalogue.Unusable.{Unusable}
@@ -18,3 +18,8 @@ FaultOnly before now (Ok catalogue) = now ≡ before
 FaultOnly before now (Err (unusable.Refused refusal)) = now ≡ before
 FaultOnly before now (Err unusable.FileFault) = Rose before now
 FaultOnly before now (Err unusable.NoMemory) = now ≡ before
+
+-- the file of this name was asked for, and no other; where memory was wanting maybe not even this one
+abbrev pub AsksFor : List ℕ → List (List ℕ) → List (List ℕ) → Result Catalogue Unusable → Type 0
+AsksFor name old new (Err unusable.NoMemory) = (new ≡ old) ⊎ (new ≡ old ++ name ∷ [])
+AsksFor name old new answer = new ≡ old ++ name ∷ []

@@ -1,13 +1,11 @@
--- What the words and the catalogue's file come to, and what the program says where they come to nothing.
-use Rattle.std.specs.Prelude.{ℕ, Bool, not, nat_lt, if◌then◌else◌, List, [], ◌∷◌, ◌++◌, codes, decimal, Option, Some, None, Result, Ok, Err}
+-- What the words and the catalogue's file come to.
+use Rattle.std.specs.Prelude.{ℕ, Bool, not, nat_lt, if◌then◌else◌, List, codes, Option, Some, None, Result, Ok, Err}
 use Rattle.std.specs.List.{position_from}
 use Rattle.std.specs.Option.{option_and_then, option_map_or}
 use Rattle.std.specs.Str.{bytes_eq}
 use Rattle.boss_model.specs.Catalogue.{Catalogue, Point}
 use Rattle.boss_points.specs.declared.CatalogueRefusal.{CatalogueRefusal}
-use Rattle.boss_points.specs.declared.CatalogueRefusal.TheVariants.{TooLong, NotToml, Missing, TooMany, BadDriver, BadName, SameName, BadKind, BadDefault, UnknownDriver, NoMemory}
-use Rattle.boss_points.specs.declared.Key.{Key}
-use Rattle.boss_points.specs.declared.Key.TheVariants.{Drivers, Point as Points}
+use Rattle.boss_points.specs.declared.CatalogueRefusal.TheVariants.{UnknownDriver}
 use Rattle.boss_points.specs.Reading.{catalogue_of, ◌>>=◌}
 use Rattle.boss_words.specs.declared.Job.{Job}
 use Rattle.boss_words.specs.declared.Job.TheVariants.{Script, Serve, Check, Load}
@@ -34,27 +32,3 @@ with_devices count catalogue = option_map_or (λ place. Err (UnknownDriver place
 -- the catalogue of a file, for so many devices
 abbrev pub usable : ℕ → List ℕ → Result Catalogue CatalogueRefusal
 usable count bytes = catalogue_of bytes >>= with_devices count
-
-abbrev pub key_text : Key → List ℕ
-key_text Drivers = codes "drivers"
-key_text Points = codes "point"
-
--- what is printed of a refusal
-abbrev pub refusal_text : CatalogueRefusal → List ℕ
-refusal_text (TooLong length) = codes "too-long " ++ decimal length
-refusal_text NotToml = codes "not-toml"
-refusal_text (Missing key) = codes "missing " ++ key_text key
-refusal_text (TooMany count) = codes "too-many " ++ decimal count
-refusal_text (BadDriver place) = codes "bad-driver " ++ decimal place
-refusal_text (BadName place) = codes "bad-name " ++ decimal place
-refusal_text (SameName place) = codes "same-name " ++ decimal place
-refusal_text (BadKind place) = codes "bad-kind " ++ decimal place
-refusal_text (BadDefault place) = codes "bad-default " ++ decimal place
-refusal_text (UnknownDriver place) = codes "unknown-driver " ++ decimal place
-refusal_text NoMemory = []
-
-abbrev pub usage_line : List ℕ
-usage_line = codes "usage" ++ 10 ∷ []
-
-abbrev pub refusal_line : CatalogueRefusal → List ℕ
-refusal_line refusal = codes "catalogue " ++ refusal_text refusal ++ 10 ∷ []

@@ -1,5 +1,6 @@
-ghost use Rattle.std.specs.Prelude.{◌≡◌, ◌<◌, map, vec_len};
+ghost use Rattle.std.specs.Prelude.{◌≡◌, ◌<◌, [], ◌∷◌, map, vec_len};
 ghost use Rattle.std.specs.List.{AllByRecursion};
+ghost use Rattle.boss_manager.specs.Outside.{Answered};
 ghost use Rattle.boss_manager.specs.Runs.{gained};
 
 use boss_model::{DriverId, PointId};
@@ -14,6 +15,7 @@ pub fn command_device<A: Actuators>(
 ) -> bool
     requires { driver < vec_len devices.old }
     ensures len { vec_len devices.new ≡ vec_len devices.old }
+    ensures answered { Answered (result ∷ []) (map A.faults devices.old.items) (map A.faults devices.new.items) }
     ensures calls { A.tells → AllByRecursion A.whole devices.new.items → AllByRecursion A.whole devices.old.items
         × (map A.calls devices.new.items
         ≡ gained driver (record { point = point; value = value; ok = result }) (map A.calls devices.old.items)) }

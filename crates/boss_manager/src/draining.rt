@@ -1,15 +1,16 @@
-ghost use Rattle.std.specs.Prelude.{◌≡◌, ◌<◌, ◌≤◌, ◌^◌, Some, map, OnOk, OnErr, vec_len};
-ghost use Rattle.std.specs.List.{AllByRecursion};
+ghost use Rattle.std.specs.Prelude.{◌≡◌, ◌<◌, ◌≤◌, Some, OnOk, OnErr, vec_len};
 ghost use Rattle.boss_laws.specs.Draining.{weight};
 ghost use Rattle.boss_model.specs.Catalogue.{actuators};
 ghost use Rattle.boss_model.specs.Devices.{wanting};
+ghost use Rattle.boss_model.specs.Limits.{last_moment};
 ghost use Rattle.boss_model.specs.Sound.{IsSound};
 ghost use Rattle.boss_outside.specs.Counts.{HasCause};
 ghost use Rattle.boss_manager.specs.Devices.{HasDevices};
+ghost use Rattle.boss_manager.specs.Outside.{trace};
 ghost use Rattle.boss_manager.specs.Runs.{Broke, Did, served, stop};
 
 use crate::devices::command_device;
-use crate::telling::tell_write;
+use boss_answers::tell_write;
 use boss_engine::Engine;
 use boss_model::{Answer, Buffer, Command, DriverId, SessionId};
 use boss_outside::{Actuators, Failed, Sink};
@@ -27,7 +28,7 @@ pub fn drain<K: Sink, A: Actuators>(
     sink: &mut K,
     devices: &mut Vec<A>,
 ) -> Result<(), Failed>
-    requires moment { moment ≤ 2 ^ 60 }
+    requires moment { moment ≤ last_moment }
     requires plant { engine.old.plant ≡ actuators catalogue.now }
     requires sound { IsSound engine.old.plant engine.old.state }
     requires room { 32768 ≤ text.old.capacity }
@@ -38,14 +39,14 @@ pub fn drain<K: Sink, A: Actuators>(
     ensures room { text.new.capacity ≡ text.old.capacity }
     ensures len { vec_len devices.new ≡ vec_len devices.old }
     ensures cause { HasCause (K.faults sink.old) (K.faults sink.new) result }
-    ensures did { OnOk result (K.tells → A.tells → Did (actuators catalogue.now) (served catalogue.now moment) stop
-        engine.old.state engine.new.state (K.taken sink.old) (K.taken sink.new)
-        (map A.calls devices.old.items) (map A.calls devices.new.items)
-        (AllByRecursion A.whole devices.old.items) (AllByRecursion A.whole devices.new.items)) }
-    ensures broke { OnErr result (K.tells → A.tells → Broke (actuators catalogue.now) (served catalogue.now moment)
-        engine.old.state (K.taken sink.old) (K.taken sink.new)
-        (map A.calls devices.old.items) (map A.calls devices.new.items)
-        (AllByRecursion A.whole devices.old.items) (AllByRecursion A.whole devices.new.items)) }
+    ensures did { OnOk result (K.tells → Did (actuators catalogue.now) (served catalogue.now moment) stop
+        engine.old.state engine.new.state
+        (trace ⟦<K as Sink>⟧ ⟦<A as Actuators>⟧ sink.old devices.old.items)
+        (trace ⟦<K as Sink>⟧ ⟦<A as Actuators>⟧ sink.new devices.new.items)) }
+    ensures broke { OnErr result (K.tells → Broke (actuators catalogue.now) (served catalogue.now moment)
+        engine.old.state
+        (trace ⟦<K as Sink>⟧ ⟦<A as Actuators>⟧ sink.old devices.old.items)
+        (trace ⟦<K as Sink>⟧ ⟦<A as Actuators>⟧ sink.new devices.new.items)) }
 {
     while let Some(driver) = engine.wanting() {
         serve(catalogue, engine, driver, moment, text, sink, devices)?;
@@ -63,7 +64,7 @@ fn serve<K: Sink, A: Actuators>(
     sink: &mut K,
     devices: &mut Vec<A>,
 ) -> Result<(), Failed>
-    requires moment { moment ≤ 2 ^ 60 }
+    requires moment { moment ≤ last_moment }
     requires plant { engine.old.plant ≡ actuators catalogue.now }
     requires sound { IsSound engine.old.plant engine.old.state }
     requires wants { wanting engine.old.plant engine.old.state ≡ Some driver }
@@ -76,14 +77,14 @@ fn serve<K: Sink, A: Actuators>(
     ensures len { vec_len devices.new ≡ vec_len devices.old }
     ensures cause { HasCause (K.faults sink.old) (K.faults sink.new) result }
     ensures lighter { OnOk result (weight engine.new.plant moment engine.new.state < weight engine.old.plant moment engine.old.state) }
-    ensures did { OnOk result (K.tells → A.tells → Did (actuators catalogue.now) (served catalogue.now moment) (served catalogue.now moment)
-        engine.old.state engine.new.state (K.taken sink.old) (K.taken sink.new)
-        (map A.calls devices.old.items) (map A.calls devices.new.items)
-        (AllByRecursion A.whole devices.old.items) (AllByRecursion A.whole devices.new.items)) }
-    ensures broke { OnErr result (K.tells → A.tells → Broke (actuators catalogue.now) (served catalogue.now moment)
-        engine.old.state (K.taken sink.old) (K.taken sink.new)
-        (map A.calls devices.old.items) (map A.calls devices.new.items)
-        (AllByRecursion A.whole devices.old.items) (AllByRecursion A.whole devices.new.items)) }
+    ensures did { OnOk result (K.tells → Did (actuators catalogue.now) (served catalogue.now moment) (served catalogue.now moment)
+        engine.old.state engine.new.state
+        (trace ⟦<K as Sink>⟧ ⟦<A as Actuators>⟧ sink.old devices.old.items)
+        (trace ⟦<K as Sink>⟧ ⟦<A as Actuators>⟧ sink.new devices.new.items)) }
+    ensures broke { OnErr result (K.tells → Broke (actuators catalogue.now) (served catalogue.now moment)
+        engine.old.state
+        (trace ⟦<K as Sink>⟧ ⟦<A as Actuators>⟧ sink.old devices.old.items)
+        (trace ⟦<K as Sink>⟧ ⟦<A as Actuators>⟧ sink.new devices.new.items)) }
 {
     let Ok(answer) = engine.step(OWN, &Command::Next { driver }, moment) else {
         unreachable!()

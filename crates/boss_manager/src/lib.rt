@@ -7,9 +7,6 @@ mod devices;
 mod draining;
 mod script;
 mod status;
-mod telling;
-#[cfg(test)]
-mod tests;
 mod top_call;
 
 pub use script::script_run;

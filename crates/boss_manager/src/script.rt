@@ -1,32 +1,30 @@
-ghost use Rattle.std.specs.Prelude.{◌≡◌, ◌⊎◌, ◌≤◌, ◌<◌, ◌^◌, [], ◌++◌, List, ℕ, map, length, take, true, false, OnOk, OnErr, IfOk, vec_len, None};
-ghost use Rattle.std.specs.List.{AllByRecursion};
+ghost use Rattle.std.specs.Prelude.{◌≡◌, ◌≤◌, ◌^◌, ◌++◌, List, ℕ, false, length, OnOk, OnErr, IfOk, vec_len, None};
 ghost use Rattle.boss_model.specs.Catalogue.{actuators};
+ghost use Rattle.boss_model.specs.Limits.{last_moment, longest_line, most_lines};
 ghost use Rattle.boss_model.specs.Lines.{lines};
-ghost use Rattle.boss_model.specs.Script.{answered};
 ghost use Rattle.boss_model.specs.Sound.{IsAllowed, IsSound};
-ghost use Rattle.boss_outside.specs.Counts.{Rose};
+ghost use Rattle.boss_wire.specs.Script.{answered};
+ghost use Rattle.boss_lines.specs.Given.{GivesLines};
 ghost use Rattle.boss_requests.specs.Seen.{asked, seen};
-ghost use Rattle.boss_manager.specs.Causes.{ReadCause, Tells, WriteCause, status_of};
+ghost use Rattle.boss_manager.specs.Causes.{ReadCause, WriteCause, status_of};
 ghost use Rattle.boss_manager.specs.Devices.{HasDevices};
-ghost use Rattle.boss_manager.specs.Ends.{IsScriptStatus, MayYield};
-ghost use Rattle.boss_manager.specs.Inputs.{EndsAs, RanBefore, Stopped, has_too_long, most_lines};
+ghost use Rattle.boss_manager.specs.Ends.{EndsScript};
+ghost use Rattle.boss_manager.specs.Inputs.{Ended, has_too_long};
+ghost use Rattle.boss_manager.specs.Outside.{outside, trace};
 ghost use Rattle.boss_manager.specs.Runs.{Broke, Did, line_taken, lines_taken, stop};
-ghost use Rattle.boss_manager.specs.Scripts.{BrokeOff, Ran};
+ghost use Rattle.boss_manager.specs.Scripts.{BrokeScript};
 
 use crate::Status;
 use crate::broken::Broken;
 use crate::draining::drain;
-use crate::telling::{tell_answer, tell_too_long};
+use boss_answers::{tell_answer, tell_too_long};
 use boss_engine::Engine;
 use boss_lines::{Lines, Next};
-use boss_model::{Answer, Buffer, Command, Form};
+use boss_model::{Answer, Buffer, Command, MOST_LINES};
 use boss_outside::{Actuators, Sink, Source};
 use boss_points::Catalogue;
-use boss_requests::{Ask, ReadRefusal, Request, is_blank, read_request};
+use boss_requests::{Ask, Form, ReadRefusal, Request, is_blank, read_request};
 use std::alloc::Global;
-
-/// How many lines a script may have.
-const MOST_LINES: u64 = 1 << 32;
 
 /// How many bytes there is room for where a line is written.
 const ROOM: u32 = 65_536;
@@ -42,40 +40,9 @@ pub fn script_run<S: Source, K: Sink, A: Actuators>(
 ) -> Status
     requires { HasDevices (vec_len devices.old) (actuators catalogue.now) }
 
-    // Status 0: the script ran over all lines of the source, none of which is too long, and the source was read to its end.
-    ensures ran { result.0 ≡ 0 → S.tells → K.tells → A.tells → Ran K.taken A.calls A.whole sink.old sink.new devices.old.items devices.new.items
-        catalogue.now (lines (S.left source.old)) false }
-    ensures read { result.0 ≡ 0 → S.tells → S.left source.new ≡ [] }
-    ensures none_long { result.0 ≡ 0 → S.tells → has_too_long (lines (S.left source.old)) ≡ false }
-
-    // Status 13: it ran up to a line that is too long, which is told as its last.
-    ensures ran_over { result.0 ≡ 13 → S.tells → K.tells → A.tells → Ran K.taken A.calls A.whole sink.old sink.new devices.old.items devices.new.items
-        catalogue.now (lines (S.left source.old)) true }
-    ensures one_long { result.0 ≡ 13 → S.tells → has_too_long (lines (S.left source.old)) ≡ true }
-
-    // Status 14: it ran over the first 2^32 lines, and there are more.
-    ensures ran_most { result.0 ≡ 14 → S.tells → K.tells → A.tells → Ran K.taken A.calls A.whole sink.old sink.new devices.old.items devices.new.items
-        catalogue.now (take most_lines (lines (S.left source.old))) false }
-    ensures more { result.0 ≡ 14 → S.tells → most_lines < length (lines (S.left source.old)) }
-
-    // Status 6: it ran over the lines that had come whole before the read that failed.
-    ensures ran_before { result.0 ≡ 6 → S.tells → K.tells → A.tells → RanBefore (S.left source.old) (S.left source.new)
-        (λ given. Ran K.taken A.calls A.whole sink.old sink.new devices.old.items devices.new.items catalogue.now given false) }
-
-    // Statuses 7 and 8: the sink took the front of the script's text, and the devices' calls are the first of its calls.
-    ensures broke { MayYield result.0 → S.tells → K.tells → A.tells → BrokeOff K.taken A.calls A.whole sink.old sink.new devices.old.items devices.new.items
-        catalogue.now (lines (S.left source.old)) }
-
-    // Status 6 comes exactly where a read failed, and status 7 exactly where a write did.
-    ensures read_fault { Tells result.0 6 (S.faults source.old) (S.faults source.new) }
-    ensures write_fault { Tells result.0 7 (K.faults sink.old) (K.faults sink.new) }
-
-    // There is no other status. Where nothing failed, no line is too long and the lines are not too many, the script runs to
-    // its end, or memory is wanting.
-    ensures only { IsScriptStatus result.0 }
-    ensures complete { S.tells → ¬ Rose (S.faults source.old) (S.faults source.new) → ¬ Rose (K.faults sink.old) (K.faults sink.new)
-        → has_too_long (lines (S.left source.old)) ≡ false → length (lines (S.left source.old)) ≤ most_lines
-        → (result.0 ≡ 0) ⊎ (result.0 ≡ 8) }
+    ensures { EndsScript catalogue.now
+        (outside ⟦<S as Source>⟧ ⟦<K as Sink>⟧ ⟦<A as Actuators>⟧ source.old sink.old devices.old.items)
+        (outside ⟦<S as Source>⟧ ⟦<K as Sink>⟧ ⟦<A as Actuators>⟧ source.new sink.new devices.new.items) result.0 }
 {
     status_of(run(alloc, catalogue, source, sink, devices))
 }
@@ -103,10 +70,12 @@ fn run<S: Source, K: Sink, A: Actuators>(
     devices: &mut Vec<A>,
 ) -> Result<Next, Broken>
     requires { HasDevices (vec_len devices.old) (actuators catalogue.now) }
-    ensures ended { S.tells → EndsAs (S.left source.old) (S.left source.new) (λ all is_over. K.tells → A.tells → Ran K.taken A.calls A.whole
-        sink.old sink.new devices.old.items devices.new.items catalogue.now all is_over) result }
-    ensures broke { OnErr result (S.tells → K.tells → A.tells → BrokeOff K.taken A.calls A.whole
-        sink.old sink.new devices.old.items devices.new.items catalogue.now (lines (S.left source.old))) }
+    ensures ended { S.tells → Ended catalogue.now
+        (outside ⟦<S as Source>⟧ ⟦<K as Sink>⟧ ⟦<A as Actuators>⟧ source.old sink.old devices.old.items)
+        (outside ⟦<S as Source>⟧ ⟦<K as Sink>⟧ ⟦<A as Actuators>⟧ source.new sink.new devices.new.items) result }
+    ensures broke { OnErr result (S.tells → K.tells → BrokeScript catalogue.now (lines (S.left source.old))
+        (trace ⟦<K as Sink>⟧ ⟦<A as Actuators>⟧ sink.old devices.old.items)
+        (trace ⟦<K as Sink>⟧ ⟦<A as Actuators>⟧ sink.new devices.new.items)) }
     ensures write { WriteCause (K.faults sink.old) (K.faults sink.new) result }
     ensures read { ReadCause (S.faults source.old) (S.faults source.new) result }
 {
@@ -151,21 +120,19 @@ fn take_lines<S: Source, K: Sink, A: Actuators>(
     requires devices { HasDevices (vec_len devices.old) engine.old.plant }
 
     ensures ended { S.tells → IfOk result (λ next. (given : List (List ℕ))
-        × Stopped (reader.old.ahead ++ S.left source.old) given reader.new.ahead (S.left source.new) next
+        × GivesLines most_lines (reader.old.ahead ++ S.left source.old) (S.left source.new) given next
         × (has_too_long given ≡ false)
-        × (K.tells → A.tells → Did (actuators catalogue.now) (lines_taken catalogue.now given) stop
-        engine.old.state engine.new.state (K.taken sink.old) (K.taken sink.new)
-        (map A.calls devices.old.items) (map A.calls devices.new.items)
-        (AllByRecursion A.whole devices.old.items) (AllByRecursion A.whole devices.new.items))) }
-    ensures broke { OnErr result (S.tells → K.tells → A.tells → Broke (actuators catalogue.now)
+        × (K.tells → Did (actuators catalogue.now) (lines_taken catalogue.now given) stop
+        engine.old.state engine.new.state
+        (trace ⟦<K as Sink>⟧ ⟦<A as Actuators>⟧ sink.old devices.old.items)
+        (trace ⟦<K as Sink>⟧ ⟦<A as Actuators>⟧ sink.new devices.new.items))) }
+    ensures broke { OnErr result (S.tells → K.tells → Broke (actuators catalogue.now)
         (lines_taken catalogue.now (lines (reader.old.ahead ++ S.left source.old)))
-        engine.old.state (K.taken sink.old) (K.taken sink.new)
-        (map A.calls devices.old.items) (map A.calls devices.new.items)
-        (AllByRecursion A.whole devices.old.items) (AllByRecursion A.whole devices.new.items)) }
+        engine.old.state
+        (trace ⟦<K as Sink>⟧ ⟦<A as Actuators>⟧ sink.old devices.old.items)
+        (trace ⟦<K as Sink>⟧ ⟦<A as Actuators>⟧ sink.new devices.new.items)) }
     ensures write { WriteCause (K.faults sink.old) (K.faults sink.new) result }
     ensures read { ReadCause (S.faults source.old) (S.faults source.new) result }
-    ensures held { S.tells → S.held source.new ≡ S.held source.old }
-    ensures fewer { S.tells → length (reader.new.ahead ++ S.left source.new) ≤ length (reader.old.ahead ++ S.left source.old) }
 {
     for _ in 0..MOST_LINES {
         match reader.next(source) {
@@ -188,7 +155,7 @@ fn take_line<K: Sink, A: Actuators>(
 ) -> Result<(), Broken>
     requires plant { engine.old.plant ≡ actuators catalogue.now }
     requires sound { IsSound engine.old.plant engine.old.state }
-    requires line { length line.now ≤ 65535 }
+    requires line { length line.now ≤ longest_line }
     requires room { 32768 ≤ text.old.capacity }
     requires devices { HasDevices (vec_len devices.old) engine.old.plant }
 
@@ -197,14 +164,14 @@ fn take_line<K: Sink, A: Actuators>(
     ensures room { text.new.capacity ≡ text.old.capacity }
     ensures len { vec_len devices.new ≡ vec_len devices.old }
     ensures write { WriteCause (K.faults sink.old) (K.faults sink.new) result }
-    ensures did { OnOk result (K.tells → A.tells → Did (actuators catalogue.now) (line_taken catalogue.now line.now) stop
-        engine.old.state engine.new.state (K.taken sink.old) (K.taken sink.new)
-        (map A.calls devices.old.items) (map A.calls devices.new.items)
-        (AllByRecursion A.whole devices.old.items) (AllByRecursion A.whole devices.new.items)) }
-    ensures broke { OnErr result (K.tells → A.tells → Broke (actuators catalogue.now) (line_taken catalogue.now line.now)
-        engine.old.state (K.taken sink.old) (K.taken sink.new)
-        (map A.calls devices.old.items) (map A.calls devices.new.items)
-        (AllByRecursion A.whole devices.old.items) (AllByRecursion A.whole devices.new.items)) }
+    ensures did { OnOk result (K.tells → Did (actuators catalogue.now) (line_taken catalogue.now line.now) stop
+        engine.old.state engine.new.state
+        (trace ⟦<K as Sink>⟧ ⟦<A as Actuators>⟧ sink.old devices.old.items)
+        (trace ⟦<K as Sink>⟧ ⟦<A as Actuators>⟧ sink.new devices.new.items)) }
+    ensures broke { OnErr result (K.tells → Broke (actuators catalogue.now) (line_taken catalogue.now line.now)
+        engine.old.state
+        (trace ⟦<K as Sink>⟧ ⟦<A as Actuators>⟧ sink.old devices.old.items)
+        (trace ⟦<K as Sink>⟧ ⟦<A as Actuators>⟧ sink.new devices.new.items)) }
 {
     if is_blank(line) {
         return Ok(());
@@ -228,7 +195,7 @@ fn answer<K: Sink, A: Actuators>(
     sink: &mut K,
     devices: &mut Vec<A>,
 ) -> Result<(), Broken>
-    requires moment { request.now.at ≤ 2 ^ 60 }
+    requires moment { request.now.at ≤ last_moment }
     requires allowed { IsAllowed (actuators catalogue.now) (asked request.now.ask) }
     requires plant { engine.old.plant ≡ actuators catalogue.now }
     requires sound { IsSound engine.old.plant engine.old.state }
@@ -240,14 +207,14 @@ fn answer<K: Sink, A: Actuators>(
     ensures room { text.new.capacity ≡ text.old.capacity }
     ensures len { vec_len devices.new ≡ vec_len devices.old }
     ensures write { WriteCause (K.faults sink.old) (K.faults sink.new) result }
-    ensures did { OnOk result (K.tells → A.tells → Did (actuators catalogue.now) (answered catalogue.now (seen request.now)) stop
-        engine.old.state engine.new.state (K.taken sink.old) (K.taken sink.new)
-        (map A.calls devices.old.items) (map A.calls devices.new.items)
-        (AllByRecursion A.whole devices.old.items) (AllByRecursion A.whole devices.new.items)) }
-    ensures broke { OnErr result (K.tells → A.tells → Broke (actuators catalogue.now) (answered catalogue.now (seen request.now))
-        engine.old.state (K.taken sink.old) (K.taken sink.new)
-        (map A.calls devices.old.items) (map A.calls devices.new.items)
-        (AllByRecursion A.whole devices.old.items) (AllByRecursion A.whole devices.new.items)) }
+    ensures did { OnOk result (K.tells → Did (actuators catalogue.now) (answered catalogue.now (seen request.now)) stop
+        engine.old.state engine.new.state
+        (trace ⟦<K as Sink>⟧ ⟦<A as Actuators>⟧ sink.old devices.old.items)
+        (trace ⟦<K as Sink>⟧ ⟦<A as Actuators>⟧ sink.new devices.new.items)) }
+    ensures broke { OnErr result (K.tells → Broke (actuators catalogue.now) (answered catalogue.now (seen request.now))
+        engine.old.state
+        (trace ⟦<K as Sink>⟧ ⟦<A as Actuators>⟧ sink.old devices.old.items)
+        (trace ⟦<K as Sink>⟧ ⟦<A as Actuators>⟧ sink.new devices.new.items)) }
 {
     let answer = engine.step(request.on, command_in(&request.ask), request.at)?;
     tell_answer(catalogue, &answer, text, sink)?;

@@ -4,13 +4,13 @@ use Rattle.std.specs.Prelude.{filter}
 use Rattle.std.specs.List.{enumerate_from, range_with_len}
 use Rattle.std.proofs.lemmas.Bool.{cases_Bool}
 use Rattle.std.proofs.lemmas.Grind.{common_steps}
-use Rattle.std.proofs.lemmas.List.{append_assoc, append-nil, take_more, drop_more, set_at, length-map, length-take-le, map_push, get_or_at}
-use Rattle.std.proofs.lemmas.List.FromFn.{length-enumerate_from}
+use Rattle.std.proofs.lemmas.List.{append_assoc, append-nil, take_more, drop_more, set_at, length-take-le, map_push, get_or_at}
 use Rattle.std.proofs.lemmas.Option.{unwrap_or-slice_get}
 use Rattle.boss_model.specs.Devices.{proxy_of}
 use Rattle.boss_model.specs.Lists.{member, without}
 use Rattle.boss_model.specs.Settle.{fresh, wanted_anew, places, changed_if}
 use Rattle.boss_model.specs.declared.state.Proxy.{Proxy}
+use Rattle.boss_model.proofs.Changed.{change_at, length-changed_if}
 use Rattle.boss_model.proofs.Members.{member-append, without-none}
 use Rattle.boss_marks.specs.Marks.{Marks, wanted, wanted_last}
 
@@ -82,17 +82,10 @@ module _ (test : ℕ × Proxy → Bool) (change : ℕ × Proxy → Proxy) where
   pub turned_below-none : (marks : Marks) → turned_below 0 marks ≡ marks
   turned_below-none marks = rw (filter_all, append-nil) refl
 
-  -- what a device is after its turn
-  abbrev after_turn : ℕ × Proxy → Proxy
-  after_turn place = cond (test place) (change place) place.1
-
-  pub length-changed_if : (proxies : List Proxy) → length (changed_if test change proxies) ≡ length proxies
-  length-changed_if proxies = length-map (enumerate_from 0 proxies) after_turn ∙ length-enumerate_from 0 proxies
-
-  changed_if-push : (front : List Proxy) (proxy : Proxy) → changed_if test change (front ++ proxy ∷ []) ≡ changed_if test change front ++ after_turn (length front, proxy) ∷ []
+  changed_if-push : (front : List Proxy) (proxy : Proxy) → changed_if test change (front ++ proxy ∷ []) ≡ changed_if test change front ++ change_at test change (length front, proxy) ∷ []
   changed_if-push front proxy =
       let first : 0 + length front ≡ length front = omega arith in
-      rw first at (ap (map after_turn) (enumerate_from-push 0 front proxy) ∙ map_push after_turn (enumerate_from 0 front) (0 + length front, proxy))
+      rw first at (ap (map (change_at test change)) (enumerate_from-push 0 front proxy) ∙ map_push (change_at test change) (enumerate_from 0 front) (0 + length front, proxy))
 
   -- the places of those that pass, counted from `from`
   abbrev places_from : ℕ → List Proxy → List ℕ
@@ -120,9 +113,9 @@ module _ (test : ℕ × Proxy → Bool) (change : ℕ × Proxy → Proxy) where
   turned-turn point proxy marks is = ap (λ p. cond (test (point, p)) (wanted point (change (point, p)) marks) marks) is
 
   changed_next : (front : List Proxy) (proxy : Proxy) (back : List Proxy) (count : ℕ) → length front ≡ count
-      → changed_if test change (front ++ proxy ∷ []) ++ back ≡ changed_if test change front ++ after_turn (count, proxy) ∷ back
+      → changed_if test change (front ++ proxy ∷ []) ++ back ≡ changed_if test change front ++ change_at test change (count, proxy) ∷ back
   changed_next front proxy back count is =
-      rw is at (ap (λ l. l ++ back) (changed_if-push front proxy) ∙ append_assoc (changed_if test change front) (after_turn (length front, proxy) ∷ []) back)
+      rw is at (ap (λ l. l ++ back) (changed_if-push front proxy) ∙ append_assoc (changed_if test change front) (change_at test change (length front, proxy) ∷ []) back)
 
   -- the next point has its turn
   turn_next : (count : ℕ) (drivers : List ℕ) (front : List Proxy) (proxy : Proxy) (back : List Proxy) (wants : List ℕ) → length front ≡ count
@@ -132,12 +125,12 @@ module _ (test : ℕ × Proxy → Bool) (change : ℕ × Proxy → Proxy) where
   turn_next count drivers front proxy back wants is =
       let pushed = places-push front proxy count is in
       let changed = changed_next front proxy back count is in
-      let length_is : length (changed_if test change front) ≡ count = length-changed_if front ∙ is in
+      let length_is : length (changed_if test change front) ≡ count = length-changed_if test change front ∙ is in
       let low : 0 + length front ≤ count = omega arith in
       ⊎_elim
       (λ passes.
       let places_next : places test (front ++ proxy ∷ []) ≡ places test front ++ count ∷ [] = pushed ∙ ap (λ b. places test front ++ cond b (count ∷ []) []) passes in
-      let again : after_turn (count, proxy) ≡ change (count, proxy) = ap (λ b. cond b (change (count, proxy)) proxy) passes in
+      let again : change_at test change (count, proxy) ≡ change (count, proxy) = ap (λ b. cond b (change (count, proxy)) proxy) passes in
       let proxies : set (changed_if test change front ++ proxy ∷ back) count (change (count, proxy)) ≡ changed_if test change (front ++ proxy ∷ []) ++ back =
       set_at (changed_if test change front) proxy back (change (count, proxy)) count length_is ∙ sym (changed ∙ ap (λ p. changed_if test change front ++ p ∷ back) again) in
       let last : wanted_last count (wanted_anew (places test front) wants) ≡ wanted_anew (places test (front ++ proxy ∷ [])) wants =
@@ -145,7 +138,7 @@ module _ (test : ℕ × Proxy → Bool) (change : ℕ × Proxy → Proxy) where
       rw passes (same_marks drivers _ _ _ _ proxies last))
       (λ fails.
       let places_same : places test (front ++ proxy ∷ []) ≡ places test front = pushed ∙ ap (λ b. places test front ++ cond b (count ∷ []) []) fails ∙ append-nil (places test front) in
-      let stays : after_turn (count, proxy) ≡ proxy = ap (λ b. cond b (change (count, proxy)) proxy) fails in
+      let stays : change_at test change (count, proxy) ≡ proxy = ap (λ b. cond b (change (count, proxy)) proxy) fails in
       let proxies : changed_if test change front ++ proxy ∷ back ≡ changed_if test change (front ++ proxy ∷ []) ++ back = sym (changed ∙ ap (λ p. changed_if test change front ++ p ∷ back) stays) in
       rw fails (same_marks drivers _ _ _ _ proxies (sym (ap (λ points. wanted_anew points wants) places_same))))
       (cases_Bool (test (count, proxy)))
@@ -164,6 +157,6 @@ module _ (test : ℕ × Proxy → Bool) (change : ℕ × Proxy → Proxy) where
       } in
       ap (λ left. turned count (with_proxies (take count marks.proxies) left)) rest
       ∙ (turned-turn count proxy (with_proxies (take count marks.proxies) (proxy ∷ back))
-      (proxy_at (changed_if test change (take count marks.proxies)) proxy back count (length-changed_if (take count marks.proxies) ∙ is))
+      (proxy_at (changed_if test change (take count marks.proxies)) proxy back count (length-changed_if test change (take count marks.proxies) ∙ is))
       ∙ (turn_next count marks.drivers (take count marks.proxies) proxy back marks.wants is
       ∙ ap (λ done. with_proxies done back) (sym front)))

@@ -2,6 +2,7 @@ ghost use Rattle.std.specs.Prelude.{◌≡◌, ◌<◌, ◌≤◌, ◌^◌, leng
 ghost use Rattle.std.specs.List.{AllByRecursion};
 ghost use Rattle.std.specs.Option.{option_map};
 ghost use Rattle.boss_model.specs.Devices.{proxy_of};
+ghost use Rattle.boss_model.specs.Limits.{last_moment};
 ghost use Rattle.boss_model.specs.Sound.{Distinct};
 ghost use Rattle.boss_marks.specs.Wants.{least_wanting};
 ghost use Rattle.boss_marks.specs.Marks.{opened, started, settled, want_of, first_want, handed_out, answer_to, after_reporting, retried_at, retried_all};
@@ -119,7 +120,7 @@ impl Marks {
     /// anew, changes nothing. It takes no memory.
     pub fn report(&mut self, point: PointId, version: u64, ok: bool, n: u64) -> Reported
         requires point { point < length self.old.drivers }
-        requires moment { n ≤ 2 ^ 60 }
+        requires moment { n ≤ last_moment }
         ensures answer { result ≡ answer_to point version ok self.old }
         ensures after { self.new ≡ after_reporting point version ok n self.old }
         ensures drivers { self.new.drivers ≡ self.old.drivers }
@@ -166,87 +167,5 @@ impl Marks {
         ensures { result ≡ least_wanting self.now.drivers self.now.wants }
     {
         self.wants.least_driver()
-    }
-}
-
-#[cfg(test)]
-mod tests {
-    use super::*;
-    use std::test::Fail;
-
-    const DAMPER: PointId = PointId(0);
-
-    const LAMP: PointId = PointId(1);
-
-    const FAN: PointId = PointId(2);
-
-    const FIELD: DriverId = DriverId(0);
-
-    const ROOF: DriverId = DriverId(1);
-
-    /// A damper and a lamp of one driver, and a fan of another.
-    fn plant(alloc: Global) -> Result<Marks, NoMemory>
-        ensures { IfOk result (λ marks. length marks.drivers ≡ 3) }
-    {
-        let points = vec![in alloc; (FIELD, 20000), (FIELD, 0), (ROOF, 1)]?;
-        Marks::new(alloc, &Items::from_vec(points))
-    }
-
-    fn want(point: PointId, version: u64, value: i64) -> Option<Want> {
-        Some(Want {
-            point,
-            version,
-            value,
-        })
-    }
-
-    #[test]
-    fn points_want_their_defaults_at_first(rt: HostRuntime) -> Result<(), Fail> {
-        let mut marks = plant(rt.alloc())?;
-        assert_eq!(rt; marks.count(), 3);
-        assert_eq!(rt; marks.report(DAMPER, 1, true, 0), Reported::Old);
-        assert_eq!(rt; marks.mark(DAMPER), Mark::Pending);
-        assert_eq!(rt; marks.wanting(), Some(FIELD));
-        assert_eq!(rt; marks.next(FIELD), want(DAMPER, 1, 20000));
-        assert_eq!(rt; marks.next(FIELD), want(LAMP, 1, 0));
-        assert_eq!(rt; marks.next(FIELD), None);
-        assert_eq!(rt; marks.wanting(), Some(ROOF));
-        assert_eq!(rt; marks.next(ROOF), want(FAN, 1, 1));
-        assert_eq!(rt; marks.wanting(), None);
-        assert_eq!(rt; marks.report(FAN, 1, true, 0), Reported::Settled);
-        assert_eq!(rt; marks.mark(FAN), Mark::Settled);
-        Ok(())
-    }
-
-    #[test]
-    fn report_of_an_older_version_changes_nothing(rt: HostRuntime) -> Result<(), Fail> {
-        let mut marks = plant(rt.alloc())?;
-        marks.settle(DAMPER, 45000);
-        assert_eq!(rt; marks.next(FIELD), want(LAMP, 1, 0));
-        assert_eq!(rt; marks.next(FIELD), want(DAMPER, 2, 45000));
-        marks.settle(DAMPER, 50000);
-        assert_eq!(rt; marks.report(DAMPER, 2, false, 1000), Reported::Old);
-        assert_eq!(rt; marks.next(FIELD), want(DAMPER, 3, 50000));
-        marks.settle(DAMPER, 50000);
-        assert_eq!(rt; marks.next(FIELD), None);
-        marks.start(DAMPER, 50000);
-        assert_eq!(rt; marks.next(FIELD), want(DAMPER, 1, 50000));
-        Ok(())
-    }
-
-    #[test]
-    fn failed_write_is_tried_again_after_five_seconds(rt: HostRuntime) -> Result<(), Fail> {
-        let mut marks = plant(rt.alloc())?;
-        assert_eq!(rt; marks.next(FIELD), want(DAMPER, 1, 20000));
-        assert_eq!(rt; marks.next(FIELD), want(LAMP, 1, 0));
-        assert_eq!(rt; marks.report(LAMP, 1, false, 1000), Reported::FirstFailure);
-        marks.retry_due(5999);
-        assert_eq!(rt; marks.mark(LAMP), Mark::Failed);
-        assert_eq!(rt; marks.next(FIELD), None);
-        marks.retry_due(6000);
-        assert_eq!(rt; marks.mark(LAMP), Mark::Pending);
-        assert_eq!(rt; marks.next(FIELD), want(LAMP, 1, 0));
-        assert_eq!(rt; marks.report(LAMP, 1, false, 6000), Reported::LaterFailure);
-        Ok(())
     }
 }

@@ -1,4 +1,5 @@
-ghost use Rattle.std.specs.Prelude.{◌≡◌, ◌≤◌, ◌^◌};
+ghost use Rattle.std.specs.Prelude.{◌≡◌, ◌≤◌};
+ghost use Rattle.boss_model.specs.Limits.{last_moment};
 ghost use Rattle.boss_model.specs.Settle.{fresh};
 ghost use Rattle.boss_marks.specs.Proxy.{recommand, report_of, after_report, is_due};
 
@@ -45,7 +46,7 @@ pub fn recommand(proxy: &mut Proxy, target: i64)
 
 /// What the device says of the present version at moment `n`.
 pub fn report(proxy: &mut Proxy, ok: bool, n: u64) -> Reported
-    requires { n ≤ 2 ^ 60 }
+    requires { n ≤ last_moment }
     ensures answer { result ≡ report_of ok proxy.old }
     ensures after { proxy.new ≡ after_report ok n proxy.old }
 {

@@ -10,7 +10,7 @@ use Rattle.boss_model.specs.Effects.{step_effect}
 use Rattle.boss_model.specs.Machine.{step}
 use Rattle.boss_model.specs.Run.{Call, run, events, replay_all}
 use Rattle.boss_model.specs.Settle.{first_state}
-use Rattle.boss_model.specs.State.{State, first_durable}
+use Rattle.boss_model.specs.State.{State, first_persistent}
 use Rattle.boss_model.proofs.Building.{building, damper, at, write, submit, device, a_attaches, opening}
 
 -- devices that take their values, a second attach of the same name, and a tick with nothing due leave no event; a read that
@@ -37,15 +37,15 @@ unfolding step step_effect
 three_events = refl
 
 -- done again from the first state, they give what outlasts a stop
-done_again : replay_all building first_durable three ≡ Some the_end.durable
+done_again : replay_all building first_persistent three ≡ Some the_end.persistent
 unfolding step
 done_again = refl
 
 -- an event that changes nothing is no event of this state: a tick before anything is due, and a process that is known already
-not_effective : replay building (record { moment = 60999; act = act.Tick }) (run building (first_state building) (a_attaches ∷ at 1000 1 (submit (write damper 45000 8 60000 ∷ [])) ∷ [])).durable ≡ None
+not_effective : replay building (record { moment = 60999; act = act.Tick }) (run building (first_state building) (a_attaches ∷ at 1000 1 (submit (write damper 45000 8 60000 ∷ [])) ∷ [])).persistent ≡ None
 unfolding step
 not_effective = refl
 
-known_already : replay building (record { moment = 60999; act = act.Enrol (codes "a") }) (run building (first_state building) (a_attaches ∷ at 1000 1 (submit (write damper 45000 8 60000 ∷ [])) ∷ [])).durable ≡ None
+known_already : replay building (record { moment = 60999; act = act.Enrol (codes "a") }) (run building (first_state building) (a_attaches ∷ at 1000 1 (submit (write damper 45000 8 60000 ∷ [])) ∷ [])).persistent ≡ None
 unfolding step
 known_already = refl

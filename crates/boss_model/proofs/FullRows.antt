@@ -1,5 +1,5 @@
--- What happens at the two limits of what is kept, computed from the definitions alone.
-use Rattle.std.proofs.Common.{◌≡◌, ℕ, List, [], ◌∷◌, pos, refl, map, Some}
+-- What happens at the limits of what is kept and of what is numbered, computed from the definitions alone.
+use Rattle.std.proofs.Common.{◌≡◌, ℕ, List, [], ◌∷◌, pos, refl, map, None, Some}
 use Rattle.std.specs.Prelude.{codes, decimal}
 use Rattle.std.specs.Fmt.{digits}
 use Rattle.std.specs.List.{range_with_len}
@@ -9,18 +9,21 @@ use Rattle.boss_model.specs.declared.answer.Refusal.TheVariants as refusal
 use Rattle.boss_model.specs.declared.command.Command.TheVariants as command
 use Rattle.boss_model.specs.declared.command.Policy.TheVariants.{Abort}
 use Rattle.boss_model.specs.declared.notice.Cause.TheVariants as cause
+use Rattle.boss_model.specs.declared.notice.Notice.{Notice}
+use Rattle.boss_model.specs.declared.notice.What.TheVariants as what
+use Rattle.boss_model.specs.Happenings.{posted}
 use Rattle.boss_model.specs.Machine.{step}
 use Rattle.boss_model.specs.Records.{Transaction}
 use Rattle.boss_model.specs.Run.{Call, answers}
 use Rattle.boss_model.specs.Settle.{opened}
-use Rattle.boss_model.specs.State.{Process, Durable, first_durable}
+use Rattle.boss_model.specs.State.{Process, Persistent, first_persistent}
 use Rattle.boss_model.specs.Ends.{is_of, end_leases}
 use Rattle.boss_model.specs.Outcomes.{refused}
 use Rattle.boss_model.specs.Renew.{renew}
-use Rattle.boss_model.specs.Submit.{submitted}
-use Rattle.boss_model.proofs.Building.{building, damper, at, write}
+use Rattle.boss_model.specs.Submit.{submit_refused, submitted}
+use Rattle.boss_model.proofs.Building.{building, damper, at, write, notice}
 
-abbrev asked_of : Durable → List Call → List Answer
+abbrev asked_of : Persistent → List Call → List Answer
 asked_of d calls = answers building (opened building d) calls
 
 -- ---- 256 processes
@@ -28,8 +31,8 @@ asked_of d calls = answers building (opened building d) calls
 abbrev numbered : ℕ → Process
 numbered n = record { name = decimal n; count = 0; kept = [] }
 
-abbrev crowd : ℕ → Durable
-crowd n = record first_durable { processes = map numbered (range_with_len 1 n) }
+abbrev crowd : ℕ → Persistent
+crowd n = record first_persistent { processes = map numbered (range_with_len 1 n) }
 
 last_process : asked_of (crowd 255) (at 0 1 (command.Attach (codes "a")) ∷ []) ≡ answer.Attached (codes "a") 1 ∷ []
 unfolding step digits
@@ -50,13 +53,14 @@ cancelled_record n = record {
   parts = record { point = damper; priority = 8; end = Some (record { cause = cause.Cancelled; at = 1000 }) } ∷ [];
 }
 
-abbrev history : Durable
+-- of the records the two oldest are enough here
+abbrev history : Persistent
 history = record {
   now = 1000;
   next = 1025;
   leases = [];
   pending = [];
-  txns = map cancelled_record (range_with_len 1 1024);
+  txns = map cancelled_record (1 ∷ 2 ∷ []);
   done = range_with_len 1 1024;
   processes = record { name = codes "a"; count = 0; kept = [] } ∷ [];
 }
@@ -66,7 +70,7 @@ oldest_transaction_known : renew 0 1 (pos 60000) [] 2000 history ≡ refused (re
 oldest_transaction_known = refl
 
 -- until one more becomes done
-abbrev one_more : Durable
+abbrev one_more : Persistent
 one_more = end_leases (is_of 1025) cause.Cancelled 3000 [] (submitted 0 Abort (write damper 45000 8 60000 ∷ []) 2000 history)
 
 oldest_transaction_forgotten : renew 0 1 (pos 60000) [] 3000 one_more ≡ refused refusal.UnknownTxn
@@ -74,3 +78,29 @@ oldest_transaction_forgotten = refl
 
 next_transaction_known : renew 0 2 (pos 60000) [] 3000 one_more ≡ refused (refusal.Ended cause.Cancelled 1000 3000)
 next_transaction_known = refl
+
+-- ---- 1,024 notices of a process
+
+abbrev told_done : ℕ → Notice
+told_done n = notice n 5000 1 what.Done
+
+abbrev told_by : ℕ → List Notice → Process
+told_by count kept = record { name = codes "a"; count = count; kept = kept }
+
+-- one notice more takes the place of the oldest
+oldest_notice_forgotten : posted 5000 1 what.Done (told_by 1024 (map told_done (range_with_len 1 1024))) ≡ told_by 1025 (map told_done (range_with_len 2 1024))
+oldest_notice_forgotten = refl
+
+-- ---- the last numbers
+
+last_transaction : submit_refused building (write damper 45000 8 60000 ∷ []) (record first_persistent { next = 4611686018427387903 }) ≡ None
+last_transaction = refl
+
+no_transaction_left : submit_refused building (write damper 45000 8 60000 ∷ []) (record first_persistent { next = 4611686018427387904 }) ≡ Some refusal.Spent
+no_transaction_left = refl
+
+last_notice : posted 5000 1 what.Done (told_by 4611686018427387903 []) ≡ told_by 4611686018427387904 (told_done 4611686018427387904 ∷ [])
+last_notice = refl
+
+no_notice_left : posted 5000 1 what.Done (told_by 4611686018427387904 []) ≡ told_by 4611686018427387904 []
+no_notice_left = refl

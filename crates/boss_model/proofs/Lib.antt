@@ -1,4 +1,6 @@
 pub mod Members
+pub mod Numbered
+pub mod Changed
 pub mod Building
 pub mod LeaseRows
 pub mod ReversionRows
@@ -7,4 +9,3 @@ pub mod DeviceRows
 pub mod RefusalRows
 pub mod FullRows
 pub mod EventRows
-pub mod RequestRows

@@ -42,6 +42,20 @@ nine_steps : submitted (reverting (held 0 1 ∷ held 0 1 ∷ held 0 1 ∷ held 0
 unfolding step
 nine_steps = refl
 
+-- eight steps, each of which may hold for a day
+eight_steps : submitted (reverting (held 0 1 ∷ held 0 1 ∷ held 0 1 ∷ held 0 1 ∷ held 0 1 ∷ held 0 1 ∷ held 0 1 ∷ held 0 86400000 ∷ [])
+    (write damper 45000 8 60000) ∷ []) ≡ a_attached ∷ answer.Accepted 1 61000 ∷ []
+unfolding step
+eight_steps = refl
+
+hold_too_long : submitted (reverting (held 0 86400001 ∷ []) (write damper 45000 8 60000) ∷ []) ≡ a_attached ∷ answer.Refused (refusal.BadReversion 0) ∷ []
+unfolding step
+hold_too_long = refl
+
+no_hold : submitted (reverting (held 0 0 ∷ []) (write damper 45000 8 60000) ∷ []) ≡ a_attached ∷ answer.Refused (refusal.BadReversion 0) ∷ []
+unfolding step
+no_hold = refl
+
 -- the lowest priority is the sixteenth slot
 sixteenth_slot : asked (a_attaches ∷ at 1000 1 (submit (write damper 45000 16 60000 ∷ [])) ∷ at 1000 1 (command.Array damper) ∷ [])
     ≡ a_attached ∷ answer.Accepted 1 61000 ∷ answer.Array damper (record {

@@ -52,9 +52,9 @@ after_the_write = run building (first_state building) (a_attaches ∷ at 1000 1 
 abbrev told : List Notice
 told = notice 1 61000 1 (what.Ended damper cause.Expired) ∷ notice 2 71000 1 (what.Reverted damper) ∷ notice 3 71000 1 what.Done ∷ []
 
--- one tick long after all of it makes the same of the durable part as ticks at each moment and one more
-one_tick_or_four : (run building after_the_write (at 80000 1 command.Tick ∷ [])).durable
-    ≡ (run building after_the_write (at 61000 1 command.Tick ∷ at 66000 1 command.Tick ∷ at 71000 1 command.Tick ∷ at 80000 1 command.Tick ∷ [])).durable
+-- one tick long after all of it makes the same of the persistent part as ticks at each moment and one more
+one_tick_or_four : (run building after_the_write (at 80000 1 command.Tick ∷ [])).persistent
+    ≡ (run building after_the_write (at 61000 1 command.Tick ∷ at 66000 1 command.Tick ∷ at 71000 1 command.Tick ∷ at 80000 1 command.Tick ∷ [])).persistent
 unfolding step
 one_tick_or_four = refl
 

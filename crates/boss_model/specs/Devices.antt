@@ -7,7 +7,7 @@ use Rattle.boss_model.specs.Ends.{faulted}
 use Rattle.boss_model.specs.Lists.{member, without}
 use Rattle.boss_model.specs.Order.{least}
 use Rattle.boss_model.specs.Settle.{fresh}
-use Rattle.boss_model.specs.State.{Proxy, Durable, State}
+use Rattle.boss_model.specs.State.{Proxy, Persistent, State}
 use Rattle.boss_model.specs.Target.{in_force}
 
 -- an answer, and the state after it
@@ -52,13 +52,13 @@ abbrev pub not_taken : ℕ → Proxy → Proxy
 not_taken n proxy = record proxy { mark = mark.Failed; failed = true; retry_at = n + retry_after }
 
 -- only the first failure of a version concerns a process
-abbrev pub faulted_first : Bool → ℕ → ℕ → Durable → Durable
+abbrev pub faulted_first : Bool → ℕ → ℕ → Persistent → Persistent
 faulted_first failed point n d = if failed then d else faulted (in_force d.leases point) n d
 
 abbrev pub heard : ℕ → ℕ → Bool → State → State
 heard n point true s = record s { proxies = slice_set s.proxies point (taken (proxy_of s.proxies point)) }
 heard n point false s = record s {
-  durable = faulted_first (proxy_of s.proxies point).failed point n s.durable;
+  persistent = faulted_first (proxy_of s.proxies point).failed point n s.persistent;
   proxies = slice_set s.proxies point (not_taken n (proxy_of s.proxies point));
 }
 

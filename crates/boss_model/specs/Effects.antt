@@ -10,28 +10,28 @@ use Rattle.boss_model.specs.declared.event.Event.{Event}
 use Rattle.boss_model.specs.Catalogue.{Actuator}
 use Rattle.boss_model.specs.Machine.{step}
 use Rattle.boss_model.specs.Processes.{process_of, process_named, number_of}
-use Rattle.boss_model.specs.Same.{same_durable}
-use Rattle.boss_model.specs.State.{Durable, State}
+use Rattle.boss_model.specs.Same.{same_persistent}
+use Rattle.boss_model.specs.State.{Persistent, State}
 use Rattle.boss_model.specs.Target.{in_force}
 use Rattle.boss_model.specs.Time.{moment_of, tick_to}
 
 -- the process that a command concerns: the one that it names or makes, the owner of the lease in force, or the session's own
 abbrev pub concerned : Command → ℕ → State → ℕ
-concerned (command.Attach name) session s = number_of s.durable.processes (process_named s.durable.processes name)
-concerned (command.Report point version ok) session s = option_map_or (λ lease. lease.owner) (in_force s.durable.leases point) 0
+concerned (command.Attach name) session s = number_of s.persistent.processes (process_named s.persistent.processes name)
+concerned (command.Report point version ok) session s = option_map_or (λ lease. lease.owner) (in_force s.persistent.leases point) 0
 concerned c session s = unwrap_or (process_of s.attached session) 0
 
--- what became of a durable part: nothing, what time alone makes of it, or more
-abbrev pub effect_of : Durable → Durable → Durable → ℕ → Effect
+-- what became of a persistent part: nothing, what time alone makes of it, or more
+abbrev pub effect_of : Persistent → Persistent → Persistent → ℕ → Effect
 effect_of before ticked after owner =
-    if same_durable before after then effect.Unchanged else
-    (if same_durable ticked after then effect.Tick after.now else effect.Whole after.now owner)
+    if same_persistent before after then effect.Unchanged else
+    (if same_persistent ticked after then effect.Tick after.now else effect.Whole after.now owner)
 
 -- the effect of a step
 unfoldable pub step_effect : List Actuator → ℕ → Command → ℕ → State → Effect
 step_effect plant session command moment s =
-    let passed = tick_to (moment_of s.durable moment) s.durable in
-    effect_of s.durable passed (step plant session command moment s).state.durable (concerned command session (record s { durable = passed }))
+    let passed = tick_to (moment_of s.persistent moment) s.persistent in
+    effect_of s.persistent passed (step plant session command moment s).state.persistent (concerned command session (record s { persistent = passed }))
 
 -- ---- the event that does the same again
 

@@ -15,7 +15,7 @@ use Rattle.boss_model.specs.Outcomes.{Outcome, did, unless}
 use Rattle.boss_model.specs.Records.{End, Transaction}
 use Rattle.boss_model.specs.Renew.{transaction_of, if_own}
 use Rattle.boss_model.specs.Reversions.{reversion_of, courses}
-use Rattle.boss_model.specs.State.{Lease, Durable}
+use Rattle.boss_model.specs.State.{Lease, Persistent}
 use Rattle.boss_model.specs.Time.{live, under_way, record_after}
 
 -- ---- leases end before their time
@@ -32,7 +32,7 @@ end_if which why n lease = if which lease then Some (record { cause = why; at = 
 
 -- At moment n the leases concerned end, and start their reversions as at the end of their time. `first` is what is told
 -- in the same group.
-abbrev pub end_leases : (Lease → Bool) → Cause → ℕ → List Happening → Durable → Durable
+abbrev pub end_leases : (Lease → Bool) → Cause → ℕ → List Happening → Persistent → Persistent
 end_leases which why n first d =
     let leases = map (shortened_if which n) d.leases in
     let ends = map (λ lease. ended why (reversion_of (shortened n lease))) (filter which d.leases) in
@@ -51,12 +51,12 @@ is_of txn lease = lease.txn == txn
 abbrev pub last_part_end : Transaction → ℕ
 last_part_end transaction = latest (map (λ end. end.at) (filter_map (λ part. part.end) transaction.parts))
 
-abbrev pub cancel_refused : ℕ → ℕ → Durable → Option Refusal
+abbrev pub cancel_refused : ℕ → ℕ → Persistent → Option Refusal
 cancel_refused owner txn d = if_own owner
     (λ transaction. if list_any (is_of txn) d.leases then None else Some (refusal.Over (last_part_end transaction)))
     (transaction_of d.txns txn)
 
-abbrev pub cancel : ℕ → ℕ → ℕ → Durable → Outcome
+abbrev pub cancel : ℕ → ℕ → ℕ → Persistent → Outcome
 cancel owner txn n d = unless (cancel_refused owner txn d) (answer.Cancelled txn n) (end_leases (is_of txn) cause.Cancelled n [] d)
 
 -- ---- a process is lost
@@ -64,10 +64,10 @@ cancel owner txn n d = unless (cancel_refused owner txn d) (answer.Cancelled txn
 abbrev pub is_owned_by : ℕ → Lease → Bool
 is_owned_by owner lease = lease.owner == owner
 
-abbrev pub lost : ℕ → ℕ → Durable → Durable
+abbrev pub lost : ℕ → ℕ → Persistent → Persistent
 lost owner n d = if list_any (is_owned_by owner) d.leases then end_leases (is_owned_by owner) cause.Died n [] d else d
 
-abbrev pub gone : ℕ → ℕ → Durable → Outcome
+abbrev pub gone : ℕ → ℕ → Persistent → Outcome
 gone owner n d = did (answer.Gone (length (filter (is_owned_by owner) d.leases))) (lost owner n d)
 
 -- ---- a device does not take the value of the lease in force
@@ -75,11 +75,11 @@ gone owner n d = did (answer.Gone (length (filter (is_owned_by owner) d.leases))
 abbrev pub fault : ℕ → Lease → Happening
 fault n lease = record { at = n; txn = lease.txn; owner = lease.owner; told = Some (what.Fault lease.point) }
 
-abbrev pub faulted_under : Policy → Lease → ℕ → Durable → Durable
+abbrev pub faulted_under : Policy → Lease → ℕ → Persistent → Persistent
 faulted_under Abort lease n d = end_leases (is_of lease.txn) cause.Fault n (fault n lease ∷ []) d
 faulted_under Keep lease n d = conclude n (fault n lease ∷ []) d d
 
 -- nobody is told where no lease is in force
-abbrev pub faulted : Option Lease → ℕ → Durable → Durable
+abbrev pub faulted : Option Lease → ℕ → Persistent → Persistent
 faulted None n d = d
 faulted (Some lease) n d = faulted_under lease.policy lease n d

@@ -1,10 +1,11 @@
-use Rattle.std.specs.Prelude.{ℕ, ◌+◌, ◌^◌, ◌==◌, max, nat_lt, Bool, true, false, if◌then◌else◌, List, [], ◌∷◌, ◌++◌, map, filter, flat_map, Option, Some, None, slice_get, slice_set}
+use Rattle.std.specs.Prelude.{ℕ, ◌+◌, ◌==◌, max, nat_lt, Bool, true, false, if◌then◌else◌, List, [], ◌∷◌, ◌++◌, map, filter, flat_map, Option, Some, None, slice_get, slice_set}
 use Rattle.std.specs.List.{list_any}
 use Rattle.boss_model.specs.declared.command.Step.{Step}
 use Rattle.boss_model.specs.declared.notice.Cause.{Cause}
 use Rattle.boss_model.specs.declared.notice.Cause.TheVariants as cause
 use Rattle.boss_model.specs.declared.notice.What.{What}
 use Rattle.boss_model.specs.declared.notice.What.TheVariants as what
+use Rattle.boss_model.specs.Limits.{done_kept, notices_kept, last_number}
 use Rattle.boss_model.specs.Lists.{keep_last, latest}
 use Rattle.boss_model.specs.Order.{in_order}
 use Rattle.boss_model.specs.Records.{Transaction}
@@ -87,17 +88,17 @@ abbrev pub is_done : Option What → Bool
 is_done (Some what.Done) = true
 is_done told = false
 
--- a transaction that became done is the last of the done ones, of which the last 1,024 are kept
+-- a transaction that became done is the last of the done ones, of which the last `done_kept` are kept
 abbrev pub finish : List ℕ → Happening → List ℕ
-finish done happening = if is_done happening.told then keep_last 1024 (done ++ happening.txn ∷ []) else done
+finish done happening = if is_done happening.told then keep_last done_kept (done ++ happening.txn ∷ []) else done
 
--- one notice more, with the next number, and of all the last 1,024 are kept; from the number 2 ^ 62 on none is sent
+-- one notice more, with the next number, and of all the last `notices_kept` are kept; after the number `last_number` none is sent
 abbrev pub posted : ℕ → ℕ → What → Process → Process
-posted at txn told process = if process.count == 2 ^ 62
+posted at txn told process = if process.count == last_number
     then process
     else record process {
       count = process.count + 1;
-      kept = keep_last 1024 (process.kept ++ (record { number = process.count + 1; at = at; txn = txn; what = told }) ∷ []);
+      kept = keep_last notices_kept (process.kept ++ (record { number = process.count + 1; at = at; txn = txn; what = told }) ∷ []);
     }
 
 abbrev pub post : List Process → ℕ → Option Process → ℕ → ℕ → What → List Process

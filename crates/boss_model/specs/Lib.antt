@@ -4,7 +4,6 @@ pub mod Catalogue
 pub mod Order
 pub mod Records
 pub mod Lines
-pub mod Call
 pub mod Lists
 pub mod State
 pub mod Reversions
@@ -26,8 +25,6 @@ pub mod Machine
 pub mod Effects
 pub mod Run
 pub mod Sound
-pub mod Keys
-pub mod Requests
-pub mod Texts
 pub mod Tellable
-pub mod Script
+pub mod DeviceCall
+pub mod Limits

@@ -23,7 +23,7 @@ answered given s = record { answer = given; state = s }
 
 abbrev pub after : State → Outcome → Reply
 after s (refused why) = answered (answer.Refused why) s
-after s (did given d) = record { answer = given; state = record s { durable = d } }
+after s (did given d) = record { answer = given; state = record s { persistent = d } }
 
 -- by the process that the session holds
 abbrev pub if_attached : Option ℕ → (ℕ → Reply) → State → Reply
@@ -37,40 +37,40 @@ as_process session s go = if_attached (process_of s.attached session) go s
 abbrev pub joined : ℕ → ℕ → State → Outcome → Reply
 joined session process s (refused why) = answered (answer.Refused why) s
 joined session process s (did given d) =
-    record { answer = given; state = record s { durable = d; attached = attached_too session process s.attached } }
+    record { answer = given; state = record s { persistent = d; attached = attached_too session process s.attached } }
 
 -- a process that is lost is held by no session
 abbrev pub parted : ℕ → State → Outcome → Reply
 parted session s (refused why) = answered (answer.Refused why) s
 parted session s (did given d) =
-    record { answer = given; state = record s { durable = d; attached = detached session s.attached } }
+    record { answer = given; state = record s { persistent = d; attached = detached session s.attached } }
 
 -- the notices of the process of a name, or of the session's own
 abbrev pub notices_asked : Option (List ℕ) → ℕ → ℕ → ℕ → State → Reply
-notices_asked (Some name) session from most s = answered (notices_named name from most s.durable) s
-notices_asked None session from most s = as_process session s (λ process. answered (notices (Some process) from most s.durable) s)
+notices_asked (Some name) session from most s = answered (notices_named name from most s.persistent) s
+notices_asked None session from most s = as_process session s (λ process. answered (notices (Some process) from most s.persistent) s)
 
 abbrev pub act : List Actuator → ℕ → ℕ → Command → State → Reply
 act plant session n (command.Attach name) s =
-    joined session (number_of s.durable.processes (process_named s.durable.processes name)) s (attach session name s.attached n s.durable)
+    joined session (number_of s.persistent.processes (process_named s.persistent.processes name)) s (attach session name s.attached n s.persistent)
 act plant session n (command.Submit writes policy) s =
-    as_process session s (λ owner. after s (submit plant owner policy writes n s.durable))
+    as_process session s (λ owner. after s (submit plant owner policy writes n s.persistent))
 act plant session n (command.Renew txn length points) s =
-    as_process session s (λ owner. after s (renew owner txn length points n s.durable))
-act plant session n (command.Cancel txn) s = as_process session s (λ owner. after s (cancel owner txn n s.durable))
-act plant session n command.Gone s = as_process session s (λ owner. parted session s (gone owner n s.durable))
-act plant session n command.Tick s = answered (answer.Ticked s.durable.now) s
+    as_process session s (λ owner. after s (renew owner txn length points n s.persistent))
+act plant session n (command.Cancel txn) s = as_process session s (λ owner. after s (cancel owner txn n s.persistent))
+act plant session n command.Gone s = as_process session s (λ owner. parted session s (gone owner n s.persistent))
+act plant session n command.Tick s = answered (answer.Ticked s.persistent.now) s
 act plant session n (command.Next driver) s = next plant driver s
 act plant session n (command.Report point version ok) s = report n point version ok s
-act plant session n (command.Read point) s = answered (reading plant point (proxy_of s.proxies point).mark s.durable) s
-act plant session n (command.Array point) s = answered (array point s.durable) s
-act plant session n (command.Status txn) s = answered (status txn s.durable) s
+act plant session n (command.Read point) s = answered (reading plant point (proxy_of s.proxies point).mark s.persistent) s
+act plant session n (command.Array point) s = answered (array point s.persistent) s
+act plant session n (command.Status txn) s = answered (status txn s.persistent) s
 act plant session n (command.Notices name from most) s = notices_asked name session from most s
 
 -- ---- a step: time passes, failed devices are tried again, the points settle, the command acts, and the points settle again
 
 abbrev pub ticked : ℕ → State → State
-ticked n s = record s { durable = tick_to n s.durable }
+ticked n s = record s { persistent = tick_to n s.persistent }
 
 abbrev pub pass_time : List Actuator → ℕ → State → State
 pass_time plant n s = settle plant (retry n (ticked n s))
@@ -80,4 +80,4 @@ settle_after plant reply = record reply { state = settle plant reply.state }
 
 unfoldable pub step : List Actuator → ℕ → Command → ℕ → State → Reply
 step plant session command moment s =
-    let n = moment_of s.durable moment in settle_after plant (act plant session n command (pass_time plant n s))
+    let n = moment_of s.persistent moment in settle_after plant (act plant session n command (pass_time plant n s))

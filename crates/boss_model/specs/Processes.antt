@@ -4,9 +4,10 @@ use Rattle.std.specs.Cmp.Lexicographic.{pointwise}
 use Rattle.boss_model.specs.declared.answer.Answer.TheVariants as answer
 use Rattle.boss_model.specs.declared.answer.Refusal.{Refusal}
 use Rattle.boss_model.specs.declared.answer.Refusal.TheVariants as refusal
+use Rattle.boss_model.specs.Limits.{most_processes}
 use Rattle.boss_model.specs.Lists.{first_some}
 use Rattle.boss_model.specs.Outcomes.{Outcome, unless}
-use Rattle.boss_model.specs.State.{Process, Durable, Attachment}
+use Rattle.boss_model.specs.State.{Process, Persistent, Attachment}
 
 -- the process that the session holds, and the session that holds the process
 abbrev pub process_of : List Attachment → ℕ → Option ℕ
@@ -32,10 +33,7 @@ name_of processes process = option_map_or (λ p. p.name) (slice_get processes pr
 abbrev pub next_notice : List Process → ℕ → ℕ
 next_notice processes process = option_map_or (λ p. p.count) (slice_get processes process) 0 + 1
 
-abbrev pub most_processes : ℕ
-most_processes = 256
-
-abbrev pub enrolled : List ℕ → ℕ → Durable → Durable
+abbrev pub enrolled : List ℕ → ℕ → Persistent → Persistent
 enrolled name n d = record d { now = n; processes = d.processes ++ (record { name = name; count = 0; kept = [] }) ∷ [] }
 
 -- the number that the process of this name has, or gets
@@ -52,20 +50,20 @@ abbrev pub process_refused : List Process → List Attachment → Option ℕ →
 process_refused processes attached None = if is_full processes then Some refusal.TooManyProcesses else None
 process_refused processes attached (Some process) = option_map refusal.Taken (session_of attached process)
 
-abbrev pub attach_refused : ℕ → List ℕ → List Attachment → Durable → Option Refusal
+abbrev pub attach_refused : ℕ → List ℕ → List Attachment → Persistent → Option Refusal
 attach_refused session name attached d = first_some (
     option_map (λ process. refusal.Already (name_of d.processes process)) (process_of attached session) ∷
     process_refused d.processes attached (process_named d.processes name) ∷ [])
 
 -- a process of this name is taken on, unless there is one
-abbrev pub enrol_unless : Option ℕ → List ℕ → ℕ → Durable → Durable
+abbrev pub enrol_unless : Option ℕ → List ℕ → ℕ → Persistent → Persistent
 enrol_unless None name n d = enrolled name n d
 enrol_unless (Some process) name n d = d
 
-abbrev pub enrol : List ℕ → ℕ → Durable → Durable
+abbrev pub enrol : List ℕ → ℕ → Persistent → Persistent
 enrol name n d = enrol_unless (process_named d.processes name) name n d
 
-abbrev pub attach : ℕ → List ℕ → List Attachment → ℕ → Durable → Outcome
+abbrev pub attach : ℕ → List ℕ → List Attachment → ℕ → Persistent → Outcome
 attach session name attached n d = unless (attach_refused session name attached d)
     (answer.Attached name (next_notice d.processes (number_of d.processes (process_named d.processes name))))
     (enrol name n d)

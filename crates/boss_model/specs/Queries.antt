@@ -15,12 +15,12 @@ use Rattle.boss_model.specs.Processes.{process_named, name_of}
 use Rattle.boss_model.specs.Records.{Transaction}
 use Rattle.boss_model.specs.Renew.{transaction_of}
 use Rattle.boss_model.specs.Reversions.{value_at, end_of}
-use Rattle.boss_model.specs.State.{Lease, Pending, Process, Durable}
+use Rattle.boss_model.specs.State.{Lease, Pending, Process, Persistent}
 use Rattle.boss_model.specs.Target.{target, basis_at}
 
 -- ---- the value of a point
 
-abbrev pub reading : List Actuator → ℕ → Mark → Durable → Answer
+abbrev pub reading : List Actuator → ℕ → Mark → Persistent → Answer
 reading plant point mark d = answer.Reading point (target plant d point) (basis_at d point) mark
 
 -- ---- the slots of a point
@@ -33,12 +33,12 @@ abbrev pub slot_of : ℕ → Option Lease → Option Pending → Slot
 slot_of now (Some lease) reversion = slot.Lease lease.value lease.txn lease.until
 slot_of now None reversion = playing_slot now reversion
 
-abbrev pub slot_at : Durable → ℕ → ℕ → Slot
+abbrev pub slot_at : Persistent → ℕ → ℕ → Slot
 slot_at d point priority = slot_of d.now
     (find (λ lease. (lease.point == point) && (lease.priority == priority)) d.leases)
     (find (λ reversion. (reversion.point == point) && (reversion.priority == priority)) d.pending)
 
-abbrev pub array : ℕ → Durable → Answer
+abbrev pub array : ℕ → Persistent → Answer
 array point d = answer.Array point (record { at = map (slot_at d point) (range_with_len 1 16) })
 
 -- ---- the stage of a transaction
@@ -46,18 +46,18 @@ array point d = answer.Array point (record { at = map (slot_at d point) (range_w
 abbrev pub stage_of : ℕ → ℕ → Stage
 stage_of live pending = if nat_lt 0 live then stage.Run else (if nat_lt 0 pending then stage.Revert else stage.Done)
 
-abbrev pub live_of : ℕ → Durable → ℕ
+abbrev pub live_of : ℕ → Persistent → ℕ
 live_of txn d = length (filter (λ lease. lease.txn == txn) d.leases)
 
-abbrev pub pending_of : ℕ → Durable → ℕ
+abbrev pub pending_of : ℕ → Persistent → ℕ
 pending_of txn d = length (filter (λ reversion. reversion.txn == txn) d.pending)
 
-abbrev pub status_of : Option Transaction → Durable → Answer
+abbrev pub status_of : Option Transaction → Persistent → Answer
 status_of None d = answer.Refused refusal.UnknownTxn
 status_of (Some transaction) d = answer.Status transaction.txn (name_of d.processes transaction.owner)
     (stage_of (live_of transaction.txn d) (pending_of transaction.txn d)) (live_of transaction.txn d) (pending_of transaction.txn d)
 
-abbrev pub status : ℕ → Durable → Answer
+abbrev pub status : ℕ → Persistent → Answer
 status txn d = status_of (transaction_of d.txns txn) d
 
 -- ---- the notices of a process
@@ -84,8 +84,8 @@ abbrev pub named : List Process → Option ℕ → Option Process
 named processes None = None
 named processes (Some process) = slice_get processes process
 
-abbrev pub notices : Option ℕ → ℕ → ℕ → Durable → Answer
+abbrev pub notices : Option ℕ → ℕ → ℕ → Persistent → Answer
 notices process from most d = notices_of (named d.processes process) from most
 
-abbrev pub notices_named : List ℕ → ℕ → ℕ → Durable → Answer
+abbrev pub notices_named : List ℕ → ℕ → ℕ → Persistent → Answer
 notices_named name from most d = notices (process_named d.processes name) from most d

@@ -8,7 +8,7 @@ use Rattle.boss_model.specs.Groups.{conclude}
 use Rattle.boss_model.specs.Lists.{member, first_some}
 use Rattle.boss_model.specs.Outcomes.{Outcome, unless}
 use Rattle.boss_model.specs.Records.{End, Part, Transaction}
-use Rattle.boss_model.specs.State.{Lease, Durable}
+use Rattle.boss_model.specs.State.{Lease, Persistent}
 use Rattle.boss_model.specs.Submit.{is_length, first_until}
 
 abbrev pub transaction_of : List Transaction → ℕ → Option Transaction
@@ -35,7 +35,7 @@ named_parts (point ∷ points) parts = filter_map (part_on parts) (point ∷ poi
 abbrev pub ended_at : ℕ → End → Refusal
 ended_at n end = refusal.Ended end.cause end.at n
 
-abbrev pub renew_refused : ℕ → ℕ → ℤ → List ℕ → ℕ → Durable → Option Refusal
+abbrev pub renew_refused : ℕ → ℕ → ℤ → List ℕ → ℕ → Persistent → Option Refusal
 renew_refused owner txn length points n d = first_some (
     (if is_length length then None else Some (refusal.BadLease 0)) ∷
     if_own owner (λ transaction. first_some (
@@ -58,11 +58,11 @@ extended until lease = record lease { until = max lease.until until }
 abbrev pub extended_if : (Lease → Bool) → ℕ → Lease → Lease
 extended_if meant until lease = if meant lease then extended until lease else lease
 
-abbrev pub renewed : ℕ → ℤ → List ℕ → ℕ → Durable → Durable
+abbrev pub renewed : ℕ → ℤ → List ℕ → ℕ → Persistent → Persistent
 renewed txn length points n d =
     conclude n [] d (record d { leases = map (extended_if (is_meant txn points) (n + unsigned_abs length)) d.leases })
 
-abbrev pub renew : ℕ → ℕ → ℤ → List ℕ → ℕ → Durable → Outcome
+abbrev pub renew : ℕ → ℕ → ℤ → List ℕ → ℕ → Persistent → Outcome
 renew owner txn length points n d = unless (renew_refused owner txn length points n d)
     (answer.Renewed txn (first_until (filter (is_meant txn points) (renewed txn length points n d).leases)))
     (renewed txn length points n d)

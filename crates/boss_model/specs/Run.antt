@@ -7,7 +7,7 @@ use Rattle.boss_model.specs.Acts.{replay_next}
 use Rattle.boss_model.specs.Catalogue.{Actuator}
 use Rattle.boss_model.specs.Effects.{step_effect, event_of}
 use Rattle.boss_model.specs.Machine.{step}
-use Rattle.boss_model.specs.State.{Durable, State}
+use Rattle.boss_model.specs.State.{Persistent, State}
 
 -- a command of a session at a moment
 pub record Call : Type 0 where
@@ -33,6 +33,6 @@ events plant s [] = []
 events plant s (call ∷ calls) =
     cons_option (event_of call.command (step_effect plant call.session call.command call.moment s)) (events plant (stepped plant s call) calls)
 
--- the durable part that events lead to, from another one; none where one of them is not effective
-abbrev pub replay_all : List Actuator → Durable → List Event → Option Durable
+-- the persistent part that events lead to, from another one; none where one of them is not effective
+abbrev pub replay_all : List Actuator → Persistent → List Event → Option Persistent
 replay_all plant d events = fold (replay_next plant) (Some d) events

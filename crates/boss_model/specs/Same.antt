@@ -10,9 +10,9 @@ use Rattle.boss_model.specs.declared.notice.Notice.{Notice}
 use Rattle.boss_model.specs.declared.notice.What.{What}
 use Rattle.boss_model.specs.declared.notice.What.TheVariants as what
 use Rattle.boss_model.specs.Records.{End, Part, Transaction}
-use Rattle.boss_model.specs.State.{Lease, Pending, Process, Durable}
+use Rattle.boss_model.specs.State.{Lease, Pending, Process, Persistent}
 
--- Whether two durable parts are equal, field by field.
+-- Whether two persistent parts are equal, field by field.
 
 abbrev pub same_policy : Policy → Policy → Bool
 same_policy Abort Abort = true
@@ -73,7 +73,7 @@ same_notice x y = x.number == y.number && (x.at == y.at && (x.txn == y.txn && sa
 abbrev pub same_process : Process → Process → Bool
 same_process x y = pointwise nat_eq x.name y.name && (x.count == y.count && pointwise same_notice x.kept y.kept)
 
-abbrev pub same_durable : Durable → Durable → Bool
-same_durable x y = x.now == y.now && (x.next == y.next && (pointwise same_lease x.leases y.leases
+abbrev pub same_persistent : Persistent → Persistent → Bool
+same_persistent x y = x.now == y.now && (x.next == y.next && (pointwise same_lease x.leases y.leases
     && (pointwise same_pending x.pending y.pending && (pointwise same_transaction x.txns y.txns
     && (pointwise nat_eq x.done y.done && pointwise same_process x.processes y.processes)))))

@@ -5,24 +5,24 @@ use Rattle.boss_model.specs.declared.answer.Mark.{Mark}
 use Rattle.boss_model.specs.declared.answer.Mark.TheVariants as mark
 use Rattle.boss_model.specs.Catalogue.{Actuator}
 use Rattle.boss_model.specs.Lists.{member}
-use Rattle.boss_model.specs.State.{Proxy, Durable, State, first_durable}
+use Rattle.boss_model.specs.State.{Proxy, Persistent, State, first_persistent}
 use Rattle.boss_model.specs.Target.{target}
 
 -- a point whose device has not been told anything yet
 abbrev pub fresh : ℤ → Proxy
 fresh value = record { version = 1; commanded = value; mark = mark.Pending; failed = false; retry_at = 0 }
 
--- the state that a durable part opens to: nobody is attached, and every point wants its target
-abbrev pub opened : List Actuator → Durable → State
+-- the state that a persistent part opens to: nobody is attached, and every point wants its target
+abbrev pub opened : List Actuator → Persistent → State
 opened plant d = record {
-  durable = d;
+  persistent = d;
   attached = [];
   proxies = map (λ point. fresh (target plant d point)) (range_with_len 0 (length plant));
   wants = range_with_len 0 (length plant);
 }
 
 abbrev pub first_state : List Actuator → State
-first_state plant = opened plant first_durable
+first_state plant = opened plant first_persistent
 
 -- these points stand last among the wants; an older want of theirs is taken out
 abbrev pub wanted_anew : List ℕ → List ℕ → List ℕ
@@ -59,11 +59,11 @@ retry n s = record s {
 -- ---- settling
 
 -- the point's target is no longer the value that its device was last told
-abbrev pub is_moved : List Actuator → Durable → ℕ × Proxy → Bool
+abbrev pub is_moved : List Actuator → Persistent → ℕ × Proxy → Bool
 is_moved plant d place = not (int_eq (target plant d place.0) place.1.commanded)
 
 -- a new version of the point, with its target as the commanded value
-abbrev pub recommanded : List Actuator → Durable → ℕ × Proxy → Proxy
+abbrev pub recommanded : List Actuator → Persistent → ℕ × Proxy → Proxy
 recommanded plant d place = record place.1 {
   version = (place.1.version + 1) % 2 ^ 64;
   commanded = target plant d place.0;
@@ -74,6 +74,6 @@ recommanded plant d place = record place.1 {
 -- every point is compared, and those that moved want their device to be written
 abbrev pub settle : List Actuator → State → State
 settle plant s = record s {
-  proxies = changed_if (is_moved plant s.durable) (recommanded plant s.durable) s.proxies;
-  wants = wanted_anew (places (is_moved plant s.durable) s.proxies) s.wants;
+  proxies = changed_if (is_moved plant s.persistent) (recommanded plant s.persistent) s.proxies;
+  wants = wanted_anew (places (is_moved plant s.persistent) s.proxies) s.wants;
 }

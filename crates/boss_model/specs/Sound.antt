@@ -1,4 +1,4 @@
-use Rattle.std.specs.Prelude.{◌≡◌, ℕ, ◌+◌, ◌-◌, ◌^◌, ◌<◌, ◌≤◌, ◌==◌, pos, nat_eq, Bool, true, false, not, ◌&&◌, List, [], ◌∷◌, length, map, Option, Some, None, is_none}
+use Rattle.std.specs.Prelude.{◌≡◌, ℕ, ◌+◌, ◌-◌, ◌<◌, ◌≤◌, ◌==◌, pos, nat_eq, Bool, true, false, not, ◌&&◌, List, [], ◌∷◌, length, map, Option, Some, None, is_none}
 use Rattle.std.specs.List.{AllByRecursion, list_any}
 use Rattle.std.specs.Cmp.Lexicographic.{pointwise}
 use Rattle.boss_model.specs.declared.answer.Mark.TheVariants as mark
@@ -12,12 +12,13 @@ use Rattle.boss_model.specs.declared.notice.What.TheVariants as what
 use Rattle.boss_model.specs.Catalogue.{Actuator, fits_at}
 use Rattle.boss_model.specs.Devices.{proxy_of}
 use Rattle.boss_model.specs.Happenings.{lives}
+use Rattle.boss_model.specs.Limits.{longest_lease, most_writes, done_kept, most_processes, notices_kept, most_told, last_moment, last_number}
 use Rattle.boss_model.specs.Lists.{member}
 use Rattle.boss_model.specs.Names.{is_name}
 use Rattle.boss_model.specs.Order.{comes_before}
 use Rattle.boss_model.specs.Records.{End, Part, Transaction}
 use Rattle.boss_model.specs.Reversions.{end_of, courses}
-use Rattle.boss_model.specs.State.{Lease, Pending, lease_slot, pending_slot, Process, Durable, Proxy, State}
+use Rattle.boss_model.specs.State.{Lease, Pending, lease_slot, pending_slot, Process, Persistent, Proxy, State}
 use Rattle.boss_model.specs.Submit.{is_level, is_reversion}
 use Rattle.boss_model.specs.Target.{target}
 
@@ -51,7 +52,7 @@ pub record IsLease (plant : List Actuator) (now : ℕ) (lease : Lease) : Type 0 
   pub level : is_level (pos lease.priority) ≡ true
   pub reverting : is_reversion plant lease.point lease.revert ≡ true
   pub live : now < lease.until
-  pub soon : lease.until ≤ now + 604800000
+  pub soon : lease.until ≤ now + longest_lease
 
 -- a reversion that may be under way in it; it has a step, since it is over later than it starts
 pub record IsPending (plant : List Actuator) (now : ℕ) (reversion : Pending) : Type 0 where
@@ -77,12 +78,12 @@ pub record IsPart (plant : List Actuator) (now txn : ℕ) (leases : List Lease) 
   pub open_part : is_none part.end ≡ holds leases txn part.point part.priority
   pub past : IsPast now part.end
 
-pub record IsTransaction (plant : List Actuator) (d : Durable) (transaction : Transaction) : Type 0 where
+pub record IsTransaction (plant : List Actuator) (d : Persistent) (transaction : Transaction) : Type 0 where
   pub numbered : 1 ≤ transaction.txn
   pub given : transaction.txn < d.next
   pub owner : transaction.owner < length d.processes
   pub some_part : 1 ≤ length transaction.parts
-  pub few_parts : length transaction.parts ≤ 32
+  pub few_parts : length transaction.parts ≤ most_writes
   pub points : Distinct (map (λ part. part.point) transaction.parts)
   pub parts : AllByRecursion (IsPart plant d.now transaction.txn d.leases) transaction.parts
   pub owned : AllByRecursion (λ reversion. reversion.txn ≡ transaction.txn → reversion.owner ≡ transaction.owner) (courses d.pending d.leases)
@@ -121,19 +122,19 @@ IsKnown points what.Done = Unit {0}
 
 pub record IsProcess (plant : List Actuator) (now : ℕ) (process : Process) : Type 0 where
   pub name : is_name process.name ≡ true
-  pub count : process.count ≤ 2 ^ 62
-  pub few : length process.kept ≤ 1024
+  pub count : process.count ≤ last_number
+  pub few : length process.kept ≤ notices_kept
   pub sent : length process.kept ≤ process.count
   pub numbers : NumberedFrom (process.count + 1 - length process.kept) process.kept
   pub past : AllByRecursion (λ notice. notice.at ≤ now) process.kept
   pub known : AllByRecursion (λ notice. IsKnown (length plant) notice.what) process.kept
 
--- ---- what holds of every durable part that can be reached
+-- ---- what holds of every persistent part that can be reached
 
-pub record IsSoundDurable (plant : List Actuator) (d : Durable) : Type 0 where
-  pub now : d.now ≤ 2 ^ 60
+pub record IsSoundPersistent (plant : List Actuator) (d : Persistent) : Type 0 where
+  pub now : d.now ≤ last_moment
   pub first : 1 ≤ d.next
-  pub next : d.next ≤ 2 ^ 62
+  pub next : d.next ≤ last_number
   pub lease_slots : Rising lease_slot d.leases
   pub pending_slots : Rising pending_slot d.pending
   -- no slot twice, among leases and reversions together
@@ -147,17 +148,17 @@ pub record IsSoundDurable (plant : List Actuator) (d : Durable) : Type 0 where
   pub ended_parts : AllByRecursion (λ reversion. has_part (is_start reversion.start) d.txns reversion.txn reversion.point reversion.priority ≡ true) d.pending
   -- a transaction is done exactly where it has neither a lease nor a reversion left
   pub done : AllByRecursion (λ transaction. member transaction.txn d.done ≡ not (lives transaction.txn (courses d.pending d.leases))) d.txns
-  pub few_done : length d.done ≤ 1024
+  pub few_done : length d.done ≤ done_kept
   pub done_once : Distinct d.done
   pub done_known : AllByRecursion (λ txn. is_kept d.txns txn ≡ true) d.done
-  pub few_processes : length d.processes ≤ 256
+  pub few_processes : length d.processes ≤ most_processes
   pub names : DistinctNames (map (λ process. process.name) d.processes)
   pub processes : AllByRecursion (IsProcess plant d.now) d.processes
 
 -- ---- what holds of every state that can be reached
 
 -- each proxy has the target of its point
-abbrev pub Settled : List Actuator → Durable → ℕ → List Proxy → Type 0
+abbrev pub Settled : List Actuator → Persistent → ℕ → List Proxy → Type 0
 Settled plant d point [] = Unit {0}
 Settled plant d point (proxy ∷ proxies) = (proxy.commanded ≡ target plant d point) × Settled plant d (point + 1) proxies
 
@@ -167,12 +168,12 @@ pub record IsWant (proxies : List Proxy) (point : ℕ) : Type 0 where
   pub pending : (proxy_of proxies point).mark ≡ mark.Pending
 
 pub record IsSound (plant : List Actuator) (s : State) : Type 0 where
-  pub durable : IsSoundDurable plant s.durable
+  pub persistent : IsSoundPersistent plant s.persistent
   pub sessions : Distinct (map (λ attachment. attachment.session) s.attached)
   pub held : Distinct (map (λ attachment. attachment.process) s.attached)
-  pub attached : AllByRecursion (λ attachment. attachment.process < length s.durable.processes) s.attached
+  pub attached : AllByRecursion (λ attachment. attachment.process < length s.persistent.processes) s.attached
   pub proxies : length s.proxies ≡ length plant
-  pub commanded : Settled plant s.durable 0 s.proxies
+  pub commanded : Settled plant s.persistent 0 s.proxies
   pub wants : AllByRecursion (IsWant s.proxies) s.wants
   pub once : Distinct s.wants
 
@@ -186,8 +187,8 @@ IsName (Some name) = is_name name ≡ true
 abbrev pub IsAllowed : List Actuator → Command → Type 0
 IsAllowed plant (command.Attach name) = is_name name ≡ true
 IsAllowed plant (command.Submit writes policy) =
-    (1 ≤ length writes) × (length writes ≤ 32) × AllByRecursion (λ write. write.point < length plant) writes
-IsAllowed plant (command.Renew txn length_asked points) = (length points ≤ 32) × AllByRecursion (λ point. point < length plant) points
+    (1 ≤ length writes) × (length writes ≤ most_writes) × AllByRecursion (λ write. write.point < length plant) writes
+IsAllowed plant (command.Renew txn length_asked points) = (length points ≤ most_writes) × AllByRecursion (λ point. point < length plant) points
 IsAllowed plant (command.Cancel txn) = Unit {0}
 IsAllowed plant command.Gone = Unit {0}
 IsAllowed plant command.Tick = Unit {0}
@@ -196,4 +197,4 @@ IsAllowed plant (command.Report point version ok) = point < length plant
 IsAllowed plant (command.Read point) = point < length plant
 IsAllowed plant (command.Array point) = point < length plant
 IsAllowed plant (command.Status txn) = Unit {0}
-IsAllowed plant (command.Notices name from most) = IsName name × (1 ≤ from) × (1 ≤ most) × (most ≤ 64)
+IsAllowed plant (command.Notices name from most) = IsName name × (1 ≤ from) × (1 ≤ most) × (most ≤ most_told)

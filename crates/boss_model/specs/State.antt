@@ -9,16 +9,16 @@ pub use Rattle.boss_model.specs.declared.state.Pending.{Pending}
 -- has failed to take this version, and when it is written again if it failed
 pub use Rattle.boss_model.specs.declared.state.Proxy.{Proxy}
 
--- a control process: its name, how many notices it was sent, and the last 1,024 of them. Processes go by their places.
+-- a control process: its name, how many notices it was sent, and the last `notices_kept` of them. Processes go by their places.
 pub record Process : Type 0 where
   pub name : List ℕ
   pub count : ℕ
   pub kept : List Notice
 
 -- What outlasts a stop. `now` is the moment of the last change, `next` the number of the next transaction; leases and
--- pending reversions stand in order of slots, transactions in order of number; `done` has the last 1,024 transactions that
+-- pending reversions stand in order of slots, transactions in order of number; `done` has the last `done_kept` transactions that
 -- became done, in the order of becoming done.
-pub record Durable : Type 0 where
+pub record Persistent : Type 0 where
   pub now : ℕ
   pub next : ℕ
   pub leases : List Lease
@@ -32,10 +32,10 @@ pub record Attachment : Type 0 where
   pub session : ℕ
   pub process : ℕ
 
--- the whole state: beside the durable part who is attached, one proxy a point, and the points that want their device to be
+-- the whole state: beside the persistent part who is attached, one proxy a point, and the points that want their device to be
 -- written, in order of arrival
 pub record State : Type 0 where
-  pub durable : Durable
+  pub persistent : Persistent
   pub attached : List Attachment
   pub proxies : List Proxy
   pub wants : List ℕ
@@ -48,5 +48,5 @@ abbrev pub pending_slot : Pending → List ℕ
 pending_slot reversion = reversion.point ∷ reversion.priority ∷ []
 
 -- before anything was done
-abbrev pub first_durable : Durable
-first_durable = record { now = 0; next = 1; leases = []; pending = []; txns = []; done = []; processes = [] }
+abbrev pub first_persistent : Persistent
+first_persistent = record { now = 0; next = 1; leases = []; pending = []; txns = []; done = []; processes = [] }

@@ -1,4 +1,4 @@
-use Rattle.std.specs.Prelude.{ℕ, ◌+◌, ◌^◌, ℤ, pos, int_le, unsigned_abs, ◌==◌, nat_le, Bool, not, ◌&&◌, if◌then◌else◌, List, [], ◌∷◌, ◌++◌, length, map, filter, position, Option, Some, None}
+use Rattle.std.specs.Prelude.{ℕ, ◌+◌, ℤ, pos, int_le, unsigned_abs, ◌==◌, nat_le, Bool, not, ◌&&◌, if◌then◌else◌, List, [], ◌∷◌, ◌++◌, length, map, filter, position, Option, Some, None}
 use Rattle.std.specs.Option.{option_map, option_map_or}
 use Rattle.std.specs.List.{list_any, list_all}
 use Rattle.std.specs.Ordering.{int_eq}
@@ -13,10 +13,11 @@ use Rattle.boss_model.specs.declared.notice.What.TheVariants as what
 use Rattle.boss_model.specs.Catalogue.{Actuator, fits_at}
 use Rattle.boss_model.specs.Groups.{conclude}
 use Rattle.boss_model.specs.Happenings.{Happening}
+use Rattle.boss_model.specs.Limits.{longest_lease, longest_hold, most_steps, last_number}
 use Rattle.boss_model.specs.Lists.{member, first_some}
 use Rattle.boss_model.specs.Order.{in_order, least}
 use Rattle.boss_model.specs.Records.{End, Part, Transaction}
-use Rattle.boss_model.specs.State.{Lease, Pending, lease_slot, Durable}
+use Rattle.boss_model.specs.State.{Lease, Pending, lease_slot, Persistent}
 use Rattle.boss_model.specs.Time.{record_after}
 use Rattle.boss_model.specs.Outcomes.{Outcome, unless}
 
@@ -29,21 +30,15 @@ is_within low high z = int_le low z && int_le z high
 abbrev pub is_level : ℤ → Bool
 is_level priority = is_within (pos 1) (pos 16) priority && not (int_eq priority (pos 6))
 
-abbrev pub longest_lease : ℤ
-longest_lease = pos 604800000
-
-abbrev pub longest_hold : ℤ
-longest_hold = pos 86400000
-
 abbrev pub is_length : ℤ → Bool
-is_length length = is_within (pos 1) longest_lease length
+is_length length = is_within (pos 1) (pos longest_lease) length
 
 -- a step that a point takes
 abbrev pub is_step : List Actuator → ℕ → Step → Bool
-is_step plant point step = is_within (pos 1) longest_hold step.hold && fits_at plant point step.value
+is_step plant point step = is_within (pos 1) (pos longest_hold) step.hold && fits_at plant point step.value
 
 abbrev pub is_reversion : List Actuator → ℕ → List Step → Bool
-is_reversion plant point steps = nat_le (length steps) 8 && list_all (is_step plant point) steps
+is_reversion plant point steps = nat_le (length steps) most_steps && list_all (is_step plant point) steps
 
 -- the first place whose point stands at an earlier one
 abbrev pub repeated : List ℕ → ℕ → List Setting → Option ℕ
@@ -52,14 +47,14 @@ repeated seen place (write ∷ writes) =
     if member write.point seen then Some place else repeated (write.point ∷ seen) (place + 1) writes
 
 -- in this order; of several writes the first
-abbrev pub submit_refused : List Actuator → List Setting → Durable → Option Refusal
+abbrev pub submit_refused : List Actuator → List Setting → Persistent → Option Refusal
 submit_refused plant writes d = first_some (
     option_map refusal.SamePoint (repeated [] 0 writes) ∷
     option_map refusal.BadPriority (position (λ write. not (is_level write.priority)) writes) ∷
     option_map refusal.OutOfRange (position (λ write. not (fits_at plant write.point write.value)) writes) ∷
     option_map refusal.BadLease (position (λ write. not (is_length write.lease)) writes) ∷
     option_map refusal.BadReversion (position (λ write. not (is_reversion plant write.point write.revert)) writes) ∷
-    (if d.next == 2 ^ 62 then Some refusal.Spent else None) ∷ [])
+    (if d.next == last_number then Some refusal.Spent else None) ∷ [])
 
 -- ---- what is done. (In a write that is not refused no number is negative.)
 
@@ -100,7 +95,7 @@ superseded_end new by n lease =
     if is_taken new lease.point lease.priority then Some (record { cause = cause.Superseded by; at = n }) else None
 
 -- the new leases take their slots. What stood there goes out, without a reversion.
-abbrev pub submitted : ℕ → Policy → List Setting → ℕ → Durable → Durable
+abbrev pub submitted : ℕ → Policy → List Setting → ℕ → Persistent → Persistent
 submitted owner policy writes n d =
     let new = granted owner policy d.next n writes in
     let gone = λ (lease : Lease). is_taken new lease.point lease.priority in
@@ -116,7 +111,7 @@ submitted owner policy writes n d =
 abbrev pub first_until : List Lease → ℕ
 first_until leases = option_map_or (λ lease. lease.until) (least (λ lease. lease.until) leases) 0
 
-abbrev pub submit : List Actuator → ℕ → Policy → List Setting → ℕ → Durable → Outcome
+abbrev pub submit : List Actuator → ℕ → Policy → List Setting → ℕ → Persistent → Outcome
 submit plant owner policy writes n d = unless (submit_refused plant writes d)
     (answer.Accepted d.next (first_until (granted owner policy d.next n writes)))
     (submitted owner policy writes n d)

@@ -4,7 +4,7 @@ use Rattle.boss_model.specs.declared.answer.Basis.TheVariants as basis
 use Rattle.boss_model.specs.Catalogue.{Actuator, default_of}
 use Rattle.boss_model.specs.Order.{least}
 use Rattle.boss_model.specs.Reversions.{value_at}
-use Rattle.boss_model.specs.State.{Lease, Pending, Durable}
+use Rattle.boss_model.specs.State.{Lease, Pending, Persistent}
 
 -- the lease in force on a point: of its leases the one with the least priority number
 abbrev pub in_force : List Lease → ℕ → Option Lease
@@ -26,13 +26,13 @@ basis_of None (Some reversion) = basis.Pending reversion.priority reversion.txn
 basis_of None None = basis.Default
 
 -- the value that a point is to have at a moment up to which nothing more is due
-abbrev pub target_at : List Actuator → ℕ → Durable → ℕ → ℤ
+abbrev pub target_at : List Actuator → ℕ → Persistent → ℕ → ℤ
 target_at plant moment d point = value_of (default_of plant point) moment (in_force d.leases point) (playing d.pending point)
 
 -- the value that a point is to have: that of the lease in force, else of the reversion, else its Relinquish_Default
-abbrev pub target : List Actuator → Durable → ℕ → ℤ
+abbrev pub target : List Actuator → Persistent → ℕ → ℤ
 target plant d point = target_at plant d.now d point
 
 -- what that value rests on
-abbrev pub basis_at : Durable → ℕ → Basis
+abbrev pub basis_at : Persistent → ℕ → Basis
 basis_at d point = basis_of (in_force d.leases point) (playing d.pending point)

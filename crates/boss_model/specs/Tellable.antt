@@ -5,14 +5,14 @@ use Rattle.boss_model.specs.declared.answer.Answer.{Answer}
 use Rattle.boss_model.specs.declared.answer.Answer.TheVariants as answer
 use Rattle.boss_model.specs.declared.notice.Notice.{Notice}
 use Rattle.boss_model.specs.Catalogue.{Catalogue}
+use Rattle.boss_model.specs.Limits.{most_told}
 use Rattle.boss_model.specs.Sound.{IsKnown}
 
 abbrev pub IsTellableNotice : Catalogue → Notice → Type 0
 IsTellableNotice catalogue notice = IsKnown (length catalogue.points) notice.what
 
--- at most 64 notices are told at once
 abbrev pub AreTellable : Catalogue → List Notice → Type 0
-AreTellable catalogue notices = (length notices ≤ 64) × AllByRecursion (IsTellableNotice catalogue) notices
+AreTellable catalogue notices = (length notices ≤ most_told) × AllByRecursion (IsTellableNotice catalogue) notices
 
 abbrev pub IsTellable : Catalogue → Answer → Type 0
 IsTellable catalogue (answer.Want point version value) = point < length catalogue.points

@@ -4,7 +4,7 @@ use Rattle.boss_model.specs.Happenings.{Happening, coming, lives, finish, tell, 
 use Rattle.boss_model.specs.Lists.{member}
 use Rattle.boss_model.specs.Records.{End, Part, Transaction}
 use Rattle.boss_model.specs.Reversions.{end_of, courses}
-use Rattle.boss_model.specs.State.{Lease, Pending, Durable}
+use Rattle.boss_model.specs.State.{Lease, Pending, Persistent}
 
 -- a lease is live as long as the moment is before its end
 abbrev pub live : ℕ → List Lease → List Lease
@@ -19,7 +19,7 @@ abbrev pub left : ℕ → List Pending → List Pending
 left n reversions = filter (λ reversion. nat_lt n (end_of reversion)) reversions
 
 -- what happens after `now`, up to and with n, in order. Its moments are the due ones.
-abbrev pub due : ℕ → Durable → List Happening
+abbrev pub due : ℕ → Persistent → List Happening
 due n d = filter (λ happening. nat_le happening.at n) (coming d.now (courses d.pending d.leases) d.txns)
 
 -- ---- the records of transactions
@@ -50,7 +50,7 @@ kept reversions done txns = filter (λ transaction. lives transaction.txn revers
 
 -- Leases end at their moments and start their reversions then, reversions end at theirs. What is told and what becomes
 -- done goes in the order in which it happens, and `now` becomes the last moment that was due, if any was.
-abbrev pub tick_to : ℕ → Durable → Durable
+abbrev pub tick_to : ℕ → Persistent → Persistent
 tick_to n d =
     let reversions = courses d.pending d.leases in
     let happened = due n d in
@@ -65,8 +65,8 @@ tick_to n d =
     }
 
 -- moments never go back
-abbrev pub moment_of : Durable → ℕ → ℕ
+abbrev pub moment_of : Persistent → ℕ → ℕ
 moment_of d moment = max d.now moment
 
-abbrev pub tick : Durable → ℕ → Durable
+abbrev pub tick : Persistent → ℕ → Persistent
 tick d moment = tick_to (moment_of d moment) d

@@ -1,4 +1,6 @@
 use crate::{Cause, Items, Name, Notice, PointId, Priority, SessionId, Stage, Txn};
+use std::error::Error;
+use std::fmt;
 
 /// How far a point's device has come.
 #[derive(Clone, Copy, Debug, PartialEq, Eq)]
@@ -83,6 +85,65 @@ pub enum Refusal {
     /// The last transaction number, 2^62 - 1, was given.
     Spent,
 }
+
+impl Refusal {
+    /// What was refused, without the place, the moment or the name that goes with it.
+    fn summary(&self) -> &'static str {
+        match self {
+            Refusal::Malformed => "the line spells no request",
+            Refusal::UnknownOp => "what the line asks for is not known",
+            Refusal::UnknownPoint { .. } => "no point has the name",
+            Refusal::NotAttached => "the session holds no process",
+            Refusal::SamePoint { .. } => "an earlier write has the point of the write",
+            Refusal::BadPriority { .. } => "a priority of 1 to 16, but not 6, is wanted",
+            Refusal::OutOfRange { .. } => "a value that the point takes is wanted",
+            Refusal::BadLease { .. } => "a lease of 1 to 604800000 milliseconds is wanted",
+            Refusal::BadReversion { .. } =>
+                "a reversion of at most 8 steps that the point takes is wanted",
+            Refusal::UnknownTxn => "no transaction of this number is kept",
+            Refusal::NotYours => "the transaction belongs to another process",
+            Refusal::NotInTxn { .. } => "the transaction did not write the point",
+            Refusal::Ended { .. } => "a lease of the transaction had ended",
+            Refusal::Over { .. } => "the last lease of the transaction ended",
+            Refusal::Already { .. } => "the session already holds the process",
+            Refusal::Taken { .. } => "the process is held by the session",
+            Refusal::TooManyProcesses => "there are already 256 processes",
+            Refusal::Spent => "the last transaction number was given",
+        }
+    }
+
+    /// The place in the line or the command that was refused, if one is told.
+    fn place(&self) -> Option<u32> {
+        match *self {
+            Refusal::UnknownPoint { index }
+            | Refusal::SamePoint { index }
+            | Refusal::BadPriority { index }
+            | Refusal::OutOfRange { index }
+            | Refusal::BadLease { index }
+            | Refusal::BadReversion { index }
+            | Refusal::NotInTxn { index } => Some(index),
+            _ => None,
+        }
+    }
+}
+
+impl fmt::Display for Refusal {
+    fn fmt<W: fmt::Write>(&self, f: &mut fmt::Formatter<W>) -> fmt::Result {
+        f.write_str(self.summary())?;
+        if let Some(place) = self.place() {
+            return write!(f, " at place {place}");
+        }
+        match self {
+            Refusal::Ended { cause, at, .. } => write!(f, " at {at}, since {cause}"),
+            Refusal::Over { at } => write!(f, " at {at}"),
+            Refusal::Already { name } => write!(f, " {name}"),
+            Refusal::Taken { session } => write!(f, " {}", session.0),
+            _ => Ok(()),
+        }
+    }
+}
+
+impl Error for Refusal {}
 
 /// What the transaction manager answers to a command.
 #[derive(Debug, Drop)]

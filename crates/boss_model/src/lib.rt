@@ -6,23 +6,25 @@ mod answer;
 mod buffer;
 mod command;
 mod event;
-mod form;
 mod items;
+mod limits;
 mod memory;
 mod name;
 mod notice;
 mod numbers;
 mod point;
 mod state;
-#[cfg(test)]
-mod tests;
 
 pub use answer::{Answer, Basis, Mark, Refusal, Slot, Slots};
 pub use buffer::Buffer;
 pub use command::{Command, Policy, Setting, Step};
 pub use event::{Act, Effect, Event};
-pub use form::{Form, Op};
 pub use items::Items;
+pub use limits::{
+    DONE_KEPT, LAST_MOMENT, LAST_NUMBER, LAST_SESSION, LONGEST_FILE, LONGEST_HOLD, LONGEST_LEASE,
+    LONGEST_LINE, LONGEST_NAME, MOST_DRIVERS, MOST_LINES, MOST_POINTS, MOST_PROCESSES, MOST_STEPS,
+    MOST_TOLD, MOST_WRITES, NOTICES_KEPT,
+};
 pub use memory::NoMemory;
 pub use name::Name;
 pub use notice::{Cause, Notice, Stage, What};

@@ -1,7 +1,10 @@
 ghost use Rattle.std.specs.Prelude.{◌≡◌, ◌≤◌, length, take, IfSome, IfNone, true, false};
 ghost use Rattle.std.specs.List.{list_all};
+ghost use Rattle.boss_model.specs.Limits.{longest_name};
 ghost use Rattle.boss_model.specs.Names.{is_name, is_name_byte};
 
+use crate::LONGEST_NAME;
+use std::fmt::{self, Write};
 use std::marker::Model;
 
 /// The name of a point, a driver or a process: 1 to 64 of the characters `a-z 0-9 . _ -`.
@@ -9,18 +12,19 @@ use std::marker::Model;
 #[derive(Debug, Drop)]
 pub struct Name {
     length: u8,
-    bytes: [u8; 64],
+    bytes: [u8; LONGEST_NAME],
 }
 
 impl Model for Name {
     ghost use Rattle.std.specs.Prelude.{◌≡◌, ◌≤◌, ℕ, List, take, true};
+    ghost use Rattle.boss_model.specs.Limits.{longest_name};
     ghost use Rattle.boss_model.specs.Names.{is_name};
 
     ghost Value = { List ℕ };
 
     ghost view = { λ n. take n.length n.bytes };
 
-    ghost invariant = { λ n. (n.length ≤ 64) × (is_name (take n.length n.bytes) ≡ true) };
+    ghost invariant = { λ n. (n.length ≤ longest_name) × (is_name (take n.length n.bytes) ≡ true) };
 }
 
 impl Name {
@@ -57,12 +61,21 @@ impl Name {
     }
 }
 
+impl fmt::Display for Name {
+    fn fmt<W: Write>(&self, f: &mut fmt::Formatter<W>) -> fmt::Result {
+        for byte in self.bytes() {
+            f.write_char(*byte as char)?;
+        }
+        Ok(())
+    }
+}
+
 /// Whether these bytes are a name.
 fn spells_name(bytes: &[u8]) -> bool
     ensures { result ≡ is_name bytes.now }
 {
     match bytes.len() {
-        1..=64 => all_may_stand_in_name(bytes),
+        1..=LONGEST_NAME => all_may_stand_in_name(bytes),
         _ => false,
     }
 }
@@ -82,11 +95,11 @@ fn may_stand_in_name(byte: u8) -> bool
 }
 
 /// The bytes, and zeros behind them.
-fn padded(bytes: &[u8]) -> [u8; 64]
-    requires { length bytes.now ≤ 64 }
+fn padded(bytes: &[u8]) -> [u8; LONGEST_NAME]
+    requires { length bytes.now ≤ longest_name }
     ensures { take (length bytes.now) result ≡ bytes.now }
 {
-    let mut kept = [0; 64];
+    let mut kept = [0; LONGEST_NAME];
     kept[..bytes.len()].copy_from_slice(bytes);
     kept
 }

@@ -1,4 +1,5 @@
 use crate::{PointId, Txn};
+use std::fmt;
 
 /// Why a lease ended.
 #[derive(Clone, Copy, Debug, PartialEq, Eq)]
@@ -14,6 +15,18 @@ pub enum Cause {
     /// A lease of the transaction `by` took its slot: a write at a priority replaces what the slot held
     /// (ASHRAE 135, clause 19.2).
     Superseded { by: Txn },
+}
+
+impl fmt::Display for Cause {
+    fn fmt<W: fmt::Write>(&self, f: &mut fmt::Formatter<W>) -> fmt::Result {
+        match *self {
+            Cause::Expired => f.write_str("its time was over"),
+            Cause::Cancelled => f.write_str("its transaction was cancelled"),
+            Cause::Died => f.write_str("its process was lost"),
+            Cause::Fault => f.write_str("a device did not take a value of its transaction"),
+            Cause::Superseded { by } => write!(f, "transaction {} took its slot", by.0),
+        }
+    }
 }
 
 /// What a process is told of one of its transactions.

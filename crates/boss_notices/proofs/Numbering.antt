@@ -1,26 +1,14 @@
 -- Notices that are numbered one by one: what stays so, and which places the numbers of a range have.
-use Rattle.std.proofs.Common.{◌≡◌, ℕ, suc, zero, ◌+◌, ◌-◌, ◌<◌, ◌≤◌, List, [], ◌∷◌, ◌++◌, length, take, drop, length-append, length-drop, ap, subst, ⊎_elim, inl, inr, arith}
+use Rattle.std.proofs.Common.{◌≡◌, ℕ, suc, ◌+◌, ◌-◌, ◌<◌, ◌≤◌, List, [], ◌∷◌, ◌++◌, length, take, drop, length-append, length-drop, ap, subst, ⊎_elim, inl, inr, arith}
 use Rattle.std.specs.Prelude.{◌⊎◌, true, false, slice_get, nat_lt, nat_le, ◌&&◌}
 use Rattle.circular_buffer.specs.Buffer.{keep_last}
 use Rattle.std.specs.Option.{option_map_or}
 use Rattle.std.proofs.lemmas.Bool.{cases_lt}
 use Rattle.std.proofs.lemmas.Grind.{common_steps}
 use Rattle.boss_model.specs.declared.notice.Notice.{Notice}
-use Rattle.boss_notices.specs.Rings.{NumberedFrom, numbered_from}
-
-pub NumberedFrom-append : (number : ℕ) (notices : List Notice) (new : Notice) → NumberedFrom number notices → new.number ≡ number + length notices → NumberedFrom number (notices ++ new ∷ [])
-NumberedFrom-append number [] new numbered next = (omega arith, tt)
-NumberedFrom-append number (notice ∷ notices) new numbered next =
-    (numbered.0, NumberedFrom-append (number + 1) notices new numbered.1 (omega arith))
-
-pub NumberedFrom-drop : (number count : ℕ) (notices : List Notice) → NumberedFrom number notices → NumberedFrom (number + count) (drop count notices)
-NumberedFrom-drop number zero notices numbered =
-    let P : ℕ → Type 0 = λ n. NumberedFrom n notices in
-    subst P (omega arith) numbered
-NumberedFrom-drop number (suc count) [] numbered = tt
-NumberedFrom-drop number (suc count) (notice ∷ notices) numbered =
-    let P : ℕ → Type 0 = λ n. NumberedFrom n (drop count notices) in
-    subst P (omega arith) (NumberedFrom-drop (number + 1) count notices numbered.1)
+use Rattle.boss_model.proofs.Numbered.{NumberedFrom-append, NumberedFrom-drop}
+use Rattle.boss_model.specs.Queries.{numbered_from}
+use Rattle.boss_model.specs.Sound.{NumberedFrom}
 
 pub first_number : (number next : ℕ) (notices : List Notice) → NumberedFrom number notices → next ≡ number + length notices → option_map_or (λ notice. notice.number) (slice_get notices 0) next ≡ number
 first_number number next [] numbered is_next = omega arith

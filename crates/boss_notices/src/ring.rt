@@ -1,16 +1,12 @@
-ghost use Rattle.std.specs.Prelude.{◌≡◌, ◌+◌, ◌-◌, ◌^◌, ◌≤◌, ◌<◌, length, take, drop, vec_capacity, IfOk};
-ghost use Rattle.boss_notices.specs.Rings.{no_notices, posted, first_kept, start, notices_from, NumberedFrom};
+ghost use Rattle.std.specs.Prelude.{◌≡◌, ◌+◌, ◌-◌, ◌≤◌, ◌<◌, length, take, drop, vec_capacity, IfOk};
+ghost use Rattle.boss_model.specs.Limits.{last_number};
+ghost use Rattle.boss_model.specs.Sound.{NumberedFrom};
+ghost use Rattle.boss_notices.specs.Rings.{no_notices, posted, first_kept, start, notices_from};
 
-use boss_model::{NoMemory, Notice, Txn, What};
+use boss_model::{LAST_NUMBER, NOTICES_KEPT, NoMemory, Notice, Txn, What};
 use circular_buffer::HeapCircularBuffer;
 use std::alloc::Global;
 use std::marker::Model;
-
-/// How many notices of a process are kept.
-pub const NOTICES_KEPT: usize = 1024;
-
-/// The number after which a process is told no more.
-pub const LAST_NUMBER: u64 = 1 << 62;
 
 /// The notices of one process.
 #[derive(Drop)]
@@ -20,14 +16,16 @@ pub struct Ring {
 }
 
 impl Model for Ring {
-    ghost use Rattle.std.specs.Prelude.{◌≡◌, ◌+◌, ◌-◌, ◌≤◌, ◌^◌, length};
-    ghost use Rattle.boss_notices.specs.Rings.{Ring as Kept, NumberedFrom};
+    ghost use Rattle.std.specs.Prelude.{◌≡◌, ◌+◌, ◌-◌, ◌≤◌, length};
+    ghost use Rattle.boss_model.specs.Limits.{last_number, notices_kept};
+    ghost use Rattle.boss_model.specs.Sound.{NumberedFrom};
+    ghost use Rattle.boss_notices.specs.Rings.{Ring as Kept};
 
     ghost Value = { Kept };
 
     ghost view = { λ r. record { count = r.count; kept = r.kept.items } };
 
-    ghost invariant = { λ r. (r.kept.capacity ≡ 1024) × (length r.kept.items ≤ r.count) × (r.count ≤ 2 ^ 62) × NumberedFrom (r.count - length r.kept.items + 1) r.kept.items };
+    ghost invariant = { λ r. (r.kept.capacity ≡ notices_kept) × (length r.kept.items ≤ r.count) × (r.count ≤ last_number) × NumberedFrom (r.count - length r.kept.items + 1) r.kept.items };
 }
 
 impl Ring {
@@ -42,7 +40,7 @@ impl Ring {
     /// How many notices there were in all, kept or not.
     pub fn count(&self) -> u64
         ensures number { result ≡ self.now.count }
-        ensures few { result ≤ 2 ^ 62 }
+        ensures few { result ≤ last_number }
     {
         self.count
     }
@@ -63,8 +61,8 @@ impl Ring {
         });
     }
 
-    /// The kept notices from this number on, at most `most` of them, are left in `into`, which is emptied first. The
-    /// answer is the least number that is kept, and the number to ask for next. It takes no memory.
+    /// The kept notices from this number on, at most `most` of them, are left in `into`, which is emptied first and has
+    /// room for them. The answer is the least number that is kept, and the number to ask for next. It takes no memory.
     pub fn from(&self, number: u64, most: u64, into: &mut Vec<Notice>) -> (u64, u64)
         requires { most ≤ vec_capacity into.old }
         ensures first { result.0 ≡ first_kept self.now }
@@ -83,7 +81,7 @@ impl Ring {
     fn first(&self) -> u64
         ensures first { result ≡ first_kept self.now }
         ensures place { result + length self.now.kept ≡ self.now.count + 1 }
-        ensures count { self.now.count ≤ 2 ^ 62 }
+        ensures count { self.now.count ≤ last_number }
         ensures numbered { NumberedFrom result self.now.kept }
     {
         self.count - self.kept.len() as u64 + 1

@@ -1,13 +1,11 @@
-ghost use Rattle.std.specs.Prelude.{◌≡◌, ◌+◌, ◌^◌, ◌<◌, ◌≤◌, [], ◌∷◌, ◌++◌, length, slice_set, vec_capacity, IfOk, OnOk, OnErr};
+ghost use Rattle.std.specs.Prelude.{◌≡◌, ◌+◌, ◌<◌, ◌≤◌, [], ◌∷◌, ◌++◌, length, slice_set, vec_capacity, IfOk, OnOk, OnErr};
+ghost use Rattle.boss_model.specs.Limits.{most_processes, last_number};
 ghost use Rattle.boss_notices.specs.Rings.{ring_of, no_notices, posted, first_kept, start, notices_from};
 
 use crate::ring::Ring;
-use boss_model::{NoMemory, Notice, ProcId, Txn, What};
+use boss_model::{MOST_PROCESSES, NoMemory, Notice, ProcId, Txn, What};
 use std::alloc::Global;
 use std::marker::Model;
-
-/// How many processes there may be.
-const PROCESSES: usize = 256;
 
 /// For each process, in the order in which they were added, what it was told.
 #[derive(Drop)]
@@ -17,13 +15,14 @@ pub struct Rings {
 
 impl Model for Rings {
     ghost use Rattle.std.specs.Prelude.{List, ◌≤◌, vec_len, vec_capacity};
+    ghost use Rattle.boss_model.specs.Limits.{most_processes};
     ghost use Rattle.boss_notices.specs.Rings.{Ring as Kept};
 
     ghost Value = { List Kept };
 
     ghost view = { λ r. r.rings.items };
 
-    ghost invariant = { λ r. 256 ≤ vec_capacity r.rings };
+    ghost invariant = { λ r. most_processes ≤ vec_capacity r.rings };
 }
 
 impl Rings {
@@ -32,7 +31,7 @@ impl Rings {
         ensures { IfOk result (λ rings. rings ≡ []) }
     {
         Ok(Rings {
-            rings: Vec::with_capacity(alloc, PROCESSES)?,
+            rings: Vec::with_capacity(alloc, MOST_PROCESSES)?,
         })
     }
 
@@ -40,14 +39,14 @@ impl Rings {
     pub fn count(&self, owner: ProcId) -> u64
         requires { owner < length self.now }
         ensures number { result ≡ (ring_of self.now owner).count }
-        ensures few { result ≤ 2 ^ 62 }
+        ensures few { result ≤ last_number }
     {
         self.rings[owner.0 as usize].count()
     }
 
     /// A process more, which was told what this ring has. There may be 256. It takes no memory.
     pub fn add(&mut self, ring: Ring)
-        requires { length self.old < 256 }
+        requires { length self.old < most_processes }
         ensures { self.new ≡ self.old ++ ring ∷ [] }
     {
         self.rings.push_reserved(ring);
@@ -55,7 +54,7 @@ impl Rings {
 
     /// A process more, which has been told nothing. There may be 256.
     pub fn add_process(&mut self, alloc: Global) -> Result<ProcId, NoMemory>
-        requires { length self.old < 256 }
+        requires { length self.old < most_processes }
         ensures process { IfOk result (λ process. process ≡ length self.old) }
         ensures ok { OnOk result (self.new ≡ self.old ++ no_notices ∷ []) }
         ensures err { OnErr result (self.new ≡ self.old) }
@@ -77,7 +76,8 @@ impl Rings {
 
     /// The notices of this process from this number on, at most `max` of them, are left in `into`, which is emptied
     /// first. The answer is the least number that is kept, or the next one where none is, and the number to ask for
-    /// next. It takes no memory.
+    /// next. It takes no memory: `into` has room for `max` notices. It is a `Vec` since a contract sees of a value with a
+    /// meaning of its own that meaning alone, and not its room.
     pub fn from(&self, owner: ProcId, number: u64, max: u64, into: &mut Vec<Notice>) -> (u64, u64)
         requires owner { owner < length self.now }
         requires room { max ≤ vec_capacity into.old }
@@ -87,72 +87,5 @@ impl Rings {
         ensures room { vec_capacity into.new ≡ vec_capacity into.old }
     {
         self.rings[owner.0 as usize].from(number, max, into)
-    }
-}
-
-#[cfg(test)]
-mod tests {
-    use super::*;
-    use boss_model::{Cause, PointId};
-    use std::test::Fail;
-
-    const DAMPER: PointId = PointId(0);
-
-    fn superseded() -> What {
-        What::Ended {
-            point: DAMPER,
-            cause: Cause::Superseded { by: Txn(2) },
-        }
-    }
-
-    fn notice(number: u64, txn: u64, what: What) -> Notice {
-        Notice {
-            number,
-            at: 2000,
-            txn: Txn(txn),
-            what,
-        }
-    }
-
-    #[test]
-    fn superseded_lease_is_told_and_then_done(rt: HostRuntime) -> Result<(), Fail> {
-        let mut rings = Rings::new(rt.alloc())?;
-        let first = rings.add_process(rt.alloc())?;
-        let second = rings.add_process(rt.alloc())?;
-        rings.post(first, 2000, Txn(1), superseded());
-        rings.post(first, 2000, Txn(1), What::Done);
-        assert_eq!(rt; rings.count(first), 2);
-
-        let mut list = Vec::with_capacity(rt.alloc(), 64)?;
-        assert_eq!(rt; rings.from(first, 1, 64, &mut list), (1, 3));
-        let told = [notice(1, 1, superseded()), notice(2, 1, What::Done)];
-        assert_eq!(rt; list.as_slice(), told.as_slice());
-
-        assert_eq!(rt; rings.from(first, 9, 64, &mut list), (1, 3));
-        assert_eq!(rt; list.len(), 0);
-        assert_eq!(rt; rings.from(second, 1, 64, &mut list), (1, 1));
-        assert_eq!(rt; list.len(), 0);
-        Ok(())
-    }
-
-    #[test]
-    fn oldest_notices_make_room(rt: HostRuntime) -> Result<(), Fail> {
-        let mut rings = Rings::new(rt.alloc())?;
-        let process = rings.add_process(rt.alloc())?;
-        for txn in 1..1031 {
-            rings.post(process, 2000, Txn(txn), What::Done);
-        }
-
-        let mut list = Vec::with_capacity(rt.alloc(), 2)?;
-        assert_eq!(rt; rings.from(process, 1, 2, &mut list), (7, 9));
-        let told = [notice(7, 7, What::Done), notice(8, 8, What::Done)];
-        assert_eq!(rt; list.as_slice(), told.as_slice());
-
-        assert_eq!(rt; rings.from(process, 1030, 2, &mut list), (7, 1031));
-        assert_eq!(rt;
-            list.as_slice(),
-            [notice(1030, 1030, What::Done)].as_slice()
-        );
-        Ok(())
     }
 }

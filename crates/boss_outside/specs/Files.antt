@@ -1,9 +1,11 @@
-use Rattle.std.specs.Prelude.{◌≡◌, ℕ, ◌<◌, ◌≤◌, Bool, true, false, List, length, Option, Some, Result, Ok, Err}
+use Rattle.std.specs.Prelude.{◌≡◌, ◌⊎◌, ℕ, ◌<◌, ◌≤◌, Bool, true, false, ◌||◌, is_none, List, [], ◌∷◌, ◌++◌, length, Option, Some, Result, Ok, Err}
 use Rattle.boss_outside.specs.declared.files.FileBytes.{FileBytes}
 use Rattle.boss_outside.specs.declared.files.FileBytes.TheVariants.{Whole, Longer}
 use Rattle.boss_outside.specs.declared.files.FileFault.{FileFault}
 use Rattle.boss_outside.specs.declared.files.FileFault.TheVariants.{Failed, NoMemory}
 use Rattle.boss_outside.specs.Counts.{Rose}
+use Rattle.boss_outside.specs.Plan.{fails_next, after_call}
+use Rattle.boss_outside.specs.Stores.{Shelf, bytes_under}
 
 -- the bytes come only where they are within the limit, and the length only where it is above
 abbrev pub KeepsLimit : ℕ → FileBytes → Type 0
@@ -21,8 +23,19 @@ FileCause before now (Ok _) = now ≡ before
 FileCause before now (Err Failed) = Rose before now
 FileCause before now (Err NoMemory) = now ≡ before
 
+-- each call is noted once under its name, but that one which found no memory may have come to nothing before
+abbrev pub Asks : {T : Type 0} → List (List ℕ) → List (List ℕ) → List ℕ → Result T FileFault → Type 0
+Asks old new name (Ok _) = new ≡ old ++ name ∷ []
+Asks old new name (Err Failed) = new ≡ old ++ name ∷ []
+Asks old new name (Err NoMemory) = (new ≡ old) ⊎ (new ≡ old ++ name ∷ [])
+
 -- whether the call failed, and not for want of memory
 abbrev pub is_failed : {T : Type 0} → Result T FileFault → Bool
 is_failed (Ok _) = false
 is_failed (Err Failed) = true
 is_failed (Err NoMemory) = false
+
+-- a call of files in memory fails exactly where it is to fail or there is no such file, and is noted and counted
+pub record CallsFile {T : Type 0} (old new : Shelf) (name : List ℕ) (result : Result T FileFault) : Type 0 where
+  pub fails : is_failed result ≡ (fails_next old.plan || is_none (bytes_under old.files name))
+  pub notes : new ≡ record { files = old.files; asked = old.asked ++ name ∷ []; plan = after_call old.plan (is_failed result) }

@@ -1,4 +1,4 @@
-use Rattle.std.specs.Prelude.{ℕ, Bool, ◌==◌, List, if◌then◌else◌}
+use Rattle.std.specs.Prelude.{ℕ, Bool, ◌==◌, nat_lt, List, if◌then◌else◌}
 use Rattle.std.specs.List.{list_any}
 use Rattle.boss_outside.specs.Counts.{one_more}
 
@@ -22,4 +22,12 @@ after_call plan failed = record {
   fails = plan.fails;
   calls = one_more plan.calls;
   faults = if failed then one_more plan.faults else plan.faults;
+}
+
+-- the plan after a part was taken back: with one fault more where the part had one
+abbrev pub after_join : Plan → Plan → Plan
+after_join plan part = record {
+  fails = plan.fails;
+  calls = plan.calls;
+  faults = if nat_lt 0 part.faults then one_more plan.faults else plan.faults;
 }

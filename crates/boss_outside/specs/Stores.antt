@@ -1,5 +1,5 @@
 use Rattle.std.specs.Prelude.{ℕ, Bool, true, ◌&&◌, is_none, List, [], ◌∷◌, drop, Option, find, option_map, bytes_eq}
-use Rattle.boss_outside.specs.Call.{Call}
+use Rattle.boss_outside.specs.DeviceCall.{DeviceCall}
 use Rattle.boss_outside.specs.Plan.{Plan}
 
 -- a source in memory: all bytes that it was made with, and how many of them were read
@@ -19,13 +19,14 @@ pub record Intake : Type 0 where
 
 -- simulated devices: the calls that they noted, and whether these are all that were made
 pub record Devices : Type 0 where
-  pub calls : List Call
+  pub calls : List DeviceCall
   pub whole : Bool
   pub plan : Plan
 
--- files in memory: each name with its bytes
+-- files in memory: each name with its bytes, and the names that were asked for
 pub record Shelf : Type 0 where
   pub files : List (List ℕ × List ℕ)
+  pub asked : List (List ℕ)
   pub plan : Plan
 
 -- the bytes under a name

@@ -1,6 +1,6 @@
 ghost use Rattle.std.specs.Prelude.{◌≡◌, ◌⊎◌, ℕ, List, [], ◌∷◌, ◌++◌, true, false, is_ok, is_err, IfOk, OnOk, OnErr, IsTrue, IsErr};
 ghost use Rattle.boss_outside.specs.Counts.{HasCause};
-ghost use Rattle.boss_outside.specs.Call.{Call};
+ghost use Rattle.boss_outside.specs.DeviceCall.{DeviceCall as Called};
 ghost use Rattle.boss_outside.specs.Plan.{new_plan, fails_next, after_call};
 
 use crate::Failed;
@@ -15,7 +15,7 @@ pub trait Actuators {
     ghost tells: { Type 0 };
 
     /// The calls so far, in order.
-    ghost calls: { Self → List Call };
+    ghost calls: { Self → List Called };
 
     /// That no call is missing among them. A form in memory leaves out a failed call that it has no memory to note, and
     /// its record is never whole again.
@@ -44,9 +44,9 @@ pub struct DeviceCall {
 }
 
 impl Model for DeviceCall {
-    ghost use Rattle.boss_outside.specs.Call.{Call};
+    ghost use Rattle.boss_outside.specs.DeviceCall.{DeviceCall as Called};
 
-    ghost Value = { Call };
+    ghost Value = { Called };
 
     ghost view = { λ c. record { point = c.point; value = c.value; ok = c.ok } };
 

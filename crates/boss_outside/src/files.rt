@@ -1,12 +1,14 @@
-ghost use Rattle.std.specs.Prelude.{◌≡◌, ℕ, ◌||◌, List, Option, IfOk, IsTrue, is_none, option_copied};
-ghost use Rattle.boss_outside.specs.Files.{KeepsLimit, ReadsFile, FileCause, is_failed};
-ghost use Rattle.boss_outside.specs.Plan.{new_plan, fails_next, after_call};
+ghost use Rattle.std.specs.Prelude.{◌≡◌, ◌⊎◌, ℕ, ◌++◌, ◌∷◌, List, [], Option, Err, IfOk, OnOk, OnErr, IsTrue, option_copied};
+ghost use Rattle.boss_outside.specs.Files.{Asks, CallsFile, KeepsLimit, ReadsFile, FileCause};
+ghost use Rattle.boss_outside.specs.Plan.{new_plan};
 ghost use Rattle.boss_outside.specs.Stores.{bytes_under, have_distinct_names};
 
 use crate::Failed;
 use crate::plan::FaultPlan;
 use boss_model::{Items, NoMemory};
 use std::alloc::{AllocError, Global};
+use std::error::Error;
+use std::fmt;
 use std::marker::Model;
 
 /// What was read of a file.
@@ -27,6 +29,17 @@ pub enum FileFault {
     NoMemory,
 }
 
+impl fmt::Display for FileFault {
+    fn fmt<W: fmt::Write>(&self, f: &mut fmt::Formatter<W>) -> fmt::Result {
+        f.write_str(match self {
+            FileFault::Failed => "there is no such file, or it can't be read",
+            FileFault::NoMemory => "out of memory",
+        })
+    }
+}
+
+impl Error for FileFault {}
+
 impl From<Failed> for FileFault {
     ghost use Rattle.boss_outside.specs.declared.files.FileFault.TheVariants.{Failed};
 
@@ -34,6 +47,16 @@ impl From<Failed> for FileFault {
 
     fn from(_failed: Failed) -> Self {
         FileFault::Failed
+    }
+}
+
+impl From<NoMemory> for FileFault {
+    ghost use Rattle.boss_outside.specs.declared.files.FileFault.TheVariants.{NoMemory};
+
+    ghost from_gives = { λ _ fault. fault ≡ NoMemory };
+
+    fn from(_error: NoMemory) -> Self {
+        FileFault::NoMemory
     }
 }
 
@@ -55,6 +78,9 @@ pub trait Files {
     /// The bytes of the file under a name, where there is one.
     ghost holds: { Self → List ℕ → Option (List ℕ) };
 
+    /// The names that were asked for so far, in order.
+    ghost asked: { Self → List (List ℕ) };
+
     /// The number of calls that failed, up to `2 ^ 64 - 1`, where it stands still.
     ghost faults: { Self → ℕ };
 
@@ -63,13 +89,15 @@ pub trait Files {
         ensures within { IfOk result (KeepsLimit limit) }
         ensures bytes { tells → IfOk result (ReadsFile (holds self.old name.now)) }
         ensures stays { tells → (file : List ℕ) → holds self.new file ≡ holds self.old file }
+        ensures asks { tells → Asks (asked self.old) (asked self.new) name.now result }
         ensures cause { FileCause (faults self.old) (faults self.new) result };
 }
 
-/// Files in memory.
+/// Files in memory, which note each name that they are asked for.
 #[derive(Debug, Drop)]
 pub struct MemoryFiles {
     files: Items<(Items<u8>, Items<u8>)>,
+    asked: Items<Items<u8>>,
     plan: FaultPlan,
 }
 
@@ -78,24 +106,41 @@ impl Model for MemoryFiles {
 
     ghost Value = { Shelf };
 
-    ghost view = { λ s. record { files = s.files; plan = s.plan } };
+    ghost view = { λ s. record { files = s.files; asked = s.asked; plan = s.plan } };
 }
 
 impl MemoryFiles {
     /// These files, each a name with its bytes, of which the calls with these numbers fail, counted from 1. No name may
     /// stand twice.
     pub fn new(
-        _alloc: Global,
+        alloc: Global,
         contents: Items<(Items<u8>, Items<u8>)>,
         fails: Items<u64>,
     ) -> Result<MemoryFiles, NoMemory>
         requires { IsTrue (have_distinct_names contents) }
-        ensures { IfOk result (λ files. files ≡ record { files = contents; plan = new_plan fails }) }
+        ensures { IfOk result (λ files. files ≡ record { files = contents; asked = []; plan = new_plan fails }) }
     {
         Ok(MemoryFiles {
             files: contents,
+            asked: Items::new(alloc),
             plan: FaultPlan::new(fails),
         })
+    }
+
+    /// The names that were asked for so far, in order.
+    pub fn asked(&self) -> &[Items<u8>]
+        ensures { result.now ≡ self.now.asked }
+    {
+        self.asked.slice()
+    }
+
+    /// Notes a name that is asked for.
+    fn note(&mut self, alloc: Global, name: &str) -> Result<(), NoMemory>
+        ensures noted { OnOk result (self.new ≡ record self.old { asked = self.old.asked ++ name.now ∷ [] }) }
+        ensures none { OnErr result (self.new ≡ self.old) }
+    {
+        let name = Items::from_vec(name.as_bytes().to_vec(alloc)?);
+        self.asked.try_push(name)
     }
 
     /// The bytes of the file under a name.
@@ -116,17 +161,19 @@ impl Files for MemoryFiles {
 
     ghost holds = { λ shelf. bytes_under shelf.files };
 
+    ghost asked = { λ shelf. shelf.asked };
+
     ghost faults = { λ shelf. shelf.plan.faults };
 
     fn read(&mut self, alloc: Global, name: &str, limit: u64) -> Result<FileBytes, FileFault>
         ensures within { IfOk result (KeepsLimit limit) }
         ensures bytes { IfOk result (ReadsFile (bytes_under self.old.files name.now)) }
-        ensures stays { self.new.files ≡ self.old.files }
+        // A call does nothing where there is no memory to note it. Each other call is noted, and fails exactly where it
+        // is to fail or there is no such file.
+        ensures call { ((result ≡ Err FileFault.NoMemory) × (self.new ≡ self.old)) ⊎ CallsFile self.old self.new name.now result }
         ensures cause { FileCause self.old.plan.faults self.new.plan.faults result }
-        ensures fails { is_failed result
-            ≡ (fails_next self.old.plan || is_none (bytes_under self.old.files name.now)) }
-        ensures plan { self.new.plan ≡ after_call self.old.plan (is_failed result) }
     {
+        self.note(alloc, name)?;
         self.plan.call()?;
         let Some(bytes) = self.bytes_under(name) else {
             return Err(self.plan.fault().into());

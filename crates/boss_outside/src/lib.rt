@@ -11,11 +11,10 @@ mod files;
 mod plan;
 mod sink;
 mod source;
-#[cfg(test)]
-mod tests;
 
 pub use actuators::{Actuators, DeviceCall, IdleActuators, SimActuators};
 pub use failed::Failed;
 pub use files::{FileBytes, FileFault, Files, MemoryFiles};
+pub use plan::FaultPlan;
 pub use sink::{BytesSink, Sink};
 pub use source::{BytesSource, Got, Source};

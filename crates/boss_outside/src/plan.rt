@@ -1,9 +1,10 @@
-ghost use Rattle.std.specs.Prelude.{◌≡◌, is_err};
+ghost use Rattle.std.specs.Prelude.{◌≡◌, IfOk, is_err};
 ghost use Rattle.boss_outside.specs.Counts.{one_more};
-ghost use Rattle.boss_outside.specs.Plan.{new_plan, fails_next, after_call};
+ghost use Rattle.boss_outside.specs.Plan.{new_plan, fails_next, after_call, after_join};
 
 use crate::Failed;
-use boss_model::Items;
+use boss_model::{Items, NoMemory};
+use std::alloc::Global;
 use std::marker::Model;
 
 /// Which calls of an object in memory fail, by their numbers from 1, and how many calls and faults there were. Both
@@ -35,6 +36,23 @@ impl FaultPlan {
         }
     }
 
+    /// The plan of a part: in it the calls of the same numbers fail, and it is before its first call.
+    pub fn split(&self, alloc: Global) -> Result<FaultPlan, NoMemory>
+        ensures { IfOk result (λ part. part ≡ new_plan self.now.fails) }
+    {
+        let fails = self.fails.slice().to_vec(alloc)?;
+        Ok(FaultPlan::new(Items::from_vec(fails)))
+    }
+
+    /// Counts a fault where the part that is taken back had one.
+    pub fn join(&mut self, part: FaultPlan)
+        ensures { self.new ≡ after_join self.old part }
+    {
+        if part.faults > 0 {
+            self.fault();
+        }
+    }
+
     /// Counts a call, and a fault where the call is one that fails.
     pub fn call(&mut self) -> Result<(), Failed>
         ensures planned { is_err result ≡ fails_next self.old }
@@ -45,6 +63,13 @@ impl FaultPlan {
             return Err(self.fault());
         }
         Ok(())
+    }
+
+    /// How many faults there were.
+    pub fn faults(&self) -> u64
+        ensures { result ≡ self.now.faults }
+    {
+        self.faults
     }
 
     /// Counts a fault of the call that was counted last.

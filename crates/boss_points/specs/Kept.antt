@@ -2,6 +2,7 @@
 use Rattle.std.specs.Prelude.{◌≡◌, ℕ, ◌<◌, ◌≤◌, true, List, length, map, All, Vec}
 use Rattle.std.specs.declared.alloc.Global.{Global}
 use Rattle.boss_model.specs.Catalogue.{fits}
+use Rattle.boss_model.specs.Limits.{most_drivers, most_points}
 use Rattle.boss_points.specs.declared.point.Point.{Point}
 use Rattle.boss_points.specs.Seen.{texts}
 
@@ -12,7 +13,7 @@ pub record IsWhole (drivers : ℕ) (point : Point) : Type 0 where
 
 -- the names are those of the points, in their order
 pub record IsKept (drivers : List (List ℕ)) (points : List Point) (names : List (Vec ℕ Global)) : Type 0 where
-  pub few_drivers : length drivers ≤ 16
-  pub few_points : length points ≤ 1024
+  pub few_drivers : length drivers ≤ most_drivers
+  pub few_points : length points ≤ most_points
   pub named : texts names ≡ map (λ point. point.name) points
   pub whole : All (IsWhole (length drivers)) points

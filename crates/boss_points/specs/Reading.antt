@@ -6,6 +6,7 @@ use Rattle.std.specs.Str.{bytes_eq, is_utf8}
 use Rattle.toml.specs.Data.{Data, table}
 use Rattle.toml.specs.Parse.{parse_document}
 use Rattle.boss_model.specs.Catalogue.{Catalogue}
+use Rattle.boss_model.specs.Limits.{most_drivers, most_points}
 use Rattle.boss_points.specs.declared.point.Point.{Point}
 use Rattle.boss_points.specs.declared.refusal.CatalogueRefusal.{CatalogueRefusal}
 use Rattle.boss_points.specs.declared.refusal.CatalogueRefusal.TheVariants.{TooLong, NotToml, Missing, TooMany, BadDriver, BadName, SameName, BadKind, BadDefault, UnknownDriver}
@@ -59,8 +60,8 @@ abbrev pub catalogue_in : Data → Result Catalogue CatalogueRefusal
 catalogue_in file = do
   drivers ← ok_or (array_at (codes "drivers") file) (Missing Drivers)  -- 3
   points ← ok_or (array_at (codes "point") file) (Missing Points)
-  _ ← at_most 16 drivers  -- 4
-  _ ← at_most 1024 points
+  _ ← at_most most_drivers drivers  -- 4
+  _ ← at_most most_points points
   drivers ← distinct BadDriver (map name_spelled drivers)  -- 5
   points ← points_of drivers points
   Ok (record { drivers = drivers; points = all_seen points })

@@ -2,6 +2,7 @@ ghost use Rattle.std.specs.Prelude.{◌≡◌, ◌<◌, ◌≤◌, length, true,
 ghost use Rattle.sha2.specs.Sha256.{sha256};
 ghost use Rattle.toml.specs.View.{view};
 ghost use Rattle.boss_model.specs.Catalogue.{place_of, fits};
+ghost use Rattle.boss_model.specs.Limits.{most_points};
 ghost use Rattle.boss_points.specs.Canonical.{canonical};
 ghost use Rattle.boss_points.specs.Given.{Gives};
 ghost use Rattle.boss_points.specs.Reading.{catalogue_of, catalogue_in};
@@ -11,20 +12,11 @@ use crate::digest::digest_of;
 use crate::file::{array_at, at_most, table_of};
 use crate::tables::{drivers_of, points_of};
 use crate::{CatalogueRefusal, Key, Point};
-use boss_model::{DriverId, Name, PointId};
+use boss_model::{DriverId, LONGEST_FILE, MOST_DRIVERS, MOST_POINTS, Name, PointId};
 use indexmap::IndexSet;
 use std::alloc::Global;
 use std::marker::Model;
 use toml::Value;
-
-/// How many bytes a file may have.
-const LONGEST_FILE: usize = 1_048_576;
-
-/// How many drivers there may be.
-const MOST_DRIVERS: usize = 16;
-
-/// How many points there may be.
-const MOST_POINTS: usize = 1_024;
 
 /// The points that `bossd` commands and the drivers of their devices, each by its place in the file, from 0.
 /// A contract sees it as these two lists.
@@ -98,10 +90,10 @@ impl Catalogue {
         &self.points[id.0 as usize]
     }
 
-    /// How many points there are: at most 1,024.
+    /// How many points there are: at most 4,096.
     pub fn count(&self) -> u32
         ensures count { result ≡ length self.now.points }
-        ensures few { result ≤ 1024 }
+        ensures few { result ≤ most_points }
     {
         self.points.len() as u32
     }

@@ -13,6 +13,3 @@ mod tables;
 pub use catalogue::Catalogue;
 pub use point::Point;
 pub use refusal::{CatalogueRefusal, Key};
-
-#[cfg(test)]
-mod tests;

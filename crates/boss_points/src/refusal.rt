@@ -1,7 +1,10 @@
 ghost use Rattle.boss_points.specs.declared.refusal.CatalogueRefusal.TheVariants.{NoMemory};
 ghost use Rattle.std.specs.Prelude.{◌≡◌};
 
+use boss_model::LONGEST_FILE;
 use std::alloc::{AllocError, AllocFailed};
+use std::error::Error;
+use std::fmt;
 
 /// Why a file was refused as a catalogue. The first test that fails decides, and in it the least place; places count
 /// from 0.
@@ -19,7 +22,7 @@ pub enum CatalogueRefusal {
         /// The key.
         key: Key,
     },
-    /// There are more than 16 drivers, or else more than 1,024 points.
+    /// There are more than 16 drivers, or else more than 4,096 points.
     TooMany {
         /// How many there are.
         count: u64,
@@ -65,6 +68,60 @@ pub enum Key {
     Drivers,
     /// `point`, the tables of the points.
     Point,
+}
+
+impl fmt::Display for CatalogueRefusal {
+    fn fmt<W: fmt::Write>(&self, f: &mut fmt::Formatter<W>) -> fmt::Result {
+        match self {
+            CatalogueRefusal::TooLong { length } => write!(
+                f,
+                "the catalogue has {length} bytes, more than {LONGEST_FILE}"
+            ),
+            CatalogueRefusal::NotToml => f.write_str("the catalogue is no TOML"),
+            CatalogueRefusal::Missing { key } => {
+                write!(f, "the catalogue has no array under the key {key}")
+            }
+            CatalogueRefusal::TooMany { count } => write!(
+                f,
+                "the catalogue has {count} drivers or points, more than there may be"
+            ),
+            CatalogueRefusal::BadDriver { place } => write!(
+                f,
+                "the driver at place {place} is no name, or has the name of an earlier one"
+            ),
+            CatalogueRefusal::BadName { place } => {
+                write!(f, "the point at place {place} has no name")
+            }
+            CatalogueRefusal::SameName { place } => write!(
+                f,
+                "the point at place {place} has the name of an earlier one"
+            ),
+            CatalogueRefusal::BadKind { place } => write!(
+                f,
+                "the point at place {place} has no kind, or not the bounds of its kind"
+            ),
+            CatalogueRefusal::BadDefault { place } => write!(
+                f,
+                "the point at place {place} has no default that fits its kind"
+            ),
+            CatalogueRefusal::UnknownDriver { place } => write!(
+                f,
+                "the point at place {place} has none of the drivers"
+            ),
+            CatalogueRefusal::NoMemory => f.write_str("out of memory"),
+        }
+    }
+}
+
+impl Error for CatalogueRefusal {}
+
+impl fmt::Display for Key {
+    fn fmt<W: fmt::Write>(&self, f: &mut fmt::Formatter<W>) -> fmt::Result {
+        f.write_str(match self {
+            Key::Drivers => "drivers",
+            Key::Point => "point",
+        })
+    }
 }
 
 impl From<AllocError> for CatalogueRefusal {

@@ -30,26 +30,3 @@ pub fn on_fault(policy: Option<Policy>, first: bool) -> Decision
         _ => Decision::Mark,
     }
 }
-
-#[cfg(test)]
-mod tests {
-    use super::*;
-
-    #[test]
-    fn first_failure_under_abort_ends_the_transaction(rt: HostRuntime) {
-        assert_eq!(rt; on_fault(Some(Policy::Abort), true), Decision::EndAll);
-        assert_eq!(rt; on_fault(Some(Policy::Abort), false), Decision::Mark);
-    }
-
-    #[test]
-    fn first_failure_under_keep_is_told(rt: HostRuntime) {
-        assert_eq!(rt; on_fault(Some(Policy::Keep), true), Decision::Tell);
-        assert_eq!(rt; on_fault(Some(Policy::Keep), false), Decision::Mark);
-    }
-
-    #[test]
-    fn default_that_fails_is_told_nobody(rt: HostRuntime) {
-        assert_eq!(rt; on_fault(None, true), Decision::Mark);
-        assert_eq!(rt; on_fault(None, false), Decision::Mark);
-    }
-}

@@ -2,11 +2,11 @@
 use Rattle.std.proofs.Common.{◌≡◌, ℕ, ◌+◌, true, false, List, [], ◌∷◌, ◌++◌, map, Option, Some, None, is_some, option_map, refl, ap}
 use Rattle.std.specs.List.{list_all}
 use Rattle.boss_model.specs.declared.answer.Refusal.TheVariants.{Malformed}
-use Rattle.boss_model.specs.Keys.{all_of}
-use Rattle.boss_model.specs.Requests.{Reading, asks, wrong, formed, each_from, ◌>>=◌}
+use Rattle.boss_wire.specs.Keys.{all_of}
+use Rattle.boss_wire.specs.Requests.{Parsed, asks, wrong, formed, each_from, ◌>>=◌}
 
 -- what was read before, and then the rest
-abbrev pub onto : {B : Type 0} → List B → Reading (List B) → Reading (List B)
+abbrev pub onto : {B : Type 0} → List B → Parsed (List B) → Parsed (List B)
 onto ys (asks zs) = asks (ys ++ zs)
 onto ys (wrong why) = wrong why
 
@@ -30,8 +30,8 @@ module _ {A D B : Type 0} (see : A → D) (read : D → Option B) where
 
 -- ---- items that are read, and then taken on one by one
 
-module _ {D B C : Type 0} (read : D → Option B) (take_on : ℕ → B → Reading C) where
-  abbrev both : ℕ → D → Reading C
+module _ {D B C : Type 0} (read : D → Option B) (take_on : ℕ → B → Parsed C) where
+  abbrev both : ℕ → D → Parsed C
   both place d = formed (read d) >>= take_on place
 
   -- where each can be read

@@ -3,7 +3,7 @@ use Rattle.std.proofs.Common.{◌≡◌, List, [], ◌∷◌, map, refl, ap}
 use Rattle.serde_json.specs.Data.{Data}
 use Rattle.serde_json.specs.View.{view, items_of, items_view}
 use Rattle.serde_json.specs.declared.value.Value.{Value}
-use Rattle.boss_model.specs.Keys.{list_of}
+use Rattle.boss_wire.specs.Keys.{list_of}
 use Rattle.boss_requests.specs.Seen.{views}
 
 list_of-items_of : (ds : List Data) → list_of (items_of ds) ≡ ds

@@ -7,8 +7,8 @@ use Rattle.serde_json.specs.declared.value.Value.{Value}
 use Rattle.boss_model.specs.declared.command.Command.{Command as Asked}
 use Rattle.boss_model.specs.declared.command.Setting.{Setting}
 use Rattle.boss_model.specs.Catalogue.{Catalogue}
-use Rattle.boss_model.specs.Keys.{write}
-use Rattle.boss_model.specs.Requests.{Reading, formed, point_at, setting_at, ◌>>=◌, Request as Meant}
+use Rattle.boss_wire.specs.Keys.{write}
+use Rattle.boss_wire.specs.Requests.{Parsed, formed, point_at, setting_at, ◌>>=◌, Request as Meant}
 use Rattle.boss_requests.specs.declared.request.Ask.{Ask}
 use Rattle.boss_requests.specs.declared.request.Ask.TheVariants.{Command}
 use Rattle.boss_requests.specs.declared.request.Request.{Request}
@@ -17,13 +17,13 @@ abbrev pub views : List Value → List Data
 views values = map view values
 
 -- the point of the text at this place, which has to be a text and to name a point
-abbrev pub point_in : Catalogue → ℕ → Data → Reading ℕ
+abbrev pub point_in : Catalogue → ℕ → Data → Parsed ℕ
 point_in catalogue index d = do
   name ← formed (as_str d)
   point_at catalogue index name
 
 -- the write at this place, which has to be a write and of a point
-abbrev pub setting_in : Catalogue → ℕ → Data → Reading Setting
+abbrev pub setting_in : Catalogue → ℕ → Data → Parsed Setting
 setting_in catalogue index d = do
   write ← formed (write d)
   setting_at catalogue index write

@@ -1,10 +1,10 @@
 ghost use Rattle.std.specs.Prelude.{◌≡◌, ◌<◌, codes, length, List, IfOk};
 ghost use Rattle.serde_json.specs.View.{view};
-ghost use Rattle.boss_model.specs.declared.form.Form.TheVariants.{Script};
+ghost use Rattle.boss_wire.specs.declared.form.Form.TheVariants.{Script};
 ghost use Rattle.boss_model.specs.declared.state.Actuator.{Actuator};
 ghost use Rattle.boss_model.specs.Catalogue.{actuators};
-ghost use Rattle.boss_model.specs.Keys.{number_from, under};
-ghost use Rattle.boss_model.specs.Requests.{array_of, attach_of, cancel_of, command_of, formed, notices_of, op_named, point_of, read_of, renew_of, status_of, submit_of};
+ghost use Rattle.boss_wire.specs.Keys.{number_from, under};
+ghost use Rattle.boss_wire.specs.Requests.{array_of, attach_of, cancel_of, command_of, formed, notices_of, op_named, point_of, read_of, renew_of, status_of, submit_of};
 ghost use Rattle.boss_model.specs.Sound.{IsAllowed};
 ghost use Rattle.boss_requests.specs.Given.{Gives};
 
@@ -16,13 +16,11 @@ use crate::keys::{
 use crate::points::{point_at, points_named};
 use crate::refusal::MALFORMED;
 use crate::writes::settings_in;
-use boss_model::{Command, Form, Op, PointId, Txn};
+use boss_model::{Command, MOST_TOLD, PointId, Txn};
 use boss_points::Catalogue;
+use boss_wire::{Form, Op};
 use serde_json::Value;
 use std::alloc::Global;
-
-/// How many notices a line may ask for.
-const MOST_NOTICES: u64 = 64;
 
 /// What the text under `op` asks for.
 pub(crate) fn op_named(form: Form, text: &str) -> Option<Op>
@@ -146,7 +144,7 @@ fn notices_in(value: &Value) -> Result<Command, ReadRefusal>
 {
     let name = some_process_of(value).ok_or(MALFORMED)?;
     let from = first_notice(value).ok_or(MALFORMED)?;
-    let max = number_within(value, "max", 1, MOST_NOTICES, 16).ok_or(MALFORMED)?;
+    let max = number_within(value, "max", 1, MOST_TOLD, 16).ok_or(MALFORMED)?;
     Ok(Command::Notices { name, from, max })
 }
 

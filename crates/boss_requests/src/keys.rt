@@ -1,12 +1,13 @@
 ghost use Rattle.std.specs.Prelude.{◌≡◌, ◌≤◌, [], codes, pos, Some, None, length, option_copied, option_map, IfSome};
 ghost use Rattle.serde_json.specs.Find.{as_str};
 ghost use Rattle.serde_json.specs.View.{view};
-ghost use Rattle.boss_model.specs.Keys.{at_least, list, name, number_from, number_within, policy, short_list, step, under, under_or, whole, within};
+ghost use Rattle.boss_wire.specs.Keys.{at_least, list, name, number_from, number_within, policy, short_list, step, under, under_or, whole, within};
 ghost use Rattle.boss_model.specs.declared.Policy.TheVariants.{Abort as AbortPolicy};
+ghost use Rattle.boss_model.specs.Limits.{most_writes};
 ghost use Rattle.boss_model.specs.Sound.{IsName};
 ghost use Rattle.boss_requests.specs.Seen.{views};
 
-use boss_model::{Name, Policy, Step};
+use boss_model::{MOST_WRITES, Name, Policy, Step};
 use serde_json::Value;
 
 /// The priority of a write that names none: the lowest (ASHRAE 135, clause 19.2).
@@ -153,11 +154,11 @@ pub(crate) fn list_in(value: &Value) -> Option<&[Value]>
 /// The items of an array of 1 to 32.
 fn short_list_in(value: &Value) -> Option<&[Value]>
     ensures items { option_map (λ items. views items.now) result ≡ short_list (view value.now) }
-    ensures short { IfSome result (λ items. (1 ≤ length items.now) × (length items.now ≤ 32)) }
+    ensures short { IfSome result (λ items. (1 ≤ length items.now) × (length items.now ≤ most_writes)) }
 {
     let items = list_in(value)?;
     match items.len() {
-        1..=32 => Some(items),
+        1..=MOST_WRITES => Some(items),
         _ => None,
     }
 }
@@ -165,7 +166,7 @@ fn short_list_in(value: &Value) -> Option<&[Value]>
 /// The writes of a submit, 1 to 32.
 pub(crate) fn writes_of(value: &Value) -> Option<&[Value]>
     ensures items { option_map (λ items. views items.now) result ≡ under (codes "writes") short_list (view value.now) }
-    ensures short { IfSome result (λ items. (1 ≤ length items.now) × (length items.now ≤ 32)) }
+    ensures short { IfSome result (λ items. (1 ≤ length items.now) × (length items.now ≤ most_writes)) }
 {
     short_list_in(value.get("writes")?)
 }
@@ -173,7 +174,7 @@ pub(crate) fn writes_of(value: &Value) -> Option<&[Value]>
 /// The names of the points of a renewal, 1 to 32, or none.
 pub(crate) fn points_of(value: &Value) -> Option<&[Value]>
     ensures items { option_map (λ items. views items.now) result ≡ under_or (codes "points") short_list [] (view value.now) }
-    ensures short { IfSome result (λ items. length items.now ≤ 32) }
+    ensures short { IfSome result (λ items. length items.now ≤ most_writes) }
 {
     match value.get("points") {
         Some(found) => short_list_in(found),

@@ -1,5 +1,5 @@
 //! Lines as requests: what a line of JSON asks of the transaction manager, or why it is refused.
-//! The definitions are in boss_model, `specs/Requests.antt` and `specs/Keys.antt`.
+//! The definitions are those of boss_wire: `specs/Requests.antt` and `specs/Keys.antt`.
 #![tactic(auto)]
 
 mod blank;
@@ -11,9 +11,6 @@ mod request;
 mod writes;
 
 pub use blank::is_blank;
-pub use boss_model::Form;
+pub use boss_wire::Form;
 pub use refusal::ReadRefusal;
 pub use request::{Ask, Request, read_request};
-
-#[cfg(test)]
-mod tests;

@@ -2,7 +2,8 @@ ghost use Rattle.std.specs.Prelude.{◌≡◌, ◌≤◌, ◌<◌, is_some, leng
 ghost use Rattle.std.specs.List.{list_all};
 ghost use Rattle.serde_json.specs.Find.{as_str};
 ghost use Rattle.serde_json.specs.View.{view};
-ghost use Rattle.boss_model.specs.Requests.{each_from, point_at, points_of};
+ghost use Rattle.boss_model.specs.Limits.{most_writes};
+ghost use Rattle.boss_wire.specs.Requests.{each_from, point_at, points_of};
 ghost use Rattle.boss_requests.specs.Given.{Gives};
 ghost use Rattle.boss_requests.specs.Seen.{point_in, views};
 
@@ -34,10 +35,10 @@ pub(crate) fn points_named(
     catalogue: &Catalogue,
     values: &[Value],
 ) -> Result<Items<PointId>, ReadRefusal>
-    requires { length values.now ≤ 32 }
+    requires { length values.now ≤ most_writes }
     ensures points { Gives (λ points. points) result (points_of catalogue.now (views values.now)) }
     ensures known { IfOk result (λ points. All (λ point. point < length catalogue.now.points) points) }
-    ensures few { IfOk result (λ points. length points ≤ 32) }
+    ensures few { IfOk result (λ points. length points ≤ most_writes) }
 {
     if !are_texts(values) {
         return Err(MALFORMED);
@@ -51,10 +52,10 @@ fn known_points(
     catalogue: &Catalogue,
     values: &[Value],
 ) -> Result<Items<PointId>, ReadRefusal>
-    requires { length values.now ≤ 32 }
+    requires { length values.now ≤ most_writes }
     ensures points { Gives (λ points. points) result (each_from (point_in catalogue.now) 0 (views values.now)) }
     ensures known { IfOk result (λ points. All (λ point. point < length catalogue.now.points) points) }
-    ensures few { IfOk result (λ points. length points ≤ 32) }
+    ensures few { IfOk result (λ points. length points ≤ most_writes) }
 {
     let mut points = Items::new(alloc);
     for (at, value) in values.iter().enumerate() {

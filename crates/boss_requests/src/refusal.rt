@@ -3,6 +3,8 @@ ghost use Rattle.boss_requests.specs.declared.refusal.ReadRefusal.TheVariants.{N
 
 use boss_model::{NoMemory, Refusal};
 use std::alloc::{AllocError, AllocFailed};
+use std::error::Error;
+use std::fmt;
 
 /// Why a line gives no request.
 #[derive(Debug, Drop)]
@@ -15,6 +17,17 @@ pub enum ReadRefusal {
 
 /// The line spells no request.
 pub(crate) const MALFORMED: ReadRefusal = ReadRefusal::Refused(Refusal::Malformed);
+
+impl fmt::Display for ReadRefusal {
+    fn fmt<W: fmt::Write>(&self, f: &mut fmt::Formatter<W>) -> fmt::Result {
+        match self {
+            ReadRefusal::Refused(refusal) => write!(f, "{refusal}"),
+            ReadRefusal::NoMemory => f.write_str("out of memory"),
+        }
+    }
+}
+
+impl Error for ReadRefusal {}
 
 impl From<NoMemory> for ReadRefusal {
     ghost from_gives = { λ _ refusal. refusal ≡ Memory };

@@ -1,7 +1,8 @@
-ghost use Rattle.std.specs.Prelude.{◌≡◌, ◌≤◌, ◌^◌, option_map, IfOk, IfSome};
+ghost use Rattle.std.specs.Prelude.{◌≡◌, ◌≤◌, option_map, IfOk, IfSome};
 ghost use Rattle.serde_json.specs.View.{view};
 ghost use Rattle.boss_model.specs.Catalogue.{actuators};
-ghost use Rattle.boss_model.specs.Requests.{formed, moment_of, reading, request_of, session_of, value_in};
+ghost use Rattle.boss_model.specs.Limits.{last_moment, last_session};
+ghost use Rattle.boss_wire.specs.Requests.{formed, moment_of, parsed, request_of, session_of, value_in};
 ghost use Rattle.boss_model.specs.Sound.{IsAllowed};
 ghost use Rattle.boss_requests.specs.Given.{Gives};
 ghost use Rattle.boss_requests.specs.Seen.{asked, seen};
@@ -10,16 +11,11 @@ use crate::ReadRefusal;
 use crate::commands::{command_in, op_named};
 use crate::keys::{number_within, text_under};
 use crate::refusal::MALFORMED;
-use boss_model::{Command, Form, Refusal, SessionId};
+use boss_model::{Command, LAST_MOMENT, LAST_SESSION, Refusal, SessionId};
 use boss_points::Catalogue;
+use boss_wire::Form;
 use serde_json::Value;
 use std::alloc::Global;
-
-/// The greatest number that a line may give for its session.
-const LAST_SESSION: u64 = 65_535;
-
-/// The last moment that a line may name, in milliseconds: 2^60.
-const LAST_MOMENT: u64 = 0x1000_0000_0000_0000;
 
 /// What a line asks, of which session, and when.
 #[derive(Debug, Drop)]
@@ -40,16 +36,16 @@ pub enum Ask {
 }
 
 /// What a line asks, or why it is refused.
-#[tactic(auto, unfolding(boss_model::specs::Requests::reading))]
+#[tactic(auto, unfolding(boss_wire::specs::Requests::parsed))]
 pub fn read_request(
     alloc: Global,
     catalogue: &Catalogue,
     line: &[u8],
     form: Form,
 ) -> Result<Request, ReadRefusal>
-    ensures request { Gives seen result (reading catalogue.now form line.now) }
-    ensures on { IfOk result (λ request. (1 ≤ request.on) × (request.on ≤ 65535)) }
-    ensures at { IfOk result (λ request. request.at ≤ 2 ^ 60) }
+    ensures request { Gives seen result (parsed catalogue.now form line.now) }
+    ensures on { IfOk result (λ request. (1 ≤ request.on) × (request.on ≤ last_session)) }
+    ensures at { IfOk result (λ request. request.at ≤ last_moment) }
     ensures allowed { IfOk result (λ request. IsAllowed (actuators catalogue.now) (asked request.ask)) }
 {
     let value = value_in(alloc, line)?;
@@ -75,8 +71,8 @@ fn request_in(
     value: &Value,
 ) -> Result<Request, ReadRefusal>
     ensures request { Gives seen result (request_of catalogue.now form (view value.now)) }
-    ensures on { IfOk result (λ request. (1 ≤ request.on) × (request.on ≤ 65535)) }
-    ensures at { IfOk result (λ request. request.at ≤ 2 ^ 60) }
+    ensures on { IfOk result (λ request. (1 ≤ request.on) × (request.on ≤ last_session)) }
+    ensures at { IfOk result (λ request. request.at ≤ last_moment) }
     ensures allowed { IfOk result (λ request. IsAllowed (actuators catalogue.now) (asked request.ask)) }
 {
     let text = text_under(value, "op").ok_or(MALFORMED)?;
@@ -94,7 +90,7 @@ fn request_in(
 /// The session that a line is of.
 fn session_of(form: Form, value: &Value) -> Option<SessionId>
     ensures session { result ≡ session_of form (view value.now) }
-    ensures within { IfSome result (λ on. (1 ≤ on) × (on ≤ 65535)) }
+    ensures within { IfSome result (λ on. (1 ≤ on) × (on ≤ last_session)) }
 {
     match form {
         Form::Script => {
@@ -107,7 +103,7 @@ fn session_of(form: Form, value: &Value) -> Option<SessionId>
 /// The moment at which a line asks.
 fn moment_of(form: Form, value: &Value) -> Option<u64>
     ensures moment { result ≡ moment_of form (view value.now) }
-    ensures within { IfSome result (λ at. at ≤ 2 ^ 60) }
+    ensures within { IfSome result (λ at. at ≤ last_moment) }
 {
     match form {
         Form::Script => number_within(value, "at", 0, LAST_MOMENT, 0),

@@ -1,8 +1,9 @@
 ghost use Rattle.std.specs.Prelude.{◌≡◌, ◌≤◌, ◌<◌, [], codes, is_some, length, All, IfOk};
 ghost use Rattle.std.specs.List.{list_all};
 ghost use Rattle.serde_json.specs.View.{view};
-ghost use Rattle.boss_model.specs.Keys.{all_of, step, steps, under_or, write};
-ghost use Rattle.boss_model.specs.Requests.{each_from, formed, settings_of};
+ghost use Rattle.boss_model.specs.Limits.{most_writes};
+ghost use Rattle.boss_wire.specs.Keys.{all_of, step, steps, under_or, write};
+ghost use Rattle.boss_wire.specs.Requests.{each_from, formed, settings_of};
 ghost use Rattle.boss_requests.specs.Given.{Gives};
 ghost use Rattle.boss_requests.specs.Seen.{setting_in, views};
 
@@ -21,7 +22,7 @@ pub(crate) fn settings_in(
     catalogue: &Catalogue,
     values: &[Value],
 ) -> Result<Items<Setting>, ReadRefusal>
-    requires { length values.now ≤ 32 }
+    requires { length values.now ≤ most_writes }
     ensures settings { Gives (λ settings. settings) result (settings_of catalogue.now (views values.now)) }
     ensures known { IfOk result (λ settings. All (λ setting. setting.point < length catalogue.now.points) settings) }
     ensures count { IfOk result (λ settings. length settings ≡ length values.now) }
@@ -38,7 +39,7 @@ fn known_settings(
     catalogue: &Catalogue,
     values: &[Value],
 ) -> Result<Items<Setting>, ReadRefusal>
-    requires { length values.now ≤ 32 }
+    requires { length values.now ≤ most_writes }
     ensures settings { Gives (λ settings. settings) result (each_from (setting_in catalogue.now) 0 (views values.now)) }
     ensures known { IfOk result (λ settings. All (λ setting. setting.point < length catalogue.now.points) settings) }
     ensures count { IfOk result (λ settings. length settings ≡ length values.now) }

@@ -8,10 +8,10 @@ use Rattle.boss_model.specs.Devices.{Reply}
 use Rattle.boss_model.specs.Machine.{step}
 use Rattle.boss_model.specs.Run.{Call, answers, run, stepped}
 use Rattle.boss_model.specs.State.{State}
-use Rattle.boss_engine.specs.Ready.{MayWant}
+use Rattle.boss_engine.specs.Ready.{MayNeedMemory}
 use Rattle.boss_engine.specs.Running.{Running}
 use Rattle.boss_runs.specs.declared.call.Call.{Call as Asked}
-use Rattle.boss_runs.specs.Calls.{HasDone, SomeMayWant, seen}
+use Rattle.boss_runs.specs.Calls.{HasDone, SomeMayNeedMemory, seen}
 
 abbrev reply : List Actuator → State → Call → Reply
 reply plant s call = step plant call.session call.command call.moment s
@@ -50,11 +50,11 @@ module _ (calls : List Call) (i : ℕ) (call : Call) (old now new : Running) (be
         ∙ ap (λ given. before ++ given) (sym (answers-append old.plant old.state (take i calls) (call ∷ [])) ∙ ap (answers old.plant old.state) (sym more));
   }
 
--- ---- a call that may want memory
+-- ---- a call that may need memory
 
-want-later : (plant : List Actuator) (s : State) (first rest : List Call) → SomeMayWant plant (run plant s first) rest → SomeMayWant plant s (first ++ rest)
-want-later plant s [] rest wants = wants
-want-later plant s (call ∷ first) rest wants = inr (want-later plant (stepped plant s call) first rest wants)
+need-later : (plant : List Actuator) (s : State) (first rest : List Call) → SomeMayNeedMemory plant (run plant s first) rest → SomeMayNeedMemory plant s (first ++ rest)
+need-later plant s [] rest needs = needs
+need-later plant s (call ∷ first) rest needs = inr (need-later plant (stepped plant s call) first rest needs)
 
 left : (calls : List Asked) (i : ℕ) (call : Asked) → i < length calls → call ≡ get_or calls i call → drop i (map seen calls) ≡ seen call ∷ map seen (drop (i + 1) calls)
 left calls i call within is =
@@ -63,12 +63,12 @@ left calls i call within is =
     ∙ ap (λ at. seen at ∷ map seen (drop (i + 1) calls)) (sym is)
 
 module _ (calls : List Asked) (i : ℕ) (call : Asked) (old now : Running) (before told : List Answer) where
-  -- the next call may want memory in the state that the calls before it led to
-  pub want-next : i < length calls → call ≡ get_or calls i call → now.plant ≡ old.plant → HasDone i (map seen calls) old now before told →
-      MayWant now.plant call.session call.command now.state → SomeMayWant old.plant old.state (map seen calls)
-  want-next within is same done wants =
+  -- the next call may need memory in the state that the calls before it led to
+  pub need-next : i < length calls → call ≡ get_or calls i call → now.plant ≡ old.plant → HasDone i (map seen calls) old now before told →
+      MayNeedMemory now.plant call.session call.command now.state → SomeMayNeedMemory old.plant old.state (map seen calls)
+  need-next within is same done needs =
       let first = take i (map seen calls) in
-      let here = subst (λ s. MayWant old.plant call.session call.command s) done.state (subst (λ plant. MayWant plant call.session call.command now.state) same wants) in
-      subst (SomeMayWant old.plant old.state) (take-append-drop i (map seen calls))
-      (want-later old.plant old.state first (drop i (map seen calls))
-      (subst (SomeMayWant old.plant (run old.plant old.state first)) (sym (left calls i call within is)) (inl here)))
+      let here = subst (λ s. MayNeedMemory old.plant call.session call.command s) done.state (subst (λ plant. MayNeedMemory plant call.session call.command now.state) same needs) in
+      subst (SomeMayNeedMemory old.plant old.state) (take-append-drop i (map seen calls))
+      (need-later old.plant old.state first (drop i (map seen calls))
+      (subst (SomeMayNeedMemory old.plant (run old.plant old.state first)) (sym (left calls i call within is)) (inl here)))

@@ -3,7 +3,7 @@ use Rattle.boss_model.specs.declared.answer.Answer.{Answer}
 use Rattle.boss_model.specs.declared.state.Actuator.{Actuator}
 use Rattle.boss_model.specs.Run.{Call, answers, run, stepped}
 use Rattle.boss_model.specs.State.{State}
-use Rattle.boss_engine.specs.Ready.{MayWant}
+use Rattle.boss_engine.specs.Ready.{MayNeedMemory}
 use Rattle.boss_engine.specs.Running.{Running}
 use Rattle.boss_runs.specs.declared.call.Call.{Call as Asked}
 
@@ -20,7 +20,7 @@ pub record HasDone (count : ℕ) (calls : List Call) (old new : Running) (before
 abbrev pub HasDoneSome : List Call → Running → Running → List Answer → List Answer → Type 0
 HasDoneSome calls old new before after = (count : ℕ) × (count < length calls) × HasDone count calls old new before after
 
--- one of the calls may want memory when its turn comes
-abbrev pub SomeMayWant : List Actuator → State → List Call → Type 0
-SomeMayWant plant s [] = ⊥
-SomeMayWant plant s (call ∷ calls) = MayWant plant call.session call.command s ⊎ SomeMayWant plant (stepped plant s call) calls
+-- one of the calls may need memory when its turn comes
+abbrev pub SomeMayNeedMemory : List Actuator → State → List Call → Type 0
+SomeMayNeedMemory plant s [] = ⊥
+SomeMayNeedMemory plant s (call ∷ calls) = MayNeedMemory plant call.session call.command s ⊎ SomeMayNeedMemory plant (stepped plant s call) calls

@@ -1,7 +1,7 @@
 ghost use Rattle.std.specs.Prelude.{◌≡◌, ◌⊎◌, ◌+◌, ◌<◌, ◌≤◌, ◌^◌, ◌++◌, length, map, vec_len, vec_capacity, All, OnOk, OnErr};
 ghost use Rattle.boss_model.specs.Run.{answers, run};
 ghost use Rattle.boss_model.specs.Sound.{IsAllowed, IsSound};
-ghost use Rattle.boss_runs.specs.Calls.{HasDoneSome, SomeMayWant, seen};
+ghost use Rattle.boss_runs.specs.Calls.{HasDoneSome, SomeMayNeedMemory, seen};
 
 use crate::Call;
 use boss_engine::Engine;
@@ -25,8 +25,8 @@ pub fn carry_out(
     ensures sound { IsSound engine.old.plant engine.old.state → IsSound engine.new.plant engine.new.state }
     ensures plant { engine.new.plant ≡ engine.old.plant }
     ensures err { OnErr result (HasDoneSome (map seen calls.now) engine.old engine.new told.old.items told.new.items) }
-    ensures want { OnErr result ((vec_capacity told.old < vec_len told.old + length calls.now)
-        ⊎ SomeMayWant engine.old.plant engine.old.state (map seen calls.now)) }
+    ensures memory { OnErr result ((vec_capacity told.old < vec_len told.old + length calls.now)
+        ⊎ SomeMayNeedMemory engine.old.plant engine.old.state (map seen calls.now)) }
 {
     told.reserve(calls.len())?;
     for call in calls {

@@ -4,8 +4,6 @@
 
 mod call;
 mod carrying;
-#[cfg(test)]
-mod tests;
 
 pub use call::Call;
 pub use carrying::carry_out;

@@ -3,25 +3,26 @@ use Rattle.std.proofs.Common.{◌≡◌, ℕ, ◌-◌, ◌<◌, ◌≤◌, List,
 use Rattle.std.specs.Prelude.{slice_get, nat_lt}
 use Rattle.std.proofs.lemmas.Bool.{cases_lt}
 use Rattle.std.proofs.lemmas.Grind.{common_steps}
-use Rattle.boss_stages.specs.Stages.{Kept, dropped, without}
+use Rattle.boss_model.specs.Limits.{done_kept}
+use Rattle.boss_stages.specs.Stages.{Tracked, dropped, without}
 
 first_one : (numbers : List ℕ) (oldest : ℕ) → slice_get numbers 0 ≡ Some oldest → take 1 numbers ≡ oldest ∷ []
 first_one [] oldest is = absurd (grind arith)
 first_one (x ∷ xs) oldest is = grind (arith, common_steps)
 
 -- where all places are taken, the oldest one is dropped
-pub dropped-full : (done : List ℕ) (txn oldest : ℕ) → length done ≡ 1024 → slice_get (done ++ txn ∷ []) 0 ≡ Some oldest → dropped (done ++ txn ∷ []) ≡ oldest ∷ []
+pub dropped-full : (done : List ℕ) (txn oldest : ℕ) → length done ≡ done_kept → slice_get (done ++ txn ∷ []) 0 ≡ Some oldest → dropped (done ++ txn ∷ []) ≡ oldest ∷ []
 dropped-full done txn oldest full is =
-    let one : length (done ++ txn ∷ []) - 1024 ≡ 1 = omega (arith, length-append done (txn ∷ [])) in
+    let one : length (done ++ txn ∷ []) - done_kept ≡ 1 = omega (arith, length-append done (txn ∷ [])) in
     rw one (first_one (done ++ txn ∷ []) oldest is)
 
 -- else none is
-pub dropped-room : (done : List ℕ) (txn : ℕ) → length done < 1024 → dropped (done ++ txn ∷ []) ≡ []
+pub dropped-room : (done : List ℕ) (txn : ℕ) → length done < done_kept → dropped (done ++ txn ∷ []) ≡ []
 dropped-room done txn room =
-    let none : length (done ++ txn ∷ []) - 1024 ≡ 0 = omega (arith, length-append done (txn ∷ [])) in
+    let none : length (done ++ txn ∷ []) - done_kept ≡ 0 = omega (arith, length-append done (txn ∷ [])) in
     rw none refl
 
-pub without-none : (all : List Kept) → without [] all ≡ all
+pub without-none : (all : List Tracked) → without [] all ≡ all
 without-none [] = refl
 without-none (kept ∷ all) = ap (λ rest. kept ∷ rest) (without-none all)
 

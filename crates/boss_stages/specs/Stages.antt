@@ -2,6 +2,7 @@ use Rattle.std.specs.Prelude.{ℕ, ◌<◌, ◌-◌, ◌==◌, nat_lt, Bool, fal
 use Rattle.std.specs.List.{list_any}
 use Rattle.std.specs.Option.{option_map_or}
 use Rattle.circular_buffer.specs.Buffer.{keep_last}
+use Rattle.boss_model.specs.Limits.{done_kept}
 use Rattle.boss_model.specs.declared.command.Policy.{Policy}
 use Rattle.boss_model.specs.declared.notice.Cause.{Cause}
 use Rattle.boss_model.specs.declared.notice.Stage.{Stage}
@@ -11,33 +12,33 @@ use Rattle.boss_stages.specs.declared.part.PartEnd.{PartEnd}
 use Rattle.boss_stages.specs.declared.part.PartEnd.TheVariants.{NotInTxn, Live, Ended}
 
 -- a transaction that is kept, and the points on which a reversion of it is pending, in the order in which they began
-pub record Kept : Type 0 where
+pub record Tracked : Type 0 where
   pub transaction : Transaction
   pub reverting : List ℕ
 
 -- the transactions that are kept, in order of number; the numbers of the last ones that became done, in the order of
 -- becoming done; and how many transactions there is room for
 pub record Stages : Type 0 where
-  pub kept : List Kept
+  pub kept : List Tracked
   pub done : List ℕ
   pub room : ℕ
 
 -- ---- a transaction
 
-abbrev pub number : Kept → ℕ
+abbrev pub number : Tracked → ℕ
 number kept = kept.transaction.txn
 
 abbrev pub is_live : Part → Bool
 is_live part = is_none part.end
 
-abbrev pub has_live : Kept → Bool
+abbrev pub has_live : Tracked → Bool
 has_live kept = list_any is_live kept.transaction.parts
 
-abbrev pub has_pending : Kept → Bool
+abbrev pub has_pending : Tracked → Bool
 has_pending kept = nat_lt 0 (length kept.reverting)
 
 -- it runs while it has a live lease, and reverts while it has a pending reversion
-abbrev pub stage_of : Kept → Stage
+abbrev pub stage_of : Tracked → Stage
 stage_of kept = if has_live kept then stage.Run else (if has_pending kept then stage.Revert else stage.Done)
 
 abbrev pub slot_of : Part → ℕ × ℕ
@@ -60,7 +61,7 @@ part_on point parts = find (λ part. part.point == point) parts
 abbrev pub live_part : ℕ × ℕ → Part
 live_part slot = record { point = slot.0; priority = slot.1; end = None }
 
-abbrev pub begun : ℕ → ℕ → Policy → List (ℕ × ℕ) → Kept
+abbrev pub begun : ℕ → ℕ → Policy → List (ℕ × ℕ) → Tracked
 begun txn owner policy slots = record {
   transaction = record { txn = txn; owner = owner; policy = policy; parts = map live_part slots };
   reverting = [];
@@ -70,19 +71,19 @@ begun txn owner policy slots = record {
 abbrev pub ended_on : ℕ → End → Part → Part
 ended_on point end part = if part.point == point then record part { end = Some end } else part
 
-abbrev pub with_end : ℕ → Cause → ℕ → Bool → Kept → Kept
+abbrev pub with_end : ℕ → Cause → ℕ → Bool → Tracked → Tracked
 with_end point cause at reverts kept = record {
   transaction = record kept.transaction { parts = map (ended_on point (record { cause = cause; at = at })) kept.transaction.parts };
   reverting = if reverts then kept.reverting ++ point ∷ [] else kept.reverting;
 }
 
 -- the reversion on the point ends
-abbrev pub without_reversion : ℕ → Kept → Kept
+abbrev pub without_reversion : ℕ → Tracked → Tracked
 without_reversion point kept = record kept { reverting = filter (λ other. not (other == point)) kept.reverting }
 
 -- ---- the transactions
 
-abbrev pub kept_as : ℕ → List Kept → Option Kept
+abbrev pub kept_as : ℕ → List Tracked → Option Tracked
 kept_as txn all = find (λ kept. number kept == txn) all
 
 abbrev pub end_on : ℕ → ℕ → Stages → PartEnd
@@ -92,35 +93,35 @@ abbrev pub is_reverting : ℕ → ℕ → Stages → Bool
 is_reverting txn point stages = option_map_or (λ kept. list_any (λ other. other == point) kept.reverting) (kept_as txn stages.kept) false
 
 -- the transaction of this number changes so
-abbrev pub changed : ℕ → (Kept → Kept) → List Kept → List Kept
+abbrev pub changed : ℕ → (Tracked → Tracked) → List Tracked → List Tracked
 changed txn change all = map (λ kept. if number kept == txn then change kept else kept) all
 
 -- the transactions are in order of number
-abbrev pub AllAbove : ℕ → List Kept → Type 0
+abbrev pub AllAbove : ℕ → List Tracked → Type 0
 AllAbove txn [] = Unit {0}
 AllAbove txn (kept ∷ all) = (txn < number kept) × AllAbove txn all
 
-abbrev pub Rising : List Kept → Type 0
+abbrev pub Rising : List Tracked → Type 0
 Rising [] = Unit {0}
 Rising (kept ∷ all) = AllAbove (number kept) all × Rising all
 
 -- of all that became done, those before the last 1,024
 abbrev pub dropped : List ℕ → List ℕ
-dropped done = take (length done - 1024) done
+dropped done = take (length done - done_kept) done
 
 -- the transactions but for those of these numbers
-abbrev pub without : List ℕ → List Kept → List Kept
+abbrev pub without : List ℕ → List Tracked → List Tracked
 without gone all = filter (λ kept. not (list_any (λ txn. txn == number kept) gone)) all
 
 -- one more is done: the numbers of the last 1,024 are kept, and the transactions before those are gone
 abbrev pub finished : ℕ → Stages → Stages
 finished txn stages = record stages {
   kept = without (dropped (stages.done ++ txn ∷ [])) stages.kept;
-  done = keep_last 1024 (stages.done ++ txn ∷ []);
+  done = keep_last done_kept (stages.done ++ txn ∷ []);
 }
 
 -- a transaction with nothing left is done
-abbrev pub is_over : Option Kept → Bool
+abbrev pub is_over : Option Tracked → Bool
 is_over None = false
 is_over (Some kept) = not (has_live kept) && not (has_pending kept)
 

@@ -1,23 +1,20 @@
-ghost use Rattle.std.specs.Prelude.{◌≡◌, ◌<◌, ◌≤◌, ◌==◌, ◌∷◌, [], ◌++◌, true, length, option_copied, option_and_then, slice_get, All, IfOk, IfSome, OnOk, OnErr};
+ghost use Rattle.std.specs.Prelude.{◌≡◌, ◌+◌, ◌<◌, ◌≤◌, ◌==◌, ◌∷◌, [], ◌++◌, true, length, option_copied, option_and_then, slice_get, All, IfOk, IfSome, OnOk, OnErr};
 ghost use Rattle.std.specs.List.{position_from, remove};
 ghost use Rattle.std.specs.Option.{option_map};
 ghost use Rattle.std.specs.VecDeque.{deque_capacity};
+ghost use Rattle.boss_model.specs.Limits.{done_kept};
 ghost use Rattle.boss_stages.specs.declared.part.PartEnd.TheVariants.{Live};
 ghost use Rattle.boss_stages.specs.Stages.{number, stage_of, slot_of, begun, kept_as, end_on, is_reverting, is_over, without, finished, finished_if_over, after_lease, after_reversion};
 
 use crate::part::PartEnd;
 use crate::transaction::Transaction;
-use boss_model::{Cause, Items, NoMemory, PointId, Policy, Priority, ProcId, Stage, Txn};
+use boss_model::{
+    Cause, DONE_KEPT, Items, NoMemory, PointId, Policy, Priority, ProcId, Stage, Txn,
+};
 use circular_buffer::HeapCircularBuffer;
 use std::alloc::Global;
 use std::collections::VecDeque;
 use std::marker::Model;
-
-#[cfg(test)]
-mod tests;
-
-/// How many of the transactions that are done are kept.
-const DONE_KEPT: usize = 1024;
 
 /// What is kept of transactions: of all that are not done, and of the last 1,024 that became done. A transaction goes
 /// from stage to stage as in BOSS (Dawson-Haggerty et al., NSDI 2013): it runs, it reverts, and it is done.
@@ -30,19 +27,21 @@ pub struct Stages {
 impl Model for Stages {
     ghost use Rattle.std.specs.Prelude.{◌≡◌, ◌≤◌, length};
     ghost use Rattle.std.specs.VecDeque.{deque_capacity};
+    ghost use Rattle.boss_model.specs.Limits.{done_kept};
     ghost use Rattle.boss_stages.specs.Stages.{Stages as Records, Rising};
 
     ghost Value = { Records };
 
     ghost view = { λ s. record { kept = s.transactions.items; done = s.done.items; room = deque_capacity s.transactions } };
 
-    ghost invariant = { λ s. (s.done.capacity ≡ 1024) × (length s.done.items ≤ 1024) × Rising s.transactions.items };
+    ghost invariant = { λ s. (s.done.capacity ≡ done_kept) × (length s.done.items ≤ done_kept) × Rising s.transactions.items };
 }
 
 impl Stages {
-    /// No transaction, with room for this many that are not done.
+    /// No transaction, with room for this many that are not done and all that are kept of those that are.
     pub fn new(alloc: Global, capacity: u32) -> Result<Stages, NoMemory>
-        ensures { IfOk result (λ stages. (stages.kept ≡ []) × (stages.done ≡ [])) }
+        ensures empty { IfOk result (λ stages. (stages.kept ≡ []) × (stages.done ≡ [])) }
+        ensures room { IfOk result (λ stages. capacity + done_kept ≤ stages.room) }
     {
         Ok(Stages {
             transactions: VecDeque::with_capacity(alloc, capacity as usize + DONE_KEPT)?,

@@ -22,9 +22,9 @@ pub struct Transaction {
 impl Model for Transaction {
     ghost use Rattle.std.specs.Prelude.{◌+◌, ◌≤◌, length, filter, vec_capacity};
     ghost use Rattle.boss_model.specs.Records.{Transaction as Recorded};
-    ghost use Rattle.boss_stages.specs.Stages.{Kept, is_live};
+    ghost use Rattle.boss_stages.specs.Stages.{Tracked, is_live};
 
-    ghost Value = { Kept };
+    ghost Value = { Tracked };
 
     ghost view = { λ t. record { transaction = record { txn = t.txn; owner = t.owner; policy = t.policy; parts = t.parts.items }; reverting = t.reverting.items } };
 

@@ -41,11 +41,11 @@ script_of _ = None
 -- serve CATALOGUE JOURNAL ADDRESS WORKERS CONNECTIONS
 abbrev pub serve_of : List (List ℕ) → Option Job
 serve_of (catalogue ∷ journal ∷ address ∷ workers ∷ connections ∷ []) = do
+  workers ← number_of 1 32 workers
+  connections ← number_of 1 4294967295 connections
   catalogue ← word_of catalogue
   journal ← word_of journal
   address ← word_of address
-  workers ← number_of 1 32 workers
-  connections ← number_of 1 4294967295 connections
   Some (Serve catalogue journal address workers connections)
 serve_of _ = None
 

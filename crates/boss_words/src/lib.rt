@@ -9,6 +9,3 @@ mod word;
 pub use job::Job;
 pub use read::{WordsRefusal, read_words};
 pub use word::Word;
-
-#[cfg(test)]
-mod tests;

@@ -6,6 +6,8 @@ ghost use Rattle.std.specs.Prelude.{◌≡◌};
 use crate::number::number;
 use crate::{Job, Word};
 use std::alloc::{AllocError, Global};
+use std::error::Error;
+use std::fmt;
 
 /// Why the words gave no job.
 #[derive(Clone, Copy, Debug, PartialEq, Eq)]
@@ -15,6 +17,17 @@ pub enum WordsRefusal {
     /// No memory was to be had. This says nothing of the words.
     NoMemory,
 }
+
+impl fmt::Display for WordsRefusal {
+    fn fmt<W: fmt::Write>(&self, f: &mut fmt::Formatter<W>) -> fmt::Result {
+        f.write_str(match self {
+            WordsRefusal::Usage => "the words ask for no job",
+            WordsRefusal::NoMemory => "out of memory",
+        })
+    }
+}
+
+impl Error for WordsRefusal {}
 
 impl From<AllocError> for WordsRefusal {
     ghost from_gives = { λ _ refusal. refusal ≡ NoMemory };
@@ -59,11 +72,11 @@ fn serve(alloc: Global, arguments: &[String]) -> Result<Job, WordsRefusal>
     let [catalogue, journal, address, workers, connections] = arguments else {
         return Err(WordsRefusal::Usage);
     };
+    let workers = number(workers.as_str(), 1, 32).ok_or(WordsRefusal::Usage)?;
+    let connections = number(connections.as_str(), 1, u32::MAX).ok_or(WordsRefusal::Usage)?;
     let catalogue = Word::new(alloc, catalogue.as_str())?;
     let journal = Word::new(alloc, journal.as_str())?;
     let address = Word::new(alloc, address.as_str())?;
-    let workers = number(workers.as_str(), 1, 32).ok_or(WordsRefusal::Usage)?;
-    let connections = number(connections.as_str(), 1, u32::MAX).ok_or(WordsRefusal::Usage)?;
     Ok(Job::Serve {
         catalogue,
         journal,

@@ -1,21 +1,23 @@
-use Rattle.std.proofs.Common.{◌≡◌, ◌+◌, ◌<◌, length, fold, drop, ◌∷◌, ap, sym, ◌∙◌, subst, arith}
-use Rattle.std.proofs.lemmas.List.{drop_more}
-use Rattle.std.specs.List.{AllByRecursion}
-use Rattle.boss_engine.specs.Books.{Books, Telling, booked}
-use Rattle.boss_engine.specs.Gathered.{CanBook}
+use Rattle.std.proofs.Common.{length, ap, sym, ◌∙◌, subst}
+use Rattle.std.specs.List.{AllByRecursion, fold}
+use Rattle.boss_time.proofs.Orders.{each-in_order}
+use Rattle.boss_books.specs.Bookable.{IsInformed}
+use Rattle.boss_books.specs.Books.{booked}
+use Rattle.boss_books.specs.Gathered.{CanBook, told_rank}
 use Rattle.boss_engine.proofs.booking.book_all.Goals as goal
 
-pub loop-telling-preserved : goal.loop-telling-preserved
-loop-telling-preserved c =
-    let told = c.args.told.now in
-    let i = c.loop-telling.telling-index in
-    let telling = c.telling-item.result in
-    let before : Books = record { stages = c.loop-telling.stages; processes = c.loop-telling.processes } in
-    let within : i < length told = omega arith in
-    let rest : drop i told ≡ telling ∷ drop (i + 1) told = drop_more told i telling within ∙ ap (λ first. first ∷ drop (i + 1) told) (sym c.telling-item.is) in
-    let owners = subst (AllByRecursion (λ (t : Telling). t.happening.owner < length c.loop-telling.processes)) rest c.loop-telling.invariant.owners in
-    record {
-      can = subst (λ books. CanBook books (drop (i + 1) told)) (sym c.book.ensures.books) (subst (CanBook before) rest c.loop-telling.invariant.can).1;
-      owners = rw c.book.ensures.processes owners.1;
-      books = ap (λ books. fold booked books (drop (i + 1) told)) c.book.ensures.books ∙ (sym (ap (fold booked before) rest) ∙ c.loop-telling.invariant.books);
-    }
+pub put_in_order-requires : goal.put_in_order-requires
+put_in_order-requires c = c.requires.apart
+
+pub book_in_turn-requires-clause-can : goal.book_in_turn-requires-clause-can
+book_in_turn-requires-clause-can c = subst (CanBook (record { stages = c.args.stages.now; processes = c.args.processes.now }))
+    (sym (c.deref.ensures.value ∙ c.put_in_order.ensures.order)) c.requires.there
+
+pub book_in_turn-requires-clause-informed : goal.book_in_turn-requires-clause-informed
+book_in_turn-requires-clause-informed c = subst (AllByRecursion (IsInformed (length c.args.processes.now)))
+    (sym (c.deref.ensures.value ∙ c.put_in_order.ensures.order))
+    (each-in_order (IsInformed (length c.args.processes.now)) told_rank c.args.told.now.items c.requires.informed)
+
+pub returns-clause-books : goal.returns-clause-books
+returns-clause-books c = c.book_in_turn.ensures
+    ∙ ap (fold booked (record { stages = c.args.stages.now; processes = c.args.processes.now })) (c.deref.ensures.value ∙ c.put_in_order.ensures.order)

@@ -1,7 +1,7 @@
 use Rattle.std.proofs.Common.{◌≡◌, ◌≤◌, ◌+◌, ◌*◌, ◌&&◌, nat_lt, nat_le, max, drop}
 use Rattle.std.specs.List.{filter, fold}
 use Rattle.boss_model.specs.Reversions.{turns}
-use Rattle.boss_engine.specs.Playing.{last_turn}
+use Rattle.boss_books.specs.Playing.{last_turn}
 use Rattle.boss_engine.proofs.reversions.last_turn.Given as goal
 
 -- the last of the turns seen so far, and how the others go on

@@ -5,20 +5,20 @@ use Rattle.boss_model.specs.Target.{target}
 use Rattle.boss_marks.specs.Marks.{settled}
 use Rattle.boss_marks.proofs.Rounds.{turned, turned_below-none, turned_below-more}
 use Rattle.boss_engine.proofs.Turns.{settled-turned}
-use Rattle.boss_engine.specs.Lasting.{durable_of}
+use Rattle.boss_engine.specs.Lasting.{persistent_of}
 use Rattle.boss_engine.proofs.settling.settle.Goals as goal
 
 pub loop-place-init : goal.loop-place-init
 loop-place-init c =
     let plant = c.args.plant.now in
-    let d = durable_of c.args.lasting.now in
+    let d = persistent_of c.args.lasting.now in
     sym (turned_below-none (is_moved plant d) (recommanded plant d) c.args.marks.now)
 
 pub loop-place-preserved : goal.loop-place-preserved
 loop-place-preserved c =
     let plant = c.args.plant.now in
     let fits : FitsSigned w64 c.target_of.result = search rules in
-    let d = durable_of c.args.lasting.now in
+    let d = persistent_of c.args.lasting.now in
     let place = c.loop-place.place in
     let marks = c.loop-place.marks in
     let told : c.target_of.result ≡ target plant d place = rw (c.deref.ensures.value, c.deref-in-loop-place.ensures.value) at c.target_of.ensures in

@@ -1,7 +1,7 @@
 use Rattle.std.proofs.Common.{◌≡◌, ◌+◌, ◌++◌, take, drop, nat_le, sym, ◌∙◌, ap, subst, refl, false, Some, arith}
 use Rattle.std.specs.List.{AllByRecursion, position}
 use Rattle.boss_model.specs.declared.state.Lease.{Lease}
-use Rattle.boss_laws.proofs.Filters.{none-found}
+use Rattle.boss_time.proofs.Filters.{none-found}
 use Rattle.boss_engine.proofs.Passing.{Passing, passing-begins, passing-goes-on-at, passing-leases, passing-pending}
 use Rattle.boss_engine.proofs.slots.pass_on.Goals as goal
 

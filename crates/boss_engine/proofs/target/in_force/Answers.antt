@@ -1,7 +1,7 @@
 use Rattle.std.proofs.Common.{◌==◌, arith}
 use Rattle.std.proofs.lemmas.Bool.Decides.{nat_tests}
 use Rattle.boss_model.specs.declared.state.Lease.{Lease}
-use Rattle.boss_engine.proofs.Found.{least-more}
+use Rattle.boss_books.proofs.Found.{least-more}
 use Rattle.boss_engine.proofs.target.in_force.Goals as goal
 use Rattle.boss_engine.proofs.target.in_force.Goals.{then-eq, else-eq}
 

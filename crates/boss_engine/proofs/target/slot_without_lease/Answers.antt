@@ -1,7 +1,7 @@
 use Rattle.std.proofs.Common.{◌==◌, ◌&&◌, sym}
 use Rattle.boss_model.specs.declared.state.Pending.{Pending}
-use Rattle.boss_laws.proofs.Filters.{each-found}
-use Rattle.boss_engine.specs.Playing.{IsPlayable}
+use Rattle.boss_time.proofs.Filters.{each-found}
+use Rattle.boss_books.specs.Playing.{IsPlayable}
 use Rattle.boss_engine.proofs.target.slot_without_lease.Goals as goal
 
 pub playing_slot-requires : goal.playing_slot-requires

@@ -1,7 +1,7 @@
 use Rattle.std.proofs.Common.{◌+◌, ℕ, rules}
 use Rattle.boss_model.specs.declared.answer.Slot.TheVariants as slot
 use Rattle.boss_engine.specs.Slots.{slot_in}
-use Rattle.boss_engine.proofs.Found.{made-array}
+use Rattle.boss_books.proofs.Found.{made-array}
 use Rattle.boss_engine.proofs.target.slots_of.Goals as goal
 
 pub returns : goal.returns

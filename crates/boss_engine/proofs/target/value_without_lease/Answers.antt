@@ -1,7 +1,7 @@
 use Rattle.std.proofs.Common.{◌==◌, sym}
 use Rattle.boss_model.specs.declared.state.Pending.{Pending}
-use Rattle.boss_engine.proofs.Found.{each-least}
-use Rattle.boss_engine.specs.Playing.{IsPlayable}
+use Rattle.boss_books.proofs.Found.{each-least}
+use Rattle.boss_books.specs.Playing.{IsPlayable}
 use Rattle.boss_engine.proofs.target.value_without_lease.Goals as goal
 
 pub value_or-requires : goal.value_or-requires

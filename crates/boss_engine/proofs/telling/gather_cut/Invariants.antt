@@ -1,7 +1,7 @@
 use Rattle.std.proofs.Common.{◌≡◌, ◌≤◌, ◌+◌, ◌++◌, map, take, vec_len, vec_capacity}
 use Rattle.std.specs.List.{filter}
 use Rattle.boss_model.specs.Submit.{cut, is_taken}
-use Rattle.boss_engine.specs.Gathered.{plain}
+use Rattle.boss_books.specs.Gathered.{plain}
 use Rattle.boss_engine.proofs.telling.gather_cut.Given as goal
 
 -- of the reversions seen so far those whose slots are taken are told

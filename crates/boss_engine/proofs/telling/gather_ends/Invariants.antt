@@ -1,5 +1,5 @@
 use Rattle.std.proofs.Common.{◌≡◌, ◌≤◌, ◌+◌, ◌++◌, take, vec_len, vec_capacity}
-use Rattle.boss_engine.specs.Gathered.{end_tellings}
+use Rattle.boss_books.specs.Gathered.{end_tellings}
 use Rattle.boss_engine.specs.Meant.{is_meant}
 use Rattle.boss_engine.proofs.telling.gather_ends.Given as goal
 

@@ -1,6 +1,6 @@
 use Rattle.std.proofs.Common.{◌≡◌, ◌≤◌, ◌+◌, ◌*◌, ◌++◌, take, vec_len, vec_capacity}
 use Rattle.std.specs.List.{flat_map}
-use Rattle.boss_engine.specs.Gathered.{lease_tellings}
+use Rattle.boss_books.specs.Gathered.{lease_tellings}
 use Rattle.boss_engine.proofs.telling.gather_expired.Given as goal
 
 -- what the leases seen so far tell is gathered, at most two tellings of each

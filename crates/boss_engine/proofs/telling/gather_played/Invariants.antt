@@ -1,6 +1,6 @@
 use Rattle.std.proofs.Common.{◌≡◌, ◌≤◌, ◌+◌, ◌++◌, take, vec_len, vec_capacity}
 use Rattle.std.specs.List.{flat_map}
-use Rattle.boss_engine.specs.Gathered.{pending_tellings}
+use Rattle.boss_books.specs.Gathered.{pending_tellings}
 use Rattle.boss_engine.proofs.telling.gather_played.Given as goal
 
 -- what the reversions seen so far tell is gathered, at most one telling of each

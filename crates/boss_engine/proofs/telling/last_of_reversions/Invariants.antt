@@ -1,5 +1,5 @@
 use Rattle.std.proofs.Common.{◌≡◌, fold, take}
-use Rattle.boss_engine.specs.Due.{last_of_pending}
+use Rattle.boss_books.specs.Due.{last_of_pending}
 use Rattle.boss_engine.proofs.telling.last_of_reversions.Given as goal
 
 -- the last moment of the reversions seen so far

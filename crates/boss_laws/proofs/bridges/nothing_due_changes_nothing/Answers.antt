@@ -1,5 +1,5 @@
 use Rattle.std.proofs.Common.{arith, max}
-use Rattle.boss_laws.proofs.NothingDue.{nothing-due}
+use Rattle.boss_time.proofs.NothingDue.{nothing-due}
 use Rattle.boss_laws.proofs.bridges.nothing_due_changes_nothing.Goals as goal
 
 pub returns : goal.returns

@@ -1,10 +1,10 @@
 use Rattle.std.proofs.Common.{arith, ◌≤◌}
 use Rattle.boss_model.specs.Reversions.{courses}
 use Rattle.boss_model.specs.Time.{tick_to}
-use Rattle.boss_laws.proofs.Coming.{now_after-within}
-use Rattle.boss_laws.proofs.NothingDue.{sound-timed}
+use Rattle.boss_time.proofs.Coming.{now_after-within}
+use Rattle.boss_time.proofs.NothingDue.{sound-timed}
 use Rattle.boss_laws.proofs.Targets.{none-due}
-use Rattle.boss_laws.proofs.TickLaw.{tick_to-tick_to}
+use Rattle.boss_time.proofs.TickLaw.{tick_to-tick_to}
 use Rattle.boss_laws.proofs.bridges.time_may_pass_in_turns.Goals as goal
 
 pub returns-clause-turns : goal.returns-clause-turns

@@ -1,7 +1,6 @@
-use Rattle.std.proofs.Common.{map, sym, ◌∙◌, refl, vec_len}
-use Rattle.std.specs.List.{AllByRecursion}
-use Rattle.boss_model.specs.Catalogue.{actuators}
+use Rattle.std.proofs.Common.{sym, ◌∙◌, refl, vec_len}
 use Rattle.boss_manager.specs.Devices.{HasDevices}
+use Rattle.boss_manager.specs.Outside.{trace}
 use Rattle.boss_manager.specs.Runs.{served}
 use Rattle.boss_manager.proofs.Results.{on-err}
 use Rattle.boss_manager.proofs.RunLemmas.{broke-then, did-nothing, did-then}
@@ -15,8 +14,7 @@ loop-driver-init g c = record {
   room = refl;
   len = refl;
   cause = refl;
-  did = λ tells told. did-nothing (actuators c.args.catalogue.now) (served c.args.catalogue.now c.args.moment) c.args.engine.now.state (g.K.Sink.taken c.args.sink.now)
-      (map g.A.Actuators.calls c.args.devices.now.items) (AllByRecursion g.A.Actuators.whole c.args.devices.now.items);
+  did = λ tells. did-nothing (served c.args.catalogue.now c.args.moment) c.args.engine.now.state (trace g.K.Sink g.A.Actuators c.args.sink.now c.args.devices.now.items);
 }
 
 pub serve-requires-clause-device : goal.serve-requires-clause-device
@@ -31,33 +29,20 @@ pub loop-driver-preserved : goal.loop-driver-preserved
 loop-driver-preserved g c =
     let inv = c.loop-driver.invariant in
     let done = c.in_ok-serve.ensures in
-    let part = served c.args.catalogue.now c.args.moment in
     record {
       plant = c.serve.ensures.plant ∙ inv.plant;
       sound = c.serve.ensures.sound;
       room = c.serve.ensures.room ∙ inv.room;
       len = c.serve.ensures.len ∙ inv.len;
       cause = done.cause.fine ∙ inv.cause;
-      did = λ tells told. did-then (actuators c.args.catalogue.now) part part part c.args.engine.now.state c.loop-driver.engine.state c.serve.new.engine.state
-          (g.K.Sink.taken c.args.sink.now) (g.K.Sink.taken c.loop-driver.sink) (g.K.Sink.taken c.serve.new.sink)
-          (map g.A.Actuators.calls c.args.devices.now.items) (map g.A.Actuators.calls c.loop-driver.devices.items) (map g.A.Actuators.calls c.serve.new.devices.items)
-          (AllByRecursion g.A.Actuators.whole c.args.devices.now.items) (AllByRecursion g.A.Actuators.whole c.loop-driver.devices.items) (AllByRecursion g.A.Actuators.whole c.serve.new.devices.items)
-          (inv.did tells told) (done.did tells told);
+      did = λ tells. did-then (inv.did tells) (done.did tells);
     }
 
 pub returns-in_err-serve-clause-broke : goal.returns-in_err-serve-clause-broke
-returns-in_err-serve-clause-broke g c = on-err c.from_residual.result _ (λ tells told.
-    let part = served c.args.catalogue.now c.args.moment in
-    broke-then (actuators c.args.catalogue.now) part part c.args.engine.now.state c.loop-driver.engine.state
-    (g.K.Sink.taken c.args.sink.now) (g.K.Sink.taken c.loop-driver.sink) (g.K.Sink.taken c.serve.new.sink)
-    (map g.A.Actuators.calls c.args.devices.now.items) (map g.A.Actuators.calls c.loop-driver.devices.items) (map g.A.Actuators.calls c.serve.new.devices.items)
-    (AllByRecursion g.A.Actuators.whole c.args.devices.now.items) (AllByRecursion g.A.Actuators.whole c.loop-driver.devices.items) (AllByRecursion g.A.Actuators.whole c.serve.new.devices.items)
-    (c.loop-driver.invariant.did tells told) (c.in_err-serve.ensures.broke tells told))
+returns-in_err-serve-clause-broke g c = on-err c.from_residual.result _ (λ tells. broke-then (c.loop-driver.invariant.did tells) (c.in_err-serve.ensures.broke tells))
 
 pub returns-clause-did : goal.returns-clause-did
-returns-clause-did g c = λ tells told.
+returns-clause-did g c = λ tells.
     let inv = c.loop-driver.invariant in
-    did-drained c.args.catalogue.now c.args.moment c.loop-driver.engine.plant c.args.engine.now.state c.loop-driver.engine.state
-    (g.K.Sink.taken c.args.sink.now) (g.K.Sink.taken c.loop-driver.sink) (map g.A.Actuators.calls c.args.devices.now.items) (map g.A.Actuators.calls c.loop-driver.devices.items)
-    (AllByRecursion g.A.Actuators.whole c.args.devices.now.items) (AllByRecursion g.A.Actuators.whole c.loop-driver.devices.items)
-    (inv.plant ∙ c.requires.plant) (sym c.wanting.ensures ∙ c.in_default.is) (inv.did tells told)
+    did-drained c.args.catalogue.now c.args.moment c.loop-driver.engine.plant c.args.engine.now.state c.loop-driver.engine.state _ _
+    (inv.plant ∙ c.requires.plant) (sym c.wanting.ensures ∙ c.in_default.is) (inv.did tells)

@@ -1,8 +1,8 @@
-use Rattle.std.proofs.Common.{◌≡◌, map, vec_len}
-use Rattle.std.specs.List.{AllByRecursion}
+use Rattle.std.proofs.Common.{◌≡◌, vec_len}
 use Rattle.boss_laws.specs.Draining.{weight}
 use Rattle.boss_model.specs.Catalogue.{actuators}
 use Rattle.boss_model.specs.Sound.{IsSound}
+use Rattle.boss_manager.specs.Outside.{trace}
 use Rattle.boss_manager.specs.Runs.{Did, served}
 use Rattle.boss_manager.proofs.draining.drain.Given as goal
 
@@ -14,10 +14,8 @@ invariant-loop-driver g l = record {
   room : l.text.capacity ≡ l.fn.text.capacity;
   len : vec_len l.devices ≡ vec_len l.fn.devices;
   cause : g.K.Sink.faults l.sink ≡ g.K.Sink.faults l.fn.sink;
-  did : g.K.Sink.tells → g.A.Actuators.tells → Did (actuators l.fn.catalogue) (served l.fn.catalogue l.fn.moment) (served l.fn.catalogue l.fn.moment)
-      l.fn.engine.state l.engine.state (g.K.Sink.taken l.fn.sink) (g.K.Sink.taken l.sink)
-      (map g.A.Actuators.calls l.fn.devices.items) (map g.A.Actuators.calls l.devices.items)
-      (AllByRecursion g.A.Actuators.whole l.fn.devices.items) (AllByRecursion g.A.Actuators.whole l.devices.items);
+  did : g.K.Sink.tells → Did (actuators l.fn.catalogue) (served l.fn.catalogue l.fn.moment) (served l.fn.catalogue l.fn.moment) l.fn.engine.state l.engine.state
+      (trace g.K.Sink g.A.Actuators l.fn.sink l.fn.devices.items) (trace g.K.Sink g.A.Actuators l.sink l.devices.items);
 }
 
 -- each turn leaves less to do

@@ -1,13 +1,13 @@
-use Rattle.std.proofs.Common.{◌++◌, map, sym, ap, subst, ◌∙◌}
-use Rattle.std.specs.List.{AllByRecursion}
+use Rattle.std.proofs.Common.{◌++◌, sym, ap, subst, ◌∙◌}
 use Rattle.boss_model.specs.Catalogue.{actuators}
 use Rattle.boss_model.specs.Machine.{step}
-use Rattle.boss_model.specs.Script.{answered}
+use Rattle.boss_wire.specs.Script.{answered}
 use Rattle.boss_model.specs.Tellable.{IsTellable}
-use Rattle.boss_model.specs.Texts.{answer_text, line_of}
+use Rattle.boss_wire.specs.Texts.{answer_text, line_of}
 use Rattle.boss_outside.specs.Streams.{TakesFront}
 use Rattle.boss_requests.specs.Seen.{asked, seen}
-use Rattle.boss_manager.specs.Runs.{Did, served, stop}
+use Rattle.boss_manager.specs.Outside.{trace}
+use Rattle.boss_manager.specs.Runs.{Did, served}
 use Rattle.boss_manager.proofs.Fronts.{answered-covers}
 use Rattle.boss_manager.proofs.LineLemmas.{told-step, did-answer, broke-answer}
 use Rattle.boss_manager.proofs.Results.{on-err}
@@ -15,8 +15,8 @@ use Rattle.boss_manager.proofs.RunLemmas.{broke-nothing, broke-then, did-then}
 use Rattle.boss_manager.proofs.script.answer.Goals as goal
 
 pub returns-in_err-answer-clause-broke : goal.returns-in_err-answer-clause-broke
-returns-in_err-answer-clause-broke g c = on-err c.from_residual.result _ (λ tells told.
-    broke-nothing (actuators c.args.catalogue.now) (answered c.args.catalogue.now (seen c.args.request.now)) c.args.engine.now.state (g.K.Sink.taken c.args.sink.now) (map g.A.Actuators.calls c.args.devices.now.items) (AllByRecursion g.A.Actuators.whole c.args.devices.now.items)
+returns-in_err-answer-clause-broke g c = on-err c.from_residual.result _ (λ tells.
+    broke-nothing (answered c.args.catalogue.now (seen c.args.request.now)) c.args.engine.now.state (trace g.K.Sink g.A.Actuators c.args.sink.now c.args.devices.now.items)
     (answered-covers c.args.catalogue.now (seen c.args.request.now)))
 
 pub tell_answer-requires-clause-tellable : goal.tell_answer-requires-clause-tellable
@@ -27,31 +27,37 @@ tell_answer-requires-clause-tellable g c =
     c.requires.plant c.requires.sound c.requires.allowed c.requires.moment)
 
 pub returns-in_err-tell_answer-clause-broke : goal.returns-in_err-tell_answer-clause-broke
-returns-in_err-tell_answer-clause-broke g c = on-err c.from_residual-in_err-tell_answer.result _ (λ tells told.
+returns-in_err-tell_answer-clause-broke g c = on-err c.from_residual-in_err-tell_answer.result _ (λ tells.
+    let taken = g.K.Sink.taken c.args.sink.now in
+    let told = g.K.Sink.taken c.tell_answer.new.sink in
     broke-answer c.args.catalogue.now (seen c.args.request.now) c.args.engine.now.plant c.args.engine.now.state c.requires.plant
-    (g.K.Sink.taken c.args.sink.now) (g.K.Sink.taken c.tell_answer.new.sink) (map g.A.Actuators.calls c.args.devices.now.items) (AllByRecursion g.A.Actuators.whole c.args.devices.now.items)
-    (subst (λ a. TakesFront (g.K.Sink.taken c.args.sink.now) (g.K.Sink.taken c.tell_answer.new.sink) (line_of (answer_text c.args.catalogue.now a))) (c.in_ok-answer.ensures.answer ∙ ap (λ q. (step c.args.engine.now.plant c.args.request.now.on q c.args.request.now.at c.args.engine.now.state).answer) c.command_in.ensures) (c.in_err-tell_answer.ensures.bytes tells)))
+    (trace g.K.Sink g.A.Actuators c.args.sink.now c.args.devices.now.items) told
+    (subst (λ a. TakesFront taken told (line_of (answer_text c.args.catalogue.now a))) (c.in_ok-answer.ensures.answer ∙ ap (λ q. (step c.args.engine.now.plant c.args.request.now.on q c.args.request.now.at c.args.engine.now.state).answer) c.command_in.ensures) (c.in_err-tell_answer.ensures.bytes tells)))
 
 pub returns-in_err-drain-clause-broke : goal.returns-in_err-drain-clause-broke
-returns-in_err-drain-clause-broke g c = on-err c.from_residual-in_err-drain.result _ (λ tells told.
+returns-in_err-drain-clause-broke g c = on-err c.from_residual-in_err-drain.result _ (λ tells.
     let catalogue = c.args.catalogue.now in
     let request = seen c.args.request.now in
-    broke-then (actuators catalogue) (answered catalogue request) (served catalogue request.at) c.args.engine.now.state c.step.new.self.state
-    (g.K.Sink.taken c.args.sink.now) (g.K.Sink.taken c.tell_answer.new.sink) (g.K.Sink.taken c.drain.new.sink) (map g.A.Actuators.calls c.args.devices.now.items) (map g.A.Actuators.calls c.args.devices.now.items) (map g.A.Actuators.calls c.drain.new.devices.items) (AllByRecursion g.A.Actuators.whole c.args.devices.now.items) (AllByRecursion g.A.Actuators.whole c.args.devices.now.items) (AllByRecursion g.A.Actuators.whole c.drain.new.devices.items)
-    (subst (λ t. Did (actuators catalogue) (answered catalogue request) (served catalogue request.at) c.args.engine.now.state t (g.K.Sink.taken c.args.sink.now) (g.K.Sink.taken c.tell_answer.new.sink)
-    (map g.A.Actuators.calls c.args.devices.now.items) (map g.A.Actuators.calls c.args.devices.now.items) (AllByRecursion g.A.Actuators.whole c.args.devices.now.items) (AllByRecursion g.A.Actuators.whole c.args.devices.now.items)) (sym (c.in_ok-answer.ensures.state ∙ ap (λ q. (step c.args.engine.now.plant c.args.request.now.on q c.args.request.now.at c.args.engine.now.state).state) c.command_in.ensures))
-    (did-answer catalogue request c.args.engine.now.plant c.args.engine.now.state c.requires.plant (g.K.Sink.taken c.args.sink.now) (g.K.Sink.taken c.tell_answer.new.sink) (map g.A.Actuators.calls c.args.devices.now.items) (AllByRecursion g.A.Actuators.whole c.args.devices.now.items)
-    (c.in_ok-tell_answer.ensures.bytes tells ∙ ap (λ a. (g.K.Sink.taken c.args.sink.now) ++ line_of (answer_text catalogue a)) (c.in_ok-answer.ensures.answer ∙ ap (λ q. (step c.args.engine.now.plant c.args.request.now.on q c.args.request.now.at c.args.engine.now.state).answer) c.command_in.ensures))))
-    (c.in_err-drain.ensures.broke tells told))
+    let taken = g.K.Sink.taken c.args.sink.now in
+    let old = trace g.K.Sink g.A.Actuators c.args.sink.now c.args.devices.now.items in
+    let told = trace g.K.Sink g.A.Actuators c.tell_answer.new.sink c.args.devices.now.items in
+    let first : Did (actuators catalogue) (answered catalogue request) (served catalogue request.at) c.args.engine.now.state c.step.new.self.state old told =
+    subst (λ t. Did (actuators catalogue) (answered catalogue request) (served catalogue request.at) c.args.engine.now.state t old told)
+    (sym (c.in_ok-answer.ensures.state ∙ ap (λ q. (step c.args.engine.now.plant c.args.request.now.on q c.args.request.now.at c.args.engine.now.state).state) c.command_in.ensures))
+    (did-answer catalogue request c.args.engine.now.plant c.args.engine.now.state c.requires.plant old (g.K.Sink.taken c.tell_answer.new.sink)
+    (c.in_ok-tell_answer.ensures.bytes tells ∙ ap (λ a. taken ++ line_of (answer_text catalogue a)) (c.in_ok-answer.ensures.answer ∙ ap (λ q. (step c.args.engine.now.plant c.args.request.now.on q c.args.request.now.at c.args.engine.now.state).answer) c.command_in.ensures))) in
+    broke-then first (c.in_err-drain.ensures.broke tells))
 
 pub returns-clause-did : goal.returns-clause-did
-returns-clause-did g c = λ tells told.
+returns-clause-did g c = λ tells.
     let catalogue = c.args.catalogue.now in
     let request = seen c.args.request.now in
-    did-then (actuators catalogue) (answered catalogue request) (served catalogue request.at) stop c.args.engine.now.state c.step.new.self.state c.drain.new.engine.state
-    (g.K.Sink.taken c.args.sink.now) (g.K.Sink.taken c.tell_answer.new.sink) (g.K.Sink.taken c.drain.new.sink) (map g.A.Actuators.calls c.args.devices.now.items) (map g.A.Actuators.calls c.args.devices.now.items) (map g.A.Actuators.calls c.drain.new.devices.items) (AllByRecursion g.A.Actuators.whole c.args.devices.now.items) (AllByRecursion g.A.Actuators.whole c.args.devices.now.items) (AllByRecursion g.A.Actuators.whole c.drain.new.devices.items)
-    (subst (λ t. Did (actuators catalogue) (answered catalogue request) (served catalogue request.at) c.args.engine.now.state t (g.K.Sink.taken c.args.sink.now) (g.K.Sink.taken c.tell_answer.new.sink)
-    (map g.A.Actuators.calls c.args.devices.now.items) (map g.A.Actuators.calls c.args.devices.now.items) (AllByRecursion g.A.Actuators.whole c.args.devices.now.items) (AllByRecursion g.A.Actuators.whole c.args.devices.now.items)) (sym (c.in_ok-answer.ensures.state ∙ ap (λ q. (step c.args.engine.now.plant c.args.request.now.on q c.args.request.now.at c.args.engine.now.state).state) c.command_in.ensures))
-    (did-answer catalogue request c.args.engine.now.plant c.args.engine.now.state c.requires.plant (g.K.Sink.taken c.args.sink.now) (g.K.Sink.taken c.tell_answer.new.sink) (map g.A.Actuators.calls c.args.devices.now.items) (AllByRecursion g.A.Actuators.whole c.args.devices.now.items)
-    (c.in_ok-tell_answer.ensures.bytes tells ∙ ap (λ a. (g.K.Sink.taken c.args.sink.now) ++ line_of (answer_text catalogue a)) (c.in_ok-answer.ensures.answer ∙ ap (λ q. (step c.args.engine.now.plant c.args.request.now.on q c.args.request.now.at c.args.engine.now.state).answer) c.command_in.ensures))))
-    (c.in_ok-drain.ensures.did tells told)
+    let taken = g.K.Sink.taken c.args.sink.now in
+    let old = trace g.K.Sink g.A.Actuators c.args.sink.now c.args.devices.now.items in
+    let told = trace g.K.Sink g.A.Actuators c.tell_answer.new.sink c.args.devices.now.items in
+    let first : Did (actuators catalogue) (answered catalogue request) (served catalogue request.at) c.args.engine.now.state c.step.new.self.state old told =
+    subst (λ t. Did (actuators catalogue) (answered catalogue request) (served catalogue request.at) c.args.engine.now.state t old told)
+    (sym (c.in_ok-answer.ensures.state ∙ ap (λ q. (step c.args.engine.now.plant c.args.request.now.on q c.args.request.now.at c.args.engine.now.state).state) c.command_in.ensures))
+    (did-answer catalogue request c.args.engine.now.plant c.args.engine.now.state c.requires.plant old (g.K.Sink.taken c.tell_answer.new.sink)
+    (c.in_ok-tell_answer.ensures.bytes tells ∙ ap (λ a. taken ++ line_of (answer_text catalogue a)) (c.in_ok-answer.ensures.answer ∙ ap (λ q. (step c.args.engine.now.plant c.args.request.now.on q c.args.request.now.at c.args.engine.now.state).answer) c.command_in.ensures))) in
+    did-then first (c.in_ok-drain.ensures.did tells)

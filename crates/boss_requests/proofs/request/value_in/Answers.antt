@@ -1,6 +1,6 @@
 use Rattle.std.proofs.Common.{ap}
 use Rattle.std.proofs.lemmas.Bool.{false≢true}
-use Rattle.boss_model.specs.Requests.{formed}
+use Rattle.boss_wire.specs.Requests.{formed}
 use Rattle.serde_json.specs.View.{view}
 use Rattle.boss_requests.proofs.Values.{value_in-text, value_in-refused}
 use Rattle.boss_requests.proofs.request.value_in.Goals as goal

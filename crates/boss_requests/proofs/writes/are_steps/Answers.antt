@@ -1,6 +1,6 @@
 use Rattle.std.proofs.Common.{◌∙◌}
 use Rattle.serde_json.specs.View.{view}
-use Rattle.boss_model.specs.Keys.{step}
+use Rattle.boss_wire.specs.Keys.{step}
 use Rattle.boss_requests.proofs.Each.{all_read}
 use Rattle.boss_requests.proofs.writes.are_steps.Goals as goal
 

@@ -1,7 +1,7 @@
 use Rattle.std.proofs.Common.{◌≡◌, is_some, true, sym, ◌∙◌, subst}
 use Rattle.serde_json.specs.View.{view}
-use Rattle.boss_model.specs.Keys.{all_of, write}
-use Rattle.boss_model.specs.Requests.{setting_at}
+use Rattle.boss_wire.specs.Keys.{all_of, write}
+use Rattle.boss_wire.specs.Requests.{setting_at}
 use Rattle.boss_requests.specs.Given.{Gives}
 use Rattle.boss_requests.specs.Seen.{views}
 use Rattle.boss_requests.proofs.Each.{all_read, both-passes, both-fails}

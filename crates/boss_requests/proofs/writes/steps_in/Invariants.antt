@@ -1,5 +1,5 @@
 use Rattle.std.proofs.Common.{◌≡◌, drop}
-use Rattle.boss_model.specs.Keys.{all_of, step}
+use Rattle.boss_wire.specs.Keys.{all_of, step}
 use Rattle.boss_requests.specs.Seen.{views}
 use Rattle.boss_requests.proofs.Each.{behind}
 use Rattle.boss_requests.proofs.writes.steps_in.Given as goal

@@ -1,6 +1,6 @@
 use Rattle.std.proofs.Common.{rules, ◌<◌, length, map, ◌∙◌, arith}
 use Rattle.boss_runs.specs.Calls.{seen}
-use Rattle.boss_runs.proofs.RunLemmas.{done-more, taken-more, want-next}
+use Rattle.boss_runs.proofs.RunLemmas.{done-more, taken-more, need-next}
 use Rattle.boss_runs.proofs.carrying.carry_out.Goals as goal
 
 pub loop-call-preserved : goal.loop-call-preserved
@@ -19,12 +19,12 @@ loop-call-preserved c =
       room = omega arith;
     }
 
-pub returns-in_err-answer-clause-want : goal.returns-in_err-answer-clause-want
-returns-in_err-answer-clause-want c =
+pub returns-in_err-answer-clause-memory : goal.returns-in_err-answer-clause-memory
+returns-in_err-answer-clause-memory c =
     let calls = c.args.calls.now in
     let i = c.loop-call.call-index in
     let so = c.loop-call.invariant in
     let within : i < length calls = omega arith in
-    let wants = want-next calls i c.call-item.result c.args.engine.now c.loop-call.engine c.args.told.now.items c.loop-call.told.items
-    within c.call-item.is so.plant so.done c.in_err-answer.ensures.want in
+    let needs = need-next calls i c.call-item.result c.args.engine.now c.loop-call.engine c.args.told.now.items c.loop-call.told.items
+    within c.call-item.is so.plant so.done c.in_err-answer.ensures.memory in
     search rules

@@ -1,8 +1,8 @@
 use Rattle.std.proofs.Common.{◌≡◌, ap, sym, ◌∙◌, subst}
 use Rattle.boss_model.specs.Settle.{first_state}
 use Rattle.boss_model.specs.Sound.{IsSound}
-use Rattle.boss_model.specs.State.{first_durable}
-use Rattle.boss_laws.proofs.Opened.{first-sound, opened-sound}
+use Rattle.boss_model.specs.State.{first_persistent}
+use Rattle.boss_soundness.proofs.Opened.{first-sound, opened-sound}
 use Rattle.boss_engine.specs.Inside.{HasPlaces, state_of}
 use Rattle.boss_engine.proofs.engine.Engine.for_plant.Goals as goal
 
@@ -12,6 +12,6 @@ invariant_of-result c =
     let machine = c.in_ok-machine.machine in
     let is : state_of machine ≡ first_state plant = c.in_ok-machine.ensures.state ∙ ap first_state c.deref.ensures.value in
     record {
-      sound = subst (IsSound plant) (sym is) (opened-sound plant first_durable (first-sound plant));
+      sound = subst (IsSound plant) (sym is) (opened-sound plant first_persistent (first-sound plant));
       places = subst (λ p. HasPlaces p machine) c.deref.ensures.value c.in_ok-machine.ensures.ready;
     }

@@ -1,11 +1,11 @@
 use Rattle.std.proofs.Common.{FitsSigned, w64, rules}
 use Rattle.std.proofs.lemmas.Int.{to_z-of_z}
-use Rattle.boss_engine.proofs.Owners.{txns-known}
+use Rattle.boss_books.proofs.Owners.{txns-known}
 use Rattle.boss_engine.proofs.Playable.{all-playable}
 use Rattle.boss_engine.proofs.machine.Machine.act.Goals as goal
 
 pub array-requires : goal.array-requires
-array-requires c = all-playable c.args.plant.now _ c.requires.can_run.sound.durable
+array-requires c = all-playable c.args.plant.now _ c.requires.can_run.sound.persistent
 
 pub returns-in-Attach-clause-answer : goal.returns-in-Attach-clause-answer
 returns-in-Attach-clause-answer c = rw c.in-Attach.is (c.attach.ensures.answer c.args.plant.now)
@@ -57,4 +57,4 @@ pub returns-in-Notices-clause-answer : goal.returns-in-Notices-clause-answer
 returns-in-Notices-clause-answer c = rw c.in-Notices.is (c.notices.ensures c.args.plant.now c.args.n)
 
 pub status-requires : goal.status-requires
-status-requires c = txns-known c.args.plant.now _ c.requires.can_run.sound.durable
+status-requires c = txns-known c.args.plant.now _ c.requires.can_run.sound.persistent

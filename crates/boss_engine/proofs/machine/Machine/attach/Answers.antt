@@ -3,7 +3,7 @@ use Rattle.boss_model.specs.declared.answer.Answer.TheVariants as answer
 use Rattle.boss_model.specs.Processes.{attached_too, next_notice, number_of, process_named}
 use Rattle.boss_engine.specs.declared.machine.Machine.{Machine}
 use Rattle.boss_engine.specs.Inside.{state_of}
-use Rattle.boss_engine.specs.Lasting.{IsKept, most_told}
+use Rattle.boss_engine.specs.Lasting.{IsKept, most_tellings}
 use Rattle.boss_engine.proofs.Attaching.{few-attached, ready-attach}
 use Rattle.boss_engine.proofs.Doing.{attach-leaves, next-enrolled}
 use Rattle.boss_engine.proofs.Keeping.{keeps-places, kept-aside}
@@ -23,19 +23,19 @@ pub returns-clause-answer : goal.returns-clause-answer
 returns-clause-answer c = λ any.
     let s = state_of c.args.self.now in
     let passed = ready-attach c.args.session c.args.name.now c.args.ready s c.requires.ready c.in_default.not-Refused in
-    let number = number_of s.durable.processes (process_named s.durable.processes c.args.name.now) in
-    let next : c.next_notice.result ≡ next_notice s.durable.processes number =
-    c.next_notice.ensures ∙ (λ i. next_notice (c.process_for-process.ensures.after i).processes (c.process_for-process.ensures.process i)) ∙ next-enrolled c.args.name.now c.args.n s.durable in
+    let number = number_of s.persistent.processes (process_named s.persistent.processes c.args.name.now) in
+    let next : c.next_notice.result ≡ next_notice s.persistent.processes number =
+    c.next_notice.ensures ∙ (λ i. next_notice (c.process_for-process.ensures.after i).processes (c.process_for-process.ensures.process i)) ∙ next-enrolled c.args.name.now c.args.n s.persistent in
     (λ i. answer.Attached (c.copied.ensures i) (next i)) ∙ sym (ap (λ r. r.answer) (attach-leaves any c.args.session c.args.n c.args.name.now s passed))
 
 pub returns-clause-state : goal.returns-clause-state
 returns-clause-state c = λ any.
     let s = state_of c.args.self.now in
     let passed = ready-attach c.args.session c.args.name.now c.args.ready s c.requires.ready c.in_default.not-Refused in
-    let items : c.attach.new.attached.items ≡ attached_too c.args.session (number_of s.durable.processes (process_named s.durable.processes c.args.name.now)) s.attached =
+    let items : c.attach.new.attached.items ≡ attached_too c.args.session (number_of s.persistent.processes (process_named s.persistent.processes c.args.name.now)) s.attached =
     c.attach.ensures.items ∙ (λ i. attached_too c.args.session (c.process_for-process.ensures.process i) (c.process_for-process.ensures.others i).attached.items) in
     (λ i. record {
-      durable = c.process_for-process.ensures.after i;
+      persistent = c.process_for-process.ensures.after i;
       attached = items i;
       proxies = (c.process_for-process.ensures.others i).marks.proxies;
       wants = (c.process_for-process.ensures.others i).marks.wants;
@@ -49,5 +49,5 @@ returns-clause-places c = λ plant places.
     let drivers = ap (λ (m : Machine). m.marks.drivers) others in
     let attached = c.attach.ensures.room ∙ ap (λ (m : Machine). vec_capacity m.attached) others in
     let told = ap (λ (m : Machine). vec_capacity m.told) others in
-    let few : most_told c.process_for-process.new.self.lasting ≤ most_told m.lasting = subst (λ (after : Machine). most_told after.lasting ≤ most_told m.lasting) (sym others) (omega arith) in
+    let few : most_tellings c.process_for-process.new.self.lasting ≤ most_tellings m.lasting = subst (λ (after : Machine). most_tellings after.lasting ≤ most_tellings m.lasting) (sym others) (omega arith) in
     keeps-places plant m _ places drivers attached (subst (λ (after : Machine). IsKept after.lasting) (sym others) (kept-aside m.lasting _ _ places.rows)) told few

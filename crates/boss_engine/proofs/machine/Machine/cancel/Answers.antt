@@ -2,7 +2,8 @@ use Rattle.std.proofs.Common.{◌≡◌, [], Some, None, refl, sym, ap, ◌∙�
 use Rattle.boss_model.specs.Ends.{cancel_refused}
 use Rattle.boss_model.specs.Processes.{process_of}
 use Rattle.boss_engine.specs.Inside.{state_of}
-use Rattle.boss_engine.specs.Lasting.{durable_of, nothing}
+use Rattle.boss_engine.specs.Lasting.{persistent_of}
+use Rattle.boss_books.specs.Passed.{nothing}
 use Rattle.boss_engine.proofs.Cancelling.{cancel-leaves}
 use Rattle.boss_engine.proofs.Keeping.{keeps-places}
 use Rattle.boss_engine.proofs.machine.Machine.cancel.Goals as goal
@@ -18,6 +19,6 @@ pub returns-clause-state : goal.returns-clause-state
 returns-clause-state c = λ any.
     let m = c.args.self.now in
     let held : process_of m.attached.items c.args.session ≡ Some c.in-Some.owner = sym (c.in-Some.ensures ∙ ap (λ attached. process_of attached c.args.session) c.deref.ensures.value) in
-    let passed : cancel_refused c.in-Some.owner c.args.txn (durable_of m.lasting) ≡ None = sym (sym c.in_default-cancel_refused.is ∙ c.cancel_refused.ensures) in
-    ap (λ d. record (state_of m) { durable = d }) (c.end_leases.ensures.after [] c.clear.ensures.items)
+    let passed : cancel_refused c.in-Some.owner c.args.txn (persistent_of m.lasting) ≡ None = sym (sym c.in_default-cancel_refused.is ∙ c.cancel_refused.ensures) in
+    ap (λ d. record (state_of m) { persistent = d }) (c.end_leases.ensures.after [] c.clear.ensures.items)
     ∙ sym (ap (λ r. r.state) (cancel-leaves any c.args.session c.in-Some.owner c.args.txn c.args.n (state_of m) held passed))

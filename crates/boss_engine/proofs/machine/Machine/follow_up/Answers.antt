@@ -3,14 +3,14 @@ use Rattle.boss_model.specs.declared.notice.Cause.TheVariants as cause
 use Rattle.boss_model.specs.Ends.{end_leases, is_of}
 use Rattle.boss_model.specs.Happenings.{Happening, tell}
 use Rattle.boss_model.specs.Target.{in_force}
-use Rattle.boss_engine.specs.Lasting.{durable_of}
+use Rattle.boss_engine.specs.Lasting.{persistent_of}
 use Rattle.boss_engine.proofs.Doing.{ended-all, told-only}
-use Rattle.boss_engine.proofs.Owners.{in-force-known}
+use Rattle.boss_books.proofs.Owners.{in-force-known}
 use Rattle.boss_engine.proofs.machine.Machine.follow_up.Goals as goal
 
 pub tell-requires : goal.tell-requires
 tell-requires c =
-    let d = durable_of c.args.self.now.lasting in
+    let d = persistent_of c.args.self.now.lasting in
     let found : Some c.in-Some.lease.now ≡ in_force d.leases c.args.point = c.in-Some.ensures ∙ ap (λ leases. in_force leases c.args.point) c.deref.ensures.value in
     record {
       owner = subst (λ (h : Happening). h.owner < length d.processes) (sym c.fault_of-happened.ensures)
@@ -19,14 +19,14 @@ tell-requires c =
 
 pub returns-in-EndAll-clause-after : goal.returns-in-EndAll-clause-after
 returns-in-EndAll-clause-after c =
-    let d = durable_of c.args.self.now.lasting in
+    let d = persistent_of c.args.self.now.lasting in
     let found : Some c.in-Some.lease.now ≡ in_force d.leases c.args.point = c.in-Some.ensures ∙ ap (λ leases. in_force leases c.args.point) c.deref.ensures.value in
     c.abort.ensures.after ∙ (ap (λ (h : Happening). end_leases (is_of h.txn) cause.Fault c.args.n (h ∷ []) d) c.fault_of-happened.ensures
     ∙ sym (ended-all c.args.point c.args.n c.in-Some.lease.now c.args.first d found (sym c.in-EndAll.is ∙ c.on_fault.ensures)))
 
 pub returns-in-Tell-clause-after : goal.returns-in-Tell-clause-after
 returns-in-Tell-clause-after c =
-    let d = durable_of c.args.self.now.lasting in
+    let d = persistent_of c.args.self.now.lasting in
     let found : Some c.in-Some.lease.now ≡ in_force d.leases c.args.point = c.in-Some.ensures ∙ ap (λ leases. in_force leases c.args.point) c.deref.ensures.value in
     c.tell.ensures.after ∙ (ap (λ (h : Happening). record d { now = c.args.n; processes = tell d.processes h }) c.fault_of-happened.ensures
     ∙ sym (told-only c.requires.can_run.0 c.args.point c.args.n c.in-Some.lease.now c.args.first d c.requires.can_run.1 found (sym c.in-Tell.is ∙ c.on_fault.ensures)))

@@ -1,6 +1,7 @@
 use Rattle.std.proofs.Common.{◌≡◌, ◌<◌, [], length, filter, refl, sym, ap, ◌∙◌, arith}
 use Rattle.boss_model.specs.Ends.{is_owned_by}
-use Rattle.boss_engine.specs.Lasting.{durable_of, nothing}
+use Rattle.boss_engine.specs.Lasting.{persistent_of}
+use Rattle.boss_books.specs.Passed.{nothing}
 use Rattle.boss_engine.proofs.Doing.{lost-none, lost-some}
 use Rattle.boss_engine.proofs.Keeping.{keeps-places}
 use Rattle.boss_engine.proofs.machine.Machine.lose.Goals as goal
@@ -10,14 +11,14 @@ end_leases-requires-clause-first c = ([], c.clear.ensures.items, nothing)
 
 pub returns-then-ended-eq0-clause-after : goal.returns-then-ended-eq0-clause-after
 returns-then-ended-eq0-clause-after c =
-    let d = durable_of c.args.self.now.lasting in
+    let d = persistent_of c.args.self.now.lasting in
     let counted : c.count_owned-ended.result ≡ length (filter (is_owned_by c.args.owner) d.leases) =
     c.count_owned-ended.ensures ∙ ap (λ leases. length (filter (is_owned_by c.args.owner) leases)) c.deref.ensures.value in
     sym (lost-none c.args.owner c.args.n d (omega arith))
 
 pub returns-clause-after : goal.returns-clause-after
 returns-clause-after c =
-    let d = durable_of c.args.self.now.lasting in
+    let d = persistent_of c.args.self.now.lasting in
     let counted : c.count_owned-ended.result ≡ length (filter (is_owned_by c.args.owner) d.leases) =
     c.count_owned-ended.ensures ∙ ap (λ leases. length (filter (is_owned_by c.args.owner) leases)) c.deref.ensures.value in
     let some : 0 < length (filter (is_owned_by c.args.owner) d.leases) = omega (arith, c.if-ended-eq0.false) in

@@ -1,8 +1,8 @@
 use Rattle.std.proofs.Common.{◌∙◌, length, sym, subst, ap, arith}
-use Rattle.boss_model.specs.Sound.{IsSoundDurable}
-use Rattle.boss_laws.proofs.TickSound.{tick-sound}
-use Rattle.boss_engine.specs.Lasting.{durable_of}
-use Rattle.boss_engine.proofs.DueLemmas.{IsNoMore, few-after}
+use Rattle.boss_model.specs.Sound.{IsSoundPersistent}
+use Rattle.boss_time.proofs.TickSound.{tick-sound}
+use Rattle.boss_engine.specs.Lasting.{persistent_of}
+use Rattle.boss_books.proofs.DueLemmas.{IsNoMore, few-after}
 use Rattle.boss_engine.proofs.Playable.{all-playable}
 use Rattle.boss_engine.proofs.Rooms.{fewer-told, room-left}
 use Rattle.boss_engine.proofs.Waiting.{length-retried}
@@ -15,15 +15,15 @@ settle-requires-clause-number c =
 pub settle-requires-clause-pending : goal.settle-requires-clause-pending
 settle-requires-clause-pending c =
     let plant = c.args.plant.now in
-    let sound : IsSoundDurable plant (durable_of c.tick.new.self) = subst (IsSoundDurable plant) (sym c.tick.ensures.after)
-    (tick-sound plant (durable_of c.args.self.now.lasting) c.args.n c.requires.ready.sound.durable c.requires.moment.0 c.requires.moment.1) in
-    all-playable plant (durable_of c.tick.new.self) sound
+    let sound : IsSoundPersistent plant (persistent_of c.tick.new.self) = subst (IsSoundPersistent plant) (sym c.tick.ensures.after)
+    (tick-sound plant (persistent_of c.args.self.now.lasting) c.args.n c.requires.ready.sound.persistent c.requires.moment.0 c.requires.moment.1) in
+    all-playable plant (persistent_of c.tick.new.self) sound
 
 pub returns-clause-places : goal.returns-clause-places
 returns-clause-places c =
     let old = c.args.self.now.lasting in
     let new = c.tick.new.self in
-    let few : IsNoMore (durable_of old) (durable_of new) = subst (IsNoMore (durable_of old)) (sym c.tick.ensures.after) (few-after c.args.n (durable_of old)) in
+    let few : IsNoMore (persistent_of old) (persistent_of new) = subst (IsNoMore (persistent_of old)) (sym c.tick.ensures.after) (few-after c.args.n (persistent_of old)) in
     let places = c.requires.ready.places in
     record {
       small = places.small;
@@ -37,5 +37,5 @@ pub returns-clause-room : goal.returns-clause-room
 returns-clause-room c =
     let old = c.args.self.now.lasting in
     let new = c.tick.new.self in
-    let few : IsNoMore (durable_of old) (durable_of new) = subst (IsNoMore (durable_of old)) (sym c.tick.ensures.after) (few-after c.args.n (durable_of old)) in
+    let few : IsNoMore (persistent_of old) (persistent_of new) = subst (IsNoMore (persistent_of old)) (sym c.tick.ensures.after) (few-after c.args.n (persistent_of old)) in
     room-left c.args.self.now _ few c.tick.ensures.leases c.tick.ensures.pending c.tick.ensures.stages c.tick.ensures.told

@@ -4,7 +4,7 @@ use Rattle.std.proofs.lemmas.List.{with_items_is, length-map}
 use Rattle.boss_model.specs.Processes.{process_of}
 use Rattle.boss_model.specs.Renew.{is_meant, extended_if, renew_refused}
 use Rattle.boss_engine.specs.Inside.{state_of}
-use Rattle.boss_engine.specs.Lasting.{durable_of}
+use Rattle.boss_engine.specs.Lasting.{persistent_of}
 use Rattle.boss_engine.proofs.Doing.{renew-leaves}
 use Rattle.boss_engine.proofs.machine.Machine.renew.Goals as goal
 
@@ -19,6 +19,6 @@ returns-clause-state c = λ any.
     c.extend.ensures ∙ (ap (λ k. map (extended_if (is_meant c.args.txn c.args.points.now) (c.args.n + k)) c.deref_mut.result.now) (c.unsigned_abs.ensures.value ∙ ap unsigned_abs passed)
     ∙ ap (map f) c.deref_mut.ensures.value) in
     let long : length c.extend.new.leases ≡ m.lasting.leases.len = omega (arith, ap length later, length-map m.lasting.leases.items f) in
-    ap (λ leases. record (state_of m) { durable = record (durable_of m.lasting) { now = c.args.n; leases = leases } }) (with_items_is m.lasting.leases c.extend.new.leases long ∙ later)
-    ∙ sym (renew-leaves c.requires.can_run.0 any c.args.session c.in-Some.owner c.args.txn c.args.duration c.args.points.now c.args.n (state_of m) c.requires.can_run.1.sound.durable held
-    (sym c.in_default-renew_refused.is ∙ (c.renew_refused.ensures ∙ ap (λ z. renew_refused c.in-Some.owner c.args.txn z c.args.points.now c.args.n (durable_of m.lasting)) passed)))
+    ap (λ leases. record (state_of m) { persistent = record (persistent_of m.lasting) { now = c.args.n; leases = leases } }) (with_items_is m.lasting.leases c.extend.new.leases long ∙ later)
+    ∙ sym (renew-leaves c.requires.can_run.0 any c.args.session c.in-Some.owner c.args.txn c.args.duration c.args.points.now c.args.n (state_of m) c.requires.can_run.1.sound.persistent held
+    (sym c.in_default-renew_refused.is ∙ (c.renew_refused.ensures ∙ ap (λ z. renew_refused c.in-Some.owner c.args.txn z c.args.points.now c.args.n (persistent_of m.lasting)) passed)))

@@ -1,9 +1,9 @@
 use Rattle.std.proofs.Common.{◌≡◌, ap, refl, sym, subst, ◌∙◌}
 use Rattle.boss_model.specs.Machine.{pass_time, step}
 use Rattle.boss_model.specs.Sound.{IsSound}
-use Rattle.boss_laws.proofs.StepSound.{step-sound}
+use Rattle.boss_soundness.proofs.StepSound.{step-sound}
 use Rattle.boss_engine.specs.Inside.{state_of}
-use Rattle.boss_engine.specs.Lasting.{durable_of}
+use Rattle.boss_engine.specs.Lasting.{persistent_of}
 use Rattle.boss_engine.specs.Ready.{IsReadyFor}
 use Rattle.boss_engine.proofs.Readied.{readied}
 use Rattle.boss_engine.proofs.Stepping.{passed-at, passed-moment, passed-well, answered, stepped, acted-playable, acted-number}
@@ -52,10 +52,10 @@ returns-clause-answer c =
     c.requires.allowed c.requires.moment c.requires.ready.sound (state_of c.pass_time.new.self) (c.pass_time.ensures.state ∙ ap (pass_time c.args.plant.now c.max-n.result) c.in_ok-ready.ensures.state)
     c.act-answer.result c.act-answer.ensures.answer
 
-over : (c : goal.After-settle) → record { durable = durable_of c.act-answer.new.self.lasting; attached = c.act-answer.new.self.attached.items; proxies = c.settle.new.marks.proxies; wants = c.settle.new.marks.wants }
+over : (c : goal.After-settle) → record { persistent = persistent_of c.act-answer.new.self.lasting; attached = c.act-answer.new.self.attached.items; proxies = c.settle.new.marks.proxies; wants = c.settle.new.marks.wants }
     ≡ (step c.args.plant.now c.args.session c.args.command.now c.args.moment (state_of c.args.self.now)).state
 over c =
-    ap (λ marks. record { durable = durable_of c.act-answer.new.self.lasting; attached = c.act-answer.new.self.attached.items; proxies = marks.proxies; wants = marks.wants }) c.settle.ensures
+    ap (λ marks. record { persistent = persistent_of c.act-answer.new.self.lasting; attached = c.act-answer.new.self.attached.items; proxies = marks.proxies; wants = marks.wants }) c.settle.ensures
     ∙ stepped c.args.plant.now c.args.session c.args.command.now c.args.moment c.max-n.result (state_of c.args.self.now) c.max-n.ensures
     c.requires.allowed c.requires.moment c.requires.ready.sound (state_of c.pass_time.new.self) (c.pass_time.ensures.state ∙ ap (pass_time c.args.plant.now c.max-n.result) c.in_ok-ready.ensures.state)
     (state_of c.act-answer.new.self) c.act-answer.ensures.state

@@ -14,7 +14,7 @@ returns-in-Submit-clause-state c = λ plant session writes policy some is.
     (subst (λ (given : Ready). IsReadyToSubmit plant held writes policy c.args.n given s) c.in-Submit.is is) in
     let after = c.begin.ensures.after begun.owner policy writes begun.is in
     (λ i. record {
-      durable = after i;
+      persistent = after i;
       attached = (c.begin.ensures.others.1 i).items;
       proxies = (c.begin.ensures.others.0 i).proxies;
       wants = (c.begin.ensures.others.0 i).wants;

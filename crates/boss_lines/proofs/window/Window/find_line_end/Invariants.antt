@@ -1,5 +1,5 @@
 use Rattle.std.proofs.Common.{◌≡◌, ◌+◌, ◌-◌, ◌≤◌, ◌++◌, length}
-use Rattle.boss_lines.specs.declared.window.TheConstants.{LONGEST_LINE}
+use Rattle.boss_model.specs.Limits.{longest_line}
 use Rattle.boss_lines.specs.Window.{NoLineEnd}
 use Rattle.boss_lines.proofs.window.Window.find_line_end.Given as goal
 
@@ -13,4 +13,4 @@ invariant-loop-place g l = record {
 }
 
 abbrev pub decreases-loop-place : goal.decreases-loop-place
-decreases-loop-place g l = LONGEST_LINE + 1 - length l.self
+decreases-loop-place g l = longest_line + 1 - length l.self

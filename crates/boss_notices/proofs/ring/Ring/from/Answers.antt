@@ -1,6 +1,7 @@
 use Rattle.std.proofs.Common.{◌≡◌, ◌-◌, ◌≤◌, min, length, take, drop, length-drop, ap, refl, arith}
 use Rattle.std.proofs.lemmas.List.{take_min}
-use Rattle.boss_notices.specs.Rings.{start, numbered_from}
+use Rattle.boss_model.specs.Queries.{numbered_from}
+use Rattle.boss_notices.specs.Rings.{start}
 use Rattle.boss_notices.proofs.Numbering.{numbered_from-places}
 use Rattle.boss_notices.proofs.ring.Ring.from.Goals as goal
 

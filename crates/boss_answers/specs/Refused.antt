@@ -1,0 +1,30 @@
+-- What the program says where its words or the catalogue come to nothing.
+use Rattle.std.specs.Prelude.{ℕ, List, [], ◌∷◌, ◌++◌, codes, decimal}
+use Rattle.boss_points.specs.declared.CatalogueRefusal.{CatalogueRefusal}
+use Rattle.boss_points.specs.declared.CatalogueRefusal.TheVariants.{TooLong, NotToml, Missing, TooMany, BadDriver, BadName, SameName, BadKind, BadDefault, UnknownDriver, NoMemory}
+use Rattle.boss_points.specs.declared.Key.{Key}
+use Rattle.boss_points.specs.declared.Key.TheVariants.{Drivers, Point}
+
+abbrev pub usage_line : List ℕ
+usage_line = codes "usage" ++ 10 ∷ []
+
+abbrev pub key_text : Key → List ℕ
+key_text Drivers = codes "drivers"
+key_text Point = codes "point"
+
+-- what is told of a catalogue's refusal
+abbrev pub refusal_text : CatalogueRefusal → List ℕ
+refusal_text (TooLong length) = codes "too-long " ++ decimal length
+refusal_text NotToml = codes "not-toml"
+refusal_text (Missing key) = codes "missing " ++ key_text key
+refusal_text (TooMany count) = codes "too-many " ++ decimal count
+refusal_text (BadDriver place) = codes "bad-driver " ++ decimal place
+refusal_text (BadName place) = codes "bad-name " ++ decimal place
+refusal_text (SameName place) = codes "same-name " ++ decimal place
+refusal_text (BadKind place) = codes "bad-kind " ++ decimal place
+refusal_text (BadDefault place) = codes "bad-default " ++ decimal place
+refusal_text (UnknownDriver place) = codes "unknown-driver " ++ decimal place
+refusal_text NoMemory = []
+
+abbrev pub refusal_line : CatalogueRefusal → List ℕ
+refusal_line refusal = codes "catalogue " ++ refusal_text refusal ++ 10 ∷ []

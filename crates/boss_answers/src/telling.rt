@@ -1,0 +1,78 @@
+//! Lines that are told to a sink: of an answer, of a write to a device, and of what was refused before either.
+
+ghost use Rattle.std.specs.Prelude.{◌≡◌, ◌≤◌, ◌<◌, length};
+ghost use Rattle.boss_model.specs.Tellable.{IsTellable};
+ghost use Rattle.boss_wire.specs.Texts.{answer_text, device_text, line_of, too_long_text};
+ghost use Rattle.boss_outside.specs.Counts.{HasCause};
+ghost use Rattle.boss_outside.specs.Streams.{Writes};
+ghost use Rattle.boss_answers.specs.Refused.{usage_line};
+
+use crate::{write_answer, write_device};
+use boss_model::{Answer, Buffer, PointId};
+use boss_outside::{Failed, Sink};
+use boss_points::Catalogue;
+
+/// Tells an answer, as a line.
+pub fn tell_answer<K: Sink>(
+    catalogue: &Catalogue,
+    answer: &Answer,
+    text: &mut Buffer,
+    sink: &mut K,
+) -> Result<(), Failed>
+    requires room { 32768 ≤ text.old.capacity }
+    requires tellable { IsTellable catalogue.now answer.now }
+    ensures room { text.new.capacity ≡ text.old.capacity }
+    ensures bytes { K.tells → Writes (K.taken sink.old) (K.taken sink.new) (line_of (answer_text catalogue.now answer.now)) result }
+    ensures cause { HasCause (K.faults sink.old) (K.faults sink.new) result }
+{
+    text.clear();
+    write_answer(text, catalogue, answer);
+    tell_line(text, sink)
+}
+
+/// Tells of a write to a device, as a line.
+pub fn tell_write<K: Sink>(
+    catalogue: &Catalogue,
+    point: PointId,
+    value: i64,
+    ok: bool,
+    text: &mut Buffer,
+    sink: &mut K,
+) -> Result<(), Failed>
+    requires room { 32768 ≤ text.old.capacity }
+    requires known { point < length catalogue.now.points }
+    ensures room { text.new.capacity ≡ text.old.capacity }
+    ensures bytes { K.tells → Writes (K.taken sink.old) (K.taken sink.new) (line_of (device_text catalogue.now point value ok)) result }
+    ensures cause { HasCause (K.faults sink.old) (K.faults sink.new) result }
+{
+    text.clear();
+    write_device(text, catalogue, point, value, ok);
+    tell_line(text, sink)
+}
+
+/// Tells that a line is too long.
+pub fn tell_too_long<K: Sink>(sink: &mut K) -> Result<(), Failed>
+    ensures bytes { K.tells → Writes (K.taken sink.old) (K.taken sink.new) (line_of too_long_text) result }
+    ensures cause { HasCause (K.faults sink.old) (K.faults sink.new) result }
+{
+    sink.write(b"{\"error\":\"too-long\"}\n")
+}
+
+/// Tells how the program is used.
+pub fn tell_usage<K: Sink>(sink: &mut K) -> Result<(), Failed>
+    ensures bytes { K.tells → Writes (K.taken sink.old) (K.taken sink.new) usage_line result }
+    ensures cause { HasCause (K.faults sink.old) (K.faults sink.new) result }
+{
+    sink.write(b"usage\n")
+}
+
+/// Tells a text, with the end of a line behind it.
+fn tell_line<K: Sink>(text: &mut Buffer, sink: &mut K) -> Result<(), Failed>
+    requires { length text.old.bytes < text.old.capacity }
+    ensures room { text.new.capacity ≡ text.old.capacity }
+    ensures bytes { K.tells → Writes (K.taken sink.old) (K.taken sink.new) (line_of text.old.bytes) result }
+    ensures cause { HasCause (K.faults sink.old) (K.faults sink.new) result }
+{
+    text.push(b'\n');
+    sink.write(text.bytes())
+}

@@ -1,0 +1,7 @@
+pub mod Bookable
+pub mod Books
+pub mod Due
+pub mod Gathered
+pub mod Passed
+pub mod Playing
+pub mod Telling

@@ -1,6 +1,0 @@
-mod limits;
-mod lines;
-mod outside;
-mod refusals;
-mod scripts;
-mod statuses;

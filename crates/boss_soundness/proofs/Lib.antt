@@ -1,0 +1,11 @@
+pub mod ConcludeSound
+pub mod EndSound
+pub mod EnrolSound
+pub mod RenewSound
+pub mod NotRefused
+pub mod SubmitSound
+pub mod SubmitChange
+pub mod ActSound
+pub mod StepSound
+pub mod Opened
+pub mod Fresh

@@ -1,0 +1,12 @@
+pub mod Orders
+pub mod Filters
+pub mod Slots
+pub mod Courses
+pub mod Coming
+pub mod Records
+pub mod TickLaw
+pub mod NothingDue
+pub mod Places
+pub mod GroupSound
+pub mod TickSound
+pub mod Endings

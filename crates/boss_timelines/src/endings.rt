@@ -1,0 +1,253 @@
+use crate::outside::*;
+use boss_manager::Status;
+use boss_trials::THREE_POINTS;
+use std::test::Fail;
+
+/// A run of the program over these words, this file and this input, and all that it tells.
+struct Ending {
+    shows: &'static str,
+    words: &'static str,
+    /// What the file `site.toml` holds.
+    file: &'static str,
+    input: &'static str,
+    fails: Fails,
+    status: u8,
+    output: &'static str,
+    /// How many calls the first device is made.
+    calls: usize,
+}
+
+/// A run that ends before a line is read and a device called.
+const EARLY: Ending = Ending {
+    shows: "",
+    words: SCRIPT_WORDS,
+    file: THREE_POINTS,
+    input: ATTACH,
+    fails: NONE_FAILS,
+    status: 2,
+    output: "usage\n",
+    calls: 0,
+};
+
+/// A run that ends at a fault behind the opening.
+const LATE: Ending = Ending {
+    status: 6,
+    output: OPENING,
+    calls: 3,
+    ..EARLY
+};
+
+/// The three points, where the lamp's default is no value of a lamp.
+const LAMP_AT_TWO: &str = "drivers=['field']
+point=[
+{name='ahu1.damper',driver='field',kind='analog',min=0,max=100000,default=20000},
+{name='lamp',driver='field',kind='binary',default=2},
+{name='fan',driver='field',kind='multi',states=3,default=1}]
+";
+
+const ATTACH: &str = "{\"op\":\"attach\",\"process\":\"a\"}\n";
+
+const ENDINGS: &[Ending] = &[
+    Ending {
+        shows: "no word",
+        words: "",
+        ..EARLY
+    },
+    Ending {
+        shows: "a word that is no job",
+        words: "frob",
+        ..EARLY
+    },
+    Ending {
+        shows: "a script without its journal",
+        words: "script site.toml",
+        ..EARLY
+    },
+    Ending {
+        shows: "the usage cannot be written",
+        words: "frob",
+        fails: Fails {
+            sink: 1,
+            ..NONE_FAILS
+        },
+        status: 7,
+        output: "",
+        ..EARLY
+    },
+    Ending {
+        shows: "the catalogue is refused",
+        file: LAMP_AT_TWO,
+        status: 3,
+        output: "catalogue bad-default 1\n",
+        ..EARLY
+    },
+    Ending {
+        shows: "the refusal of the catalogue cannot be written",
+        file: LAMP_AT_TWO,
+        fails: Fails {
+            sink: 1,
+            ..NONE_FAILS
+        },
+        status: 7,
+        output: "",
+        ..EARLY
+    },
+    Ending {
+        shows: "the file is not there",
+        words: "script x.toml -",
+        status: 5,
+        output: "",
+        ..EARLY
+    },
+    Ending {
+        shows: "the file cannot be read",
+        fails: Fails {
+            files: 1,
+            ..NONE_FAILS
+        },
+        status: 5,
+        output: "",
+        ..EARLY
+    },
+    Ending {
+        shows: "the first read fails",
+        fails: Fails {
+            source: 1,
+            ..NONE_FAILS
+        },
+        ..LATE
+    },
+    Ending {
+        shows: "what came whole before a fault is answered",
+        fails: Fails {
+            source: 2,
+            ..NONE_FAILS
+        },
+        output: ANSWERED,
+        ..LATE
+    },
+    Ending {
+        shows: "a rest without its end before a fault is not answered",
+        input: "{\"op\":\"attach\",\"process\":\"a\"}",
+        fails: Fails {
+            source: 2,
+            ..NONE_FAILS
+        },
+        ..LATE
+    },
+    Ending {
+        shows: "behind the end of the source no read is made",
+        input: "{\"op\":\"attach\",\"process\":\"a\"}",
+        fails: Fails {
+            source: 3,
+            ..NONE_FAILS
+        },
+        status: 0,
+        output: ANSWERED,
+        ..LATE
+    },
+    Ending {
+        shows: "a device is commanded before the line that tells it",
+        fails: Fails {
+            sink: 1,
+            ..NONE_FAILS
+        },
+        status: 7,
+        output: "",
+        calls: 1,
+        ..LATE
+    },
+    Ending {
+        shows: "the script without a line",
+        input: "",
+        status: 0,
+        ..LATE
+    },
+    Ending {
+        shows: "a script of blank lines",
+        input: "\n \t \n\t",
+        status: 0,
+        ..LATE
+    },
+    Ending {
+        shows: "the plant without a point",
+        file: "drivers=[]\npoint=[]",
+        input: "",
+        status: 0,
+        output: "",
+        calls: 0,
+        ..LATE
+    },
+    Ending {
+        shows: "the plant with one point",
+        file: "drivers=['east']\npoint=[{name='frost_limit',driver='east',kind='analog',min=-9,max=0,default=-5}]",
+        input: "{\"op\":\"read\",\"point\":\"frost_limit\"}",
+        status: 0,
+        output: "write east frost_limit -5 ok
+{\"ok\":\"read\",\"point\":\"frost_limit\",\"value\":-5,\"from\":\"default\",\"mark\":\"settled\"}
+",
+        calls: 1,
+        ..LATE
+    },
+    Ending {
+        shows: "the least driver is served first, and each has its device",
+        file: "drivers=['east','west']
+point=[
+{name='lamp',driver='west',kind='binary',default=1},
+{name='fan',driver='east',kind='multi',states=3,default=2}]
+",
+        input: "",
+        status: 0,
+        output: "write east fan 2 ok\nwrite west lamp 1 ok\n",
+        calls: 1,
+        ..LATE
+    },
+];
+
+const OPENING: &str =
+    "write field ahu1.damper 20000 ok\nwrite field lamp 0 ok\nwrite field fan 1 ok\n";
+
+/// What is told up to the answer to the attach.
+const ANSWERED: &str = "write field ahu1.damper 20000 ok
+write field lamp 0 ok
+write field fan 1 ok
+{\"ok\":\"attached\",\"process\":\"a\",\"next\":1}
+";
+
+#[test]
+fn a_run_has_its_status(rt: HostRuntime) -> Result<(), Fail> {
+    for ending in ENDINGS {
+        let shows = ending.shows;
+        let input = ending.input.as_bytes();
+        let outcome = run(rt.alloc(), ending.words, ending.file, input, ending.fails)?;
+        assert_eq!(&rt; outcome.status, Status(ending.status), "{shows}");
+        assert_eq!(&rt; outcome.sink.taken(), ending.output.as_bytes(), "{shows}");
+        let device = outcome.devices.first().ok_or("a device")?;
+        assert!(&rt; device.is_whole(), "{shows}");
+        assert_eq!(&rt; device.calls().len(), ending.calls, "{shows}");
+    }
+    Ok(())
+}
+
+/// Nothing behind a line that is too long is read.
+#[test]
+fn a_line_too_long_ends_a_script(rt: HostRuntime) -> Result<(), Fail> {
+    for (blanks, status, last) in [
+        (
+            65_535,
+            0,
+            "{\"ok\":\"attached\",\"process\":\"a\",\"next\":1}\n",
+        ),
+        (65_536, 13, "{\"error\":\"too-long\"}\n"),
+    ] {
+        let mut input = Vec::new(rt.alloc());
+        input.resize(blanks, b' ')?;
+        input.push(b'\n')?;
+        input.extend_from_slice(ATTACH.as_bytes())?;
+        let outcome = run(rt.alloc(), SCRIPT_WORDS, THREE_POINTS, &input, NONE_FAILS)?;
+        assert_eq!(&rt; outcome.status, Status(status));
+        let told = outcome.sink.taken().strip_prefix(OPENING.as_bytes());
+        assert_eq!(&rt; told.ok_or("the opening")?, last.as_bytes());
+    }
+    Ok(())
+}

@@ -1,0 +1,401 @@
+use crate::THREE_POINTS;
+use boss_model::{DriverId, PointId};
+use boss_points::CatalogueRefusal::{
+    BadDefault, BadDriver, BadKind, BadName, Missing, NotToml, SameName, TooLong, TooMany,
+    UnknownDriver,
+};
+use boss_points::{Catalogue, CatalogueRefusal, Key};
+use std::alloc::{AllocError, Global};
+use std::test::Fail;
+
+/// What `sha256sum` says of the canonical text of the three points.
+const DIGEST: [u8; 32] = [
+    0xaa, 0xf2, 0x4f, 0x74, 0xf7, 0x54, 0x6e, 0xc5, 0xb6, 0x51, 0x86, 0x44, 0xb7, 0x91, 0xc1, 0x6f,
+    0x26, 0x69, 0xc8, 0x73, 0x80, 0x76, 0x64, 0x35, 0xde, 0x2d, 0x82, 0xa7, 0xa6, 0x10, 0xd0, 0x59,
+];
+
+/// The names of the three points, and the driver, kind and default of each.
+const POINTS: &[(&str, &str)] = &[
+    (
+        "ahu1.damper",
+        "DriverId(0) Analog { min: 0, max: 100000 } 20000",
+    ),
+    ("lamp", "DriverId(0) Binary 0"),
+    ("fan", "DriverId(0) Multi { states: 3 } 1"),
+];
+
+#[test]
+fn reads_three_points(rt: HostRuntime) -> Result<(), Fail> {
+    let alloc = rt.alloc();
+    let catalogue = Catalogue::read(alloc, THREE_POINTS.as_bytes())?;
+    assert_eq!(rt; catalogue.digest(), DIGEST);
+    assert_eq!(rt; catalogue.count(), 3);
+    for place in 0..catalogue.count() {
+        let (name, told) = POINTS.get(place as usize).ok_or("a point")?;
+        let point = catalogue.point(PointId(place));
+        let read = format!(in alloc; "{:?} {:?} {}", point.driver, point.kind, point.default)?;
+        assert_eq!(rt; read.as_str(), *told);
+        assert_eq!(rt; point.name.bytes(), name.as_bytes());
+        assert_eq!(rt; catalogue.find(name.as_bytes()), Some(PointId(place)));
+    }
+    Ok(())
+}
+
+#[test]
+fn knows_its_driver_and_no_other_point(rt: HostRuntime) -> Result<(), Fail> {
+    let catalogue = Catalogue::read(rt.alloc(), THREE_POINTS.as_bytes())?;
+    assert_eq!(rt; catalogue.drivers(), 1);
+    assert_eq!(rt;
+        catalogue.driver_name(DriverId(0)).bytes(),
+        b"field".as_slice()
+    );
+    assert_eq!(rt; catalogue.find(b"fans"), None);
+    assert_eq!(rt; catalogue.find(b"no name"), None);
+    Ok(())
+}
+
+/// Files that are refused: for each test some that fail it, and some that fail a later test too, or fail it again at a
+/// later place.
+const REFUSED: &[(&str, CatalogueRefusal)] = &[
+    // No TOML: cut short, a key twice, and whole numbers of more than 64 bits.
+    ("drivers=['f'", NotToml),
+    ("drivers=[]\ndrivers=[]\npoint=[]", NotToml),
+    (
+        "drivers=['f']\npoint=[{name='a',driver='f',kind='analog',min=0,max=9223372036854775808,default=0}]",
+        NotToml,
+    ),
+    (
+        "drivers=['f']\npoint=[{name='a',driver='f',kind='binary',default=-9223372036854775809}]",
+        NotToml,
+    ),
+    // A key that is missing, or is no array; the drivers first.
+    ("", Missing { key: Key::Drivers }),
+    ("point=[]", Missing { key: Key::Drivers }),
+    ("drivers='f'\npoint=[]", Missing { key: Key::Drivers }),
+    ("drivers=1\npoint=2", Missing { key: Key::Drivers }),
+    ("drivers=[]", Missing { key: Key::Point }),
+    ("drivers=[]\npoint='a'", Missing { key: Key::Point }),
+    ("drivers=[]\n[point]\nname='a'", Missing { key: Key::Point }),
+    // Seventeen drivers, also where one of them is no name.
+    (
+        "drivers=['d0','d1','d2','d3','d4','d5','d6','d7','d8','d9','d10','d11','d12','d13','d14','d15','d16']\npoint=[]",
+        TooMany { count: 17 },
+    ),
+    (
+        "drivers=[7,'d0','d1','d2','d3','d4','d5','d6','d7','d8','d9','d10','d11','d12','d13','d14','d15']\npoint=[]",
+        TooMany { count: 17 },
+    ),
+    // A driver that is no text, no name, or stands earlier; the least place.
+    ("drivers=['f',7]\npoint=[]", BadDriver { place: 1 }),
+    ("drivers=['']\npoint=[]", BadDriver { place: 0 }),
+    ("drivers=['f','Field']\npoint=[]", BadDriver { place: 1 }),
+    ("drivers=['a b']\npoint=[]", BadDriver { place: 0 }),
+    (
+        "drivers=['xxxxxxxxxxxxxxxxxxxxxxxxxxxxxxxxxxxxxxxxxxxxxxxxxxxxxxxxxxxxxxxxx']\npoint=[]",
+        BadDriver { place: 0 },
+    ),
+    ("drivers=['f','g','f']\npoint=[]", BadDriver { place: 2 }),
+    ("drivers=['f','f',7]\npoint=[]", BadDriver { place: 1 }),
+    ("drivers=['f',7,'f']\npoint=[]", BadDriver { place: 1 }),
+    ("drivers=['f','f']\npoint=[7]", BadDriver { place: 1 }),
+    // A point that is no table, or whose name is missing, no text or no name; the least place.
+    ("drivers=['f']\npoint=[7]", BadName { place: 0 }),
+    (
+        "drivers=['f']\npoint=[{name='a',driver='f',kind='binary',default=0},{driver='f',kind='binary',default=0}]",
+        BadName { place: 1 },
+    ),
+    (
+        "drivers=['f']\npoint=[{name='a',driver='f',kind='binary',default=0},{name=7,driver='f',kind='binary',default=0}]",
+        BadName { place: 1 },
+    ),
+    (
+        "drivers=['f']\npoint=[{name='A',driver='f',kind='binary',default=0}]",
+        BadName { place: 0 },
+    ),
+    (
+        "drivers=['f']\npoint=[{name='xxxxxxxxxxxxxxxxxxxxxxxxxxxxxxxxxxxxxxxxxxxxxxxxxxxxxxxxxxxxxxxxx',driver='f',kind='binary',default=0}]",
+        BadName { place: 0 },
+    ),
+    (
+        "drivers=['f']\npoint=[{name='a',driver='f',kind='binary',default=0},{name='',driver='f',kind='binary',default=0},{name='B',driver='f',kind='binary',default=0}]",
+        BadName { place: 1 },
+    ),
+    (
+        "drivers=['f']\npoint=[{name='a',driver='f',kind='binary',default=0},{name='a',driver='f',kind='binary',default=0},{driver='f',kind='binary',default=0}]",
+        BadName { place: 2 },
+    ),
+    (
+        "drivers=['f']\npoint=[{name='a',driver='f',kind='valve',default=0},{driver='f',kind='binary'}]",
+        BadName { place: 1 },
+    ),
+    (
+        "drivers=['f']\npoint=[{name='a',driver='g',kind='binary',default=0},{name='b',driver='f',kind='binary',default=2},7]",
+        BadName { place: 2 },
+    ),
+    // A name that an earlier point has; the least place.
+    (
+        "drivers=['f']\npoint=[{name='a',driver='f',kind='binary',default=0},{name='b',driver='f',kind='binary',default=0},{name='a',driver='f',kind='binary',default=0}]",
+        SameName { place: 2 },
+    ),
+    (
+        "drivers=['f']\npoint=[{name='a',driver='f',kind='binary',default=0},{name='b',driver='f',kind='binary',default=0},{name='b',driver='f',kind='binary',default=0},{name='a',driver='f',kind='binary',default=0}]",
+        SameName { place: 2 },
+    ),
+    (
+        "drivers=['f']\npoint=[{name='a',driver='f',kind='valve',default=0},{name='b',driver='f',kind='binary',default=0},{name='b',driver='f',kind='binary',default=0}]",
+        SameName { place: 2 },
+    ),
+    (
+        "drivers=['f']\npoint=[{name='a',driver='f',kind='binary',default=2},{name='a',driver='f',kind='binary',default=0}]",
+        SameName { place: 1 },
+    ),
+    (
+        "drivers=['f']\npoint=[{name='a',driver='g',kind='binary',default=0},{name='a',driver='f',kind='binary',default=0}]",
+        SameName { place: 1 },
+    ),
+    // No such kind.
+    (
+        "drivers=['f']\npoint=[{name='a',driver='f',default=0}]",
+        BadKind { place: 0 },
+    ),
+    (
+        "drivers=['f']\npoint=[{name='a',driver='f',kind=7,default=0}]",
+        BadKind { place: 0 },
+    ),
+    (
+        "drivers=['f']\npoint=[{name='a',driver='f',kind='binary',default=0},{name='b',driver='f',kind='Binary',default=0}]",
+        BadKind { place: 1 },
+    ),
+    // An analog point without whole limits, in order and within 10^15.
+    (
+        "drivers=['f']\npoint=[{name='a',driver='f',kind='analog',max=9,default=0}]",
+        BadKind { place: 0 },
+    ),
+    (
+        "drivers=['f']\npoint=[{name='a',driver='f',kind='analog',min=0,default=0}]",
+        BadKind { place: 0 },
+    ),
+    (
+        "drivers=['f']\npoint=[{name='a',driver='f',kind='analog',min=0.0,max=9,default=0}]",
+        BadKind { place: 0 },
+    ),
+    (
+        "drivers=['f']\npoint=[{name='a',driver='f',kind='analog',min=0,max='9',default=0}]",
+        BadKind { place: 0 },
+    ),
+    (
+        "drivers=['f']\npoint=[{name='a',driver='f',kind='analog',min=1,max=0,default=1}]",
+        BadKind { place: 0 },
+    ),
+    (
+        "drivers=['f']\npoint=[{name='a',driver='f',kind='analog',min=-1000000000000001,max=0,default=0}]",
+        BadKind { place: 0 },
+    ),
+    (
+        "drivers=['f']\npoint=[{name='a',driver='f',kind='analog',min=0,max=1000000000000001,default=0}]",
+        BadKind { place: 0 },
+    ),
+    // A point of several states without a whole number of 2 to 255 of them.
+    (
+        "drivers=['f']\npoint=[{name='a',driver='f',kind='multi',default=1}]",
+        BadKind { place: 0 },
+    ),
+    (
+        "drivers=['f']\npoint=[{name='a',driver='f',kind='multi',states=1,default=1}]",
+        BadKind { place: 0 },
+    ),
+    (
+        "drivers=['f']\npoint=[{name='a',driver='f',kind='multi',states=256,default=1}]",
+        BadKind { place: 0 },
+    ),
+    (
+        "drivers=['f']\npoint=[{name='a',driver='f',kind='multi',states=3.0,default=1}]",
+        BadKind { place: 0 },
+    ),
+    // The least place of a kind, and a kind before a default and a driver at a lesser place.
+    (
+        "drivers=['f']\npoint=[{name='a',driver='f',kind='binary',default=0},{name='b',driver='f',kind='valve',default=0},{name='c',driver='f',default=0}]",
+        BadKind { place: 1 },
+    ),
+    (
+        "drivers=['f']\npoint=[{name='a',driver='f',kind='binary',default=2},{name='b',driver='f',kind='valve',default=0}]",
+        BadKind { place: 1 },
+    ),
+    (
+        "drivers=['f']\npoint=[{name='a',driver='g',kind='binary',default=0},{name='b',driver='f',kind='valve',default=0}]",
+        BadKind { place: 1 },
+    ),
+    // A default that is missing, no whole number, or does not fit.
+    (
+        "drivers=['f']\npoint=[{name='a',driver='f',kind='binary'}]",
+        BadDefault { place: 0 },
+    ),
+    (
+        "drivers=['f']\npoint=[{name='a',driver='f',kind='binary',default=0.0}]",
+        BadDefault { place: 0 },
+    ),
+    (
+        "drivers=['f']\npoint=[{name='a',driver='f',kind='binary',default='0'}]",
+        BadDefault { place: 0 },
+    ),
+    (
+        "drivers=['f']\npoint=[{name='a',driver='f',kind='binary',default=true}]",
+        BadDefault { place: 0 },
+    ),
+    (
+        "drivers=['f']\npoint=[{name='a',driver='f',kind='binary',default=2}]",
+        BadDefault { place: 0 },
+    ),
+    (
+        "drivers=['f']\npoint=[{name='a',driver='f',kind='binary',default=-1}]",
+        BadDefault { place: 0 },
+    ),
+    (
+        "drivers=['f']\npoint=[{name='a',driver='f',kind='analog',min=0,max=9,default=-1}]",
+        BadDefault { place: 0 },
+    ),
+    (
+        "drivers=['f']\npoint=[{name='a',driver='f',kind='analog',min=0,max=9,default=10}]",
+        BadDefault { place: 0 },
+    ),
+    (
+        "drivers=['f']\npoint=[{name='a',driver='f',kind='multi',states=3,default=0}]",
+        BadDefault { place: 0 },
+    ),
+    (
+        "drivers=['f']\npoint=[{name='a',driver='f',kind='multi',states=3,default=4}]",
+        BadDefault { place: 0 },
+    ),
+    // The least place of a default, and a default before a driver at a lesser place.
+    (
+        "drivers=['f']\npoint=[{name='a',driver='f',kind='binary',default=0},{name='b',driver='f',kind='binary',default=2},{name='c',driver='f',kind='binary',default=3}]",
+        BadDefault { place: 1 },
+    ),
+    (
+        "drivers=['f']\npoint=[{name='a',driver='g',kind='binary',default=0},{name='b',driver='f',kind='binary',default=2}]",
+        BadDefault { place: 1 },
+    ),
+    // A driver that is missing, no text, or none of the drivers; the least place.
+    (
+        "drivers=['f']\npoint=[{name='a',kind='binary',default=0}]",
+        UnknownDriver { place: 0 },
+    ),
+    (
+        "drivers=['f']\npoint=[{name='a',driver=0,kind='binary',default=0}]",
+        UnknownDriver { place: 0 },
+    ),
+    (
+        "drivers=['f']\npoint=[{name='a',driver='f',kind='binary',default=0},{name='b',driver='F',kind='binary',default=0}]",
+        UnknownDriver { place: 1 },
+    ),
+    (
+        "drivers=['f']\npoint=[{name='a',driver='f',kind='binary',default=0},{name='b',driver='g',kind='binary',default=0},{name='c',driver='h',kind='binary',default=0}]",
+        UnknownDriver { place: 1 },
+    ),
+    (
+        "drivers=[]\npoint=[{name='a',driver='f',kind='binary',default=0}]",
+        UnknownDriver { place: 0 },
+    ),
+];
+
+#[test]
+fn refuses_each_fault(rt: HostRuntime) {
+    for (text, refusal) in REFUSED {
+        assert_eq!(rt;
+            refusal_of(rt.alloc(), text.as_bytes()),
+            Some(*refusal),
+            "{text}"
+        );
+    }
+}
+
+#[test]
+fn refuses_bytes_that_are_no_text(rt: HostRuntime) {
+    let file = b"drivers=['\xff']\npoint=[]";
+    assert_eq!(rt; refusal_of(rt.alloc(), file), Some(NotToml));
+}
+
+/// Files that are accepted, and how many points they have: the bounds of each rule, keys that mean nothing here, and
+/// no point at all.
+const ACCEPTED: &[(&str, u32)] = &[
+    ("drivers=[]\npoint=[]", 0),
+    (
+        "title='plan'\ndrivers=['f']\npoint=[]\n[owner]\nname='a'",
+        0,
+    ),
+    (
+        "drivers=['f']\n[[point]]\nname='a'\ndriver='f'\nkind='binary'\ndefault=1\nfloor=3.5",
+        1,
+    ),
+    (
+        "drivers=['f']\npoint=[{name='a',driver='f',kind='analog',min=-1000000000000000,max=1000000000000000,default=1000000000000000}]",
+        1,
+    ),
+    (
+        "drivers=['f']\npoint=[{name='a',driver='f',kind='analog',min=5,max=5,default=5}]",
+        1,
+    ),
+    (
+        "drivers=['f']\npoint=[{name='a',driver='f',kind='multi',states=2,default=2},{name='b',driver='f',kind='multi',states=255,default=255}]",
+        2,
+    ),
+    (
+        "drivers=['f','a-._0']\npoint=[{name='a-._0',driver='a-._0',kind='binary',default=0}]",
+        1,
+    ),
+];
+
+#[test]
+fn accepts_the_bounds(rt: HostRuntime) -> Result<(), Fail> {
+    for (text, count) in ACCEPTED {
+        let catalogue = Catalogue::read(rt.alloc(), text.as_bytes())?;
+        assert_eq!(rt; catalogue.count(), *count, "{text}");
+    }
+    Ok(())
+}
+
+#[test]
+fn reads_4096_points_and_no_more(rt: HostRuntime) -> Result<(), Fail> {
+    let mut file = String::from_str(rt.alloc(), "drivers=['f']\n")?;
+    for number in 0..4096 {
+        add_point(rt.alloc(), &mut file, number)?;
+    }
+    let catalogue = Catalogue::read(rt.alloc(), file.as_bytes())?;
+    assert_eq!(rt; catalogue.count(), 4096);
+    assert_eq!(rt; catalogue.find(b"p4095"), Some(PointId(4095)));
+    add_point(rt.alloc(), &mut file, 4096)?;
+    assert_eq!(rt;
+        refusal_of(rt.alloc(), file.as_bytes()),
+        Some(TooMany { count: 4097 })
+    );
+    Ok(())
+}
+
+/// One binary point more at the end of a file.
+fn add_point(alloc: Global, file: &mut String, number: u32) -> Result<(), AllocError> {
+    let point = format!(in alloc;
+        "[[point]]\nname='p{number}'\ndriver='f'\nkind='binary'\ndefault=0\n"
+    )?;
+    file.push_str(point.as_str())
+}
+
+#[test]
+fn reads_1048576_bytes_and_no_more(rt: HostRuntime) -> Result<(), Fail> {
+    let mut file = Vec::with_capacity(rt.alloc(), 1_048_577)?;
+    file.extend_from_slice(THREE_POINTS.as_bytes())?;
+    file.push(b'#')?;
+    file.resize(1_048_576, b' ')?;
+    assert_eq!(rt; file.len(), 1_048_576);
+    let catalogue = Catalogue::read(rt.alloc(), &file)?;
+    assert_eq!(rt; catalogue.digest(), DIGEST);
+    file.push(b' ')?;
+    assert_eq!(rt;
+        refusal_of(rt.alloc(), &file),
+        Some(TooLong { length: 1_048_577 })
+    );
+    Ok(())
+}
+
+fn refusal_of(alloc: Global, file: &[u8]) -> Option<CatalogueRefusal> {
+    Catalogue::read(alloc, file).err()
+}

@@ -1,0 +1,227 @@
+use boss_lines::{Lines, Next, read_lines};
+use boss_model::Items;
+use boss_outside::{BytesSource, Got, Source};
+use std::alloc::{AllocError, Global};
+use std::process::Abort;
+use std::test::Fail;
+
+/// A source that is cut: a read gives at most so many bytes, and none on both sides of a place.
+#[derive(Drop)]
+struct Pieces<'a> {
+    text: &'a [u8],
+    given: usize,
+    most: usize,
+    cut: usize,
+    /// The number of the read that fails, from 1.
+    fails: u64,
+    reads: u64,
+    faults: u64,
+}
+
+impl<'a> Pieces<'a> {
+    fn new(text: &'a [u8], most: usize, cut: usize, fails: u64) -> Self {
+        Pieces {
+            text,
+            given: 0,
+            most,
+            cut,
+            fails,
+            reads: 0,
+            faults: 0,
+        }
+    }
+}
+
+impl Source for Pieces<'_> {
+    ghost use Rattle.std.specs.Prelude.{[]};
+
+    ghost tells = { ⊥ };
+
+    ghost left = { λ source. [] };
+
+    ghost held = { λ source. [] };
+
+    ghost faults = { λ source. source.faults };
+
+    fn read(&mut self, into: &mut [u8]) -> Got {
+        self.reads = self.reads.saturating_add(1);
+        if self.reads == self.fails {
+            self.faults = self.faults.saturating_add(1);
+            return Got::Failed;
+        }
+        let end = if self.given < self.cut {
+            self.cut
+        } else {
+            self.text.len()
+        };
+        let left = self.text.get(self.given..end).unwrap_or(&self.text[..0]);
+        let count = left.len().min(self.most).min(into.len());
+        if count == 0 {
+            return Got::Finish;
+        }
+        into[..count].copy_from_slice(&left[..count]);
+        self.given = self.given.saturating_add(count);
+        Got::Bytes(count)
+    }
+
+    ghost suffix = { λ source tells. absurd tells };
+}
+
+/// One byte more than the longest line has.
+static LONG: [u8; 65_536] = [b'x'; 65_536];
+
+/// The text that a row means: `$` is the end of a line, and `~` stands for the bytes of a longest line.
+fn meant(alloc: Global, row: &str) -> Result<Vec<u8>, AllocError> {
+    let mut text = Vec::new(alloc);
+    for byte in row.as_bytes() {
+        match byte {
+            b'$' => text.push(b'\n')?,
+            b'~' => text.extend_from_slice(&LONG[..65_535])?,
+            byte => text.push(*byte)?,
+        }
+    }
+    Ok(text)
+}
+
+/// Whether a reader gives these lines, each with an end behind it, then this answer, and then the same answer again, without
+/// one more read.
+fn expect(
+    rt: &impl Abort,
+    alloc: Global,
+    mut source: Pieces,
+    lines: &[u8],
+    end: Next,
+) -> Result<(), Fail> {
+    let mut reader = Lines::new(alloc)?;
+    let mut read = Vec::new(alloc);
+    let mut answer = Next::Line;
+    for _ in 0..=source.text.len() {
+        answer = reader.next(&mut source);
+        if answer != Next::Line {
+            break;
+        }
+        read.extend_from_slice(reader.line())?;
+        read.push(b'\n')?;
+    }
+    assert!(rt; read.as_slice() == lines);
+    assert_eq!(rt; answer, end);
+    assert!(rt; reader.line().is_empty());
+    let reads = source.reads;
+    assert_eq!(rt; reader.next(&mut source), end);
+    assert_eq!(rt; source.reads, reads);
+    Ok(())
+}
+
+/// Whether a place is near one of the ends of a text, or beside the end of a line.
+fn is_near_an_end(text: &[u8], place: usize) -> bool {
+    place < 8
+        || text.get(place.saturating_add(8)).is_none()
+        || text.get(place) == Some(&b'\n')
+        || text.get(place.saturating_sub(1)) == Some(&b'\n')
+}
+
+/// A text, its lines, and the answer behind them.
+const TEXTS: &[(&str, &str, Next)] = &[
+    ("", "", Next::Finish),
+    ("a", "a$", Next::Finish),
+    ("$", "$", Next::Finish),
+    ("$$", "$$", Next::Finish),
+    ("ab$", "ab$", Next::Finish),
+    ("ab$c", "ab$c$", Next::Finish),
+    ("$ab$$$c$", "$ab$$$c$", Next::Finish),
+    ("ab\r$c\r$\r", "ab\r$c\r$\r$", Next::Finish),
+    ("~", "~$", Next::Finish),
+    ("~$", "~$", Next::Finish),
+    ("~$$~$a", "~$$~$a$", Next::Finish),
+    ("~x", "", Next::TooLong),
+    ("~x$", "", Next::TooLong),
+    ("a$$~x$b$", "a$$", Next::TooLong),
+    ("~$~~~xxx", "~$", Next::TooLong),
+];
+
+#[test]
+fn lines_are_the_same_however_the_text_is_cut(rt: HostRuntime) -> Result<(), Fail> {
+    let alloc = rt.alloc();
+    for (text, lines, end) in TEXTS {
+        let text = meant(alloc, text)?;
+        let lines = meant(alloc, lines)?;
+        for most in [usize::MAX, 1, 1_000] {
+            expect(&rt, alloc, Pieces::new(&text, most, 0, 0), &lines, *end)?;
+        }
+        for place in 0..text.len() {
+            if is_near_an_end(&text, place) {
+                let source = Pieces::new(&text, usize::MAX, place, 0);
+                expect(&rt, alloc, source, &lines, *end)?;
+            }
+        }
+    }
+    Ok(())
+}
+
+/// Texts that are read in pieces of at most so many bytes, where a read fails: the lines that ended before, and the answer.
+/// Behind the end of the source no read is made, so none can fail there.
+const FAULTS: &[(&str, usize, u64, &str, Next)] = &[
+    ("ab$$c$d", 1, 1, "", Next::ReadFault),
+    ("ab$$c$d", 1, 2, "", Next::ReadFault),
+    ("ab$$c$d", 1, 3, "", Next::ReadFault),
+    ("ab$$c$d", 1, 4, "ab$", Next::ReadFault),
+    ("ab$$c$d", 1, 5, "ab$$", Next::ReadFault),
+    ("ab$$c$d", 1, 6, "ab$$", Next::ReadFault),
+    ("ab$$c$d", 1, 7, "ab$$c$", Next::ReadFault),
+    ("ab$$c$d", 1, 8, "ab$$c$", Next::ReadFault),
+    ("ab$$c$d", usize::MAX, 1, "", Next::ReadFault),
+    ("ab$$c$d", usize::MAX, 2, "ab$$c$", Next::ReadFault),
+    ("ab$c", usize::MAX, 3, "ab$c$", Next::Finish),
+    ("ab$", usize::MAX, 3, "ab$", Next::Finish),
+];
+
+#[test]
+fn a_fault_comes_behind_the_lines_that_ended(rt: HostRuntime) -> Result<(), Fail> {
+    let alloc = rt.alloc();
+    for (text, most, fails, lines, end) in FAULTS {
+        let text = meant(alloc, text)?;
+        let lines = meant(alloc, lines)?;
+        expect(
+            &rt,
+            alloc,
+            Pieces::new(&text, *most, 0, *fails),
+            &lines,
+            *end,
+        )?;
+    }
+    Ok(())
+}
+
+#[test]
+fn a_long_line_is_told_without_one_more_read(rt: HostRuntime) -> Result<(), Fail> {
+    let mut source = Pieces::new(&LONG, 1, 0, 0);
+    let mut reader = Lines::new(rt.alloc())?;
+    assert_eq!(rt; reader.next(&mut source), Next::TooLong);
+    assert_eq!(rt; source.reads, 65_536);
+    Ok(())
+}
+
+/// Limits, the lines of one text that are read, and what came behind them.
+const LIMITS: &[(u64, &str, Next)] = &[
+    (9, "a$$bc$", Next::Finish),
+    (3, "a$$bc$", Next::Finish),
+    (2, "a$$", Next::Line),
+];
+
+#[test]
+fn lines_are_read_up_to_a_limit(rt: HostRuntime) -> Result<(), Fail> {
+    let alloc = rt.alloc();
+    for (limit, lines, end) in LIMITS {
+        let text = Items::from_vec(meant(alloc, "a$$bc")?);
+        let mut source = BytesSource::new(alloc, text, Items::new(alloc))?;
+        let read = read_lines(alloc, &mut source, *limit)?;
+        let mut told = Vec::new(alloc);
+        for line in read.lines.slice() {
+            told.extend_from_slice(line.slice())?;
+            told.push(b'\n')?;
+        }
+        assert_eq!(rt; told, meant(alloc, lines)?);
+        assert_eq!(rt; read.end, *end);
+    }
+    Ok(())
+}

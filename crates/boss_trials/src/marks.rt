@@ -1,0 +1,164 @@
+ghost use Rattle.std.specs.Prelude.{◌≤◌, ◌<◌, ◌^◌, length, IfOk};
+
+use self::Deed::{Looked, Next, Reported, Retried, Settled, Started, Wanting};
+use boss_marks::Marks;
+use boss_model::{DriverId, Items, PointId};
+use std::alloc::Global;
+use std::test::Fail;
+
+const DAMPER: u32 = 0;
+
+const LAMP: u32 = 1;
+
+const FAN: u32 = 2;
+
+const FIELD: u16 = 0;
+
+const ROOF: u16 = 1;
+
+/// What is done with the marks of a damper and a lamp of one driver, and of a fan of another.
+#[derive(Clone, Copy, Debug)]
+enum Deed {
+    /// The point is to be told this target anew.
+    Started(u32, i64),
+    /// The point is to be told this target.
+    Settled(u32, i64),
+    /// The driver asks for its next want.
+    Next(u16),
+    /// The driver tells whether the point's device took this version, at a moment.
+    Reported(u32, u64, bool, u32),
+    /// What failed is tried again, at a moment.
+    Retried(u32),
+    /// The point's mark is asked for.
+    Looked(u32),
+    /// The least driver that has a want is asked for.
+    Wanting,
+}
+
+/// What is done with fresh marks, with the answers.
+const TRIALS: &[&[(Deed, &str)]] = &[
+    // Points want their defaults at first.
+    &[
+        (Reported(DAMPER, 1, true, 0), "Old"),
+        (Looked(DAMPER), "Pending"),
+        (Wanting, "Some(DriverId(0))"),
+        (
+            Next(FIELD),
+            "Some(Want { point: PointId(0), version: 1, value: 20000 })",
+        ),
+        (
+            Next(FIELD),
+            "Some(Want { point: PointId(1), version: 1, value: 0 })",
+        ),
+        (Next(FIELD), "None"),
+        (Wanting, "Some(DriverId(1))"),
+        (
+            Next(ROOF),
+            "Some(Want { point: PointId(2), version: 1, value: 1 })",
+        ),
+        (Wanting, "None"),
+        (Reported(FAN, 1, true, 0), "Settled"),
+        (Looked(FAN), "Settled"),
+    ],
+    // The report of an older version changes nothing.
+    &[
+        (Settled(DAMPER, 45000), "()"),
+        (
+            Next(FIELD),
+            "Some(Want { point: PointId(1), version: 1, value: 0 })",
+        ),
+        (
+            Next(FIELD),
+            "Some(Want { point: PointId(0), version: 2, value: 45000 })",
+        ),
+        (Settled(DAMPER, 50000), "()"),
+        (Reported(DAMPER, 2, false, 1000), "Old"),
+        (
+            Next(FIELD),
+            "Some(Want { point: PointId(0), version: 3, value: 50000 })",
+        ),
+        (Settled(DAMPER, 50000), "()"),
+        (Next(FIELD), "None"),
+        (Started(DAMPER, 50000), "()"),
+        (
+            Next(FIELD),
+            "Some(Want { point: PointId(0), version: 1, value: 50000 })",
+        ),
+    ],
+    // A failed write is tried again after five seconds.
+    &[
+        (
+            Next(FIELD),
+            "Some(Want { point: PointId(0), version: 1, value: 20000 })",
+        ),
+        (
+            Next(FIELD),
+            "Some(Want { point: PointId(1), version: 1, value: 0 })",
+        ),
+        (Reported(LAMP, 1, false, 1000), "FirstFailure"),
+        (Retried(5999), "()"),
+        (Looked(LAMP), "Failed"),
+        (Next(FIELD), "None"),
+        (Retried(6000), "()"),
+        (Looked(LAMP), "Pending"),
+        (
+            Next(FIELD),
+            "Some(Want { point: PointId(1), version: 1, value: 0 })",
+        ),
+        (Reported(LAMP, 1, false, 6000), "LaterFailure"),
+    ],
+];
+
+/// The point at this place of the marks.
+fn known(marks: &Marks, place: u32) -> Result<PointId, Fail>
+    ensures { IfOk result (λ point. point < length marks.now.drivers) }
+{
+    if place as usize >= marks.count() {
+        return Err("a point".into());
+    }
+    Ok(PointId(place))
+}
+
+/// Does this, and tells the answer.
+fn told(alloc: Global, marks: &mut Marks, deed: Deed) -> Result<String, Fail> {
+    match deed {
+        Started(point, target) => {
+            let point = known(marks, point)?;
+            Ok(format!(in alloc; "{:?}", marks.start(point, target))?)
+        }
+        Settled(point, target) => {
+            let point = known(marks, point)?;
+            Ok(format!(in alloc; "{:?}", marks.settle(point, target))?)
+        }
+        Next(driver) => Ok(format!(in alloc; "{:?}", marks.next(DriverId(driver)))?),
+        Reported(point, version, ok, n) => {
+            let point = known(marks, point)?;
+            let reported = marks.report(point, version, ok, u64::from(n));
+            Ok(format!(in alloc; "{reported:?}")?)
+        }
+        Retried(n) => Ok(format!(in alloc; "{:?}", marks.retry_due(u64::from(n)))?),
+        Looked(point) => Ok(format!(in alloc; "{:?}", marks.mark(known(marks, point)?))?),
+        Wanting => Ok(format!(in alloc; "{:?}", marks.wanting())?),
+    }
+}
+
+#[test]
+fn devices_are_wanted_and_marked(rt: HostRuntime) -> Result<(), Fail> {
+    let alloc = rt.alloc();
+    for deeds in TRIALS {
+        let mut points = Vec::new(alloc);
+        points.push((DriverId(FIELD), 20000))?;
+        points.push((DriverId(FIELD), 0))?;
+        points.push((DriverId(ROOF), 1))?;
+        let mut marks = Marks::new(alloc, &Items::from_vec(points))?;
+        assert_eq!(rt; marks.count(), 3);
+        for (deed, answer) in *deeds {
+            assert_eq!(rt;
+                told(alloc, &mut marks, *deed)?.as_str(),
+                *answer,
+                "{deed:?}"
+            );
+        }
+    }
+    Ok(())
+}

@@ -1,0 +1,303 @@
+use crate::THREE_POINTS;
+use boss_points::Catalogue;
+use boss_requests::{Ask, Form, ReadRefusal, Request, is_blank, read_request};
+use std::alloc::{AllocError, Global};
+use std::test::Fail;
+
+/// What a line of a script is read as: its session, its moment and its command, or why it is refused.
+fn reading(alloc: Global, catalogue: &Catalogue, line: &[u8]) -> Result<String, Fail> {
+    match read_request(alloc, catalogue, line, Form::Script) {
+        Ok(request) => asked(alloc, &request),
+        Err(ReadRefusal::Refused(refusal)) => Ok(format!(in alloc; "{refusal:?}")?),
+        Err(ReadRefusal::NoMemory) => Err("no memory".into()),
+    }
+}
+
+fn asked(alloc: Global, request: &Request) -> Result<String, Fail> {
+    let Ask::Command(command) = &request.ask;
+    Ok(format!(in alloc; "{} {} {command:?}", request.on.0, request.at)?)
+}
+
+/// Lines of a script over the three points, each below a line `= ..` that says what it is read as. A `#` begins a comment.
+const LINES: &str = r#"
+# Lines of each kind but those that have names of processes.
+= 1 0 Renew { txn: Txn(0), length: -5, points: Items { items: [] } }
+{"op":"renew","txn":0,"length":-5}
+= 1 0 Renew { txn: Txn(7), length: 60000, points: Items { items: [PointId(2), PointId(1), PointId(2)] } }
+{"op":"renew","txn":7,"length":60000,"points":["fan","lamp","fan"]}
+= 1 0 Cancel { txn: Txn(9223372036854775807) }
+{"op":"cancel","txn":9223372036854775807}
+= 1 0 Gone
+{"op":"gone"}
+= 1 0 Tick
+{"op":"tick"}
+= 1 0 Read { point: PointId(0) }
+{"op":"read","point":"ahu1.damper"}
+= 1 0 Array { point: PointId(1) }
+{"op":"array","point":"lamp"}
+= 1 0 Status { txn: Txn(3) }
+{"op":"status","txn":3}
+= 1 0 Notices { name: None, from: 1, max: 16 }
+{"op":"notices"}
+= 1 0 Notices { name: None, from: 9223372036854775807, max: 64 }
+{"op":"notices","from":9223372036854775807,"max":64}
+
+# Submits. What the machine refuses is a request all the same.
+= 1 0 Submit { writes: Items { items: [Setting { point: PointId(0), value: 45000, priority: 16, lease: 60000, revert: Items { items: [] } }] }, policy: Abort }
+{"op":"submit","writes":[{"point":"ahu1.damper","value":45000,"lease":60000}]}
+= 1 0 Submit { writes: Items { items: [Setting { point: PointId(1), value: 1, priority: 8, lease: 60000, revert: Items { items: [] } }] }, policy: Abort }
+{"op":"submit","policy":"abort","writes":[{"point":"lamp","value":1,"priority":8,"lease":60000,"revert":[]}]}
+= 1 0 Submit { writes: Items { items: [Setting { point: PointId(2), value: 3, priority: 5, lease: 1, revert: Items { items: [Step { value: 2, hold: 30000 }, Step { value: 1, hold: 5 }] } }, Setting { point: PointId(1), value: 0, priority: 16, lease: 2, revert: Items { items: [] } }] }, policy: Keep }
+{"op":"submit","policy":"keep","writes":[{"point":"fan","value":3,"priority":5,"lease":1,"revert":[[2,30000],[1,5]]},{"point":"lamp","value":0,"lease":2}]}
+= 1 0 Submit { writes: Items { items: [Setting { point: PointId(1), value: -9223372036854775808, priority: 17, lease: 0, revert: Items { items: [Step { value: 9223372036854775807, hold: -1 }, Step { value: 0, hold: 0 }, Step { value: 0, hold: 0 }, Step { value: 0, hold: 0 }, Step { value: 0, hold: 0 }, Step { value: 0, hold: 0 }, Step { value: 0, hold: 0 }, Step { value: 0, hold: 0 }, Step { value: 0, hold: 0 }] } }] }, policy: Abort }
+{"op":"submit","writes":[{"point":"lamp","value":-9223372036854775808,"priority":17,"lease":0,"revert":[[9223372036854775807,-1],[0,0],[0,0],[0,0],[0,0],[0,0],[0,0],[0,0],[0,0]]}]}
+
+# Sessions and moments.
+= 1 0 Gone
+{"on":1,"at":0,"op":"gone"}
+= 65535 1152921504606846976 Tick
+{"on":65535,"at":1152921504606846976,"op":"tick"}
+# Keys that mean nothing here, and escapes, which stand for what they spell.
+= 1 0 Tick
+{"op":"tick","process":7,"from":[1.5e300,null,{}],"op ":-0}
+{"\u006fp":"ti\u0063k"}
+# Of two equal keys the last counts.
+= 3 8 Tick
+{"op":"dance","on":0,"at":"soon","op":"tick","on":3,"at":8}
+= 1 8 Tick
+{"at":7,"op":"tick","at":8}
+
+= Malformed
+# No JSON, or more than one value.
+{
+tick
+{"op":"tick"
+{"op":"tick",}
+{'op':'tick'}
+{"op":"tick"} {"op":"tick"}
+{"op":"tick","name":"\ud800"}
+# A number that is too great for JSON's reader, also beside what is not known.
+{"op":"tick","x":1e400}
+{"op":"dance","x":1e400}
+# No object.
+null
+7
+"tick"
+["tick"]
+[{"op":"tick"}]
+# An `op` that is missing or no text.
+{}
+{"OP":"tick"}
+{"op":null}
+{"op":7}
+{"op":["tick"]}
+{"op":{"op":"tick"}}
+# A key that is missing.
+{"op":"attach"}
+{"op":"submit"}
+{"op":"renew","txn":1}
+{"op":"renew","length":1}
+{"op":"cancel"}
+{"op":"read"}
+{"op":"array"}
+{"op":"status"}
+{"op":"submit","writes":[{"value":1,"lease":1}]}
+{"op":"submit","writes":[{"point":"lamp","lease":1}]}
+{"op":"submit","writes":[{"point":"lamp","value":1}]}
+# A key of another kind.
+{"op":"attach","process":7}
+{"op":"notices","process":null}
+{"op":"notices","from":"1"}
+{"op":"notices","max":[1]}
+{"op":"cancel","txn":"1"}
+{"op":"status","txn":null}
+{"op":"read","point":0}
+{"op":"array","point":["lamp"]}
+{"op":"renew","txn":1,"length":"1"}
+{"op":"renew","txn":1,"length":1,"points":"lamp"}
+{"op":"renew","txn":1,"length":1,"points":["lamp",7]}
+{"op":"renew","txn":1,"length":1,"points":null}
+{"op":"submit","writes":{"point":"lamp","value":1,"lease":1}}
+{"op":"submit","writes":[7]}
+{"op":"submit","writes":[["lamp",1,1]]}
+{"op":"submit","writes":[{"point":7,"value":1,"lease":1}]}
+{"op":"submit","writes":[{"point":"lamp","value":true,"lease":1}]}
+{"op":"submit","writes":[{"point":"lamp","value":1,"lease":1,"priority":"8"}]}
+{"op":"submit","writes":[{"point":"lamp","value":1,"lease":1,"priority":null}]}
+{"op":"tick","on":"1"}
+{"op":"tick","at":null}
+# A policy that is none.
+{"op":"submit","writes":[{"point":"lamp","value":1,"lease":1}],"policy":"stop"}
+{"op":"submit","writes":[{"point":"lamp","value":1,"lease":1}],"policy":null}
+# A reversion that is no array of pairs.
+{"op":"submit","writes":[{"point":"lamp","value":1,"lease":1,"revert":{}}]}
+{"op":"submit","writes":[{"point":"lamp","value":1,"lease":1,"revert":[0,1]}]}
+{"op":"submit","writes":[{"point":"lamp","value":1,"lease":1,"revert":[[0]]}]}
+{"op":"submit","writes":[{"point":"lamp","value":1,"lease":1,"revert":[[0,1,2]]}]}
+{"op":"submit","writes":[{"point":"lamp","value":1,"lease":1,"revert":[[0,1],[0,"1"]]}]}
+# A fraction, an exponent, minus zero, and numbers past 64 bits.
+{"op":"cancel","txn":1.0}
+{"op":"cancel","txn":1e3}
+{"op":"cancel","txn":-0}
+{"op":"tick","at":-0}
+{"op":"cancel","txn":9223372036854775808}
+{"op":"cancel","txn":18446744073709551616}
+{"op":"submit","writes":[{"point":"lamp","value":-9223372036854775809,"lease":1}]}
+{"op":"submit","writes":[{"point":"lamp","value":9223372036854775808,"lease":1}]}
+# A number below 0, and others out of their bounds.
+{"op":"cancel","txn":-1}
+{"op":"tick","on":0}
+{"op":"tick","on":-1}
+{"op":"tick","on":65536}
+{"op":"tick","at":-1}
+{"op":"tick","at":1152921504606846977}
+{"op":"notices","from":0}
+{"op":"notices","max":0}
+{"op":"notices","max":65}
+# An array without an item.
+{"op":"submit","writes":[]}
+{"op":"renew","txn":1,"length":1,"points":[]}
+# A process that has no name.
+{"op":"attach","process":""}
+{"op":"attach","process":"A"}
+{"op":"attach","process":"a b"}
+{"op":"attach","process":"xxxxxxxxxxxxxxxxxxxxxxxxxxxxxxxxxxxxxxxxxxxxxxxxxxxxxxxxxxxxxxxxx"}
+{"op":"notices","process":"a/b"}
+# Malformed, and of a point that is not known as well.
+{"on":0,"op":"read","point":"door"}
+{"op":"submit","writes":[{"point":"door","value":1,"lease":1},{"point":"lamp"}]}
+{"op":"submit","writes":[{"point":"door","value":1,"lease":1}],"policy":"stop"}
+{"op":"renew","txn":1,"length":1,"points":["door",7]}
+{"op":"renew","txn":-1,"length":1,"points":["door"]}
+# Of two equal keys the last counts.
+{"op":"tick","op":7}
+{"op":"cancel","txn":1,"txn":"1"}
+
+= UnknownOp
+# Nothing that is known.
+{"op":""}
+{"op":"dance"}
+{"op":"Tick"}
+{"op":"tick "}
+{"op":"next","driver":0}
+{"op":"report"}
+{"op":"watch","process":"a"}
+# What else the line has does not matter.
+{"op":"dance","on":0,"at":-1}
+{"op":"watch"}
+{"op":"tick","op":"dance"}
+
+# A name that no point has, and its place.
+= UnknownPoint { index: 0 }
+{"op":"read","point":"door"}
+{"op":"array","point":"door"}
+# The least place.
+= UnknownPoint { index: 1 }
+{"op":"submit","writes":[{"point":"lamp","value":1,"lease":1},{"point":"door","value":1,"lease":1},{"point":"gate","value":1,"lease":1}]}
+= UnknownPoint { index: 2 }
+{"op":"renew","txn":1,"length":1,"points":["lamp","fan","door","lamp","gate"]}
+# Texts that could never be a name.
+= UnknownPoint { index: 0 }
+{"op":"read","point":""}
+{"op":"read","point":"Lamp"}
+{"op":"read","point":"lamp "}
+{"op":"read","point":"xxxxxxxxxxxxxxxxxxxxxxxxxxxxxxxxxxxxxxxxxxxxxxxxxxxxxxxxxxxxxxxxx"}
+# What the machine would refuse as well.
+= UnknownPoint { index: 1 }
+{"op":"submit","writes":[{"point":"lamp","value":1,"lease":1,"priority":17},{"point":"door","value":1,"lease":0}]}
+"#;
+
+/// Lines that are no text, or have blanks at their ends, and what they are read as.
+const ENDS: &[(&[u8], &str)] = &[
+    (b"", "Malformed"),
+    (b"{\"op\":\"tick\",\"x\":\"\xff\"}", "Malformed"),
+    (b" {\"op\" : \"tick\"}\r", "1 0 Tick"),
+];
+
+#[test]
+fn a_line_is_read_as_its_request(rt: HostRuntime) -> Result<(), Fail> {
+    let alloc = rt.alloc();
+    let catalogue = Catalogue::read(alloc, THREE_POINTS.as_bytes())?;
+    for group in LINES.split("\n= ").skip(1) {
+        let (wanted, lines) = group.split_once('\n').ok_or("a group")?;
+        for line in lines.split('\n') {
+            if !line.is_empty() && !line.starts_with('#') {
+                let read = reading(alloc, &catalogue, line.as_bytes())?;
+                assert_eq!(rt; read.as_str(), wanted, "{line}");
+            }
+        }
+    }
+    for (line, wanted) in ENDS {
+        let read = reading(alloc, &catalogue, line)?;
+        assert_eq!(rt; read.as_str(), *wanted, "{line:?}");
+    }
+    Ok(())
+}
+
+/// Lines of as many parts as there may be: what stands in front, a part, what answers each part behind them all, what stands
+/// behind, and how many parts there are.
+const LONGEST: &[(&str, &str, &str, &str, u32)] = &[
+    // 32 writes.
+    (
+        r#"{"op":"submit","writes":[{"point":"lamp","value":1,"lease":1}"#,
+        r#",{"point":"lamp","value":1,"lease":1}"#,
+        "",
+        "]}",
+        31,
+    ),
+    // 32 points.
+    (
+        r#"{"op":"renew","txn":1,"length":1,"points":["lamp""#,
+        r#","lamp""#,
+        "",
+        "]}",
+        31,
+    ),
+    // 127 levels, the object's own among them.
+    (r#"{"op":"tick","x":"#, "[", "]", "}", 126),
+];
+
+/// A line of so many parts.
+fn line_of(
+    alloc: Global,
+    front: &str,
+    part: &str,
+    other: &str,
+    back: &str,
+    count: u32,
+) -> Result<String, AllocError> {
+    let mut line = String::from_str(alloc, front)?;
+    for _ in 0..count {
+        line.push_str(part)?;
+    }
+    for _ in 0..count {
+        line.push_str(other)?;
+    }
+    line.push_str(back)?;
+    Ok(line)
+}
+
+#[test]
+fn a_line_has_its_bounds(rt: HostRuntime) -> Result<(), Fail> {
+    let alloc = rt.alloc();
+    let catalogue = Catalogue::read(alloc, THREE_POINTS.as_bytes())?;
+    for (front, part, other, back, most) in LONGEST {
+        let longest = line_of(alloc, front, part, other, back, *most)?;
+        let read = reading(alloc, &catalogue, longest.as_bytes())?;
+        assert!(rt; read.starts_with("1 0 "), "{longest}");
+        let longer = line_of(alloc, front, part, other, back, most.saturating_add(1))?;
+        let read = reading(alloc, &catalogue, longer.as_bytes())?;
+        assert_eq!(rt; read.as_str(), "Malformed", "{longer}");
+    }
+    Ok(())
+}
+
+#[test]
+fn a_blank_line_has_nothing_but_blanks(rt: HostRuntime) {
+    for line in ["", " ", "\t", "\r", " \t \r"] {
+        assert!(rt; is_blank(line.as_bytes()), "{line:?}");
+    }
+    for line in ["{}", " {}", "\t.\t", "\u{b}", "\u{c}", "\0", "\u{a0}"] {
+        assert!(rt; !is_blank(line.as_bytes()), "{line:?}");
+    }
+}

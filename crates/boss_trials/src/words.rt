@@ -1,0 +1,75 @@
+use boss_words::{WordsRefusal, read_words};
+use std::alloc::{AllocError, Global};
+use std::test::Fail;
+
+/// Words with bars between them, and the job that they ask for: a row of each kind with the bounds of its numbers, where no
+/// word is an option, and lists of words that are in no row.
+const ROWS: &[(&str, &str)] = &[
+    (
+        "script|--help|-",
+        r#"Ok(Script { catalogue: Word { text: "--help" }, journal: Word { text: "-" } })"#,
+    ),
+    (
+        "serve|k.toml|j|[::1]:80|0000000032|4294967295",
+        r#"Ok(Serve { catalogue: Word { text: "k.toml" }, journal: Word { text: "j" }, address: Word { text: "[::1]:80" }, workers: 32, connections: 4294967295 })"#,
+    ),
+    (
+        "check|k.toml|j",
+        r#"Ok(Check { catalogue: Word { text: "k.toml" }, journal: Word { text: "j" } })"#,
+    ),
+    ("load|10000|0", "Ok(Load { count: 10000, seed: 0 })"),
+    ("", USAGE),
+    ("frob", USAGE),
+    ("--help", USAGE),
+    ("--version", USAGE),
+    ("Script|k|j", USAGE),
+    ("script", USAGE),
+    ("script|k", USAGE),
+    ("script|k|j|x", USAGE),
+    ("script||j", USAGE),
+    ("script|k|", USAGE),
+    ("check|k", USAGE),
+    ("check|k|j|x", USAGE),
+    ("check|k|", USAGE),
+    ("serve|k|j|a|1", USAGE),
+    ("serve|k|j|a|1|1|x", USAGE),
+    ("serve|k|j||1|1", USAGE),
+    ("serve|k|j|a|0|1", USAGE),
+    ("serve|k|j|a|33|1", USAGE),
+    ("serve|k|j|a|+1|1", USAGE),
+    ("serve|k|j|a|1|0", USAGE),
+    ("serve|k|j|a|1|4294967296", USAGE),
+    ("serve|k|j|a|1|00000000001", USAGE),
+    ("load|1", USAGE),
+    ("load|0|1", USAGE),
+    ("load|10001|1", USAGE),
+    ("load|1|-0", USAGE),
+    ("load|1| 1", USAGE),
+    ("load|1|", USAGE),
+    ("load|1|9999999999", USAGE),
+];
+
+const USAGE: &str = "Err(Usage)";
+
+#[test]
+fn words_ask_for_their_job(rt: HostRuntime) -> Result<(), Fail> {
+    for (words, job) in ROWS {
+        let words = words_of(rt.alloc(), words)?;
+        let read = format!(in rt.alloc(); "{:?}", read_words(rt.alloc(), &words))?;
+        assert_eq!(rt; read.as_str(), *job, "{words:?}");
+    }
+    let none = Vec::new(rt.alloc());
+    assert_eq!(rt;
+        read_words(rt.alloc(), &none).err(),
+        Some(WordsRefusal::Usage)
+    );
+    Ok(())
+}
+
+fn words_of(alloc: Global, text: &str) -> Result<Vec<String>, AllocError> {
+    let mut words = Vec::new(alloc);
+    for word in text.split('|') {
+        words.push(String::from_str(alloc, word)?)?;
+    }
+    Ok(words)
+}

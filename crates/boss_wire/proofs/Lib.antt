@@ -1,0 +1,2 @@
+pub mod RequestRows
+pub mod ScriptRows

@@ -1,0 +1,96 @@
+-- Lines and what they ask, computed from the definitions alone.
+use Rattle.std.proofs.Common.{◌≡◌, [], ◌∷◌, pos, None, refl}
+use Rattle.std.specs.Prelude.{codes, replicate}
+use Rattle.std.specs.Str.{is_utf8, chars}
+use Rattle.serde_json.proofs.OnLiterals.{serde_json_on_literals}
+use Rattle.boss_model.specs.declared.answer.Refusal.TheVariants.{Malformed, UnknownOp, UnknownPoint}
+use Rattle.boss_model.specs.declared.command.Command.TheVariants as command
+use Rattle.boss_model.specs.declared.command.Policy.TheVariants.{Abort, Keep}
+use Rattle.boss_wire.specs.declared.form.Form.TheVariants.{Script}
+use Rattle.boss_model.specs.declared.point.Kind.TheVariants.{Analog, Binary}
+use Rattle.boss_model.specs.Catalogue.{Catalogue}
+use Rattle.boss_wire.specs.Requests.{asks, wrong, parsed}
+
+-- a damper and a lamp on one driver
+abbrev site : Catalogue
+site = record {
+  drivers = codes "field" ∷ [];
+  points =
+      record { name = codes "damper"; actuator = record { kind = Analog (pos 0) (pos 100000); default = pos 20000; driver = 0 } } ∷
+      record { name = codes "lamp"; actuator = record { kind = Binary; default = pos 0; driver = 0 } } ∷ [];
+}
+
+-- a write that names no priority is at the lowest, and a submit that names no policy is to be aborted
+submitted : parsed site Script (codes "{\"on\":3,\"at\":1000,\"op\":\"submit\",\"writes\":[{\"point\":\"lamp\",\"value\":1,\"lease\":60000,\"revert\":[[0,5000]]}]}")
+    ≡ asks (record { on = 3; at = 1000; command = command.Submit (record { point = 1; value = pos 1; priority = pos 16; lease = pos 60000; revert = record { value = pos 0; hold = pos 5000 } ∷ [] } ∷ []) Abort })
+unfolding parsed serde_json_on_literals is_utf8 chars
+submitted = refl
+
+-- a renewal of two points, and one of all leases
+renewed : parsed site Script (codes "{\"op\":\"renew\",\"txn\":7,\"length\":60000,\"points\":[\"lamp\",\"damper\"]}")
+    ≡ asks (record { on = 1; at = 0; command = command.Renew 7 (pos 60000) (1 ∷ 0 ∷ []) })
+unfolding parsed serde_json_on_literals is_utf8 chars
+renewed = refl
+
+all_renewed : parsed site Script (codes "{\"op\":\"renew\",\"txn\":7,\"length\":60000}") ≡ asks (record { on = 1; at = 0; command = command.Renew 7 (pos 60000) [] })
+unfolding parsed serde_json_on_literals is_utf8 chars
+all_renewed = refl
+
+-- the first sixteen notices of the session's own process
+noticed : parsed site Script (codes "{\"op\":\"notices\"}") ≡ asks (record { on = 1; at = 0; command = command.Notices None 1 16 })
+unfolding parsed serde_json_on_literals is_utf8 chars
+noticed = refl
+
+-- of two equal keys the last counts
+last_counts : parsed site Script (codes "{\"at\":\"soon\",\"op\":\"dance\",\"at\":8,\"op\":\"tick\"}") ≡ asks (record { on = 1; at = 8; command = command.Tick })
+unfolding parsed serde_json_on_literals is_utf8 chars
+last_counts = refl
+
+-- what is not known is told whatever else the line has
+unknown : parsed site Script (codes "{\"on\":0,\"op\":\"watch\"}") ≡ wrong UnknownOp
+unfolding parsed serde_json_on_literals is_utf8 chars
+unknown = refl
+
+-- the least place of a name that no point has
+nowhere : parsed site Script (codes "{\"op\":\"renew\",\"txn\":7,\"length\":1,\"points\":[\"lamp\",\"Door\",\"\"]}") ≡ wrong (UnknownPoint 1)
+unfolding parsed serde_json_on_literals is_utf8 chars
+nowhere = refl
+
+-- a write that is none is told before a point that is not known
+malformed : parsed site Script (codes "{\"op\":\"submit\",\"writes\":[{\"point\":\"door\",\"value\":1,\"lease\":1},{\"point\":\"lamp\",\"value\":1}]}") ≡ wrong Malformed
+unfolding parsed serde_json_on_literals is_utf8 chars
+malformed = refl
+
+-- what the machine refuses is a request all the same
+left_to_the_machine : parsed site Script (codes "{\"op\":\"submit\",\"policy\":\"keep\",\"writes\":[{\"point\":\"lamp\",\"value\":2,\"priority\":17,\"lease\":0}]}")
+    ≡ asks (record { on = 1; at = 0; command = command.Submit (record { point = 1; value = pos 2; priority = pos 17; lease = pos 0; revert = [] } ∷ []) Keep })
+unfolding parsed serde_json_on_literals is_utf8 chars
+left_to_the_machine = refl
+
+-- the last session and the last moment, and the most notices; then one more of each
+greatest : parsed site Script (codes "{\"on\":65535,\"at\":1152921504606846976,\"op\":\"notices\",\"max\":64}")
+    ≡ asks (record { on = 65535; at = 1152921504606846976; command = command.Notices None 1 64 })
+unfolding parsed serde_json_on_literals is_utf8 chars
+greatest = refl
+
+no_such_session : parsed site Script (codes "{\"on\":65536,\"op\":\"tick\"}") ≡ wrong Malformed
+unfolding parsed serde_json_on_literals is_utf8 chars
+no_such_session = refl
+
+no_such_moment : parsed site Script (codes "{\"at\":1152921504606846977,\"op\":\"tick\"}") ≡ wrong Malformed
+unfolding parsed serde_json_on_literals is_utf8 chars
+no_such_moment = refl
+
+too_many_notices : parsed site Script (codes "{\"op\":\"notices\",\"max\":65}") ≡ wrong Malformed
+unfolding parsed serde_json_on_literals is_utf8 chars
+too_many_notices = refl
+
+-- as many points as a renewal may name, and one more
+most_points_named : parsed site Script (codes "{\"op\":\"renew\",\"txn\":7,\"length\":1,\"points\":[\"lamp\",\"lamp\",\"lamp\",\"lamp\",\"lamp\",\"lamp\",\"lamp\",\"lamp\",\"lamp\",\"lamp\",\"lamp\",\"lamp\",\"lamp\",\"lamp\",\"lamp\",\"lamp\",\"lamp\",\"lamp\",\"lamp\",\"lamp\",\"lamp\",\"lamp\",\"lamp\",\"lamp\",\"lamp\",\"lamp\",\"lamp\",\"lamp\",\"lamp\",\"lamp\",\"lamp\",\"lamp\"]}")
+    ≡ asks (record { on = 1; at = 0; command = command.Renew 7 (pos 1) (replicate 32 1) })
+unfolding parsed serde_json_on_literals is_utf8 chars
+most_points_named = refl
+
+too_many_points_named : parsed site Script (codes "{\"op\":\"renew\",\"txn\":7,\"length\":1,\"points\":[\"lamp\",\"lamp\",\"lamp\",\"lamp\",\"lamp\",\"lamp\",\"lamp\",\"lamp\",\"lamp\",\"lamp\",\"lamp\",\"lamp\",\"lamp\",\"lamp\",\"lamp\",\"lamp\",\"lamp\",\"lamp\",\"lamp\",\"lamp\",\"lamp\",\"lamp\",\"lamp\",\"lamp\",\"lamp\",\"lamp\",\"lamp\",\"lamp\",\"lamp\",\"lamp\",\"lamp\",\"lamp\",\"lamp\"]}") ≡ wrong Malformed
+unfolding parsed serde_json_on_literals is_utf8 chars
+too_many_points_named = refl
