@@ -1,0 +1,13 @@
+use Rattle.std.proofs.Common.{◌≡◌, None, arith, replicate, rules}
+use Rattle.boss_timers.proofs.Kept.{IsKept-none, times-none}
+use Rattle.boss_timers.proofs.timers.Timers.new.Goals as goal
+
+pub invariant_of-result : goal.invariant_of-result
+invariant_of-result c =
+    let places : c.in_ok-vec.field-0.items ≡ replicate c.args.capacity None = c.in_ok-vec.ensures.items_if_clones_equal (λ y same. search rules) in
+    rw (c.in_ok-with_capacity.ensures.items, places) (IsKept-none c.args.capacity _ (omega (arith, c.in_ok-with_capacity.ensures.exact)) (omega arith))
+
+pub returns : goal.returns
+returns c =
+    let places : c.in_ok-vec.field-0.items ≡ replicate c.args.capacity None = c.in_ok-vec.ensures.items_if_clones_equal (λ y same. search rules) in
+    rw places (times-none c.args.capacity _)
