@@ -1,0 +1,7 @@
+pub mod Torn
+pub mod Runs
+pub mod Legs
+pub mod Kept
+pub mod Picked
+pub mod Crash
+pub mod Fronts

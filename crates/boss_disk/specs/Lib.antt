@@ -1,0 +1,12 @@
+pub mod Window
+pub mod Story
+pub mod Runs
+pub mod Legs
+pub mod Record
+pub mod Kept
+pub mod Calls
+pub mod Picked
+pub mod Marks
+pub mod Images
+pub mod Crash
+pub mod Fronts
