@@ -1,0 +1,7 @@
+pub mod Clocks
+pub mod Either
+pub mod Hosts
+pub mod Joins
+pub mod Log
+pub mod Tasks
+pub mod Waits
