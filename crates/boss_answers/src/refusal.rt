@@ -15,6 +15,7 @@ pub(crate) fn write_refusal(into: &mut Buffer, refusal: &Refusal)
         Refusal::UnknownOp => into.extend(b"{\"error\":\"unknown-op\"}"),
         Refusal::UnknownPoint { index } => put_placed(into, b"unknown-point", *index),
         Refusal::NotAttached => into.extend(b"{\"error\":\"not-attached\"}"),
+        Refusal::Stale { kept } => write_last(into, b"{\"error\":\"stale\",\"kept\":", *kept),
         Refusal::SamePoint { index } => put_placed(into, b"same-point", *index),
         Refusal::BadPriority { index } => put_placed(into, b"bad-priority", *index),
         Refusal::OutOfRange { index } => put_placed(into, b"out-of-range", *index),

@@ -79,4 +79,5 @@ ready-attach session name (ready.Refused why) s is passed = absurd (passed why r
 ready-attach session name (ready.Process ring) s is passed = is.0
 ready-attach session name ready.Nothing s is passed = is.0
 ready-attach session name (ready.Submit transaction leases) s is passed = absurd is
+ready-attach session name (ready.Decided answer) s is passed = absurd is
 ready-attach session name (ready.List notices) s is passed = absurd is

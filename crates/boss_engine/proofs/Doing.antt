@@ -6,30 +6,48 @@ use Rattle.boss_model.specs.declared.answer.Answer.TheVariants as answer
 use Rattle.boss_model.specs.declared.command.Command.TheVariants as command
 use Rattle.boss_model.specs.declared.command.Policy.{Policy}
 use Rattle.boss_model.specs.declared.command.Policy.TheVariants.{Abort, Keep}
+use Rattle.boss_model.specs.declared.kept.Acceptance.TheVariants as acceptance
 use Rattle.boss_model.specs.declared.notice.Cause.TheVariants as cause
 use Rattle.boss_model.specs.declared.state.Actuator.{Actuator}
 use Rattle.boss_model.specs.declared.state.Lease.{Lease}
 use Rattle.boss_model.specs.Ends.{end_leases, fault, faulted, is_of, is_owned_by, lost}
 use Rattle.boss_model.specs.Happenings.{tell}
-use Rattle.boss_model.specs.Machine.{act}
+use Rattle.boss_model.specs.Machine.{act, after}
+use Rattle.boss_model.specs.Outcomes.{did}
 use Rattle.boss_model.specs.Processes.{attach_refused, attached_too, enrol, enrol_unless, next_notice, number_of, process_named, process_of}
 use Rattle.boss_model.specs.Renew.{is_meant, extended_if, renew_refused}
 use Rattle.boss_model.specs.Sound.{IsSoundPersistent}
 use Rattle.boss_model.specs.State.{Persistent, Process, State}
+use Rattle.boss_model.specs.Replies.{once}
+use Rattle.boss_model.specs.Submit.{first_until}
 use Rattle.boss_model.specs.Target.{in_force}
 use Rattle.boss_policy.specs.Decision.{decision}
 use Rattle.boss_policy.specs.declared.Decision.TheVariants.{EndAll, Tell}
 use Rattle.boss_engine.proofs.Concluded.{kept-fault, renewed-plain}
 use Rattle.boss_engine.proofs.Counted.{any-counted}
+use Rattle.boss_engine.proofs.Replied.{once-did}
+use Rattle.boss_engine.specs.Replying.{decided, with_reply}
 
 -- ---- renew
 
-pub renew-leaves : (plant any : List Actuator) (session owner txn : ℕ) (asked : ℤ) (points : List ℕ) (n : ℕ) (s : State) → IsSoundPersistent plant s.persistent →
-    Some owner ≡ process_of s.attached session → None ≡ renew_refused owner txn asked points n s.persistent →
-    (act any session n (command.Renew txn asked points) s).state
-    ≡ record s { persistent = record s.persistent { now = n; leases = map (extended_if (is_meant txn points) (n + unsigned_abs asked)) s.persistent.leases } }
-renew-leaves plant any session owner txn asked points n s sound held passed =
-    rw (← held, ← passed) (ap (λ d. record s { persistent = d }) (renewed-plain plant txn asked points n s.persistent sound))
+module _ (plant any : List Actuator) (session owner txn : ℕ) (asked : ℤ) (points : List ℕ) (seq n : ℕ) (s : State) (sound : IsSoundPersistent plant s.persistent)
+    (held : process_of s.attached session ≡ Some owner) (undecided : decided s.persistent.processes owner seq ≡ None)
+    (passed : renew_refused owner txn asked points n s.persistent ≡ None) where
+  -- the leases after the renewal, and the first moment at which one of them ends
+  abbrev later : List Lease
+  later = map (extended_if (is_meant txn points) (n + unsigned_abs asked)) s.persistent.leases
+
+  abbrev until : ℕ
+  until = first_until (filter (is_meant txn points) later)
+
+  pub renew-leaves : act any session n (command.Renew txn asked points seq) s
+      ≡ record {
+        answer = answer.Renewed txn until;
+        state = record s { persistent = with_reply owner seq (acceptance.Renewed txn until) (record s.persistent { now = n; leases = later }) };
+      }
+  renew-leaves = rw (held, passed) (
+      ap (λ d. after s (once owner seq s.persistent (did (answer.Renewed txn (first_until (filter (is_meant txn points) d.leases))) d))) (renewed-plain plant txn asked points n s.persistent sound)
+      ∙ ap (after s) (once-did owner seq s.persistent (acceptance.Renewed txn until) (record s.persistent { now = n; leases = later }) undecided))
 
 -- ---- a process is lost
 
@@ -97,5 +115,5 @@ pub next-enrolled : (name : List ℕ) (n : ℕ) (d : Persistent) →
 next-enrolled name n d = found (process_named d.processes name)
   where
     found : (named : Option ℕ) → next_notice (enrol_unless named name n d).processes (number_of d.processes named) ≡ next_notice d.processes (number_of d.processes named)
-    found None = rw (get-last d.processes (record { name = name; count = 0; kept = [] }), get-none d.processes) refl
+    found None = rw (get-last d.processes (record { name = name; count = 0; kept = []; reply = None }), get-none d.processes) refl
     found (Some process) = refl

@@ -13,6 +13,7 @@ pub mod Playable
 pub mod Playing
 pub mod Readied
 pub mod Recorded
+pub mod Replied
 pub mod Rooms
 pub mod Shortened
 pub mod Side

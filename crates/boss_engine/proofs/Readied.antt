@@ -13,6 +13,7 @@ use Rattle.boss_engine.specs.declared.ready.Ready.{Ready}
 use Rattle.boss_engine.specs.declared.ready.Ready.TheVariants as ready
 use Rattle.boss_engine.specs.Ready.{IsReadyFor, IsReadyToAttach, IsReadyToSubmit, MustBeThere}
 use Rattle.boss_engine.proofs.Names.{attach-refused-ticked, told-named}
+use Rattle.boss_engine.proofs.Replied.{decided-told}
 
 readied-attach : (plant : List Actuator) (session n : ℕ) (name : List ℕ) (s : State) (given : Ready) →
     IsReadyToAttach session name given s → IsReadyToAttach session name given (pass_time plant n s)
@@ -22,27 +23,31 @@ readied-attach plant session n name s (ready.Process ring) was =
 readied-attach plant session n name s ready.Nothing was =
     (attach-refused-ticked session name s.attached n s.persistent ∙ was.0, subst MustBeThere (sym (told-named s.persistent.processes (due n s.persistent) name)) was.1)
 readied-attach plant session n name s (ready.Submit transaction leases) was = was
+readied-attach plant session n name s (ready.Decided answer) was = was
 readied-attach plant session n name s (ready.List notices) was = was
 
-readied-submit : (plant : List Actuator) (owner : Option ℕ) (writes : List Setting) (policy : Policy) (n : ℕ) (given : Ready) (s : State) →
-    IsReadyToSubmit plant owner writes policy n given s → IsReadyToSubmit plant owner writes policy n given (pass_time plant n s)
-readied-submit plant None writes policy n (ready.Refused why) s was = was
-readied-submit plant None writes policy n (ready.Process ring) s was = was
-readied-submit plant None writes policy n ready.Nothing s was = was
-readied-submit plant None writes policy n (ready.Submit transaction leases) s was = was
-readied-submit plant None writes policy n (ready.List notices) s was = was
-readied-submit plant (Some owner) writes policy n (ready.Refused why) s was = was
-readied-submit plant (Some owner) writes policy n (ready.Process ring) s was = was
-readied-submit plant (Some owner) writes policy n ready.Nothing s was = was
-readied-submit plant (Some owner) writes policy n (ready.Submit transaction leases) s was = was
-readied-submit plant (Some owner) writes policy n (ready.List notices) s was = was
+readied-submit : (plant : List Actuator) (owner : Option ℕ) (writes : List Setting) (policy : Policy) (seq n : ℕ) (given : Ready) (s : State) →
+    IsReadyToSubmit plant owner writes policy seq n given s → IsReadyToSubmit plant owner writes policy seq n given (pass_time plant n s)
+readied-submit plant None writes policy seq n (ready.Refused why) s was = was
+readied-submit plant None writes policy seq n (ready.Decided answer) s was = was
+readied-submit plant None writes policy seq n (ready.Process ring) s was = was
+readied-submit plant None writes policy seq n ready.Nothing s was = was
+readied-submit plant None writes policy seq n (ready.Submit transaction leases) s was = was
+readied-submit plant None writes policy seq n (ready.List notices) s was = was
+readied-submit plant (Some owner) writes policy seq n (ready.Refused why) s was = (decided-told s.persistent.processes (due n s.persistent) owner seq ∙ was.0, was.1)
+readied-submit plant (Some owner) writes policy seq n (ready.Decided answer) s was = decided-told s.persistent.processes (due n s.persistent) owner seq ∙ was
+readied-submit plant (Some owner) writes policy seq n (ready.Process ring) s was = was
+readied-submit plant (Some owner) writes policy seq n ready.Nothing s was = was
+readied-submit plant (Some owner) writes policy seq n (ready.Submit transaction leases) s was =
+    (decided-told s.persistent.processes (due n s.persistent) owner seq ∙ was.0, was.1, was.2, was.3, was.4)
+readied-submit plant (Some owner) writes policy seq n (ready.List notices) s was = was
 
 pub readied : (plant : List Actuator) (session : ℕ) (c : Command) (n : ℕ) (given : Ready) (s : State) →
     IsReadyFor plant session c n given s → IsReadyFor plant session c n given (pass_time plant n s)
 readied plant session (command.Attach name) n given s was = readied-attach plant session n name s given was
-readied plant session (command.Submit writes policy) n given s was = readied-submit plant (process_of s.attached session) writes policy n given s was
-readied plant session (command.Renew txn length points) n given s was = was
-readied plant session (command.Cancel txn) n given s was = was
+readied plant session (command.Submit writes policy seq) n given s was = readied-submit plant (process_of s.attached session) writes policy seq n given s was
+readied plant session (command.Renew txn length points seq) n given s was = was
+readied plant session (command.Cancel txn seq) n given s was = was
 readied plant session command.Gone n given s was = was
 readied plant session command.Tick n given s was = was
 readied plant session (command.Next driver) n given s was = was

@@ -22,6 +22,7 @@ module _ (old new : Machine) (few : IsNoMore (persistent_of old.lasting) (persis
   pub room-left : (given : Ready) → HasRoomFor given old → HasRoomFor given new
   room-left ready.Nothing room = tt
   room-left (ready.Refused why) room = tt
+  room-left (ready.Decided answer) room = tt
   room-left (ready.Process ring) room = tt
   room-left (ready.List notices) room = tt
   room-left (ready.Submit transaction writes) room = record {

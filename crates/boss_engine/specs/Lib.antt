@@ -4,6 +4,7 @@ pub mod Meant
 pub mod Processes
 pub mod Ready
 pub mod Refusals
+pub mod Replying
 pub mod Running
 pub mod Settling
 pub mod Slots

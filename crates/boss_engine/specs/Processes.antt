@@ -1,17 +1,18 @@
-use Rattle.std.specs.Prelude.{ℕ, List, [], ◌∷◌, slice_get, unwrap_or}
+use Rattle.std.specs.Prelude.{ℕ, List, [], ◌∷◌, None, slice_get, unwrap_or}
 use Rattle.boss_model.specs.State.{Process}
 use Rattle.boss_notices.specs.Rings.{Ring}
+use Rattle.boss_engine.specs.declared.processes.Entry.{Entry}
 
--- the process with this name that was told what the ring keeps
-abbrev pub process_of : List ℕ → Ring → Process
-process_of name ring = record { name = name; count = ring.count; kept = ring.kept }
+-- the process of this entry that was told what the ring keeps
+abbrev pub process_of : Entry → Ring → Process
+process_of entry ring = record { name = entry.name; count = ring.count; kept = ring.kept; reply = entry.reply }
 
--- the processes of these names, in their order
-abbrev pub processes_of : List (List ℕ) → List Ring → List Process
+-- the processes of these entries, in their order
+abbrev pub processes_of : List Entry → List Ring → List Process
 processes_of [] rings = []
-processes_of (name ∷ names) [] = []
-processes_of (name ∷ names) (ring ∷ rings) = process_of name ring ∷ processes_of names rings
+processes_of (entry ∷ entries) [] = []
+processes_of (entry ∷ entries) (ring ∷ rings) = process_of entry ring ∷ processes_of entries rings
 
 -- the process at a place; where there is none, one without a name
 abbrev pub process_at : List Process → ℕ → Process
-process_at processes process = unwrap_or (slice_get processes process) (record { name = []; count = 0; kept = [] })
+process_at processes process = unwrap_or (slice_get processes process) (record { name = []; count = 0; kept = []; reply = None })

@@ -10,19 +10,22 @@ use Rattle.boss_model.specs.State.{State}
 use Rattle.boss_model.specs.Submit.{begun, granted, submit_refused}
 use Rattle.boss_notices.specs.Rings.{no_notices}
 use Rattle.boss_engine.specs.Inside.{HasPlacesFor}
+use Rattle.boss_engine.specs.Replying.{decided}
 use Rattle.boss_engine.specs.declared.machine.Machine.{Machine}
 use Rattle.boss_engine.specs.declared.ready.Ready.{Ready}
 use Rattle.boss_engine.specs.declared.ready.Ready.TheVariants as ready
 
--- ---- which commands may need memory: those that are not refused, and take on what outlasts them or make a list
+-- ---- which commands may need memory: those that take on what outlasts them or make a list, where they are neither refused nor
+-- answered by a reply that is kept
 
 abbrev pub MayTakeOn : Option ℕ → Type 0
 MayTakeOn None = Unit {0}
 MayTakeOn (Some process) = ⊥
 
-abbrev pub MaySubmit : List Actuator → List Setting → Option ℕ → State → Type 0
-MaySubmit plant writes None s = ⊥
-MaySubmit plant writes (Some owner) s = submit_refused plant writes s.persistent ≡ None
+abbrev pub MaySubmit : List Actuator → List Setting → ℕ → Option ℕ → State → Type 0
+MaySubmit plant writes seq None s = ⊥
+MaySubmit plant writes seq (Some owner) s =
+    (decided s.persistent.processes owner seq ≡ None) × (submit_refused plant writes s.persistent ≡ None)
 
 abbrev pub MayList : Option (List ℕ) → Option ℕ → Type 0
 MayList (Some name) process = Unit {0}
@@ -32,7 +35,7 @@ MayList None None = ⊥
 abbrev pub MayNeedMemory : List Actuator → ℕ → Command → State → Type 0
 MayNeedMemory plant session (command.Attach name) s =
     (attach_refused session name s.attached s.persistent ≡ None) × MayTakeOn (process_named s.persistent.processes name)
-MayNeedMemory plant session (command.Submit writes policy) s = MaySubmit plant writes (process_of s.attached session) s
+MayNeedMemory plant session (command.Submit writes policy seq) s = MaySubmit plant writes seq (process_of s.attached session) s
 MayNeedMemory plant session (command.Notices name from most) s = MayList name (process_of s.attached session)
 MayNeedMemory plant session other s = ⊥
 
@@ -56,15 +59,18 @@ IsReadyToAttach session name ready.Nothing s =
     (attach_refused session name s.attached s.persistent ≡ None) × MustBeThere (process_named s.persistent.processes name)
 IsReadyToAttach session name other s = ⊥
 
-abbrev pub IsReadyToSubmit : List Actuator → Option ℕ → List Setting → Policy → ℕ → Ready → State → Type 0
-IsReadyToSubmit plant None writes policy n (ready.Refused why) s = why ≡ refusal.NotAttached
-IsReadyToSubmit plant (Some owner) writes policy n (ready.Refused why) s = submit_refused plant writes s.persistent ≡ Some why
-IsReadyToSubmit plant (Some owner) writes policy n (ready.Submit transaction leases) s =
-    (submit_refused plant writes s.persistent ≡ None)
+abbrev pub IsReadyToSubmit : List Actuator → Option ℕ → List Setting → Policy → ℕ → ℕ → Ready → State → Type 0
+IsReadyToSubmit plant None writes policy seq n (ready.Refused why) s = why ≡ refusal.NotAttached
+IsReadyToSubmit plant (Some owner) writes policy seq n (ready.Decided given) s = decided s.persistent.processes owner seq ≡ Some given
+IsReadyToSubmit plant (Some owner) writes policy seq n (ready.Refused why) s =
+    (decided s.persistent.processes owner seq ≡ None) × (submit_refused plant writes s.persistent ≡ Some why)
+IsReadyToSubmit plant (Some owner) writes policy seq n (ready.Submit transaction leases) s =
+    (decided s.persistent.processes owner seq ≡ None)
+    × (submit_refused plant writes s.persistent ≡ None)
     × (transaction.transaction ≡ begun owner policy s.persistent.next writes)
     × (transaction.reverting ≡ [])
     × (leases.items ≡ granted owner policy s.persistent.next n writes)
-IsReadyToSubmit plant owner writes policy n given s = ⊥
+IsReadyToSubmit plant owner writes policy seq n given s = ⊥
 
 abbrev pub IsReadyToList : Option (List ℕ) → Option ℕ → ℕ → Ready → Type 0
 IsReadyToList None None most (ready.Refused why) = why ≡ refusal.NotAttached
@@ -74,8 +80,8 @@ IsReadyToList name process most given = ⊥
 
 abbrev pub IsReadyFor : List Actuator → ℕ → Command → ℕ → Ready → State → Type 0
 IsReadyFor plant session (command.Attach name) n given s = IsReadyToAttach session name given s
-IsReadyFor plant session (command.Submit writes policy) n given s =
-    IsReadyToSubmit plant (process_of s.attached session) writes policy n given s
+IsReadyFor plant session (command.Submit writes policy seq) n given s =
+    IsReadyToSubmit plant (process_of s.attached session) writes policy seq n given s
 IsReadyFor plant session (command.Notices name from most) n given s = IsReadyToList name (process_of s.attached session) most given
 IsReadyFor plant session other n given s = Unit {0}
 

@@ -5,6 +5,7 @@ ghost use Rattle.boss_model.specs.declared.answer.Answer.TheVariants as answer;
 ghost use Rattle.boss_model.specs.declared.command.Command.TheVariants as command;
 ghost use Rattle.boss_model.specs.declared.command.Policy.{Policy};
 ghost use Rattle.boss_model.specs.declared.command.Setting.{Setting};
+ghost use Rattle.boss_model.specs.declared.kept.Acceptance.TheVariants as acceptance;
 ghost use Rattle.boss_model.specs.declared.notice.Cause.TheVariants as cause;
 ghost use Rattle.boss_model.specs.declared.state.Lease.{Lease};
 ghost use Rattle.boss_model.specs.Ends.{end_leases, fault, faulted, is_of, is_owned_by, lost};
@@ -20,18 +21,21 @@ ghost use Rattle.boss_engine.specs.Lasting.{IsSomeSubmit, IsSubmit, persistent_o
 ghost use Rattle.boss_books.specs.Passed.{IsPassed};
 ghost use Rattle.boss_books.specs.Playing.{IsPlayable};
 ghost use Rattle.boss_engine.specs.Ready.{CanTakeOn, HasRoomFor, IsReadyToAttach, IsReadyToList, IsReadyToSubmit};
+ghost use Rattle.boss_engine.specs.Replying.{with_reply};
 
 use crate::attached::{attach, detach, process_of};
 use crate::machine::Machine;
-use crate::queries::{extend, first_until, first_until_of, notices};
+use crate::queries::{first_until, first_until_of, notices};
 use crate::ready::Ready;
 use crate::refusals::{cancel_refused, renew_refused};
+use crate::renewing::extend;
 use crate::slots::Which;
 use crate::target::{basis_of, in_force, slots_of, target_of};
 use boss_books::{Happening, Telling};
 use boss_marks::Reported;
 use boss_model::{
-    Actuator, Answer, Cause, DriverId, Lease, Name, PointId, ProcId, Refusal, SessionId, Txn, What,
+    Acceptance, Actuator, Answer, Cause, DriverId, Lease, Name, PointId, ProcId, Refusal,
+    SessionId, Txn, What,
 };
 use boss_policy::{Decision, on_fault};
 use boss_stages::Transaction;
@@ -77,32 +81,33 @@ impl Machine {
         process
     }
 
-    /// The leases of a new transaction take their slots.
-    pub fn submit(&mut self, n: u64, ready: Ready) -> Answer
+    /// The leases of a new transaction take their slots. `seq` is the number of the request, 0 for none.
+    pub fn submit(&mut self, seq: u64, n: u64, ready: Ready) -> Answer
         requires can_run { (plant : List Actuator) × CanRun plant self.old }
         requires moment { (self.old.lasting.moment ≤ n) × (n ≤ last_moment) }
-        requires ready { (plant : List Actuator) × (session : ℕ) × (writes : List Setting) × (policy : Policy) × (1 ≤ length writes) × IsReadyToSubmit plant (process_of self.old.attached.items session) writes policy n ready (state_of self.old) }
+        requires ready { (plant : List Actuator) × (session : ℕ) × (writes : List Setting) × (policy : Policy) × (1 ≤ length writes) × IsReadyToSubmit plant (process_of self.old.attached.items session) writes policy seq n ready (state_of self.old) }
         requires room { HasRoomFor ready self.old }
         ensures answer { (plant : List Actuator) (session : ℕ) (writes : List Setting) (policy : Policy) → 1 ≤ length writes →
-            IsReadyToSubmit plant (process_of self.old.attached.items session) writes policy n ready (state_of self.old) →
-            result ≡ (act plant session n (command.Submit writes policy) (state_of self.old)).answer }
+            IsReadyToSubmit plant (process_of self.old.attached.items session) writes policy seq n ready (state_of self.old) →
+            result ≡ (act plant session n (command.Submit writes policy seq) (state_of self.old)).answer }
         ensures state { (plant : List Actuator) (session : ℕ) (writes : List Setting) (policy : Policy) → 1 ≤ length writes →
-            IsReadyToSubmit plant (process_of self.old.attached.items session) writes policy n ready (state_of self.old) →
-            state_of self.new ≡ (act plant session n (command.Submit writes policy) (state_of self.old)).state }
+            IsReadyToSubmit plant (process_of self.old.attached.items session) writes policy seq n ready (state_of self.old) →
+            state_of self.new ≡ (act plant session n (command.Submit writes policy seq) (state_of self.old)).state }
         ensures places { (plant : List Actuator) → HasPlaces plant self.old → HasPlaces plant self.new }
     {
         match ready {
             Ready::Submit {
                 transaction,
                 leases,
-            } => self.begin(transaction, leases, n),
+            } => self.begin(transaction, leases, seq, n),
+            Ready::Decided(answer) => answer,
             Ready::Refused(why) => Answer::Refused(why),
             _ => unreachable!(),
         }
     }
 
     /// The same of a transaction that is not refused.
-    fn begin(&mut self, transaction: Transaction, leases: Vec<Lease>, n: u64) -> Answer
+    fn begin(&mut self, transaction: Transaction, leases: Vec<Lease>, seq: u64, n: u64) -> Answer
         requires can_run { (plant : List Actuator) × CanRun plant self.old }
         requires begun { IsSomeSubmit n transaction leases.items (persistent_of self.old.lasting) }
         requires next { self.old.lasting.next_txn < last_number }
@@ -110,61 +115,70 @@ impl Machine {
         ensures answer { result ≡ answer.Accepted self.old.lasting.next_txn (first_until leases.items) }
         ensures after { (owner : ℕ) (policy : Policy) (writes : List Setting) →
             IsSubmit n transaction leases.items (persistent_of self.old.lasting) owner policy writes →
-            persistent_of self.new.lasting ≡ submitted owner policy writes n (persistent_of self.old.lasting) }
+            persistent_of self.new.lasting ≡ with_reply owner seq (acceptance.Accepted self.old.lasting.next_txn (first_until leases.items)) (submitted owner policy writes n (persistent_of self.old.lasting)) }
         ensures others { (self.new.marks ≡ self.old.marks) × (self.new.attached ≡ self.old.attached) }
         ensures places { (plant : List Actuator) → HasPlaces plant self.old → HasPlaces plant self.new }
     {
-        let answer = Answer::Accepted {
+        let owner = transaction.owner();
+        let acceptance = Acceptance::Accepted {
             txn: Txn(self.lasting.next_txn),
             until: first_until(&leases),
         };
         self.lasting.submit(transaction, leases, n, &mut self.told);
-        answer
+        self.lasting.processes.accept(owner, seq, acceptance)
     }
 
-    /// Leases of a transaction last longer.
+    /// Leases of a transaction last longer. `seq` is the number of the request, 0 for none.
     pub fn renew(
         &mut self,
         session: SessionId,
         txn: Txn,
         duration: i64,
         points: &[PointId],
+        seq: u64,
         n: u64,
     ) -> Answer
         requires can_run { (plant : List Actuator) × CanRun plant self.old }
         requires moment { (self.old.lasting.moment ≤ n) × (n ≤ last_moment) }
         requires points { length points.now ≤ most_writes }
-        ensures answer { (plant : List Actuator) → result ≡ (act plant session n (command.Renew txn duration points.now) (state_of self.old)).answer }
-        ensures state { (plant : List Actuator) → state_of self.new ≡ (act plant session n (command.Renew txn duration points.now) (state_of self.old)).state }
+        ensures answer { (plant : List Actuator) → result ≡ (act plant session n (command.Renew txn duration points.now seq) (state_of self.old)).answer }
+        ensures state { (plant : List Actuator) → state_of self.new ≡ (act plant session n (command.Renew txn duration points.now seq) (state_of self.old)).state }
         ensures places { (plant : List Actuator) → HasPlaces plant self.old → HasPlaces plant self.new }
     {
         let Some(owner) = process_of(&self.attached, session) else {
             return Answer::Refused(Refusal::NotAttached);
         };
+        if let Some(answer) = self.lasting.processes.decided(owner, seq) {
+            return answer;
+        }
         if let Some(why) = renew_refused(&self.lasting, owner, txn, duration, points, n) {
             return Answer::Refused(why);
         }
         let until = n + duration.unsigned_abs();
         extend(&mut self.lasting.leases, txn, points, until);
         self.lasting.moment = n;
-        Answer::Renewed {
+        let acceptance = Acceptance::Renewed {
             txn,
             until: first_until_of(&self.lasting.leases, txn, points),
-        }
+        };
+        self.lasting.processes.accept(owner, seq, acceptance)
     }
 
-    /// The live leases of a transaction end.
-    pub fn cancel(&mut self, session: SessionId, txn: Txn, n: u64) -> Answer
+    /// The live leases of a transaction end. `seq` is the number of the request, 0 for none.
+    pub fn cancel(&mut self, session: SessionId, txn: Txn, seq: u64, n: u64) -> Answer
         requires can_run { (plant : List Actuator) × CanRun plant self.old }
         requires passed { IsPassed n (persistent_of self.old.lasting) }
         requires moment { (self.old.lasting.moment ≤ n) × (n ≤ last_moment) }
-        ensures answer { (plant : List Actuator) → result ≡ (act plant session n (command.Cancel txn) (state_of self.old)).answer }
-        ensures state { (plant : List Actuator) → state_of self.new ≡ (act plant session n (command.Cancel txn) (state_of self.old)).state }
+        ensures answer { (plant : List Actuator) → result ≡ (act plant session n (command.Cancel txn seq) (state_of self.old)).answer }
+        ensures state { (plant : List Actuator) → state_of self.new ≡ (act plant session n (command.Cancel txn seq) (state_of self.old)).state }
         ensures places { (plant : List Actuator) → HasPlaces plant self.old → HasPlaces plant self.new }
     {
         let Some(owner) = process_of(&self.attached, session) else {
             return Answer::Refused(Refusal::NotAttached);
         };
+        if let Some(answer) = self.lasting.processes.decided(owner, seq) {
+            return answer;
+        }
         if let Some(why) = cancel_refused(&self.lasting, owner, txn) {
             return Answer::Refused(why);
         }
@@ -175,7 +189,8 @@ impl Machine {
             n,
             &mut self.told,
         );
-        Answer::Cancelled { txn, at: n }
+        let acceptance = Acceptance::Cancelled { txn, at: n };
+        self.lasting.processes.accept(owner, seq, acceptance)
     }
 
     /// The session's process is lost: its live leases end, and the session no longer holds it.

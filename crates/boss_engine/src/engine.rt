@@ -68,8 +68,8 @@ impl Engine {
     /// where that is later; devices that failed are written again, the points settle, the command acts, and the points settle
     /// again.
     ///
-    /// No memory is to be had only for a submit, an attach of a new name or notices, when they are not refused. Then nothing
-    /// has changed.
+    /// No memory is to be had only for a submit, an attach of a new name or notices, when they are neither refused nor answered
+    /// from the reply that is kept of the process. Then nothing has changed.
     pub fn step(
         &mut self,
         session: SessionId,

@@ -13,6 +13,8 @@ mod processes;
 mod queries;
 mod ready;
 mod refusals;
+mod renewing;
+mod replies;
 mod reversions;
 mod settling;
 mod slots;

@@ -109,13 +109,14 @@ impl Machine {
     {
         match command {
             Command::Attach { name } => self.attach(session, name, n, ready),
-            Command::Submit { .. } => self.submit(n, ready),
+            Command::Submit { seq, .. } => self.submit(*seq, n, ready),
             Command::Renew {
                 txn,
                 length,
                 points,
-            } => self.renew(session, *txn, *length, points.slice(), n),
-            Command::Cancel { txn } => self.cancel(session, *txn, n),
+                seq,
+            } => self.renew(session, *txn, *length, points.slice(), *seq, n),
+            Command::Cancel { txn, seq } => self.cancel(session, *txn, *seq, n),
             Command::Gone => self.gone(session, n),
             Command::Tick => Answer::Ticked {
                 now: self.lasting.moment,

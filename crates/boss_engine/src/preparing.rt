@@ -25,7 +25,8 @@ use std::alloc::Global;
 
 /// The memory that a command needs is taken before time passes.
 impl Machine {
-    /// Takes the memory that a command will need, if it is not refused. It changes nothing else.
+    /// Takes the memory that a command will need, if it is neither refused nor decided by a reply that is kept. It changes
+    /// nothing else.
     pub fn make_ready(
         &mut self,
         plant: &[Actuator],
@@ -44,9 +45,11 @@ impl Machine {
     {
         match command {
             Command::Attach { name } => self.ready_process(session, name),
-            Command::Submit { writes, policy } => {
-                self.ready_submit(plant, session, writes.slice(), *policy, n)
-            }
+            Command::Submit {
+                writes,
+                policy,
+                seq,
+            } => self.ready_submit(plant, session, writes.slice(), *policy, *seq, n),
             Command::Notices { name, max, .. } => self.ready_list(session, name, *max),
             _ => Ok(Ready::Nothing),
         }
@@ -75,6 +78,7 @@ impl Machine {
         session: SessionId,
         writes: &[Setting],
         policy: Policy,
+        seq: u64,
         n: u64,
     ) -> Result<Ready, NoMemory>
         requires writes { length writes.now ≤ most_writes }
@@ -82,13 +86,16 @@ impl Machine {
         requires moment { n ≤ last_moment }
         ensures state { state_of self.new ≡ state_of self.old }
         ensures places { HasPlaces plant.now self.new }
-        ensures ready { IfOk result (λ ready. IsReadyToSubmit plant.now (process_of self.old.attached.items session) writes.now policy n ready (state_of self.old)) }
+        ensures ready { IfOk result (λ ready. IsReadyToSubmit plant.now (process_of self.old.attached.items session) writes.now policy seq n ready (state_of self.old)) }
         ensures room { IfOk result (λ ready. HasRoomFor ready self.new) }
-        ensures memory { OnErr result (MaySubmit plant.now writes.now (process_of self.old.attached.items session) (state_of self.old)) }
+        ensures memory { OnErr result (MaySubmit plant.now writes.now seq (process_of self.old.attached.items session) (state_of self.old)) }
     {
         let Some(owner) = process_of(&self.attached, session) else {
             return Ok(Ready::Refused(Refusal::NotAttached));
         };
+        if let Some(answer) = self.lasting.processes.decided(owner, seq) {
+            return Ok(Ready::Decided(answer));
+        }
         if let Some(why) = submit_refused(plant, writes, &self.lasting) {
             return Ok(Ready::Refused(why));
         }

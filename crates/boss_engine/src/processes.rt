@@ -1,21 +1,33 @@
-ghost use Rattle.std.specs.Prelude.{◌≡◌, ◌<◌, ◌≤◌, ◌+◌, [], ◌∷◌, ◌++◌, length, slice_get, unwrap_or, vec_capacity, IfOk, OnOk, OnErr, Some};
+ghost use Rattle.std.specs.Prelude.{◌≡◌, ◌<◌, ◌≤◌, ◌+◌, [], ◌∷◌, ◌++◌, length, slice_get, unwrap_or, vec_capacity, IfOk, OnOk, OnErr, Some, None};
 ghost use Rattle.boss_model.specs.Happenings.{post, tell};
 ghost use Rattle.boss_model.specs.Limits.{most_processes};
 ghost use Rattle.boss_model.specs.Processes.{name_of, next_notice, process_named};
 ghost use Rattle.boss_model.specs.Queries.{first_kept, numbered_from, start};
 ghost use Rattle.boss_notices.specs.Rings.{no_notices};
+ghost use Rattle.boss_model.specs.Replies.{answer_of, keep_reply, reply_of};
 ghost use Rattle.boss_engine.specs.Processes.{process_at};
+ghost use Rattle.boss_engine.specs.Replying.{accepted, decided};
 
+use crate::replies::{answer_of, decided_by};
 use boss_books::Happening;
-use boss_model::{MOST_PROCESSES, Name, NoMemory, Notice, ProcId, Txn, What};
+use boss_model::{
+    Acceptance, Answer, KeptReply, MOST_PROCESSES, Name, NoMemory, Notice, ProcId, Txn, What,
+};
 use boss_notices::{Ring, Rings};
 use std::alloc::Global;
 use std::marker::Model;
 
-/// The control processes, by their places: their names, and what they were told.
+/// The name of a control process, and what its last numbered request that was accepted was answered.
+#[derive(Drop)]
+pub struct Entry {
+    pub name: Name,
+    pub reply: Option<KeptReply>,
+}
+
+/// The control processes, by their places: their names, what they were answered last, and what they were told.
 #[derive(Drop)]
 pub struct Processes {
-    names: Vec<Name>,
+    entries: Vec<Entry>,
     rings: Rings,
 }
 
@@ -27,18 +39,18 @@ impl Model for Processes {
 
     ghost Value = { List Process };
 
-    ghost view = { λ p. processes_of p.names.items p.rings };
+    ghost view = { λ p. processes_of p.entries.items p.rings };
 
-    ghost invariant = { λ p. (length p.names.items ≡ length p.rings) × (length p.rings ≤ most_processes) × (most_processes ≤ vec_capacity p.names) };
+    ghost invariant = { λ p. (length p.entries.items ≡ length p.rings) × (length p.rings ≤ most_processes) × (most_processes ≤ vec_capacity p.entries) };
 }
 
 impl Processes {
-    /// No process so far, with room for the names of all.
+    /// No process so far, with room for the names and the replies of all.
     pub fn new(alloc: Global) -> Result<Processes, NoMemory>
         ensures { IfOk result (λ processes. processes ≡ []) }
     {
         Ok(Processes {
-            names: Vec::with_capacity(alloc, MOST_PROCESSES)?,
+            entries: Vec::with_capacity(alloc, MOST_PROCESSES)?,
             rings: Rings::new(alloc)?,
         })
     }
@@ -47,15 +59,15 @@ impl Processes {
     pub fn count(&self) -> usize
         ensures { result ≡ length self.now }
     {
-        self.names.len()
+        self.entries.len()
     }
 
     /// The process of this name.
     pub fn named(&self, name: &Name) -> Option<ProcId>
         ensures { result ≡ process_named self.now name.now }
     {
-        for place in 0..self.names.len() {
-            if self.names[place].bytes() == name.bytes() {
+        for place in 0..self.entries.len() {
+            if self.entries[place].name.bytes() == name.bytes() {
                 return Some(ProcId(place as u16));
             }
         }
@@ -67,7 +79,7 @@ impl Processes {
         requires { process < length self.now }
         ensures { result ≡ name_of self.now process }
     {
-        self.names[process.0 as usize].copied()
+        self.entries[process.0 as usize].name.copied()
     }
 
     /// The number of a process's next notice.
@@ -78,14 +90,61 @@ impl Processes {
         self.rings.count(process) + 1
     }
 
-    /// Takes a process of this name on, which has been told nothing.
+    /// Takes a process of this name on, which has been told nothing and answered nothing.
     pub fn enrol(&mut self, name: Name, ring: Ring)
         requires few { length self.old < most_processes }
         requires empty { ring ≡ no_notices }
-        ensures { self.new ≡ self.old ++ (record { name = name; count = 0; kept = [] }) ∷ [] }
+        ensures { self.new ≡ self.old ++ (record { name = name; count = 0; kept = []; reply = None }) ∷ [] }
     {
-        self.names.push_reserved(name);
+        self.entries.push_reserved(Entry { name, reply: None });
         self.rings.add(ring);
+    }
+
+    /// The answer to a process's request of this number, 0 for none, if the reply that is kept decides it: what the same
+    /// request was answered before, or that a greater number was accepted.
+    pub fn decided(&self, process: ProcId, seq: u64) -> Option<Answer>
+        ensures { result ≡ decided self.now process seq }
+    {
+        if seq == 0 {
+            return None;
+        }
+        decided_by(seq, self.reply(process))
+    }
+
+    /// What is kept of a process.
+    fn reply(&self, process: ProcId) -> Option<KeptReply>
+        ensures { result ≡ reply_of self.now process }
+    {
+        let place = process.0 as usize;
+        if place < self.entries.len() {
+            self.entries[place].reply
+        } else {
+            None
+        }
+    }
+
+    /// Keeps what a process's request of this number, 0 for none, was answered when it was accepted. That is the answer. It
+    /// takes no memory.
+    pub fn accept(&mut self, process: ProcId, seq: u64, acceptance: Acceptance) -> Answer
+        ensures answer { result ≡ answer_of acceptance }
+        ensures kept { self.new ≡ accepted process seq acceptance self.old }
+    {
+        let answer = answer_of(&acceptance);
+        if seq == 0 {
+            return answer;
+        }
+        self.keep_reply(process, KeptReply { seq, acceptance });
+        answer
+    }
+
+    /// This is kept of a process from now on.
+    fn keep_reply(&mut self, process: ProcId, reply: KeptReply)
+        ensures { self.new ≡ keep_reply process reply.seq (Some reply.acceptance) self.old }
+    {
+        let place = process.0 as usize;
+        if place < self.entries.len() {
+            self.entries[place].reply = Some(reply);
+        }
     }
 
     /// Tells the owner of a transaction what happened to it.

@@ -1,13 +1,13 @@
 ghost use Rattle.std.specs.Prelude.{◌≡◌, ◌==◌, ◌≤◌, ◌<◌, min, length, map, filter, Some, IfSome, vec_capacity};
 ghost use Rattle.std.specs.List.{AllByRecursion};
 ghost use Rattle.std.specs.Option.{option_map_or};
-ghost use Rattle.boss_model.specs.Lists.{member};
 ghost use Rattle.boss_model.specs.Queries.{notices, stage_of, status, status_of};
-ghost use Rattle.boss_model.specs.Renew.{extended_if, is_meant};
+ghost use Rattle.boss_model.specs.Renew.{is_meant};
 ghost use Rattle.boss_model.specs.Submit.{first_until};
 ghost use Rattle.boss_engine.specs.Lasting.{persistent_of};
 
 use crate::lasting::Lasting;
+use crate::renewing::is_meant;
 use boss_model::{Answer, Items, Lease, Notice, Pending, PointId, ProcId, Refusal, Stage, Txn};
 use boss_stages::Transaction;
 
@@ -127,31 +127,5 @@ fn earlier(first: Option<u64>, until: u64) -> u64
     match first {
         Some(moment) => moment.min(until),
         None => until,
-    }
-}
-
-/// Whether a lease is the transaction's, and on one of these points, if any is named.
-fn is_meant(lease: &Lease, txn: Txn, points: &[PointId]) -> bool
-    ensures { result ≡ is_meant txn points.now lease.now }
-{
-    lease.txn == txn && (points.is_empty() || has_point(points, lease.point))
-}
-
-/// Whether the point is one of these.
-fn has_point(points: &[PointId], point: PointId) -> bool
-    ensures { result ≡ member point points.now }
-{
-    points.iter().any(|other| *other == point)
-}
-
-/// The leases of a transaction that are on these points, or all its leases where no point is named, keep their slots at
-/// least up to this moment, in milliseconds.
-pub fn extend(leases: &mut [Lease], txn: Txn, points: &[PointId], until: u64)
-    ensures { leases.new ≡ map (extended_if (is_meant txn points.now) until) leases.old }
-{
-    for lease in leases.iter_mut() {
-        if is_meant(lease, txn, points) {
-            lease.until = lease.until.max(until);
-        }
     }
 }

@@ -1,2 +1,3 @@
 pub mod History
 pub mod Made
+pub mod Once

@@ -34,6 +34,6 @@ made_by_all session calls answers rest = done_by session calls answers ++ mark_b
 -- commands that may want memory
 abbrev pub is_growing : Command → Bool
 is_growing (command.Attach name) = true
-is_growing (command.Submit writes policy) = true
+is_growing (command.Submit writes policy seq) = true
 is_growing (command.Notices name from most) = true
 is_growing other = false

@@ -4,10 +4,12 @@
 
 mod entry;
 mod laws;
+mod once;
 mod outcome;
 
 pub use entry::Entry;
 pub use laws::{
     a_history_goes_on, a_history_is_its_deeds, a_legal_history_keeps_a_sound_state_sound,
 };
+pub use once::each_number_is_made_once;
 pub use outcome::{Outcome, Outcomes};

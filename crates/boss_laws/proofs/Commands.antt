@@ -14,6 +14,7 @@ use Rattle.boss_model.specs.Outcomes.{Outcome, refused, did}
 use Rattle.boss_model.specs.Processes.{process_of, process_named, number_of, attach}
 use Rattle.boss_model.specs.Queries.{reading, notices}
 use Rattle.boss_model.specs.Renew.{renew}
+use Rattle.boss_model.specs.Replies.{once}
 use Rattle.boss_model.specs.Sound.{IsSoundPersistent}
 use Rattle.boss_model.specs.State.{Persistent, Attachment, State}
 use Rattle.boss_model.specs.Submit.{submit}
@@ -62,12 +63,15 @@ pub core-act : (plant : List Actuator) (session n : ℕ) (c : Command) (s : Stat
     core (act plant session n c s) ≡ core (act plant session n c (bare s))
 core-act plant session n (command.Attach name) s apart =
     core-joined session (number_of s.persistent.processes (process_named s.persistent.processes name)) s (attach session name s.attached n s.persistent)
-core-act plant session n (command.Submit writes policy) s apart = core-if (process_of s.attached session)
-    (λ p. after s (submit plant p policy writes n s.persistent)) (λ p. after (bare s) (submit plant p policy writes n s.persistent)) s (λ p. core-after s (submit plant p policy writes n s.persistent))
-core-act plant session n (command.Renew txn length points) s apart = core-if (process_of s.attached session)
-    (λ p. after s (renew p txn length points n s.persistent)) (λ p. after (bare s) (renew p txn length points n s.persistent)) s (λ p. core-after s (renew p txn length points n s.persistent))
-core-act plant session n (command.Cancel txn) s apart = core-if (process_of s.attached session)
-    (λ p. after s (cancel p txn n s.persistent)) (λ p. after (bare s) (cancel p txn n s.persistent)) s (λ p. core-after s (cancel p txn n s.persistent))
+core-act plant session n (command.Submit writes policy seq) s apart = core-if (process_of s.attached session)
+    (λ p. after s (once p seq s.persistent (submit plant p policy writes n s.persistent))) (λ p. after (bare s) (once p seq s.persistent (submit plant p policy writes n s.persistent))) s
+    (λ p. core-after s (once p seq s.persistent (submit plant p policy writes n s.persistent)))
+core-act plant session n (command.Renew txn length points seq) s apart = core-if (process_of s.attached session)
+    (λ p. after s (once p seq s.persistent (renew p txn length points n s.persistent))) (λ p. after (bare s) (once p seq s.persistent (renew p txn length points n s.persistent))) s
+    (λ p. core-after s (once p seq s.persistent (renew p txn length points n s.persistent)))
+core-act plant session n (command.Cancel txn seq) s apart = core-if (process_of s.attached session)
+    (λ p. after s (once p seq s.persistent (cancel p txn n s.persistent))) (λ p. after (bare s) (once p seq s.persistent (cancel p txn n s.persistent))) s
+    (λ p. core-after s (once p seq s.persistent (cancel p txn n s.persistent)))
 core-act plant session n command.Gone s apart = core-if (process_of s.attached session)
     (λ p. parted session s (gone p n s.persistent)) (λ p. parted session (bare s) (gone p n s.persistent)) s (λ p. core-parted session s (gone p n s.persistent))
 core-act plant session n command.Tick s apart = refl
@@ -148,9 +152,9 @@ reading-before plant s session other point a m sound early =
 question-act : (plant : List Actuator) (session other n : ℕ) (c : Command) (d : Persistent) (x y : List Attachment) → is_question c ≡ true →
     (act plant session n c (shell d x)).answer ≡ (act plant other n c (shell d y)).answer
 question-act plant session other n (command.Attach name) d x y question = cc
-question-act plant session other n (command.Submit writes policy) d x y question = cc
-question-act plant session other n (command.Renew txn length points) d x y question = cc
-question-act plant session other n (command.Cancel txn) d x y question = cc
+question-act plant session other n (command.Submit writes policy seq) d x y question = cc
+question-act plant session other n (command.Renew txn length points seq) d x y question = cc
+question-act plant session other n (command.Cancel txn seq) d x y question = cc
 question-act plant session other n command.Gone d x y question = cc
 question-act plant session other n command.Tick d x y question = refl
 question-act plant session other n (command.Next driver) d x y question = cc
@@ -163,9 +167,9 @@ question-act plant session other n (command.Notices None from most) d x y questi
 
 questions-apart : (c : Command) → is_question c ≡ true → is_apart_from_devices c ≡ true
 questions-apart (command.Attach name) question = refl
-questions-apart (command.Submit writes policy) question = refl
-questions-apart (command.Renew txn length points) question = refl
-questions-apart (command.Cancel txn) question = refl
+questions-apart (command.Submit writes policy seq) question = refl
+questions-apart (command.Renew txn length points seq) question = refl
+questions-apart (command.Cancel txn seq) question = refl
 questions-apart command.Gone question = refl
 questions-apart command.Tick question = refl
 questions-apart (command.Next driver) question = cc

@@ -18,17 +18,20 @@ use Rattle.boss_model.specs.Ends.{is_of, last_part_end, cancel, cancel_refused, 
 use Rattle.boss_model.specs.Limits.{last_moment, last_number}
 use Rattle.boss_model.specs.Lists.{first_some}
 use Rattle.boss_model.specs.Machine.{answered, after, if_attached, joined, parted, notices_asked, act, pass_time, step}
-use Rattle.boss_model.specs.Outcomes.{unless}
+use Rattle.boss_model.specs.Outcomes.{Outcome, refused, did, unless}
 use Rattle.boss_model.specs.Processes.{process_of, session_of, process_named, name_of, is_full, process_refused, attach_refused}
 use Rattle.boss_model.specs.Queries.{notices, notices_of, named, status_of}
 use Rattle.boss_model.specs.Records.{End, Part, Transaction}
 use Rattle.boss_model.specs.Renew.{transaction_of, if_own, part_on, wrote, named_parts, ended_at, renew, renew_refused}
+use Rattle.boss_model.specs.Replies.{remembered, once}
 use Rattle.boss_model.specs.Reversions.{courses}
 use Rattle.boss_model.specs.Sound.{IsPast, IsPart, IsTransaction, IsSoundPersistent}
 use Rattle.boss_model.specs.State.{Process, Persistent, Attachment, State}
 use Rattle.boss_model.specs.Submit.{is_level, is_length, is_reversion, repeated, submit, submit_refused}
 use Rattle.boss_model.specs.Time.{moment_of}
 use Rattle.boss_laws.specs.Ended.{IsKeptEnd}
+use Rattle.boss_laws.proofs.Requests.{never-refused}
+use Rattle.boss_soundness.proofs.OnceCases.{once-by}
 use Rattle.boss_time.proofs.Coming.{now_after-within}
 use Rattle.boss_time.proofs.Filters.{each-found}
 use Rattle.boss_time.proofs.Orders.{each-map}
@@ -65,6 +68,14 @@ module _ (cause : Cause) (at moment : ℕ) where
   other-unless : (s : State) (why : Option Refusal) (given : Answer) (d : Persistent) → IsOther why → NotEnded given → NotEnded (after s (unless why given d)).answer
   other-unless s None given d here there = there
   other-unless s (Some x) given d here there = λ is. here (cc)
+
+  other-remembered : (owner seq : ℕ) (s : State) (outcome : Outcome) → NotEnded (after s outcome).answer → NotEnded (after s (remembered owner seq outcome)).answer
+  other-remembered owner seq s (refused why) other = other
+  other-remembered owner seq s (did given d) other = other
+
+  other-once : (owner seq : ℕ) (s : State) (outcome : Outcome) → NotEnded (after s outcome).answer → NotEnded (after s (once owner seq s.persistent outcome)).answer
+  other-once owner seq s outcome other = once-by owner seq s.persistent outcome (λ o. NotEnded (after s o).answer) (λ _. other) (λ _ _. other-remembered owner seq s outcome other)
+      (λ reply _ _ _. never-refused reply.acceptance E) (λ reply _ _ _ is. cc)
 
   other-joined : (session process : ℕ) (s : State) (why : Option Refusal) (given : Answer) (d : Persistent) → IsOther why → NotEnded given → NotEnded (joined session process s (unless why given d)).answer
   other-joined session process s None given d here there = there
@@ -178,43 +189,64 @@ mapped-past : (now : ℕ) (parts : List Part) → AllByRecursion (λ part. IsPas
 mapped-past now [] all = tt
 mapped-past now (part ∷ parts) all = (all.0, mapped-past now parts all.1)
 
-renew-kept : (plant : List Actuator) (owner txn : ℕ) (asked : ℤ) (points : List ℕ) (n : ℕ) (d : Persistent) (cause : Cause) (at moment : ℕ) → IsSoundPersistent plant d → d.now ≤ n →
-    renew_refused owner txn asked points n d ≡ Some (refusal.Ended cause at moment) → IsKeptEnd (command.Renew txn asked points) n d cause at moment
-renew-kept plant owner txn asked points n d cause at moment sound reached is =
+renew-kept : (plant : List Actuator) (owner txn seq : ℕ) (asked : ℤ) (points : List ℕ) (n : ℕ) (d : Persistent) (cause : Cause) (at moment : ℕ) → IsSoundPersistent plant d → d.now ≤ n →
+    renew_refused owner txn asked points n d ≡ Some (refusal.Ended cause at moment) → IsKeptEnd (command.Renew txn asked points seq) n d cause at moment
+renew-kept plant owner txn seq asked points n d cause at moment sound reached is =
     let found = found-renew cause at moment owner txn asked points n d is in
     let t = found.0 in
     let whole : IsTransaction plant d t = each-found (IsTransaction plant d) (λ u. u.txn == txn) d.txns t sound.txns found.1 in
     let past : at ≤ d.now = first-past d.now (map (λ part. part.end) (named_parts points t.parts)) (record { cause = cause; at = at })
     (mapped-past d.now (named_parts points t.parts) (named-past (λ part. IsPast d.now part.end) points t.parts
     (each-map (IsPart plant d.now t.txn d.leases) (λ part. IsPast d.now part.end) (λ part p. p.past) t.parts whole.parts))) found.2 in
-    record { txn = txn; length = asked; points = points; transaction = t; renewal = refl; known = found.1; end = found.2; past = omega (arith, found.3); told = found.3 }
+    record { txn = txn; length = asked; points = points; seq = seq; transaction = t; renewal = refl; known = found.1; end = found.2; past = omega (arith, found.3); told = found.3 }
 
-owner-kept : (plant : List Actuator) (owner txn : ℕ) (asked : ℤ) (points : List ℕ) (n : ℕ) (s : State) (cause : Cause) (at moment : ℕ) (why : Option Refusal) (given : Answer) (d : Persistent) →
-    renew_refused owner txn asked points n s.persistent ≡ why → IsSoundPersistent plant s.persistent → s.persistent.now ≤ n → NotEnded cause at moment given →
-    (after s (unless why given d)).answer ≡ answer.Refused (refusal.Ended cause at moment) →
-    IsKeptEnd (command.Renew txn asked points) n (after s (unless why given d)).state.persistent cause at moment
-owner-kept plant owner txn asked points n s cause at moment None given d same sound reached other is = cc (other is)
-owner-kept plant owner txn asked points n s cause at moment (Some x) given d same sound reached other is =
-    renew-kept plant owner txn asked points n s.persistent cause at moment sound reached (let that : x ≡ refusal.Ended cause at moment = cc in same ∙ ap Some that)
+module _ (plant : List Actuator) (owner txn seq : ℕ) (asked : ℤ) (points : List ℕ) (n : ℕ) (s : State) (cause : Cause) (at moment : ℕ) where
+  -- where it is this refusal, it is that of the renewal itself
+  abbrev IsOwn : Outcome → Type 0
+  IsOwn (refused why) = why ≡ refusal.Ended cause at moment → renew_refused owner txn asked points n s.persistent ≡ Some why
+  IsOwn (did given d) = NotEnded cause at moment given
 
-held-kept : (plant : List Actuator) (txn : ℕ) (asked : ℤ) (points : List ℕ) (n : ℕ) (s : State) (cause : Cause) (at moment : ℕ) (held : Option ℕ) → IsSoundPersistent plant s.persistent → s.persistent.now ≤ n →
-    (if_attached held (λ owner. after s (renew owner txn asked points n s.persistent)) s).answer ≡ answer.Refused (refusal.Ended cause at moment) →
-    IsKeptEnd (command.Renew txn asked points) n (if_attached held (λ owner. after s (renew owner txn asked points n s.persistent)) s).state.persistent cause at moment
-held-kept plant txn asked points n s cause at moment None sound reached is = cc
-held-kept plant txn asked points n s cause at moment (Some owner) sound reached is =
-    owner-kept plant owner txn asked points n s cause at moment (renew_refused owner txn asked points n s.persistent) (answer.Renewed _ _) _ refl sound reached (λ e. cc) is
+  own-unless : (why : Option Refusal) (given : Answer) (d : Persistent) → renew_refused owner txn asked points n s.persistent ≡ why → NotEnded cause at moment given → IsOwn (unless why given d)
+  own-unless None given d same other = other
+  own-unless (Some why) given d same other = λ _. same
+
+  own-remembered : (outcome : Outcome) → IsOwn outcome → IsOwn (remembered owner seq outcome)
+  own-remembered (refused why) own = own
+  own-remembered (did given d) own = own
+
+  own-once : (outcome : Outcome) → IsOwn outcome → IsOwn (once owner seq s.persistent outcome)
+  own-once outcome own = once-by owner seq s.persistent outcome IsOwn (λ _. own) (λ _ _. own-remembered outcome own)
+      (λ reply _ _ _. never-refused reply.acceptance (refusal.Ended cause at moment)) (λ reply _ _ _ is. cc)
+
+  own-kept : (outcome : Outcome) → IsOwn outcome → IsSoundPersistent plant s.persistent → s.persistent.now ≤ n → (after s outcome).answer ≡ answer.Refused (refusal.Ended cause at moment) →
+      IsKeptEnd (command.Renew txn asked points seq) n (after s outcome).state.persistent cause at moment
+  own-kept (did given d) own sound reached is = cc (own is)
+  own-kept (refused why) own sound reached is =
+      let that : why ≡ refusal.Ended cause at moment = cc in
+      renew-kept plant owner txn seq asked points n s.persistent cause at moment sound reached (own that ∙ ap Some that)
+
+held-kept : (plant : List Actuator) (txn seq : ℕ) (asked : ℤ) (points : List ℕ) (n : ℕ) (s : State) (cause : Cause) (at moment : ℕ) (held : Option ℕ) → IsSoundPersistent plant s.persistent → s.persistent.now ≤ n →
+    (if_attached held (λ owner. after s (once owner seq s.persistent (renew owner txn asked points n s.persistent))) s).answer ≡ answer.Refused (refusal.Ended cause at moment) →
+    IsKeptEnd (command.Renew txn asked points seq) n (if_attached held (λ owner. after s (once owner seq s.persistent (renew owner txn asked points n s.persistent))) s).state.persistent cause at moment
+held-kept plant txn seq asked points n s cause at moment None sound reached is = cc
+held-kept plant txn seq asked points n s cause at moment (Some owner) sound reached is =
+    own-kept plant owner txn seq asked points n s cause at moment (once owner seq s.persistent (renew owner txn asked points n s.persistent))
+    (own-once plant owner txn seq asked points n s cause at moment (renew owner txn asked points n s.persistent)
+    (own-unless plant owner txn seq asked points n s cause at moment (renew_refused owner txn asked points n s.persistent) (answer.Renewed _ _) _ refl (λ e. cc))) sound reached is
 
 ended-act : (plant : List Actuator) (session n : ℕ) (c : Command) (s : State) (cause : Cause) (at moment : ℕ) → IsSoundPersistent plant s.persistent → s.persistent.now ≤ n →
     (act plant session n c s).answer ≡ answer.Refused (refusal.Ended cause at moment) → IsKeptEnd c n (act plant session n c s).state.persistent cause at moment
 ended-act plant session n (command.Attach name) s cause at moment sound reached is =
     cc (other-joined cause at moment session _ s (attach_refused session name s.attached s.persistent) (answer.Attached name _) _ (other-attach cause at moment session name s.attached s.persistent) (λ e. cc) is)
-ended-act plant session n (command.Submit writes policy) s cause at moment sound reached is =
-    cc (other-held cause at moment (process_of s.attached session) (λ p. after s (submit plant p policy writes n s.persistent)) s
-    (λ p. other-unless cause at moment s (submit_refused plant writes s.persistent) (answer.Accepted _ _) _ (other-submit cause at moment plant writes s.persistent) (λ e. cc)) is)
-ended-act plant session n (command.Renew txn asked points) s cause at moment sound reached is = held-kept plant txn asked points n s cause at moment (process_of s.attached session) sound reached is
-ended-act plant session n (command.Cancel txn) s cause at moment sound reached is =
-    cc (other-held cause at moment (process_of s.attached session) (λ p. after s (cancel p txn n s.persistent)) s
-    (λ p. other-unless cause at moment s (cancel_refused p txn s.persistent) (answer.Cancelled _ _) _ (other-cancel cause at moment p txn s.persistent) (λ e. cc)) is)
+ended-act plant session n (command.Submit writes policy seq) s cause at moment sound reached is =
+    cc (other-held cause at moment (process_of s.attached session) (λ p. after s (once p seq s.persistent (submit plant p policy writes n s.persistent))) s
+    (λ p. other-once cause at moment p seq s _
+    (other-unless cause at moment s (submit_refused plant writes s.persistent) (answer.Accepted _ _) _ (other-submit cause at moment plant writes s.persistent) (λ e. cc))) is)
+ended-act plant session n (command.Renew txn asked points seq) s cause at moment sound reached is = held-kept plant txn seq asked points n s cause at moment (process_of s.attached session) sound reached is
+ended-act plant session n (command.Cancel txn seq) s cause at moment sound reached is =
+    cc (other-held cause at moment (process_of s.attached session) (λ p. after s (once p seq s.persistent (cancel p txn n s.persistent))) s
+    (λ p. other-once cause at moment p seq s _
+    (other-unless cause at moment s (cancel_refused p txn s.persistent) (answer.Cancelled _ _) _ (other-cancel cause at moment p txn s.persistent) (λ e. cc))) is)
 ended-act plant session n command.Gone s cause at moment sound reached is =
     cc (other-held cause at moment (process_of s.attached session) (λ p. parted session s (gone p n s.persistent)) s (λ p e. cc) is)
 ended-act plant session n command.Tick s cause at moment sound reached is = cc

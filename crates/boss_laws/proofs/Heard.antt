@@ -10,6 +10,8 @@ use Rattle.boss_model.specs.declared.answer.Mark.TheVariants as mark
 use Rattle.boss_model.specs.declared.answer.Refusal.{Refusal}
 use Rattle.boss_model.specs.declared.command.Command.{Command}
 use Rattle.boss_model.specs.declared.command.Command.TheVariants as command
+use Rattle.boss_model.specs.declared.kept.Acceptance.{Acceptance}
+use Rattle.boss_model.specs.declared.kept.Acceptance.TheVariants as acceptance
 use Rattle.boss_model.specs.declared.state.Actuator.{Actuator}
 use Rattle.boss_model.specs.declared.state.Proxy.{Proxy}
 use Rattle.boss_model.specs.Catalogue.{driver_of}
@@ -17,18 +19,20 @@ use Rattle.boss_model.specs.Devices.{Reply, proxy_of, hand_out, is_current, take
 use Rattle.boss_model.specs.Ends.{cancel, gone}
 use Rattle.boss_model.specs.Lists.{member, without}
 use Rattle.boss_model.specs.Machine.{answered, after, if_attached, joined, parted, notices_asked, act, ticked, pass_time, step}
-use Rattle.boss_model.specs.Outcomes.{unless}
+use Rattle.boss_model.specs.Outcomes.{Outcome, refused, did, unless}
 use Rattle.boss_model.specs.Processes.{process_of, process_named}
 use Rattle.boss_model.specs.Queries.{notices, notices_of, named, status_of}
 use Rattle.boss_model.specs.Records.{Transaction}
 use Rattle.boss_model.specs.Renew.{renew, transaction_of}
 use Rattle.boss_model.specs.Run.{Call, run}
+use Rattle.boss_model.specs.Replies.{answer_of, once}
 use Rattle.boss_model.specs.Settle.{fresh, opened, places, changed_if, wanted_anew, is_retried, retried, is_moved, recommanded, settle}
 use Rattle.boss_model.specs.State.{Process, Persistent, State}
 use Rattle.boss_model.specs.Submit.{submit}
 use Rattle.boss_model.specs.Target.{target}
 use Rattle.boss_model.specs.Time.{moment_of}
 use Rattle.boss_model.proofs.Members.{member-filter}
+use Rattle.boss_laws.proofs.Requests.{IsRequest, submit-request, renew-request, cancel-request, request-once}
 use Rattle.boss_laws.specs.Heard.{Sent, Heard, nothing_heard, asked_by, took_by, heard_after, last_heard}
 use Rattle.boss_soundness.proofs.Fresh.{commanded-settled, fresh-at, length-range}
 use Rattle.boss_time.proofs.Places.{member-wanted_anew, length-changed, proxy_of-changed, change_at, member-places, proxy_of-set, proxy_of-other}
@@ -91,9 +95,14 @@ record IsQuiet (s : State) (reply : Reply) : Type 0 where
 abbrev IsNoWant : Answer → Type 0
 IsNoWant given = (point : ℕ) (before : Option Sent) → asked_by point given before ≡ before
 
-quiet-after : (s : State) (refusal : Option Refusal) (given : Answer) (d : Persistent) → IsNoWant given → IsQuiet s (after s (unless refusal given d))
-quiet-after s (Some why) given d none = record { proxies = refl; wants = refl; answer = λ point before. refl }
-quiet-after s None given d none = record { proxies = refl; wants = refl; answer = none }
+quiet-accepted : (accepted : Acceptance) → IsNoWant (answer_of accepted)
+quiet-accepted (acceptance.Accepted txn until) point before = refl
+quiet-accepted (acceptance.Renewed txn until) point before = refl
+quiet-accepted (acceptance.Cancelled txn at) point before = refl
+
+quiet-after : (s : State) (outcome : Outcome) → IsRequest outcome → IsQuiet s (after s outcome)
+quiet-after s (refused why) is = record { proxies = refl; wants = refl; answer = λ point before. refl }
+quiet-after s (did given d) is = record { proxies = refl; wants = refl; answer = subst IsNoWant (sym is.1) (quiet-accepted is.0) }
 
 quiet-joined : (session process : ℕ) (s : State) (refusal : Option Refusal) (given : Answer) (d : Persistent) → IsNoWant given →
     IsQuiet s (joined session process s (unless refusal given d))
@@ -122,9 +131,9 @@ quiet-status (Some t) d point before = refl
 took-other : (point : ℕ) (c : Command) (given : Answer) (h : Heard) → ((other version : ℕ) (ok : Bool) → c ≡ command.Report other version ok → false ≡ true) →
     took_by point c given h ≡ h.took
 took-other point (command.Attach name) given h other = refl
-took-other point (command.Submit writes policy) given h other = refl
-took-other point (command.Renew txn length points) given h other = refl
-took-other point (command.Cancel txn) given h other = refl
+took-other point (command.Submit writes policy seq) given h other = refl
+took-other point (command.Renew txn length points seq) given h other = refl
+took-other point (command.Cancel txn seq) given h other = refl
 took-other point command.Gone given h other = refl
 took-other point command.Tick given h other = refl
 took-other point (command.Next driver) given h other = refl
@@ -208,12 +217,15 @@ heard-act : (plant : List Actuator) (session n point : ℕ) (c : Command) (s : S
     IsHeard point (act plant session n c s).state (heard_after point c (act plant session n c s).answer h)
 heard-act plant session n point (command.Attach name) s h is = heard-quiet point (command.Attach name) s (act plant session n (command.Attach name) s) h (λ other version ok e. cc)
     (quiet-joined session _ s _ (answer.Attached name _) _ (λ point before. refl)) is
-heard-act plant session n point (command.Submit writes policy) s h is = heard-quiet point (command.Submit writes policy) s (act plant session n (command.Submit writes policy) s) h (λ other version ok e. cc)
-    (quiet-if (process_of s.attached session) (λ p. after s (submit plant p policy writes n s.persistent)) s (λ p. quiet-after s _ (answer.Accepted _ _) _ (λ point before. refl))) is
-heard-act plant session n point (command.Renew txn length points) s h is = heard-quiet point (command.Renew txn length points) s (act plant session n (command.Renew txn length points) s) h (λ other version ok e. cc)
-    (quiet-if (process_of s.attached session) (λ p. after s (renew p txn length points n s.persistent)) s (λ p. quiet-after s _ (answer.Renewed _ _) _ (λ point before. refl))) is
-heard-act plant session n point (command.Cancel txn) s h is = heard-quiet point (command.Cancel txn) s (act plant session n (command.Cancel txn) s) h (λ other version ok e. cc)
-    (quiet-if (process_of s.attached session) (λ p. after s (cancel p txn n s.persistent)) s (λ p. quiet-after s _ (answer.Cancelled _ _) _ (λ point before. refl))) is
+heard-act plant session n point (command.Submit writes policy seq) s h is = heard-quiet point (command.Submit writes policy seq) s (act plant session n (command.Submit writes policy seq) s) h (λ other version ok e. cc)
+    (quiet-if (process_of s.attached session) (λ p. after s (once p seq s.persistent (submit plant p policy writes n s.persistent))) s
+    (λ p. quiet-after s _ (request-once p seq s.persistent _ (submit-request plant p policy writes n s.persistent)))) is
+heard-act plant session n point (command.Renew txn length points seq) s h is = heard-quiet point (command.Renew txn length points seq) s (act plant session n (command.Renew txn length points seq) s) h (λ other version ok e. cc)
+    (quiet-if (process_of s.attached session) (λ p. after s (once p seq s.persistent (renew p txn length points n s.persistent))) s
+    (λ p. quiet-after s _ (request-once p seq s.persistent _ (renew-request p txn length points n s.persistent)))) is
+heard-act plant session n point (command.Cancel txn seq) s h is = heard-quiet point (command.Cancel txn seq) s (act plant session n (command.Cancel txn seq) s) h (λ other version ok e. cc)
+    (quiet-if (process_of s.attached session) (λ p. after s (once p seq s.persistent (cancel p txn n s.persistent))) s
+    (λ p. quiet-after s _ (request-once p seq s.persistent _ (cancel-request p txn n s.persistent)))) is
 heard-act plant session n point command.Gone s h is = heard-quiet point command.Gone s (act plant session n command.Gone s) h (λ other version ok e. cc)
     (quiet-if (process_of s.attached session) (λ p. parted session s (gone p n s.persistent)) s (λ p. record { proxies = refl; wants = refl; answer = λ point before. refl })) is
 heard-act plant session n point command.Tick s h is = is
@@ -309,9 +321,9 @@ pub told : (point : ℕ) (c : Command) (given : Answer) (h : Heard) → IsTold p
 told point (command.Report other version true) given h = told-report point other version given h
 told point (command.Report other version false) given h = inl refl
 told point (command.Attach name) given h = inl refl
-told point (command.Submit writes policy) given h = inl refl
-told point (command.Renew txn length points) given h = inl refl
-told point (command.Cancel txn) given h = inl refl
+told point (command.Submit writes policy seq) given h = inl refl
+told point (command.Renew txn length points seq) given h = inl refl
+told point (command.Cancel txn seq) given h = inl refl
 told point command.Gone given h = inl refl
 told point command.Tick given h = inl refl
 told point (command.Next driver) given h = inl refl

@@ -1,3 +1,5 @@
+pub mod Requests
+pub mod OnceStep
 pub mod Commands
 pub mod Refused
 pub mod Heard

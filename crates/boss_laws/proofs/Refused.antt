@@ -1,7 +1,6 @@
 -- A refused command is its tick, its retries and its settling.
-use Rattle.std.proofs.Common.{◌≡◌, ℕ, List, Bool, true, false, Option, Some, None, refl, ap}
+use Rattle.std.proofs.Common.{◌≡◌, ℕ, List, Bool, true, false, Option, Some, None, refl, ap, sym, ◌∙◌}
 use Rattle.std.proofs.lemmas.Bool.{cond_both}
-use Rattle.boss_model.specs.declared.answer.Answer.{Answer}
 use Rattle.boss_model.specs.declared.answer.Answer.TheVariants as answer
 use Rattle.boss_model.specs.declared.answer.Refusal.{Refusal}
 use Rattle.boss_model.specs.declared.command.Command.{Command}
@@ -10,23 +9,24 @@ use Rattle.boss_model.specs.declared.state.Actuator.{Actuator}
 use Rattle.boss_model.specs.Devices.{Reply, hand_out, is_current, heard, report}
 use Rattle.boss_model.specs.Ends.{cancel, gone}
 use Rattle.boss_model.specs.Machine.{answered, after, if_attached, joined, parted, notices_asked, act, pass_time, step}
-use Rattle.boss_model.specs.Outcomes.{unless}
+use Rattle.boss_model.specs.Outcomes.{Outcome, refused, did, unless}
 use Rattle.boss_model.specs.Processes.{process_of}
 use Rattle.boss_model.specs.Queries.{notices}
 use Rattle.boss_model.specs.Renew.{renew}
+use Rattle.boss_model.specs.Replies.{once}
 use Rattle.boss_model.specs.Settle.{settle}
 use Rattle.boss_model.specs.State.{Persistent, State}
 use Rattle.boss_model.specs.Submit.{submit}
 use Rattle.boss_model.specs.Time.{moment_of}
+use Rattle.boss_laws.proofs.Requests.{IsRequest, submit-request, renew-request, cancel-request, request-once, never-refused}
 
 -- a reply that is a refusal leaves the state
 abbrev pub Leaves : State → Reply → Type 0
 Leaves s reply = (why : Refusal) → reply.answer ≡ answer.Refused why → reply.state ≡ s
 
-leaves-after : (s : State) (refusal : Option Refusal) (given : Answer) (d : Persistent) → ((why : Refusal) → given ≡ answer.Refused why → d ≡ s.persistent) →
-    Leaves s (after s (unless refusal given d))
-leaves-after s (Some found) given d never why is = refl
-leaves-after s None given d never why is = λ i. record s { persistent = never why is i }
+leaves-after : (s : State) (outcome : Outcome) → IsRequest outcome → Leaves s (after s outcome)
+leaves-after s (refused found) is why refuses = refl
+leaves-after s (did given d) is why refuses = cc (never-refused is.0 why (sym is.1 ∙ refuses))
 
 leaves-if : (held : Option ℕ) (go : ℕ → Reply) (s : State) → ((p : ℕ) → Leaves s (go p)) → Leaves s (if_attached held go s)
 leaves-if None go s each why is = refl
@@ -52,12 +52,15 @@ leaves-report n point version ok s = cond_both (is_current point version s)
 
 leaves-act : (plant : List Actuator) (session n : ℕ) (c : Command) (s : State) → Leaves s (act plant session n c s)
 leaves-act plant session n (command.Attach name) s = leaves-joined session _ s _ name _ _
-leaves-act plant session n (command.Submit writes policy) s = leaves-if (process_of s.attached session)
-    (λ p. after s (submit plant p policy writes n s.persistent)) s (λ p. leaves-after s _ (answer.Accepted _ _) _ (λ why is. cc))
-leaves-act plant session n (command.Renew txn length points) s = leaves-if (process_of s.attached session)
-    (λ p. after s (renew p txn length points n s.persistent)) s (λ p. leaves-after s _ (answer.Renewed _ _) _ (λ why is. cc))
-leaves-act plant session n (command.Cancel txn) s = leaves-if (process_of s.attached session)
-    (λ p. after s (cancel p txn n s.persistent)) s (λ p. leaves-after s _ (answer.Cancelled _ _) _ (λ why is. cc))
+leaves-act plant session n (command.Submit writes policy seq) s = leaves-if (process_of s.attached session)
+    (λ p. after s (once p seq s.persistent (submit plant p policy writes n s.persistent))) s
+    (λ p. leaves-after s _ (request-once p seq s.persistent _ (submit-request plant p policy writes n s.persistent)))
+leaves-act plant session n (command.Renew txn length points seq) s = leaves-if (process_of s.attached session)
+    (λ p. after s (once p seq s.persistent (renew p txn length points n s.persistent))) s
+    (λ p. leaves-after s _ (request-once p seq s.persistent _ (renew-request p txn length points n s.persistent)))
+leaves-act plant session n (command.Cancel txn seq) s = leaves-if (process_of s.attached session)
+    (λ p. after s (once p seq s.persistent (cancel p txn n s.persistent))) s
+    (λ p. leaves-after s _ (request-once p seq s.persistent _ (cancel-request p txn n s.persistent)))
 leaves-act plant session n command.Gone s = leaves-if (process_of s.attached session)
     (λ p. parted session s (gone p n s.persistent)) s (λ p why is. cc)
 leaves-act plant session n command.Tick s = λ why is. refl

@@ -23,7 +23,7 @@ use Rattle.boss_model.specs.declared.notice.Cause.TheVariants as cause
 use Rattle.boss_model.specs.declared.state.Actuator.{Actuator}
 use Rattle.boss_model.specs.declared.state.Lease.{Lease}
 use Rattle.boss_model.specs.declared.state.Proxy.{Proxy}
-use Rattle.boss_model.specs.Acts.{is_known_process, is_known_point, by_process, enrol_if, act_on, effective, replay, replay_next}
+use Rattle.boss_model.specs.Acts.{is_known_process, is_known_point, if_did, by_process, by_number, enrol_if, act_on, effective, replay, replay_next}
 use Rattle.boss_model.specs.Catalogue.{driver_of}
 use Rattle.boss_model.specs.Devices.{Reply, proxy_of, hand_out, is_current, heard, report}
 use Rattle.boss_model.specs.Effects.{concerned, effect_of, step_effect, act_of, event_of}
@@ -32,10 +32,11 @@ use Rattle.boss_model.specs.Limits.{last_moment}
 use Rattle.boss_model.specs.Lists.{first_some}
 use Rattle.boss_model.specs.Machine.{answered, after, if_attached, joined, parted, notices_asked, pass_time, step}
 use Rattle.boss_model.specs.Machine as machine
-use Rattle.boss_model.specs.Outcomes.{unless}
+use Rattle.boss_model.specs.Outcomes.{Outcome, refused, did, unless}
 use Rattle.boss_model.specs.Processes.{process_of, process_named, number_of, name_of, next_notice, session_of, is_full, process_refused, enrolled, enrol_unless}
 use Rattle.boss_model.specs.Queries.{notices}
 use Rattle.boss_model.specs.Renew.{renew, renew_refused, renewed}
+use Rattle.boss_model.specs.Replies.{reply_of, remembered, once, is_repeat}
 use Rattle.boss_model.specs.Reversions.{courses}
 use Rattle.boss_model.specs.Happenings.{Happening, rank, coming}
 use Rattle.boss_model.specs.Run.{Call, stepped, run, events, replay_all}
@@ -51,6 +52,7 @@ use Rattle.boss_time.proofs.Filters.{filter-filter, filter-none}
 use Rattle.boss_time.proofs.Orders.{each-map, each-filter, each-in_order}
 use Rattle.boss_time.proofs.NothingDue.{sound-timed, nothing-due}
 use Rattle.boss_laws.proofs.SameDecides.{persistent-equal, persistent-self}
+use Rattle.boss_soundness.proofs.OnceCases.{no-repeat, once-by}
 use Rattle.boss_soundness.proofs.StepSound.{found-attached, step-sound}
 use Rattle.boss_time.proofs.TickLaw.{due-after, tick_to-tick_to}
 use Rattle.boss_time.proofs.TickSound.{tick-sound}
@@ -84,19 +86,41 @@ module _ (plant : List Actuator) (n : ℕ) where
   act-none : (done : Act) (d : Persistent) → IsAct plant n done d d
   act-none done d differs = let same : same_persistent d d ≡ true = persistent-self d in cc
 
-  act-after : (done : Act) (s : State) (why : Option Refusal) (given : Answer) (d : Persistent) → (why ≡ None → (d.now ≡ n) × (act_on plant n done s.persistent ≡ Some d)) →
-      IsAct plant n done s.persistent (after s (unless why given d)).state.persistent
-  act-after done s (Some x) given d same = act-none done s.persistent
-  act-after done s None given d same = λ differs. same refl
-
   act-held : (held : Option ℕ) (go : ℕ → Reply) (s : State) (done : ℕ → Act) → ((p : ℕ) → held ≡ Some p → IsAct plant n (done p) s.persistent (go p).state.persistent) →
       IsAct plant n (done (unwrap_or held 0)) s.persistent (if_attached held go s).state.persistent
   act-held None go s done each = act-none (done 0) s.persistent
   act-held (Some p) go s done each = each p refl
 
-  by-known : (d : Persistent) (owner : ℕ) (why : Option Refusal) (given : Answer) (changed : Persistent) → is_known_process d owner ≡ true → why ≡ None → by_process d owner (unless why given changed) ≡ Some changed
-  by-known d owner None given changed known none = rw known refl
-  by-known d owner (Some x) given changed known none = cc
+  -- what an outcome leaves, if anything, is of this moment
+  abbrev IsNow : Outcome → Type 0
+  IsNow (refused why) = Unit {0}
+  IsNow (did given changed) = changed.now ≡ n
+
+  now-unless : (why : Option Refusal) (given : Answer) (changed : Persistent) → changed.now ≡ n → IsNow (unless why given changed)
+  now-unless None given changed now = now
+  now-unless (Some why) given changed now = tt
+
+  now-remembered : (owner seq : ℕ) (outcome : Outcome) → IsNow outcome → IsNow (remembered owner seq outcome)
+  now-remembered owner seq (refused why) now = tt
+  now-remembered owner seq (did given changed) now = now
+
+  act-outcome : (done : Act) (s : State) (outcome : Outcome) → IsNow outcome → act_on plant n done s.persistent ≡ if_did outcome → IsAct plant n done s.persistent (after s outcome).state.persistent
+  act-outcome done s (refused why) now acts = act-none done s.persistent
+  act-outcome done s (did given changed) now acts = λ differs. (now, acts)
+
+  by-new : (d : Persistent) (owner seq : ℕ) (outcome : Outcome) → is_known_process d owner ≡ true → is_repeat owner seq d ≡ false → by_number owner seq d outcome ≡ if_did (once owner seq d outcome)
+  by-new d owner seq outcome known new = ap (λ b. cond b None (by_process d owner (once owner seq d outcome))) new ∙ ap (λ b. cond b (if_did (once owner seq d outcome)) None) known
+
+  -- a numbered request that is a repeat, or of a lesser number, changes nothing; else its act does the same
+  act-once : (done : Act) (s : State) (owner seq : ℕ) (outcome : Outcome) → IsNow outcome → is_known_process s.persistent owner ≡ true →
+      act_on plant n done s.persistent ≡ by_number owner seq s.persistent outcome → IsAct plant n done s.persistent (after s (once owner seq s.persistent outcome)).state.persistent
+  act-once done s owner seq outcome now known acts =
+      let d = s.persistent in
+      once-by owner seq d outcome (λ o. once owner seq d outcome ≡ o → IsAct plant n done d (after s o).state.persistent)
+      (λ none is. act-outcome done s outcome now (acts ∙ by-new d owner seq outcome known (grind (arith, nat_tests)) ∙ ap if_did is))
+      (λ some above is. act-outcome done s (remembered owner seq outcome) (now-remembered owner seq outcome now)
+      (acts ∙ by-new d owner seq outcome known (no-repeat owner seq d (reply_of d.processes owner) refl above) ∙ ap if_did is))
+      (λ reply _ _ _ _. act-none done d) (λ reply _ _ _ _. act-none done d) refl
 
   -- what each kind of command makes, its act makes
   act-enrol : (session : ℕ) (name : List ℕ) (s : State) (found held : Option ℕ) → process_named s.persistent.processes name ≡ found →
@@ -168,15 +192,20 @@ module _ (plant : List Actuator) (n : ℕ) (session : ℕ) (s : State) (attached
   -- whatever a command changes, its act changes, in the name of the process that it concerns
   pub act-acts : (c : Command) → IsAllowed plant c → IsAct plant n (act_of c (concerned c session s)) s.persistent (machine.act plant session n c s).state.persistent
   act-acts (command.Attach name) allowed = act-enrol plant n session name s (process_named s.persistent.processes name) (process_of s.attached session) refl
-  act-acts (command.Submit writes policy) allowed = act-held plant n (process_of s.attached session) (λ p. after s (submit plant p policy writes n s.persistent)) s (λ p. act.Submit p policy writes)
-      (λ p held. act-after plant n (act.Submit p policy writes) s (submit_refused plant writes s.persistent) (answer.Accepted _ _) (submitted p policy writes n s.persistent) (λ none.
-      (refl, rw (known-writes plant writes allowed.2) (by-known plant n s.persistent p (submit_refused plant writes s.persistent) (answer.Accepted _ _) (submitted p policy writes n s.persistent) (held-known p held) none))))
-  act-acts (command.Renew txn asked points) allowed = act-held plant n (process_of s.attached session) (λ p. after s (renew p txn asked points n s.persistent)) s (λ p. act.Renew p txn asked points)
-      (λ p held. act-after plant n (act.Renew p txn asked points) s (renew_refused p txn asked points n s.persistent) (answer.Renewed _ _) (renewed txn asked points n s.persistent) (λ none.
-      (refl, rw (known-points plant points allowed.1) (by-known plant n s.persistent p (renew_refused p txn asked points n s.persistent) (answer.Renewed _ _) (renewed txn asked points n s.persistent) (held-known p held) none))))
-  act-acts (command.Cancel txn) allowed = act-held plant n (process_of s.attached session) (λ p. after s (cancel p txn n s.persistent)) s (λ p. act.Cancel p txn)
-      (λ p held. act-after plant n (act.Cancel p txn) s (cancel_refused p txn s.persistent) (answer.Cancelled txn n) (end_leases (is_of txn) cause.Cancelled n [] s.persistent) (λ none.
-      (refl, by-known plant n s.persistent p (cancel_refused p txn s.persistent) (answer.Cancelled txn n) (end_leases (is_of txn) cause.Cancelled n [] s.persistent) (held-known p held) none)))
+  act-acts (command.Submit writes policy seq) allowed = act-held plant n (process_of s.attached session)
+      (λ p. after s (once p seq s.persistent (submit plant p policy writes n s.persistent))) s (λ p. act.Submit p policy writes seq)
+      (λ p held. act-once plant n (act.Submit p policy writes seq) s p seq (submit plant p policy writes n s.persistent)
+      (now-unless plant n (submit_refused plant writes s.persistent) (answer.Accepted _ _) (submitted p policy writes n s.persistent) refl) (held-known p held)
+      (ap (λ b. cond b (by_number p seq s.persistent (submit plant p policy writes n s.persistent)) None) (known-writes plant writes allowed.2)))
+  act-acts (command.Renew txn asked points seq) allowed = act-held plant n (process_of s.attached session)
+      (λ p. after s (once p seq s.persistent (renew p txn asked points n s.persistent))) s (λ p. act.Renew p txn asked points seq)
+      (λ p held. act-once plant n (act.Renew p txn asked points seq) s p seq (renew p txn asked points n s.persistent)
+      (now-unless plant n (renew_refused p txn asked points n s.persistent) (answer.Renewed _ _) (renewed txn asked points n s.persistent) refl) (held-known p held)
+      (ap (λ b. cond b (by_number p seq s.persistent (renew p txn asked points n s.persistent)) None) (known-points plant points allowed.1)))
+  act-acts (command.Cancel txn seq) allowed = act-held plant n (process_of s.attached session)
+      (λ p. after s (once p seq s.persistent (cancel p txn n s.persistent))) s (λ p. act.Cancel p txn seq)
+      (λ p held. act-once plant n (act.Cancel p txn seq) s p seq (cancel p txn n s.persistent)
+      (now-unless plant n (cancel_refused p txn s.persistent) (answer.Cancelled txn n) (end_leases (is_of txn) cause.Cancelled n [] s.persistent) refl) (held-known p held) refl)
   act-acts command.Gone allowed = act-held plant n (process_of s.attached session) (λ p. parted session s (gone p n s.persistent)) s (λ p. act.Gone p)
       (λ p held. act-lost plant n p s.persistent (held-known p held))
   act-acts command.Tick allowed = act-none plant n act.Tick s.persistent
@@ -188,11 +217,11 @@ module _ (plant : List Actuator) (n : ℕ) (session : ℕ) (s : State) (attached
   act-acts (command.Notices name from most) allowed = act-notices plant n act.Tick name session from most s
 
 -- who is concerned is a matter of the persistent part and of who is attached
-concerned-bare : (c : Command) (session : ℕ) (s : State) (proxies : List Proxy) (wants : List ℕ) → concerned c session (record s { proxies = proxies; wants = wants }) ≡ concerned c session s
+pub concerned-bare : (c : Command) (session : ℕ) (s : State) (proxies : List Proxy) (wants : List ℕ) → concerned c session (record s { proxies = proxies; wants = wants }) ≡ concerned c session s
 concerned-bare (command.Attach name) session s proxies wants = refl
-concerned-bare (command.Submit writes policy) session s proxies wants = refl
-concerned-bare (command.Renew txn asked points) session s proxies wants = refl
-concerned-bare (command.Cancel txn) session s proxies wants = refl
+concerned-bare (command.Submit writes policy seq) session s proxies wants = refl
+concerned-bare (command.Renew txn asked points seq) session s proxies wants = refl
+concerned-bare (command.Cancel txn seq) session s proxies wants = refl
 concerned-bare command.Gone session s proxies wants = refl
 concerned-bare command.Tick session s proxies wants = refl
 concerned-bare (command.Next driver) session s proxies wants = refl

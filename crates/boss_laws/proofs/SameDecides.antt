@@ -5,6 +5,9 @@ use Rattle.std.proofs.lemmas.Bool.Decides.{nat_tests, Decides-int_eq}
 use Rattle.boss_model.specs.declared.command.Policy.{Policy}
 use Rattle.boss_model.specs.declared.command.Policy.TheVariants.{Abort, Keep}
 use Rattle.boss_model.specs.declared.command.Step.{Step}
+use Rattle.boss_model.specs.declared.kept.Acceptance.{Acceptance}
+use Rattle.boss_model.specs.declared.kept.Acceptance.TheVariants as acceptance
+use Rattle.boss_model.specs.declared.kept.KeptReply.{KeptReply}
 use Rattle.boss_model.specs.declared.notice.Cause.{Cause}
 use Rattle.boss_model.specs.declared.notice.Cause.TheVariants as cause
 use Rattle.boss_model.specs.declared.notice.Notice.{Notice}
@@ -13,7 +16,7 @@ use Rattle.boss_model.specs.declared.notice.What.TheVariants as what
 use Rattle.boss_model.specs.declared.state.Lease.{Lease}
 use Rattle.boss_model.specs.declared.state.Pending.{Pending}
 use Rattle.boss_model.specs.Records.{End, Part, Transaction}
-use Rattle.boss_model.specs.Same.{same_policy, cause_numbers, same_cause, what_numbers, same_what, same_step, same_lease, same_pending, same_end, same_part, same_transaction, same_notice, same_process, same_persistent}
+use Rattle.boss_model.specs.Same.{same_policy, cause_numbers, same_cause, what_numbers, same_what, same_step, same_lease, same_pending, same_end, same_part, same_transaction, same_notice, acceptance_numbers, same_reply, same_process, same_persistent}
 use Rattle.boss_model.specs.State.{Process, Persistent}
 
 module _ {X : Type 0} (same : X → X → Bool) where
@@ -168,15 +171,45 @@ notice-equal x y is =
 notice-self : (x : Notice) → same_notice x x ≡ true
 notice-self x = grind (arith, nat_tests, numbers-self (what_numbers x.what))
 
+-- the kept answer that some numbers are of
+acceptance_of : List ℕ → Acceptance
+acceptance_of [] = acceptance.Cancelled 0 0
+acceptance_of (n ∷ []) = acceptance.Cancelled 0 0
+acceptance_of (n ∷ txn ∷ []) = acceptance.Cancelled txn 0
+acceptance_of (n ∷ txn ∷ moment ∷ rest) = cond (n == 0) (acceptance.Accepted txn moment) (cond (n == 1) (acceptance.Renewed txn moment) (acceptance.Cancelled txn moment))
+
+acceptance_of-numbers : (x : Acceptance) → acceptance_of (acceptance_numbers x) ≡ x
+unfolding acceptance_of
+acceptance_of-numbers (acceptance.Accepted txn until) = refl
+acceptance_of-numbers (acceptance.Renewed txn until) = refl
+acceptance_of-numbers (acceptance.Cancelled txn at) = refl
+
+acceptance-equal : (x y : Acceptance) → pointwise nat_eq (acceptance_numbers x) (acceptance_numbers y) ≡ true → x ≡ y
+acceptance-equal x y is = sym (acceptance_of-numbers x) ∙ ap acceptance_of (numbers-equal (acceptance_numbers x) (acceptance_numbers y) is) ∙ acceptance_of-numbers y
+
+reply-equal : (x y : Option KeptReply) → same_reply x y ≡ true → x ≡ y
+reply-equal None None is = refl
+reply-equal None (Some y) is = cc
+reply-equal (Some x) None is = cc
+reply-equal (Some x) (Some y) is =
+    let n : x.seq ≡ y.seq = grind (arith, nat_tests) in
+    let a : x.acceptance ≡ y.acceptance = acceptance-equal x.acceptance y.acceptance (grind (arith)) in
+    λ i. Some (record { seq = n i; acceptance = a i })
+
+reply-self : (x : Option KeptReply) → same_reply x x ≡ true
+reply-self None = refl
+reply-self (Some x) = grind (arith, nat_tests, numbers-self (acceptance_numbers x.acceptance))
+
 process-equal : (x y : Process) → same_process x y ≡ true → x ≡ y
 process-equal x y is =
     let a : x.name ≡ y.name = numbers-equal x.name y.name (grind (arith)) in
     let b : x.count ≡ y.count = grind (arith, nat_tests) in
     let k : x.kept ≡ y.kept = lists-equal same_notice notice-equal x.kept y.kept (grind (arith)) in
-    λ i. record { name = a i; count = b i; kept = k i }
+    let r : x.reply ≡ y.reply = reply-equal x.reply y.reply (grind (arith)) in
+    λ i. record { name = a i; count = b i; kept = k i; reply = r i }
 
 process-self : (x : Process) → same_process x x ≡ true
-process-self x = grind (arith, nat_tests, numbers-self x.name, lists-self same_notice notice-self x.kept)
+process-self x = grind (arith, nat_tests, numbers-self x.name, lists-self same_notice notice-self x.kept, reply-self x.reply)
 
 pub persistent-equal : (x y : Persistent) → same_persistent x y ≡ true → x ≡ y
 persistent-equal x y is =

@@ -1,12 +1,13 @@
 -- What a step answers can be told: its points are the catalogue's, and its notices few.
-use Rattle.std.proofs.Common.{◌≡◌, ℕ, ◌+◌, ◌-◌, ◌<◌, ◌≤◌, ◌==◌, max, nat_lt, nat_le, List, [], ◌∷◌, length, Bool, true, false, ◌&&◌, Option, Some, None, refl, subst, arith}
+use Rattle.std.proofs.Common.{◌≡◌, ℕ, ◌+◌, ◌-◌, ◌<◌, ◌≤◌, ◌==◌, max, nat_lt, nat_le, List, [], ◌∷◌, length, Bool, true, false, ◌&&◌, Option, Some, None, refl, sym, subst, arith}
 use Rattle.std.specs.List.{find, AllByRecursion}
 use Rattle.std.proofs.lemmas.Bool.{cond_both}
 use Rattle.std.proofs.lemmas.Bool.Decides.{nat_tests}
 use Rattle.std.proofs.lemmas.List.{length-map}
-use Rattle.boss_model.specs.declared.answer.Answer.{Answer}
 use Rattle.boss_model.specs.declared.answer.Answer.TheVariants as answer
 use Rattle.boss_model.specs.declared.answer.Refusal.{Refusal}
+use Rattle.boss_model.specs.declared.kept.Acceptance.{Acceptance}
+use Rattle.boss_model.specs.declared.kept.Acceptance.TheVariants as acceptance
 use Rattle.boss_model.specs.declared.command.Command.{Command}
 use Rattle.boss_model.specs.declared.command.Command.TheVariants as command
 use Rattle.boss_model.specs.declared.notice.Notice.{Notice}
@@ -15,15 +16,17 @@ use Rattle.boss_model.specs.Devices.{Reply, hand_out, is_current, heard, report}
 use Rattle.boss_model.specs.Ends.{cancel, gone}
 use Rattle.boss_model.specs.Limits.{most_told, last_moment}
 use Rattle.boss_model.specs.Machine.{answered, after, if_attached, joined, parted, notices_asked, act, pass_time, step}
-use Rattle.boss_model.specs.Outcomes.{unless}
+use Rattle.boss_model.specs.Outcomes.{Outcome, refused, did, unless}
 use Rattle.boss_model.specs.Processes.{process_of, process_named}
 use Rattle.boss_model.specs.Queries.{start, numbered_from, notices_of, named, notices, status_of}
 use Rattle.boss_model.specs.Records.{Transaction}
 use Rattle.boss_model.specs.Renew.{transaction_of, renew}
+use Rattle.boss_model.specs.Replies.{answer_of, once}
 use Rattle.boss_model.specs.Sound.{NumberedFrom, IsKnown, IsProcess, IsWant, IsSoundPersistent, IsSound, IsAllowed}
 use Rattle.boss_model.specs.State.{Process, Persistent, State}
 use Rattle.boss_model.specs.Submit.{submit}
 use Rattle.boss_model.specs.Tellable.{IsTellableNotice, IsTellable}
+use Rattle.boss_laws.proofs.Requests.{IsRequest, submit-request, renew-request, cancel-request, request-once}
 use Rattle.boss_laws.proofs.Draining.{find-member}
 use Rattle.boss_time.proofs.GroupSound.{got}
 use Rattle.boss_time.proofs.Orders.{each-filter}
@@ -74,9 +77,14 @@ module _ (catalogue : Catalogue) where
 
   -- ---- the other commands
 
-  told-after : (s : State) (refusal : Option Refusal) (given : Answer) (d : Persistent) → IsTellable catalogue given → IsTellable catalogue (after s (unless refusal given d)).answer
-  told-after s (Some why) given d told = tt
-  told-after s None given d told = told
+  told-accepted : (accepted : Acceptance) → IsTellable catalogue (answer_of accepted)
+  told-accepted (acceptance.Accepted txn until) = tt
+  told-accepted (acceptance.Renewed txn until) = tt
+  told-accepted (acceptance.Cancelled txn at) = tt
+
+  told-after : (s : State) (outcome : Outcome) → IsRequest outcome → IsTellable catalogue (after s outcome).answer
+  told-after s (refused why) is = tt
+  told-after s (did given d) is = subst (IsTellable catalogue) (sym is.1) (told-accepted is.0)
 
   told-joined : (session process : ℕ) (s : State) (refusal : Option Refusal) (name : List ℕ) (number : ℕ) (d : Persistent) →
       IsTellable catalogue (joined session process s (unless refusal (answer.Attached name number) d)).answer
@@ -107,12 +115,15 @@ module _ (catalogue : Catalogue) where
 
   told-act : (session n : ℕ) (c : Command) (s : State) → IsSound (actuators catalogue) s → IsAllowed (actuators catalogue) c → IsTellable catalogue (act (actuators catalogue) session n c s).answer
   told-act session n (command.Attach name) s sound allowed = told-joined session _ s _ name _ _
-  told-act session n (command.Submit writes policy) s sound allowed = told-if (process_of s.attached session)
-      (λ p. after s (submit (actuators catalogue) p policy writes n s.persistent)) s (λ p. told-after s _ (answer.Accepted _ _) _ tt)
-  told-act session n (command.Renew txn length points) s sound allowed = told-if (process_of s.attached session)
-      (λ p. after s (renew p txn length points n s.persistent)) s (λ p. told-after s _ (answer.Renewed _ _) _ tt)
-  told-act session n (command.Cancel txn) s sound allowed = told-if (process_of s.attached session)
-      (λ p. after s (cancel p txn n s.persistent)) s (λ p. told-after s _ (answer.Cancelled _ _) _ tt)
+  told-act session n (command.Submit writes policy seq) s sound allowed = told-if (process_of s.attached session)
+      (λ p. after s (once p seq s.persistent (submit (actuators catalogue) p policy writes n s.persistent))) s
+      (λ p. told-after s _ (request-once p seq s.persistent _ (submit-request (actuators catalogue) p policy writes n s.persistent)))
+  told-act session n (command.Renew txn length points seq) s sound allowed = told-if (process_of s.attached session)
+      (λ p. after s (once p seq s.persistent (renew p txn length points n s.persistent))) s
+      (λ p. told-after s _ (request-once p seq s.persistent _ (renew-request p txn length points n s.persistent)))
+  told-act session n (command.Cancel txn seq) s sound allowed = told-if (process_of s.attached session)
+      (λ p. after s (once p seq s.persistent (cancel p txn n s.persistent))) s
+      (λ p. told-after s _ (request-once p seq s.persistent _ (cancel-request p txn n s.persistent)))
   told-act session n command.Gone s sound allowed = told-if (process_of s.attached session) (λ p. parted session s (gone p n s.persistent)) s (λ p. tt)
   told-act session n command.Tick s sound allowed = tt
   told-act session n (command.Next driver) s sound allowed = told-want (λ point. driver_of (actuators catalogue) point == driver) _ s sound refl

@@ -13,8 +13,9 @@ pub record IsKeptEnd (c : Command) (n : ℕ) (after : Persistent) (cause : Cause
   pub txn : ℕ
   pub length : ℤ
   pub points : List ℕ
+  pub seq : ℕ
   pub transaction : Transaction
-  pub renewal : c ≡ command.Renew txn length points
+  pub renewal : c ≡ command.Renew txn length points seq
   pub known : transaction_of after.txns txn ≡ Some transaction
   pub end : first_some (map (λ part. part.end) (named_parts points transaction.parts)) ≡ Some (record { cause = cause; at = at })
   pub past : at ≤ moment

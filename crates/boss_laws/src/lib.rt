@@ -7,6 +7,7 @@ mod bridges;
 mod devices;
 mod effects;
 mod limits;
+mod once;
 mod refusals;
 mod ticks;
 
@@ -18,5 +19,6 @@ pub use bridges::{
 pub use devices::a_settled_point_has_what_was_taken;
 pub use effects::{an_event_does_the_same_again, events_of_a_run_lead_to_its_end};
 pub use limits::limits_are_those_of_the_definitions;
+pub use once::a_number_is_made_once;
 pub use refusals::{a_refused_command_is_its_tick, an_ended_refusal_tells_the_kept_end};
 pub use ticks::{tick_before_a_command, tick_before_a_reading};

@@ -1,4 +1,4 @@
-ghost use Rattle.std.specs.Prelude.{◌≡◌, ℕ, ◌≤◌, List};
+ghost use Rattle.std.specs.Prelude.{◌≡◌, ℕ, ◌≤◌, List, Some, true};
 ghost use Rattle.boss_model.specs.declared.answer.Answer.TheVariants as answer;
 ghost use Rattle.boss_model.specs.declared.answer.Refusal.{Refusal};
 ghost use Rattle.boss_model.specs.declared.answer.Refusal.TheVariants as refusal;
@@ -8,15 +8,22 @@ ghost use Rattle.boss_model.specs.declared.notice.Cause.{Cause};
 ghost use Rattle.boss_model.specs.declared.state.Actuator.{Actuator};
 ghost use Rattle.boss_model.specs.Limits.{last_moment};
 ghost use Rattle.boss_model.specs.Machine.{step};
+ghost use Rattle.boss_model.specs.Processes.{process_of};
+ghost use Rattle.boss_model.specs.Replies.{is_repeat};
 ghost use Rattle.boss_model.specs.Sound.{IsSoundPersistent};
 ghost use Rattle.boss_model.specs.State.{State};
 ghost use Rattle.boss_model.specs.Time.{moment_of};
 ghost use Rattle.boss_laws.specs.Ended.{IsKeptEnd};
+ghost use Rattle.boss_laws.specs.Once.{seq_of};
 
 /// A refused command is its tick, its retries and its settling: the whole state after it is that after a tick at its moment.
+/// So is one whose number was the last to be accepted of its process.
 pub fn a_refused_command_is_its_tick()
-    ensures { (plant : List Actuator) (s : State) (session other : ℕ) (c : Command) (m : ℕ) (why : Refusal) →
+    ensures refused { (plant : List Actuator) (s : State) (session other : ℕ) (c : Command) (m : ℕ) (why : Refusal) →
         (step plant session c m s).answer ≡ answer.Refused why →
+        (step plant session c m s).state ≡ (step plant other command.Tick m s).state }
+    ensures repeated { (plant : List Actuator) (s : State) (session other owner : ℕ) (c : Command) (m : ℕ) →
+        process_of s.attached session ≡ Some owner → is_repeat owner (seq_of c) s.persistent ≡ true →
         (step plant session c m s).state ≡ (step plant other command.Tick m s).state }
 {}
 

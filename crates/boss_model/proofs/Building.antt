@@ -48,10 +48,13 @@ abbrev pub held : ℕ → ℕ → Step
 held value hold = record { value = pos value; hold = pos hold }
 
 abbrev pub submit : List Setting → Command
-submit writes = command.Submit writes Abort
+submit writes = command.Submit writes Abort 0
 
 abbrev pub renew : ℕ → ℕ → Command
-renew txn length = command.Renew txn (pos length) []
+renew txn length = command.Renew txn (pos length) [] 0
+
+abbrev pub cancel : ℕ → Command
+cancel txn = command.Cancel txn 0
 
 abbrev pub notices : Command
 notices = command.Notices None 1 16

@@ -35,7 +35,7 @@ first_failure_under_abort = refl
 
 -- under keep, the owner is told and the write is tried again after five seconds
 first_failure_under_keep : asked (opening ++ a_attaches ∷
-    at 1000 1 (command.Submit (write damper 45000 8 60000 ∷ write lamp 1 8 60000 ∷ []) Keep) ∷
+    at 1000 1 (command.Submit (write damper 45000 8 60000 ∷ write lamp 1 8 60000 ∷ []) Keep 0) ∷
     device 1000 damper 2 true ++
     device 1000 lamp 2 false ++
     at 1000 1 notices ∷

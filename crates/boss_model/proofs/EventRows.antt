@@ -29,7 +29,7 @@ the_end = run building (first_state building) a_day
 abbrev three : List Event
 three =
     record { moment = 0; act = act.Enrol (codes "a") } ∷
-    record { moment = 1000; act = act.Submit 0 Abort (write damper 45000 8 60000 ∷ []) } ∷
+    record { moment = 1000; act = act.Submit 0 Abort (write damper 45000 8 60000 ∷ []) 0 } ∷
     record { moment = 61000; act = act.Tick } ∷ []
 
 three_events : events building (first_state building) a_day ≡ three

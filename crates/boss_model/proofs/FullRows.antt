@@ -29,7 +29,7 @@ asked_of d calls = answers building (opened building d) calls
 -- ---- 256 processes
 
 abbrev numbered : ℕ → Process
-numbered n = record { name = decimal n; count = 0; kept = [] }
+numbered n = record { name = decimal n; count = 0; kept = []; reply = None }
 
 abbrev crowd : ℕ → Persistent
 crowd n = record first_persistent { processes = map numbered (range_with_len 1 n) }
@@ -62,7 +62,7 @@ history = record {
   pending = [];
   txns = map cancelled_record (1 ∷ 2 ∷ []);
   done = range_with_len 1 1024;
-  processes = record { name = codes "a"; count = 0; kept = [] } ∷ [];
+  processes = record { name = codes "a"; count = 0; kept = []; reply = None } ∷ [];
 }
 
 -- a renewal of the oldest of them is told how it ended
@@ -85,7 +85,7 @@ abbrev told_done : ℕ → Notice
 told_done n = notice n 5000 1 what.Done
 
 abbrev told_by : ℕ → List Notice → Process
-told_by count kept = record { name = codes "a"; count = count; kept = kept }
+told_by count kept = record { name = codes "a"; count = count; kept = kept; reply = None }
 
 -- one notice more takes the place of the oldest
 oldest_notice_forgotten : posted 5000 1 what.Done (told_by 1024 (map told_done (range_with_len 1 1024))) ≡ told_by 1025 (map told_done (range_with_len 2 1024))

@@ -6,7 +6,7 @@ use Rattle.boss_model.specs.declared.command.Command.TheVariants as command
 use Rattle.boss_model.specs.declared.notice.Cause.TheVariants as cause
 use Rattle.boss_model.specs.declared.notice.What.TheVariants as what
 use Rattle.boss_model.specs.Machine.{step}
-use Rattle.boss_model.proofs.Building.{damper, at, write, submit, renew, notices, device, a_attaches, b_attaches, opening, asked, took, opened, a_attached, b_attached, notice}
+use Rattle.boss_model.proofs.Building.{damper, at, write, submit, renew, notices, device, a_attaches, b_attaches, opening, asked, took, opened, a_attached, b_attached, notice, cancel}
 
 -- the devices take their defaults, and then nothing is wanted
 nothing_asked : asked (opening ++ at 0 0 (command.Next 0) ∷ []) ≡ opened ++ answer.Nothing ∷ []
@@ -99,7 +99,7 @@ own_slot : asked (a_attaches ∷
     at 1000 1 (submit (write damper 45000 8 60000 ∷ [])) ∷
     at 2000 1 (submit (write damper 50000 8 60000 ∷ [])) ∷
     at 2000 1 (renew 1 60000) ∷
-    at 2000 1 (command.Cancel 1) ∷
+    at 2000 1 (cancel 1) ∷
     at 2000 1 notices ∷ [])
     ≡ a_attached ∷
     answer.Accepted 1 61000 ∷

@@ -9,3 +9,4 @@ pub mod DeviceRows
 pub mod RefusalRows
 pub mod FullRows
 pub mod EventRows
+pub mod NumberedRows

@@ -7,7 +7,7 @@ use Rattle.boss_model.specs.declared.command.Command.TheVariants as command
 use Rattle.boss_model.specs.declared.notice.Cause.TheVariants as cause
 use Rattle.boss_model.specs.declared.notice.What.TheVariants as what
 use Rattle.boss_model.specs.Machine.{step}
-use Rattle.boss_model.proofs.Building.{damper, lamp, fan, at, write, reverting, held, submit, notices, device, a_attaches, b_attaches, opening, asked, took, opened, a_attached, b_attached, notice}
+use Rattle.boss_model.proofs.Building.{damper, lamp, fan, at, write, reverting, held, submit, notices, device, a_attaches, b_attaches, opening, asked, took, opened, a_attached, b_attached, notice, cancel}
 
 -- A process that is lost lets go all its leases at that moment, and their reversions start. The next session to attach as
 -- this process finds all that it was told.
@@ -46,11 +46,11 @@ taken_process = refl
 refused_by_what_is_there : asked (a_attaches ∷ b_attaches ∷
     at 1000 1 (submit (write damper 45000 8 60000 ∷ [])) ∷
     at 1000 3 (submit (write damper 45000 8 60000 ∷ [])) ∷
-    at 1000 2 (command.Cancel 1) ∷
-    at 1000 1 (command.Renew 1 (pos 60000) (lamp ∷ [])) ∷
-    at 1000 1 (command.Cancel 9) ∷
+    at 1000 2 (cancel 1) ∷
+    at 1000 1 (command.Renew 1 (pos 60000) (lamp ∷ []) 0) ∷
+    at 1000 1 (cancel 9) ∷
     at 1000 1 (command.Attach (codes "c")) ∷
-    at 61000 1 (command.Cancel 1) ∷
+    at 61000 1 (cancel 1) ∷
     at 61000 0 (command.Next 0) ∷ [])
     ≡ a_attached ∷ b_attached ∷
     answer.Accepted 1 61000 ∷

@@ -15,7 +15,7 @@ use Rattle.boss_model.specs.Machine.{step}
 use Rattle.boss_model.specs.Run.{run}
 use Rattle.boss_model.specs.Settle.{first_state}
 use Rattle.boss_model.specs.State.{State}
-use Rattle.boss_model.proofs.Building.{building, damper, at, write, reverting, held, submit, notices, device, a_attaches, b_attaches, opening, asked, took, opened, a_attached, b_attached, notice}
+use Rattle.boss_model.proofs.Building.{building, damper, at, write, reverting, held, submit, notices, device, a_attaches, b_attaches, opening, asked, took, opened, a_attached, b_attached, notice, cancel}
 
 -- 30,000 for five seconds, then 25,000 for five seconds
 abbrev two_steps : List Step
@@ -93,7 +93,7 @@ masked_by_a_live_lease : asked (opening ++ a_attaches ∷ b_attaches ∷
     at 1500 0 (command.Next 0) ∷
     at 2000 1 command.Tick ∷
     device 2000 damper 3 true ++
-    at 7500 2 (command.Cancel 2) ∷
+    at 7500 2 (cancel 2) ∷
     device 7500 damper 4 true)
     ≡ opened ++ a_attached ∷ b_attached ∷
     answer.Accepted 1 2000 ∷

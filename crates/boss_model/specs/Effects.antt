@@ -37,9 +37,9 @@ step_effect plant session command moment s =
 
 abbrev pub act_of : Command → ℕ → Act
 act_of (command.Attach name) owner = act.Enrol name
-act_of (command.Submit writes policy) owner = act.Submit owner policy writes
-act_of (command.Renew txn length points) owner = act.Renew owner txn length points
-act_of (command.Cancel txn) owner = act.Cancel owner txn
+act_of (command.Submit writes policy seq) owner = act.Submit owner policy writes seq
+act_of (command.Renew txn length points seq) owner = act.Renew owner txn length points seq
+act_of (command.Cancel txn seq) owner = act.Cancel owner txn seq
 act_of command.Gone owner = act.Gone owner
 act_of (command.Report point version ok) owner = act.Fault point
 act_of c owner = act.Tick

@@ -16,6 +16,7 @@ pub mod Submit
 pub mod Renew
 pub mod Ends
 pub mod Processes
+pub mod Replies
 pub mod Same
 pub mod Acts
 pub mod Settle
@@ -24,7 +25,9 @@ pub mod Queries
 pub mod Machine
 pub mod Effects
 pub mod Run
+pub mod Seen
 pub mod Sound
+pub mod Plants
 pub mod Tellable
 pub mod DeviceCall
 pub mod Limits

@@ -11,6 +11,7 @@ use Rattle.boss_model.specs.Outcomes.{Outcome, refused, did}
 use Rattle.boss_model.specs.Processes.{process_of, attached_too, detached, process_named, number_of, attach}
 use Rattle.boss_model.specs.Queries.{reading, array, status, notices, notices_named}
 use Rattle.boss_model.specs.Renew.{renew}
+use Rattle.boss_model.specs.Replies.{once}
 use Rattle.boss_model.specs.Settle.{retry, settle}
 use Rattle.boss_model.specs.State.{State}
 use Rattle.boss_model.specs.Submit.{submit}
@@ -53,11 +54,12 @@ notices_asked None session from most s = as_process session s (λ process. answe
 abbrev pub act : List Actuator → ℕ → ℕ → Command → State → Reply
 act plant session n (command.Attach name) s =
     joined session (number_of s.persistent.processes (process_named s.persistent.processes name)) s (attach session name s.attached n s.persistent)
-act plant session n (command.Submit writes policy) s =
-    as_process session s (λ owner. after s (submit plant owner policy writes n s.persistent))
-act plant session n (command.Renew txn length points) s =
-    as_process session s (λ owner. after s (renew owner txn length points n s.persistent))
-act plant session n (command.Cancel txn) s = as_process session s (λ owner. after s (cancel owner txn n s.persistent))
+act plant session n (command.Submit writes policy seq) s =
+    as_process session s (λ owner. after s (once owner seq s.persistent (submit plant owner policy writes n s.persistent)))
+act plant session n (command.Renew txn length points seq) s =
+    as_process session s (λ owner. after s (once owner seq s.persistent (renew owner txn length points n s.persistent)))
+act plant session n (command.Cancel txn seq) s =
+    as_process session s (λ owner. after s (once owner seq s.persistent (cancel owner txn n s.persistent)))
 act plant session n command.Gone s = as_process session s (λ owner. parted session s (gone owner n s.persistent))
 act plant session n command.Tick s = answered (answer.Ticked s.persistent.now) s
 act plant session n (command.Next driver) s = next plant driver s

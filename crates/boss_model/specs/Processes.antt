@@ -34,7 +34,7 @@ abbrev pub next_notice : List Process → ℕ → ℕ
 next_notice processes process = option_map_or (λ p. p.count) (slice_get processes process) 0 + 1
 
 abbrev pub enrolled : List ℕ → ℕ → Persistent → Persistent
-enrolled name n d = record d { now = n; processes = d.processes ++ (record { name = name; count = 0; kept = [] }) ∷ [] }
+enrolled name n d = record d { now = n; processes = d.processes ++ (record { name = name; count = 0; kept = []; reply = None }) ∷ [] }
 
 -- the number that the process of this name has, or gets
 abbrev pub number_of : List Process → Option ℕ → ℕ

@@ -4,6 +4,9 @@ use Rattle.std.specs.Ordering.{int_eq}
 use Rattle.boss_model.specs.declared.command.Policy.{Policy}
 use Rattle.boss_model.specs.declared.command.Policy.TheVariants.{Abort, Keep}
 use Rattle.boss_model.specs.declared.command.Step.{Step}
+use Rattle.boss_model.specs.declared.kept.Acceptance.{Acceptance}
+use Rattle.boss_model.specs.declared.kept.Acceptance.TheVariants as acceptance
+use Rattle.boss_model.specs.declared.kept.KeptReply.{KeptReply}
 use Rattle.boss_model.specs.declared.notice.Cause.{Cause}
 use Rattle.boss_model.specs.declared.notice.Cause.TheVariants as cause
 use Rattle.boss_model.specs.declared.notice.Notice.{Notice}
@@ -70,8 +73,20 @@ same_transaction x y = x.txn == y.txn && (x.owner == y.owner && (same_policy x.p
 abbrev pub same_notice : Notice → Notice → Bool
 same_notice x y = x.number == y.number && (x.at == y.at && (x.txn == y.txn && same_what x.what y.what))
 
+-- the three answers that are kept, told apart by a number
+abbrev pub acceptance_numbers : Acceptance → List ℕ
+acceptance_numbers (acceptance.Accepted txn until) = 0 ∷ txn ∷ until ∷ []
+acceptance_numbers (acceptance.Renewed txn until) = 1 ∷ txn ∷ until ∷ []
+acceptance_numbers (acceptance.Cancelled txn at) = 2 ∷ txn ∷ at ∷ []
+
+abbrev pub same_reply : Option KeptReply → Option KeptReply → Bool
+same_reply None None = true
+same_reply None (Some y) = false
+same_reply (Some x) None = false
+same_reply (Some x) (Some y) = x.seq == y.seq && pointwise nat_eq (acceptance_numbers x.acceptance) (acceptance_numbers y.acceptance)
+
 abbrev pub same_process : Process → Process → Bool
-same_process x y = pointwise nat_eq x.name y.name && (x.count == y.count && pointwise same_notice x.kept y.kept)
+same_process x y = pointwise nat_eq x.name y.name && (x.count == y.count && (pointwise same_notice x.kept y.kept && same_reply x.reply y.reply))
 
 abbrev pub same_persistent : Persistent → Persistent → Bool
 same_persistent x y = x.now == y.now && (x.next == y.next && (pointwise same_lease x.leases y.leases

@@ -1,9 +1,12 @@
-use Rattle.std.specs.Prelude.{◌≡◌, ℕ, ◌+◌, ◌-◌, ◌<◌, ◌≤◌, ◌==◌, pos, nat_eq, Bool, true, false, not, ◌&&◌, List, [], ◌∷◌, length, map, Option, Some, None, is_none}
+use Rattle.std.specs.Prelude.{◌≡◌, ℕ, ◌+◌, ◌-◌, ◌^◌, ◌<◌, ◌≤◌, ◌==◌, pos, nat_eq, Bool, true, false, not, ◌&&◌, List, [], ◌∷◌, length, map, Option, Some, None, is_none}
 use Rattle.std.specs.List.{AllByRecursion, list_any}
 use Rattle.std.specs.Cmp.Lexicographic.{pointwise}
 use Rattle.boss_model.specs.declared.answer.Mark.TheVariants as mark
 use Rattle.boss_model.specs.declared.command.Command.{Command}
 use Rattle.boss_model.specs.declared.command.Command.TheVariants as command
+use Rattle.boss_model.specs.declared.kept.Acceptance.{Acceptance}
+use Rattle.boss_model.specs.declared.kept.Acceptance.TheVariants as acceptance
+use Rattle.boss_model.specs.declared.kept.KeptReply.{KeptReply}
 use Rattle.boss_model.specs.declared.notice.Cause.{Cause}
 use Rattle.boss_model.specs.declared.notice.Cause.TheVariants as cause
 use Rattle.boss_model.specs.declared.notice.Notice.{Notice}
@@ -44,6 +47,10 @@ abbrev pub NumberedFrom : ℕ → List Notice → Type 0
 NumberedFrom number [] = Unit {0}
 NumberedFrom number (notice ∷ notices) = (notice.number ≡ number) × NumberedFrom (number + 1) notices
 
+-- a number that fits the 64 bits that it has
+abbrev pub IsWord : ℕ → Type 0
+IsWord n = n < 2 ^ 64
+
 -- ---- leases and reversions
 
 -- a lease that may stand in a state with this `now`
@@ -68,15 +75,26 @@ abbrev pub IsPast : ℕ → Option End → Type 0
 IsPast now None = Unit {0}
 IsPast now (Some end) = end.at ≤ now
 
+abbrev pub IsCause : Cause → Type 0
+IsCause (cause.Superseded by) = IsWord by
+IsCause why = Unit {0}
+
+abbrev pub IsEnd : Option End → Type 0
+IsEnd None = Unit {0}
+IsEnd (Some end) = IsCause end.cause
+
 -- one of the leases is the transaction's and holds this slot
 abbrev pub holds : List Lease → ℕ → ℕ → ℕ → Bool
 holds leases txn point priority = list_any (λ lease. (lease.txn == txn) && ((lease.point == point) && (lease.priority == priority))) leases
 
 pub record IsPart (plant : List Actuator) (now txn : ℕ) (leases : List Lease) (part : Part) : Type 0 where
   pub known : part.point < length plant
+  -- an ended part may have any priority that fits its byte
+  pub priority : part.priority < 256
   -- a part has no end exactly as long as it is a lease
   pub open_part : is_none part.end ≡ holds leases txn part.point part.priority
   pub past : IsPast now part.end
+  pub why : IsEnd part.end
 
 pub record IsTransaction (plant : List Actuator) (d : Persistent) (transaction : Transaction) : Type 0 where
   pub numbered : 1 ≤ transaction.txn
@@ -120,6 +138,25 @@ IsKnown points (what.Reverted point) = point < points
 IsKnown points (what.Cut point by) = point < points
 IsKnown points what.Done = Unit {0}
 
+-- the numbers of transactions that a notice tells
+abbrev pub IsWhat : What → Type 0
+IsWhat (what.Ended point why) = IsCause why
+IsWhat (what.Cut point by) = IsWord by
+IsWhat told = Unit {0}
+
+abbrev pub IsNotice : Notice → Type 0
+IsNotice notice = IsWord notice.txn × IsWhat notice.what
+
+abbrev pub IsAcceptance : Acceptance → Type 0
+IsAcceptance (acceptance.Accepted txn until) = IsWord txn × IsWord until
+IsAcceptance (acceptance.Renewed txn until) = IsWord txn × IsWord until
+IsAcceptance (acceptance.Cancelled txn at) = IsWord txn × IsWord at
+
+-- what is kept of a request has the request's number
+abbrev pub IsReply : Option KeptReply → Type 0
+IsReply None = Unit {0}
+IsReply (Some reply) = (1 ≤ reply.seq) × (reply.seq < last_number) × IsAcceptance reply.acceptance
+
 pub record IsProcess (plant : List Actuator) (now : ℕ) (process : Process) : Type 0 where
   pub name : is_name process.name ≡ true
   pub count : process.count ≤ last_number
@@ -128,6 +165,8 @@ pub record IsProcess (plant : List Actuator) (now : ℕ) (process : Process) : T
   pub numbers : NumberedFrom (process.count + 1 - length process.kept) process.kept
   pub past : AllByRecursion (λ notice. notice.at ≤ now) process.kept
   pub known : AllByRecursion (λ notice. IsKnown (length plant) notice.what) process.kept
+  pub words : AllByRecursion IsNotice process.kept
+  pub reply : IsReply process.reply
 
 -- ---- what holds of every persistent part that can be reached
 
@@ -183,13 +222,14 @@ abbrev pub IsName : Option (List ℕ) → Type 0
 IsName None = Unit {0}
 IsName (Some name) = is_name name ≡ true
 
--- its points are those of the plant, and the sizes of its lists are within their limits
+-- its points are those of the plant, and its number and the sizes of its lists are within their limits
 abbrev pub IsAllowed : List Actuator → Command → Type 0
 IsAllowed plant (command.Attach name) = is_name name ≡ true
-IsAllowed plant (command.Submit writes policy) =
-    (1 ≤ length writes) × (length writes ≤ most_writes) × AllByRecursion (λ write. write.point < length plant) writes
-IsAllowed plant (command.Renew txn length_asked points) = (length points ≤ most_writes) × AllByRecursion (λ point. point < length plant) points
-IsAllowed plant (command.Cancel txn) = Unit {0}
+IsAllowed plant (command.Submit writes policy seq) =
+    (1 ≤ length writes) × (length writes ≤ most_writes) × AllByRecursion (λ write. write.point < length plant) writes × (seq < last_number)
+IsAllowed plant (command.Renew txn length_asked points seq) =
+    (length points ≤ most_writes) × AllByRecursion (λ point. point < length plant) points × (seq < last_number)
+IsAllowed plant (command.Cancel txn seq) = seq < last_number
 IsAllowed plant command.Gone = Unit {0}
 IsAllowed plant command.Tick = Unit {0}
 IsAllowed plant (command.Next driver) = Unit {0}

@@ -1,4 +1,5 @@
-use Rattle.std.specs.Prelude.{ℕ, List, [], ◌∷◌}
+use Rattle.std.specs.Prelude.{ℕ, List, [], ◌∷◌, Option}
+use Rattle.boss_model.specs.declared.kept.KeptReply.{KeptReply}
 use Rattle.boss_model.specs.declared.notice.Notice.{Notice}
 use Rattle.boss_model.specs.Records.{Transaction}
 -- a lease: the transaction holds the slot (point, priority) at this value as long as the moment is before `until`
@@ -9,15 +10,17 @@ pub use Rattle.boss_model.specs.declared.state.Pending.{Pending}
 -- has failed to take this version, and when it is written again if it failed
 pub use Rattle.boss_model.specs.declared.state.Proxy.{Proxy}
 
--- a control process: its name, how many notices it was sent, and the last `notices_kept` of them. Processes go by their places.
+-- a control process: its name, how many notices it was sent, and the last of them, at most `notices_kept`; and what the last
+-- request was answered that it had numbered and that was accepted. Processes go by their places.
 pub record Process : Type 0 where
   pub name : List ℕ
   pub count : ℕ
   pub kept : List Notice
+  pub reply : Option KeptReply
 
 -- What outlasts a stop. `now` is the moment of the last change, `next` the number of the next transaction; leases and
--- pending reversions stand in order of slots, transactions in order of number; `done` has the last `done_kept` transactions that
--- became done, in the order of becoming done.
+-- pending reversions stand in order of slots, transactions in order of number; `done` has the last transactions that became
+-- done, at most `done_kept`, in the order of becoming done.
 pub record Persistent : Type 0 where
   pub now : ℕ
   pub next : ℕ

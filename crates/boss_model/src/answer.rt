@@ -55,6 +55,8 @@ pub enum Refusal {
     UnknownPoint { index: u32 },
     /// The session holds no process, and the command needs one.
     NotAttached,
+    /// The process had a request of this greater number accepted.
+    Stale { kept: u64 },
     /// This write's point is that of an earlier write.
     SamePoint { index: u32 },
     /// This write's priority is outside 1 to 16, or is 6.
@@ -94,6 +96,7 @@ impl Refusal {
             Refusal::UnknownOp => "what the line asks for is not known",
             Refusal::UnknownPoint { .. } => "no point has the name",
             Refusal::NotAttached => "the session holds no process",
+            Refusal::Stale { .. } => "a request was accepted under the greater number",
             Refusal::SamePoint { .. } => "an earlier write has the point of the write",
             Refusal::BadPriority { .. } => "a priority of 1 to 16, but not 6, is wanted",
             Refusal::OutOfRange { .. } => "a value that the point takes is wanted",
@@ -138,6 +141,7 @@ impl fmt::Display for Refusal {
             Refusal::Over { at } => write!(f, " at {at}"),
             Refusal::Already { name } => write!(f, " {name}"),
             Refusal::Taken { session } => write!(f, " {}", session.0),
+            Refusal::Stale { kept } => write!(f, " {kept}"),
             _ => Ok(()),
         }
     }

@@ -44,20 +44,25 @@ pub enum Command {
         name: Name,
     },
     /// Write set-points on several points, all or none, as a transaction of the session's process: 1 to 32 writes.
+    /// `seq` is the process's own number for the request, 1 to 2^62 - 1, or 0 for none: what was accepted under the last
+    /// such number is kept, so that a request which is sent again with its number is made once.
     Submit {
         writes: Items<Setting>,
         policy: Policy,
+        seq: u64,
     },
     /// Keep leases of a transaction for at least `length` more milliseconds, 1 to 604,800,000: those on the named
-    /// points, at most 32, or all its leases where none is named. All of them or none.
+    /// points, at most 32, or all its leases where none is named. All of them or none. `seq` is as for a submit.
     Renew {
         txn: Txn,
         length: i64,
         points: Items<PointId>,
+        seq: u64,
     },
-    /// End all live leases of a transaction of the session's process.
+    /// End all live leases of a transaction of the session's process. `seq` is as for a submit.
     Cancel {
         txn: Txn,
+        seq: u64,
     },
     /// The session's process is lost: all its live leases end, and the session no longer holds it.
     Gone,

@@ -7,23 +7,27 @@ pub enum Act {
     Enrol {
         name: Name,
     },
-    /// The process submitted a transaction: 1 to 32 writes.
+    /// The process submitted a transaction: 1 to 32 writes. `seq` is the process's number for the request, 0 for none.
     Submit {
         owner: ProcId,
         policy: Policy,
         writes: Items<Setting>,
+        seq: u64,
     },
-    /// The process renewed leases of a transaction: those on the named points, or all where none is named.
+    /// The process renewed leases of a transaction: those on the named points, or all where none is named. `seq` is as for
+    /// a submit.
     Renew {
         owner: ProcId,
         txn: Txn,
         length: i64,
         points: Items<PointId>,
+        seq: u64,
     },
-    /// The process cancelled a transaction.
+    /// The process cancelled a transaction. `seq` is as for a submit.
     Cancel {
         owner: ProcId,
         txn: Txn,
+        seq: u64,
     },
     /// The process was lost.
     Gone {

@@ -7,6 +7,7 @@ mod buffer;
 mod command;
 mod event;
 mod items;
+mod kept;
 mod limits;
 mod memory;
 mod name;
@@ -20,6 +21,7 @@ pub use buffer::Buffer;
 pub use command::{Command, Policy, Setting, Step};
 pub use event::{Act, Effect, Event};
 pub use items::Items;
+pub use kept::{Acceptance, Kept, KeptPart, KeptProcess, KeptReply, KeptTxn};
 pub use limits::{
     DONE_KEPT, LAST_MOMENT, LAST_NUMBER, LAST_SESSION, LONGEST_FILE, LONGEST_HOLD, LONGEST_LEASE,
     LONGEST_LINE, LONGEST_NAME, MOST_DRIVERS, MOST_LINES, MOST_POINTS, MOST_PROCESSES, MOST_STEPS,

@@ -10,8 +10,8 @@ ghost use Rattle.boss_requests.specs.Given.{Gives};
 
 use crate::ReadRefusal;
 use crate::keys::{
-    first_notice, number_under, number_within, points_of, policy_of, process_of, some_process_of,
-    text_under, whole_under, writes_of,
+    first_notice, number_under, number_within, points_of, policy_of, process_of, seq_of,
+    some_process_of, text_under, whole_under, writes_of,
 };
 use crate::points::{point_at, points_named};
 use crate::refusal::MALFORMED;
@@ -87,8 +87,13 @@ fn submit_in(alloc: Global, catalogue: &Catalogue, value: &Value) -> Result<Comm
 {
     let values = writes_of(value).ok_or(MALFORMED)?;
     let policy = policy_of(value).ok_or(MALFORMED)?;
+    let seq = seq_of(value).ok_or(MALFORMED)?;
     let writes = settings_in(alloc, catalogue, values)?;
-    Ok(Command::Submit { writes, policy })
+    Ok(Command::Submit {
+        writes,
+        policy,
+        seq,
+    })
 }
 
 fn renew_in(alloc: Global, catalogue: &Catalogue, value: &Value) -> Result<Command, ReadRefusal>
@@ -98,11 +103,13 @@ fn renew_in(alloc: Global, catalogue: &Catalogue, value: &Value) -> Result<Comma
     let txn = txn_of(value)?;
     let length = whole_under(value, "length").ok_or(MALFORMED)?;
     let names = points_of(value).ok_or(MALFORMED)?;
+    let seq = seq_of(value).ok_or(MALFORMED)?;
     let points = points_named(alloc, catalogue, names)?;
     Ok(Command::Renew {
         txn,
         length,
         points,
+        seq,
     })
 }
 
@@ -111,7 +118,8 @@ fn cancel_in(value: &Value) -> Result<Command, ReadRefusal>
     ensures allowed { (plant : List Actuator) → IfOk result (IsAllowed plant) }
 {
     let txn = txn_of(value)?;
-    Ok(Command::Cancel { txn })
+    let seq = seq_of(value).ok_or(MALFORMED)?;
+    Ok(Command::Cancel { txn, seq })
 }
 
 fn read_in(catalogue: &Catalogue, value: &Value) -> Result<Command, ReadRefusal>

@@ -1,13 +1,13 @@
-ghost use Rattle.std.specs.Prelude.{◌≡◌, ◌≤◌, [], codes, pos, Some, None, length, option_copied, option_map, IfSome};
+ghost use Rattle.std.specs.Prelude.{◌≡◌, ◌≤◌, ◌<◌, [], codes, pos, Some, None, length, option_copied, option_map, IfSome};
 ghost use Rattle.serde_json.specs.Find.{as_str};
 ghost use Rattle.serde_json.specs.View.{view};
-ghost use Rattle.boss_wire.specs.Keys.{at_least, list, name, number_from, number_within, policy, short_list, step, under, under_or, whole, within};
+ghost use Rattle.boss_wire.specs.Keys.{at_least, list, name, number_from, number_within, policy, seq, short_list, step, under, under_or, whole, within};
 ghost use Rattle.boss_model.specs.declared.Policy.TheVariants.{Abort as AbortPolicy};
-ghost use Rattle.boss_model.specs.Limits.{most_writes};
+ghost use Rattle.boss_model.specs.Limits.{last_number, most_writes};
 ghost use Rattle.boss_model.specs.Sound.{IsName};
 ghost use Rattle.boss_requests.specs.Seen.{views};
 
-use boss_model::{MOST_WRITES, Name, Policy, Step};
+use boss_model::{LAST_NUMBER, MOST_WRITES, Name, Policy, Step};
 use serde_json::Value;
 
 /// The priority of a write that names none: the lowest (ASHRAE 135, clause 19.2).
@@ -91,6 +91,17 @@ pub(crate) fn first_notice(value: &Value) -> Option<u64>
     match value.get("from") {
         Some(found) => at_least(1, found.as_i64()?),
         None => Some(1),
+    }
+}
+
+/// The number that a process gives a request: from 1 up to 2^62 - 1, or 0 where the line has none.
+pub(crate) fn seq_of(value: &Value) -> Option<u64>
+    ensures number { result ≡ seq (view value.now) }
+    ensures within { IfSome result (λ number. number < last_number) }
+{
+    match value.get("seq") {
+        Some(found) => within(1, LAST_NUMBER - 1, found.as_i64()?),
+        None => Some(0),
     }
 }
 

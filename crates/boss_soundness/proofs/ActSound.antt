@@ -27,7 +27,7 @@ use Rattle.boss_soundness.proofs.NotRefused.{none-of-first, submit-not-refused}
 use Rattle.boss_time.proofs.Orders.{each-filter, least-of}
 use Rattle.boss_soundness.proofs.RenewSound.{later-sound, renewed-sound, told-sound}
 use Rattle.boss_soundness.proofs.SubmitChange.{submitted-sound}
-use Rattle.boss_time.proofs.TickSound.{known-lease}
+use Rattle.boss_time.proofs.TickSound.{known-lease, lease-numbers, word-of}
 
 pub tick-length : (d : Persistent) (n : ℕ) → length (tick_to n d).processes ≡ length d.processes
 tick-length d n = tell-length d.processes (due n d)
@@ -50,21 +50,25 @@ module _ (plant : List Actuator) (n : ℕ) (d : Persistent) (sound : IsSoundPers
   lost-next owner = cond_both (list_any (is_owned_by owner) d.leases) (end_leases (is_owned_by owner) cause.Died n [] d) d (IsNext plant d)
       (λ _. end_leases-sound plant (is_owned_by owner) cause.Died n [] d sound at small refl (no-news plant n)) (λ _. record { sound = sound; processes = refl })
 
-  fault-news : (lease : Lease) → lease.point < length plant → IsNews plant n (fault n lease ∷ [])
-  fault-news lease known = record { silent = (refl, tt); told = (record { past = omega arith; known = known }, tt) }
+  fault-news : (lease : Lease) → lease.point < length plant → lease.txn < d.next → IsNews plant n (fault n lease ∷ [])
+  fault-news lease known early = record { silent = (refl, tt); told = (record { past = omega arith; known = known; words = (word-of d.next lease.txn sound.next early, tt) }, tt) }
 
-  faulted_under-next : (policy : Policy) (lease : Lease) → lease.point < length plant → IsNext plant d (faulted_under policy lease n d)
-  faulted_under-next Abort lease known = end_leases-sound plant (is_of lease.txn) cause.Fault n (fault n lease ∷ []) d sound at small refl (fault-news lease known)
-  faulted_under-next Keep lease known = told-sound plant n (fault n lease ∷ []) d sound at small (fault-news lease known)
+  faulted_under-next : (policy : Policy) (lease : Lease) → lease.point < length plant → lease.txn < d.next → IsNext plant d (faulted_under policy lease n d)
+  faulted_under-next Abort lease known early = end_leases-sound plant (is_of lease.txn) cause.Fault n (fault n lease ∷ []) d sound at small refl (fault-news lease known early)
+  faulted_under-next Keep lease known early = told-sound plant n (fault n lease ∷ []) d sound at small (fault-news lease known early)
 
-  faulted-found : (found : Option Lease) → ((lease : Lease) → found ≡ Some lease → lease.point < length plant) → IsNext plant d (faulted found n d)
+  faulted-found : (found : Option Lease) → ((lease : Lease) → found ≡ Some lease → (lease.point < length plant) × (lease.txn < d.next)) → IsNext plant d (faulted found n d)
   faulted-found None known = record { sound = sound; processes = refl }
-  faulted-found (Some lease) known = faulted_under-next lease.policy lease (known lease refl)
+  faulted-found (Some lease) known = let both = known lease refl in faulted_under-next lease.policy lease both.0 both.1
 
   pub faulted-next : (point : ℕ) → IsNext plant d (faulted (in_force d.leases point) n d)
   faulted-next point = faulted-found (in_force d.leases point)
-      (λ lease found. known-lease plant d.now lease (least-of (IsLease plant d.now) (λ l. l.priority) (filter (λ l. l.point == point) d.leases) lease
-      (each-filter (IsLease plant d.now) (λ l. l.point == point) d.leases sound.leases) found))
+      (λ lease found. (
+        known-lease plant d.now lease (least-of (IsLease plant d.now) (λ l. l.priority) (filter (λ l. l.point == point) d.leases) lease
+            (each-filter (IsLease plant d.now) (λ l. l.point == point) d.leases sound.leases) found),
+        least-of (λ l. l.txn < d.next) (λ l. l.priority) (filter (λ l. l.point == point) d.leases) lease
+            (each-filter (λ l. l.txn < d.next) (λ l. l.point == point) d.leases (lease-numbers plant d sound)) found,
+      ))
 
   pub enrol-sound : (name : List ℕ) → is_name name ≡ true → process_named d.processes name ≡ None → is_full d.processes ≡ false → IsSoundPersistent plant (enrolled name n d)
   enrol-sound name named none room = enrolled-sound plant name n d sound at small named none room

@@ -12,13 +12,13 @@ use Rattle.boss_model.specs.Lists.{member}
 use Rattle.boss_model.specs.Order.{comes_before, in_order}
 use Rattle.boss_model.specs.Records.{Transaction}
 use Rattle.boss_model.specs.Reversions.{courses}
-use Rattle.boss_model.specs.Sound.{Rising, is_kept, number_rank, IsSoundPersistent}
+use Rattle.boss_model.specs.Sound.{Rising, IsTransaction, is_kept, number_rank, IsSoundPersistent}
 use Rattle.boss_model.specs.State.{Persistent}
 use Rattle.boss_time.proofs.Filters.{each-mapped, each-always}
 use Rattle.boss_time.proofs.GroupSound.{IsNewlyDone, IsTidings, IsChange, group-sound, tell-length}
 use Rattle.boss_time.proofs.Orders.{each-map, each-filter, each-passed, each-both, each-append, each-in_order, Rising-filter}
 use Rattle.boss_time.proofs.Records.{IsOther}
-use Rattle.boss_time.proofs.TickSound.{Pairs, Pairs-in_order, Once, Once-turn, Pairs-DoneOnce, IsSilent, silent-first, each-kept}
+use Rattle.boss_time.proofs.TickSound.{Pairs, Pairs-in_order, Once, Once-turn, Pairs-DoneOnce, IsSilent, silent-first, each-kept, word-of}
 
 once-ended : (n : ℕ) (ts : List Transaction) → Rising number_rank ts → Pairs Once (map (done_at n) ts)
 once-ended n [] rising = tt
@@ -31,7 +31,7 @@ once-ended n (t ∷ ts) rising = (apart ts rising.0, once-ended n ts rising.1)
 -- what is told beside the transactions that become done
 pub record IsNews (plant : List Actuator) (n : ℕ) (hs : List Happening) : Type 0 where
   pub silent : AllByRecursion IsSilent hs
-  pub told : AllByRecursion (λ h. IsTidings plant n h.told h.at) hs
+  pub told : AllByRecursion (λ h. IsTidings plant n h.told h.at h.txn) hs
 
 -- sound, and with the same number of processes
 pub record IsNext (plant : List Actuator) (before after : Persistent) : Type 0 where
@@ -75,8 +75,9 @@ conclude-sound plant n happened before next leases pending txns change news aliv
         once = Pairs-DoneOnce (in_order rank all) (Pairs-in_order Once Once-turn rank all (silent-first happened (map (done_at n) gone) news.silent
             (once-ended n gone (Rising-filter number_rank test txns change.numbers))));
         told =
-            let T = λ (h : Happening). IsTidings plant n h.told h.at in
+            let T = λ (h : Happening). IsTidings plant n h.told h.at h.txn in
             each-in_order T rank all (each-append T happened (map (done_at n) gone) news.told
-            (each-mapped T (done_at n) gone (each-always (λ t. T (done_at n t)) (λ t. record { past = omega arith; known = tt }) gone)));
+            (each-mapped T (done_at n) gone (each-filter (λ t. T (done_at n t)) test txns
+            (each-map (IsTransaction plant changed) (λ t. T (done_at n t)) (λ t is. record { past = omega arith; known = tt; words = (word-of next t.txn change.next is.given, tt) }) txns change.txns))));
       });
     }

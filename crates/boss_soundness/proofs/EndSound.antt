@@ -18,11 +18,11 @@ use Rattle.boss_model.specs.State.{Persistent}
 use Rattle.boss_model.specs.Time.{live, under_way, record_after, tick_to}
 use Rattle.boss_time.proofs.Coming.{now_after-within}
 use Rattle.boss_soundness.proofs.ConcludeSound.{IsNews, IsNext, conclude-sound}
-use Rattle.boss_time.proofs.Endings.{IsEnding, IsReverting, ending-change}
+use Rattle.boss_time.proofs.Endings.{IsEnding, IsReverting, plain-cause, ending-change}
 use Rattle.boss_time.proofs.Filters.{each-mapped, each-always}
 use Rattle.boss_time.proofs.GroupSound.{IsTidings, IsTold}
-use Rattle.boss_time.proofs.Orders.{each-map, each-filter, each-passed, each-append}
-use Rattle.boss_time.proofs.TickSound.{IsSilent, known-lease}
+use Rattle.boss_time.proofs.Orders.{each-map, each-filter, each-passed, each-both, each-append}
+use Rattle.boss_time.proofs.TickSound.{IsSilent, known-lease, lease-numbers, word-of}
 
 -- time has passed up to n: nothing more is due, and all that stands outlasts n
 pub record IsAt (n : ℕ) (d : Persistent) : Type 0 where
@@ -60,7 +60,7 @@ reverting-if which why n lease plain end is = cond_both (which lease) (Some (rec
 pub news-append : (plant : List Actuator) (n : ℕ) (xs ys : List Happening) → IsNews plant n xs → IsNews plant n ys → IsNews plant n (xs ++ ys)
 news-append plant n xs ys p q = record {
   silent = each-append IsSilent xs ys p.silent q.silent;
-  told = each-append (λ h. IsTidings plant n h.told h.at) xs ys p.told q.told;
+  told = each-append (λ h. IsTidings plant n h.told h.at h.txn) xs ys p.told q.told;
 }
 
 pub no-news : (plant : List Actuator) (n : ℕ) → IsNews plant n []
@@ -75,9 +75,11 @@ end_leases-sound plant which why n first d sound at small plain news =
     let told : IsNews plant n ends = record {
       silent = each-mapped IsSilent (λ lease. ended why (reversion_of (shortened n lease))) (filter which d.leases)
           (each-always (λ lease. IsSilent (ended why (reversion_of (shortened n lease)))) (λ lease. refl) (filter which d.leases));
-      told = each-mapped (λ h. IsTidings plant n h.told h.at) (λ lease. ended why (reversion_of (shortened n lease))) (filter which d.leases)
-          (each-filter (λ lease. IsTold plant n (what.Ended lease.point why) n) which d.leases
-          (each-map (IsLease plant d.now) (λ lease. IsTold plant n (what.Ended lease.point why) n) (λ lease is. record { past = omega arith; known = known-lease plant d.now lease is }) d.leases sound.leases));
+      told = each-mapped (λ h. IsTidings plant n h.told h.at h.txn) (λ lease. ended why (reversion_of (shortened n lease))) (filter which d.leases)
+          (each-filter (λ lease. IsTold plant n (what.Ended lease.point why) n lease.txn) which d.leases
+          (each-map (λ lease. IsLease plant d.now lease × (lease.txn < d.next)) (λ lease. IsTold plant n (what.Ended lease.point why) n lease.txn)
+          (λ lease both. record { past = omega arith; known = known-lease plant d.now lease both.0; words = (word-of d.next lease.txn sound.next both.1, plain-cause why plain) }) d.leases
+          (each-both (IsLease plant d.now) (λ lease. lease.txn < d.next) d.leases sound.leases (lease-numbers plant d sound))));
     } in
     conclude-sound plant n (first ++ ends) d d.next (live n cut) (under_way n (courses d.pending cut)) txns
     (ending-change plant d n n (shortened_if which n) (end_if which why n) sound at.reached (omega arith) small

@@ -34,7 +34,7 @@ names-snoc (q ∷ qs) p distinct new = (others qs distinct.0, names-snoc qs p di
 pub enrolled-sound : (plant : List Actuator) (name : List ℕ) (n : ℕ) (d : Persistent) → IsSoundPersistent plant d → IsAt n d → n ≤ last_moment → is_name name ≡ true →
     process_named d.processes name ≡ None → is_full d.processes ≡ false → IsSoundPersistent plant (enrolled name n d)
 enrolled-sound plant name n d sound at small named none room =
-    let new : Process = record { name = name; count = 0; kept = [] } in
+    let new : Process = record { name = name; count = 0; kept = []; reply = None } in
     let s = later-sound plant n d sound at small in
     let more : length (d.processes ++ new ∷ []) ≡ length d.processes + 1 = length-append d.processes (new ∷ []) in
     let few : length d.processes < most_processes = grind (arith, nat_tests) in
@@ -68,6 +68,8 @@ enrolled-sound plant name n d sound at small named none room =
           numbers = tt;
           past = tt;
           known = tt;
+          words = tt;
+          reply = tt;
         },
         tt,
       );

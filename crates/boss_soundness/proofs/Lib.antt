@@ -6,6 +6,8 @@ pub mod NotRefused
 pub mod SubmitSound
 pub mod SubmitChange
 pub mod ActSound
+pub mod OnceCases
+pub mod ReplySound
 pub mod StepSound
 pub mod Opened
 pub mod Fresh

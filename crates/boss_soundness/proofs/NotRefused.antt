@@ -1,5 +1,5 @@
 -- What a command that is not refused says of itself.
-use Rattle.std.proofs.Common.{◌≡◌, ℕ, ◌+◌, ◌==◌, ℤ, pos, negsuc, List, [], ◌∷◌, map, Bool, true, false, not, cond, Option, Some, None, unsigned_abs, refl, arith}
+use Rattle.std.proofs.Common.{◌≡◌, ℕ, ◌+◌, ◌==◌, ◌<◌, ℤ, pos, negsuc, List, [], ◌∷◌, map, Bool, true, false, not, cond, Option, Some, None, unsigned_abs, refl, arith}
 use Rattle.std.specs.Option.{option_map}
 use Rattle.std.specs.List.{AllByRecursion, position}
 use Rattle.std.proofs.lemmas.Bool.{cond_both}
@@ -86,3 +86,7 @@ submit-not-refused plant writes d none =
 pub level-number : (z : ℤ) → is_level z ≡ true → is_level (pos (unsigned_abs z)) ≡ true
 level-number (pos n) is = is
 level-number (negsuc n) is = cc
+
+pub level-byte : (z : ℤ) → is_level z ≡ true → unsigned_abs z < 256
+level-byte (pos n) is = grind (arith, nat_tests)
+level-byte (negsuc n) is = cc

@@ -42,7 +42,7 @@ pending-later plant now n r later more is =
     record { level = is.level; steps = is.steps; started = omega arith; running = more }
 
 pub part-later : (plant : List Actuator) (now n txn : ℕ) (leases : List Lease) (part : Part) → now ≤ n → IsPart plant now txn leases part → IsPart plant n txn leases part
-part-later plant now n txn leases part later is = record { known = is.known; open_part = is.open_part; past = past-later now n part.end later is.past }
+part-later plant now n txn leases part later is = record { known = is.known; priority = is.priority; open_part = is.open_part; past = past-later now n part.end later is.past; why = is.why }
 
 pub later-sound : (plant : List Actuator) (n : ℕ) (d : Persistent) → IsSoundPersistent plant d → IsAt n d → n ≤ last_moment → IsSoundPersistent plant (record d { now = n })
 later-sound plant n d sound at small = record {
@@ -114,7 +114,7 @@ module _ (n : ℕ) (f : Lease → Lease) where
             let V = λ (l : Lease). l.txn ≡ t.txn → l.policy ≡ t.policy in
             transaction-in plant d (record d { leases = ls }) t t.parts is is.given is.owner refl
             (each-map (IsPart plant d.now t.txn d.leases) (IsPart plant d.now t.txn ls)
-            (λ part p. record { known = p.known; open_part = p.open_part ∙ sym (holds-same d.leases t.txn part.point part.priority longer); past = p.past }) t.parts is.parts)
+            (λ part p. record { known = p.known; priority = p.priority; open_part = p.open_part ∙ sym (holds-same d.leases t.txn part.point part.priority longer); past = p.past; why = p.why }) t.parts is.parts)
             (to-courses W d.pending ls (of-pending W d.pending d.leases is.owned)
             (each-mapped (λ l. W (reversion_of l)) f d.leases (each-map (λ lease. W (reversion_of lease) × L lease) (λ lease. W (reversion_of (f lease)))
             (λ lease both. subst (λ l. W (reversion_of l)) (sym both.1.same) both.0) d.leases

@@ -6,10 +6,8 @@ use Rattle.std.specs.Cmp.Lexicographic.{pointwise}
 use Rattle.std.proofs.Math.ListN.{length-set}
 use Rattle.std.proofs.lemmas.Bool.{cond_both}
 use Rattle.std.proofs.lemmas.Bool.Decides.{nat_tests}
-use Rattle.boss_model.specs.declared.answer.Answer.{Answer}
 use Rattle.boss_model.specs.declared.answer.Answer.TheVariants as answer
 use Rattle.boss_model.specs.declared.answer.Mark.TheVariants as mark
-use Rattle.boss_model.specs.declared.answer.Refusal.{Refusal}
 use Rattle.boss_model.specs.declared.answer.Refusal.TheVariants as refusal
 use Rattle.boss_model.specs.declared.command.Command.{Command}
 use Rattle.boss_model.specs.declared.command.Command.TheVariants as command
@@ -17,26 +15,28 @@ use Rattle.boss_model.specs.declared.state.Actuator.{Actuator}
 use Rattle.boss_model.specs.declared.state.Proxy.{Proxy}
 use Rattle.boss_model.specs.Catalogue.{driver_of}
 use Rattle.boss_model.specs.Devices.{Reply, proxy_of, hand_out, next, is_current, taken, not_taken, faulted_first, heard, report}
-use Rattle.boss_model.specs.Ends.{cancel, cancel_refused, gone, lost, faulted}
-use Rattle.boss_model.specs.Limits.{last_moment}
+use Rattle.boss_model.specs.Ends.{cancel, gone, lost, faulted}
+use Rattle.boss_model.specs.Limits.{last_moment, last_number}
 use Rattle.boss_model.specs.Lists.{member, first_some}
 use Rattle.boss_model.specs.Machine.{answered, after, if_attached, joined, parted, notices_asked, act, ticked, pass_time, step}
 use Rattle.boss_model.specs.Names.{is_name}
-use Rattle.boss_model.specs.Outcomes.{unless}
+use Rattle.boss_model.specs.Outcomes.{Outcome, refused, did, unless}
 use Rattle.boss_model.specs.Processes.{process_of, session_of, process_named, number_of, name_of, is_full, process_refused, enrol_unless, attached_too, next_notice}
 use Rattle.boss_model.specs.Queries.{notices}
-use Rattle.boss_model.specs.Renew.{renew, renew_refused}
+use Rattle.boss_model.specs.Renew.{renew}
+use Rattle.boss_model.specs.Replies.{once}
 use Rattle.boss_model.specs.Settle.{places, changed_if, wanted_anew, is_retried, retried, retry, is_moved, recommanded, settle}
 use Rattle.boss_model.specs.Sound.{Distinct, Settled, IsWant, IsSoundPersistent, IsSound, IsAllowed}
 use Rattle.boss_model.specs.State.{Persistent, Attachment, State}
-use Rattle.boss_model.specs.Submit.{submit, submit_refused}
+use Rattle.boss_model.specs.Submit.{submit}
 use Rattle.boss_model.specs.Target.{target, in_force}
 use Rattle.boss_model.specs.Time.{tick_to}
 use Rattle.boss_model.proofs.Members.{Distinct-filter, Distinct-snoc}
-use Rattle.boss_soundness.proofs.ActSound.{tick-length, submit-next, renew-next, cancel-next, lost-next, faulted-next, enrol-sound}
+use Rattle.boss_soundness.proofs.ActSound.{tick-length, lost-next, faulted-next, enrol-sound}
 use Rattle.boss_soundness.proofs.ConcludeSound.{IsNext}
 use Rattle.boss_soundness.proofs.EndSound.{IsAt, at-tick}
 use Rattle.boss_soundness.proofs.Fresh.{commanded-settled}
+use Rattle.boss_soundness.proofs.ReplySound.{IsGood, once-good, submit-good, renew-good, cancel-good}
 use Rattle.boss_time.proofs.Filters.{position-within}
 use Rattle.boss_time.proofs.Orders.{each-map, each-filter, each-append}
 use Rattle.boss_time.proofs.Places.{member-wanted_anew, Distinct-wanted_anew, length-changed, proxy_of-changed, change_at, Distinct-places, member-places, below-places, each-member, member-each, proxy_of-other}
@@ -139,10 +139,9 @@ passed-sound plant n s within small sound = settle-sound plant (retry n (ticked 
 
 -- ---- commands
 
-after-sound : (plant : List Actuator) (s : State) (refusal : Option Refusal) (given : Answer) (d : Persistent) → IsUnsettled plant s → (refusal ≡ None → IsNext plant s.persistent d) →
-    IsUnsettled plant (after s (unless refusal given d)).state
-after-sound plant s (Some why) given d u next = u
-after-sound plant s None given d u next = with-persistent plant s d u (next refl)
+after-sound : (plant : List Actuator) (s : State) (outcome : Outcome) → IsUnsettled plant s → IsGood plant s.persistent outcome → IsUnsettled plant (after s outcome).state
+after-sound plant s (refused why) u good = u
+after-sound plant s (did given d) u good = with-persistent plant s d u good.0
 
 pub found-attached : (P : ℕ → Type 0) (attached : List Attachment) (session process : ℕ) → AllByRecursion (λ a. P a.process) attached → process_of attached session ≡ Some process → P process
 found-attached P [] session process all found = cc
@@ -203,8 +202,8 @@ module _ (plant : List Actuator) (n : ℕ) (s : State) (u : IsUnsettled plant s)
       (λ _ _. u)
       (λ room _. attached-sound plant s session (length s.persistent.processes) (enrol_unless None name n s.persistent) u holds
       (new-not-held s.attached (length s.persistent.processes) u.attached) (enrol-sound plant n s.persistent u.persistent at small name named is room)
-      (omega (arith, length-append s.persistent.processes ((record { name = name; count = 0; kept = [] }) ∷ [])))
-      (omega (arith, length-append s.persistent.processes ((record { name = name; count = 0; kept = [] }) ∷ [])))) refl
+      (omega (arith, length-append s.persistent.processes ((record { name = name; count = 0; kept = []; reply = None }) ∷ [])))
+      (omega (arith, length-append s.persistent.processes ((record { name = name; count = 0; kept = []; reply = None }) ∷ [])))) refl
   joined-sound session name (Some process) None is holds named = known-sound (session_of s.attached process) refl
     where
       known-sound : (holder : Option ℕ) → session_of s.attached process ≡ holder → IsUnsettled plant (joined session process s
@@ -287,15 +286,21 @@ module _ (plant : List Actuator) (n : ℕ) (s : State) (u : IsUnsettled plant s)
   notices-sound (Some name) session from most = u
   notices-sound None session from most = if-sound plant (process_of s.attached session) (λ p. answered (notices (Some p) from most s.persistent) s) s u (λ p _. u)
 
+  -- a request of the session's process that may be numbered
+  numbered-sound : (session seq : ℕ) (go : ℕ → Outcome) → seq < last_number → ((p : ℕ) → p < length s.persistent.processes → IsGood plant s.persistent (go p)) →
+      IsUnsettled plant (if_attached (process_of s.attached session) (λ p. after s (once p seq s.persistent (go p))) s).state
+  numbered-sound session seq go few good = if-sound plant (process_of s.attached session) (λ p. after s (once p seq s.persistent (go p))) s u
+      (λ p held. after-sound plant s (once p seq s.persistent (go p)) u (once-good plant s.persistent p seq (go p) u.persistent few
+      (good p (found-attached (λ k. k < length s.persistent.processes) s.attached session p u.attached held))))
+
   pub act-sound : (session : ℕ) (c : Command) → IsAllowed plant c → IsUnsettled plant (act plant session n c s).state
   act-sound session (command.Attach name) allowed = joined-sound session name (process_named s.persistent.processes name) (process_of s.attached session) refl refl allowed
-  act-sound session (command.Submit writes policy) allowed = if-sound plant (process_of s.attached session) (λ p. after s (submit plant p policy writes n s.persistent)) s u
-      (λ p held. after-sound plant s (submit_refused plant writes s.persistent) _ _ u (λ none. submit-next plant n s.persistent u.persistent at small p policy writes none allowed.0 allowed.1 allowed.2
-      (found-attached (λ k. k < length s.persistent.processes) s.attached session p u.attached held)))
-  act-sound session (command.Renew txn asked points) allowed = if-sound plant (process_of s.attached session) (λ p. after s (renew p txn asked points n s.persistent)) s u
-      (λ p held. after-sound plant s (renew_refused p txn asked points n s.persistent) _ _ u (λ none. renew-next plant n s.persistent u.persistent at small p txn asked points none))
-  act-sound session (command.Cancel txn) allowed = if-sound plant (process_of s.attached session) (λ p. after s (cancel p txn n s.persistent)) s u
-      (λ p held. after-sound plant s (cancel_refused p txn s.persistent) _ _ u (λ none. cancel-next plant n s.persistent u.persistent at small txn))
+  act-sound session (command.Submit writes policy seq) allowed = numbered-sound session seq (λ p. submit plant p policy writes n s.persistent) allowed.3
+      (λ p held. submit-good plant n s.persistent u.persistent at small p policy writes allowed.0 allowed.1 allowed.2 held)
+  act-sound session (command.Renew txn asked points seq) allowed = numbered-sound session seq (λ p. renew p txn asked points n s.persistent) allowed.2
+      (λ p _. renew-good plant n s.persistent u.persistent at small p txn asked points)
+  act-sound session (command.Cancel txn seq) allowed = numbered-sound session seq (λ p. cancel p txn n s.persistent) allowed
+      (λ p _. cancel-good plant n s.persistent u.persistent at small p txn)
   act-sound session command.Gone allowed = if-sound plant (process_of s.attached session) (λ p. parted session s (gone p n s.persistent)) s u (λ p _. parted-sound session p)
   act-sound session command.Tick allowed = u
   act-sound session (command.Next driver) allowed = hand_out-sound (find (λ point. driver_of plant point == driver) s.wants)

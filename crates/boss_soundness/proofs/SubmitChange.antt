@@ -19,22 +19,22 @@ use Rattle.boss_model.specs.Lists.{member}
 use Rattle.boss_model.specs.Order.{comes_before, in_order}
 use Rattle.boss_model.specs.Records.{End, Transaction}
 use Rattle.boss_model.specs.Reversions.{reversion_of, courses}
-use Rattle.boss_model.specs.Sound.{Distinct, holds, IsLease, IsPending, IsPast, IsPart, IsTransaction, has_part, is_kept, is_start, number_rank, IsSoundPersistent}
+use Rattle.boss_model.specs.Sound.{Distinct, IsWord, holds, IsLease, IsPending, IsPast, IsEnd, IsPart, IsTransaction, has_part, is_kept, is_start, number_rank, IsSoundPersistent}
 use Rattle.boss_model.specs.State.{lease_slot, pending_slot, Persistent}
 use Rattle.boss_model.specs.Submit.{lease_of, granted, part_of, begun, is_taken, superseded, cut, superseded_end, submitted}
 use Rattle.boss_model.specs.Time.{lease_of_part, part_after, record_after}
 use Rattle.boss_soundness.proofs.ConcludeSound.{IsNews, IsNext, conclude-sound}
-use Rattle.boss_time.proofs.Endings.{IsEnding, part-open-after, past-after, past-ending, points-same, numbers-same, part-open-stays, start-stays}
+use Rattle.boss_time.proofs.Endings.{IsEnding, part-open-after, past-after, past-ending, why-after, points-same, numbers-same, part-open-stays, start-stays}
 use Rattle.boss_soundness.proofs.EndSound.{IsAt, alive-not-done, news-append, ending-if}
 use Rattle.boss_time.proofs.Filters.{each-mapped, each-unmapped, each-always, Apart}
 use Rattle.boss_time.proofs.GroupSound.{IsChange, IsTidings, IsTold, transaction-in}
 use Rattle.boss_time.proofs.NothingDue.{of-pending, of-leases}
-use Rattle.boss_soundness.proofs.NotRefused.{IsWrite, IsSubmit}
+use Rattle.boss_soundness.proofs.NotRefused.{IsWrite, IsSubmit, level-byte}
 use Rattle.boss_time.proofs.Orders.{each-map, each-filter, each-passed, each-both, each-append, each-in_order, Rising-filter}
 use Rattle.boss_time.proofs.Places.{member-each}
-use Rattle.boss_time.proofs.Slots.{Rising-same, any-in_order, any-append, lives-courses, to-courses, self-found, kept-after, has-after}
-use Rattle.boss_soundness.proofs.SubmitSound.{apart-turn, Pairs-Rising, Rising-Pairs, Pairs-unordered, Pairs-append, Pairs-front, Pairs-cross, Pairs-map, not-taken, not-broken, new-apart, new-held, new-others, new-lives, new-parts, new-points, new-lease, left-live, has-append, has-number, kept-number, Rising-snoc}
-use Rattle.boss_time.proofs.TickSound.{Pairs, Pairs-filter, Pairs-in_order, IsSilent, known-lease, known-pending}
+use Rattle.boss_time.proofs.Slots.{Rising-same, any-in_order, any-append, lives-courses, to-courses, self-found, kept-after, has-after, has-number}
+use Rattle.boss_soundness.proofs.SubmitSound.{apart-turn, Pairs-Rising, Rising-Pairs, Pairs-unordered, Pairs-append, Pairs-front, Pairs-cross, Pairs-map, not-taken, not-broken, new-apart, new-held, new-others, new-lives, new-parts, new-points, new-lease, left-live, has-append, kept-number, Rising-snoc}
+use Rattle.boss_time.proofs.TickSound.{Pairs, Pairs-filter, Pairs-in_order, IsSilent, known-lease, known-pending, word-of}
 
 -- some of a list that a test leaves
 any-filtered : {X : Type 0} (test keeps : X → Bool) (xs : List X) → list_any test xs ≡ false → list_any test (filter keeps xs) ≡ false
@@ -101,6 +101,17 @@ module _ (plant : List Actuator) (owner : ℕ) (policy : Policy) (writes : List 
         (λ r has. has-number (is_start r.start) T d.txns r.txn r.point r.priority
         (each-map (IsTransaction plant (record d { now = n })) (λ t. t.txn < T) (λ t is. is.given) d.txns sound.txns) has) d.pending sound.ended_parts
 
+    -- the new number fits
+    new-word : IsWord T
+    new-word = let most : T ≤ last_number = sound.next in omega arith
+
+    why-taken : (b : Bool) → IsEnd (cond b (Some (record { cause = cause.Superseded T; at = n })) None)
+    why-taken true = new-word
+    why-taken false = tt
+
+    whys : AllByRecursion (λ lease. IsEnd (how lease)) d.leases
+    whys = each-always (λ lease. IsEnd (how lease)) (λ lease. why-taken (gone lease)) d.leases
+
     -- who holds a slot after
     held-after : (txn point priority : ℕ) → holds leases_after txn point priority ≡ (holds rest txn point priority || holds new txn point priority)
     held-after txn point priority =
@@ -137,11 +148,13 @@ module _ (plant : List Actuator) (owner : ℕ) (policy : Policy) (writes : List 
         (each-mapped (IsPart plant n t.txn leases_after) (part_after how d.leases t.txn) t.parts
         (each-map (IsPart plant n t.txn d.leases) (λ part. IsPart plant n t.txn leases_after (part_after how d.leases t.txn part)) (λ part p. record {
           known = p.known;
+          priority = p.priority;
           open_part = part-open-after n (shortened_if gone n) how d.leases t.txn part.point part.priority part.end sound.lease_slots ending p.open_part
               ∙ ap (λ ls. holds ls t.txn part.point part.priority) (left-live gone n d.leases at.live)
               ∙ sym (held-after t.txn part.point part.priority
               ∙ ap (λ b. holds rest t.txn part.point part.priority || b) (new-others owner policy T n writes t.txn part.point part.priority other) ∙ grind (arith));
           past = past-after n (shortened_if gone n) how n n d.leases t.txn part.point part.priority part.end (omega arith) pasts p.past;
+          why = why-after how d.leases t.txn part.point part.priority part.end whys p.why;
         }) t.parts is.parts))
         (to-courses W pending_after leases_after (each-filter W (λ r. not (broken r)) d.pending (of-pending W d.pending d.leases is.owned))
         (to-leases (λ l. W (reversion_of l)) (each-filter (λ l. W (reversion_of l)) (λ l. not (gone l)) d.leases (of-leases W d.pending d.leases is.owned))
@@ -161,12 +174,15 @@ module _ (plant : List Actuator) (owner : ℕ) (policy : Policy) (writes : List 
           few_parts = subst (λ k. k ≤ most_writes) (sym (length-map writes part_of)) few;
           points = subst Distinct (sym (new-points owner policy T n writes)) submit.points;
           parts = each-mapped (IsPart plant n T leases_after) part_of writes
-              (each-map (λ w. (w.point < length plant) × (holds new T w.point (unsigned_abs w.priority) ≡ true)) (λ w. IsPart plant n T leases_after (part_of w))
+              (each-map (λ w. IsWrite plant w × ((w.point < length plant) × (holds new T w.point (unsigned_abs w.priority) ≡ true))) (λ w. IsPart plant n T leases_after (part_of w))
               (λ w both. record {
-                known = both.0;
-                open_part = sym (held-after T w.point (unsigned_abs w.priority) ∙ ap (λ b. holds rest T w.point (unsigned_abs w.priority) || b) both.1 ∙ grind (arith));
+                known = both.1.0;
+                priority = level-byte w.priority both.0.level;
+                open_part = sym (held-after T w.point (unsigned_abs w.priority) ∙ ap (λ b. holds rest T w.point (unsigned_abs w.priority) || b) both.1.1 ∙ grind (arith));
                 past = tt;
-              }) writes (each-both (λ w. w.point < length plant) (λ w. holds new T w.point (unsigned_abs w.priority) ≡ true) writes known (new-held owner policy T n writes)));
+                why = tt;
+              }) writes (each-both (IsWrite plant) (λ w. (w.point < length plant) × (holds new T w.point (unsigned_abs w.priority) ≡ true)) writes submit.allowed
+              (each-both (λ w. w.point < length plant) (λ w. holds new T w.point (unsigned_abs w.priority) ≡ true) writes known (new-held owner policy T n writes))));
           owned = to-courses W pending_after leases_after
               (each-filter W (λ r. not (broken r)) d.pending (each-map (λ r. r.txn < T) W (λ r early same. absurd (omega arith)) d.pending pending-txns))
               (to-leases (λ l. W (reversion_of l)) (each-filter (λ l. W (reversion_of l)) (λ l. not (gone l)) d.leases (each-map (λ l. l.txn < T) (λ l. W (reversion_of l)) (λ l early same. absurd (omega arith)) d.leases lease-txns))
@@ -266,13 +282,19 @@ module _ (plant : List Actuator) (owner : ℕ) (policy : Policy) (writes : List 
     submit-news = news-append plant n (map (superseded T n) (filter gone d.leases)) (map (cut T n) (filter broken d.pending))
         (record {
           silent = each-mapped IsSilent (superseded T n) (filter gone d.leases) (each-always (λ l. IsSilent (superseded T n l)) (λ l. refl) (filter gone d.leases));
-          told = each-mapped (λ h. IsTidings plant n h.told h.at) (superseded T n) (filter gone d.leases) (each-filter (λ l. IsTold plant n (what.Ended l.point (cause.Superseded T)) n) gone d.leases
-              (each-map (IsLease plant n) (λ l. IsTold plant n (what.Ended l.point (cause.Superseded T)) n) (λ l is. record { past = omega arith; known = known-lease plant n l is }) d.leases sound.leases));
+          told = each-mapped (λ h. IsTidings plant n h.told h.at h.txn) (superseded T n) (filter gone d.leases)
+              (each-filter (λ l. IsTold plant n (what.Ended l.point (cause.Superseded T)) n l.txn) gone d.leases
+              (each-map (λ l. IsLease plant n l × (l.txn < T)) (λ l. IsTold plant n (what.Ended l.point (cause.Superseded T)) n l.txn)
+              (λ l both. record { past = omega arith; known = known-lease plant n l both.0; words = (word-of T l.txn sound.next both.1, new-word) }) d.leases
+              (each-both (IsLease plant n) (λ l. l.txn < T) d.leases sound.leases lease-txns)));
         })
         (record {
           silent = each-mapped IsSilent (cut T n) (filter broken d.pending) (each-always (λ r. IsSilent (cut T n r)) (λ r. refl) (filter broken d.pending));
-          told = each-mapped (λ h. IsTidings plant n h.told h.at) (cut T n) (filter broken d.pending) (each-filter (λ r. IsTold plant n (what.Cut r.point T) n) broken d.pending
-              (each-map (IsPending plant n) (λ r. IsTold plant n (what.Cut r.point T) n) (λ r is. record { past = omega arith; known = known-pending plant n r is }) d.pending sound.pending));
+          told = each-mapped (λ h. IsTidings plant n h.told h.at h.txn) (cut T n) (filter broken d.pending)
+              (each-filter (λ r. IsTold plant n (what.Cut r.point T) n r.txn) broken d.pending
+              (each-map (λ r. IsPending plant n r × (r.txn < T)) (λ r. IsTold plant n (what.Cut r.point T) n r.txn)
+              (λ r both. record { past = omega arith; known = known-pending plant n r both.0; words = (word-of T r.txn sound.next both.1, new-word) }) d.pending
+              (each-both (IsPending plant n) (λ r. r.txn < T) d.pending sound.pending pending-txns)));
         })
 
     pub submitted-sound : IsNext plant d (submitted owner policy writes n d)

@@ -165,15 +165,7 @@ pub has-append : (test : Option End → Bool) (xs ys : List Transaction) (txn po
 has-append test xs ys txn point priority =
     any-append (λ t. (t.txn == txn) && list_any (λ part. (part.point == point) && ((part.priority == priority) && test part.end)) t.parts) xs ys
 
--- a part that there is belongs to a transaction that was numbered
-pub has-number : (test : Option End → Bool) (next : ℕ) (txns : List Transaction) (txn point priority : ℕ) → AllByRecursion (λ t. t.txn < next) txns →
-    has_part test txns txn point priority ≡ true → txn < next
-has-number test next [] txn point priority below has = cc
-has-number test next (t ∷ ts) txn point priority below has =
-    let here : t.txn < next = below.0 in
-    cond_both (t.txn == txn) true false (λ b. (t.txn == txn) ≡ b → txn < next) (λ is _. grind (arith, nat_tests))
-    (λ other _. has-number test next ts txn point priority below.1 (grind (arith))) (grind arith)
-
+-- a transaction that is kept was numbered
 pub kept-number : (next : ℕ) (txns : List Transaction) (txn : ℕ) → AllByRecursion (λ t. t.txn < next) txns → is_kept txns txn ≡ true → txn < next
 kept-number next [] txn below has = cc
 kept-number next (t ∷ ts) txn below has =

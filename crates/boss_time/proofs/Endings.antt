@@ -3,6 +3,8 @@ use Rattle.std.proofs.Common.{◌≡◌, ℕ, ◌+◌, ◌<◌, ◌≤◌, ◌==
 use Rattle.std.specs.List.{AllByRecursion}
 use Rattle.std.proofs.lemmas.Bool.{cond_both}
 use Rattle.std.proofs.lemmas.Bool.Decides.{nat_tests}
+use Rattle.boss_model.specs.declared.notice.Cause.{Cause}
+use Rattle.boss_model.specs.declared.notice.Cause.TheVariants as cause
 use Rattle.boss_model.specs.declared.state.Actuator.{Actuator}
 use Rattle.boss_model.specs.declared.state.Lease.{Lease}
 use Rattle.boss_model.specs.declared.state.Pending.{Pending}
@@ -11,7 +13,7 @@ use Rattle.boss_model.specs.Limits.{longest_lease, last_moment}
 use Rattle.boss_model.specs.Lists.{member}
 use Rattle.boss_model.specs.Records.{End, Part, Transaction}
 use Rattle.boss_model.specs.Reversions.{end_of, reversion_of, courses}
-use Rattle.boss_model.specs.Sound.{Rising, holds, IsLease, IsPending, IsPast, IsPart, IsTransaction, has_part, is_kept, is_superseded, is_start, number_rank, IsProcess, IsSoundPersistent}
+use Rattle.boss_model.specs.Sound.{Rising, holds, IsLease, IsPending, IsPast, IsCause, IsEnd, IsPart, IsTransaction, has_part, is_kept, is_superseded, is_start, number_rank, IsProcess, IsSoundPersistent}
 use Rattle.boss_model.specs.State.{lease_slot, pending_slot, Persistent}
 use Rattle.boss_model.specs.Submit.{is_level, is_reversion}
 use Rattle.boss_model.specs.Time.{live, under_way, left, lease_of_part, end_after, part_after, record_after}
@@ -112,6 +114,26 @@ module _ (n : ℕ) (shorten : Lease → Lease) (how : Lease → Option End) wher
       let last : (shorten lease).until ≤ now = early within in
       omega arith) (grind arith)
 
+-- an end that is not by supersession names no number, and the ends of parts after are those before or the new ones
+pub plain-cause : (why : Cause) → is_superseded why ≡ false → IsCause why
+plain-cause cause.Expired plain = tt
+plain-cause cause.Cancelled plain = tt
+plain-cause cause.Died plain = tt
+plain-cause cause.Fault plain = tt
+plain-cause (cause.Superseded by) plain = cc
+
+why-reverting : (how : Option End) → IsReverting how → IsEnd how
+why-reverting None reverts = tt
+why-reverting (Some end) reverts = plain-cause end.cause (reverts end refl)
+
+pub why-after : (how : Lease → Option End) (leases : List Lease) (txn point priority : ℕ) (end : Option End) → AllByRecursion (λ lease. IsEnd (how lease)) leases →
+    IsEnd end → IsEnd (end_after how (lease_of_part leases txn point priority) end)
+why-after how leases txn point priority (Some end) ends why = why
+why-after how [] txn point priority None ends why = tt
+why-after how (lease ∷ leases) txn point priority None ends why =
+    cond_both ((lease.txn == txn) && ((lease.point == point) && (lease.priority == priority))) (Some lease) (lease_of_part leases txn point priority)
+    (λ f. IsEnd (end_after how f None)) (λ _. ends.0) (λ _. why-after how leases txn point priority None ends.1 why)
+
 pub points-same : (how : Lease → Option End) (leases : List Lease) (txn : ℕ) (parts : List Part) →
     map (λ part. part.point) (map (part_after how leases txn) parts) ≡ map (λ part. part.point) parts
 points-same how leases txn [] = refl
@@ -176,6 +198,7 @@ ending-change plant d n now shorten how sound later within small ending reverts 
     let pasts : AllByRecursion (λ lease. IsPast now (how lease)) d.leases =
     each-map (λ lease. E lease × ((shorten lease).until ≤ n → (shorten lease).until ≤ now)) (λ lease. IsPast now (how lease))
     (λ lease both. past-ending n shorten how now lease (how lease) refl both.0 both.1) d.leases (each-both E (λ lease. (shorten lease).until ≤ n → (shorten lease).until ≤ now) d.leases e lease_starts) in
+    let whys : AllByRecursion (λ lease. IsEnd (how lease)) d.leases = each-map (λ lease. IsReverting (how lease)) (λ lease. IsEnd (how lease)) (λ lease r. why-reverting (how lease) r) d.leases reverts in
     let lives_before : (txn : ℕ) → lives txn (courses changed.pending changed.leases) ≡ true → lives txn (courses d.pending d.leases) ≡ true =
     λ txn alive.
     let there : lives txn cs ≡ true = lives-left n txn cs (ap (lives txn) (sym after) ∙ alive) in
@@ -222,8 +245,10 @@ ending-change plant d n now shorten how sound later within small ending reverts 
           (each-mapped (IsPart plant now t.txn (live n cut)) (part_after how d.leases t.txn) t.parts
           (each-map (IsPart plant d.now t.txn d.leases) (λ part. IsPart plant now t.txn (live n cut) (part_after how d.leases t.txn part)) (λ part p. record {
             known = p.known;
+            priority = p.priority;
             open_part = part-open-after n shorten how d.leases t.txn part.point part.priority part.end sound.lease_slots e p.open_part;
             past = past-after n shorten how now d.now d.leases t.txn part.point part.priority part.end later pasts p.past;
+            why = why-after how d.leases t.txn part.point part.priority part.end whys p.why;
           }) t.parts is.parts))
           (subst (AllByRecursion W) (sym after) (each-filter W (λ r. nat_lt n (end_of r)) cs (to-courses W d.pending cut (of-pending W d.pending d.leases is.owned)
           (each-mapped (λ l. W (reversion_of l)) shorten d.leases

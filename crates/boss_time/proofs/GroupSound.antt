@@ -14,7 +14,7 @@ use Rattle.boss_model.specs.Limits.{most_writes, done_kept, most_processes, noti
 use Rattle.boss_model.specs.Lists.{member, keep_last}
 use Rattle.boss_model.specs.Records.{End, Part, Transaction}
 use Rattle.boss_model.specs.Reversions.{courses}
-use Rattle.boss_model.specs.Sound.{Rising, Distinct, DistinctNames, NumberedFrom, IsKnown, IsLease, IsPending, IsPart, IsTransaction, has_part, is_kept, is_start, number_rank, IsProcess, IsSoundPersistent}
+use Rattle.boss_model.specs.Sound.{Rising, Distinct, DistinctNames, NumberedFrom, IsWord, IsKnown, IsWhat, IsNotice, IsLease, IsPending, IsPart, IsTransaction, has_part, is_kept, is_start, number_rank, IsProcess, IsSoundPersistent}
 use Rattle.boss_model.specs.State.{lease_slot, pending_slot, Process, Persistent}
 use Rattle.boss_model.specs.Time.{kept}
 use Rattle.boss_model.proofs.Members.{member-drop, Distinct-drop, Distinct-snoc}
@@ -73,14 +73,15 @@ each-finish P done (h ∷ hs) all new = each-finish P (finish done h) hs
 
 -- ---- notices
 
--- it tells of a point of the plant and of a moment no later than this
-pub record IsTold (plant : List Actuator) (now : ℕ) (told : What) (at : ℕ) : Type 0 where
+-- it tells of a point of the plant and of a moment no later than this, and its numbers fit
+pub record IsTold (plant : List Actuator) (now : ℕ) (told : What) (at txn : ℕ) : Type 0 where
   pub past : at ≤ now
   pub known : IsKnown (length plant) told
+  pub words : IsWord txn × IsWhat told
 
-abbrev pub IsTidings : List Actuator → ℕ → Option What → ℕ → Type 0
-IsTidings plant now None at = Unit {0}
-IsTidings plant now (Some told) at = IsTold plant now told at
+abbrev pub IsTidings : List Actuator → ℕ → Option What → ℕ → ℕ → Type 0
+IsTidings plant now None at txn = Unit {0}
+IsTidings plant now (Some told) at txn = IsTold plant now told at txn
 
 numbered-snoc : (number : ℕ) (ns : List Notice) (n : Notice) → NumberedFrom number ns → n.number ≡ number + length ns → NumberedFrom number (ns ++ n ∷ [])
 numbered-snoc number [] n all next = (omega (arith, next), tt)
@@ -93,7 +94,7 @@ numbered-drop number (suc n) (x ∷ xs) within all =
     let same : number + suc n ≡ number + 1 + n = omega arith in
     subst (λ k. NumberedFrom k (drop n xs)) (sym same) (numbered-drop (number + 1) n xs (omega arith) all.1)
 
-posted-sound : (plant : List Actuator) (now at txn : ℕ) (told : What) (p : Process) → IsTold plant now told at → IsProcess plant now p → IsProcess plant now (posted at txn told p)
+posted-sound : (plant : List Actuator) (now at txn : ℕ) (told : What) (p : Process) → IsTold plant now told at txn → IsProcess plant now p → IsProcess plant now (posted at txn told p)
 posted-sound plant now at txn told p news is =
     let n : Notice = record { number = p.count + 1; at = at; txn = txn; what = told } in
     let all = p.kept ++ n ∷ [] in
@@ -116,14 +117,16 @@ posted-sound plant now at txn told p news is =
       past = each-drop (λ notice. notice.at ≤ now) (length all - notices_kept) all (each-append (λ notice. notice.at ≤ now) p.kept (n ∷ []) is.past (news.past, tt));
       known = each-drop (λ notice. IsKnown (length plant) notice.what) (length all - notices_kept) all
           (each-append (λ notice. IsKnown (length plant) notice.what) p.kept (n ∷ []) is.known (news.known, tt));
+      words = each-drop IsNotice (length all - notices_kept) all (each-append IsNotice p.kept (n ∷ []) is.words (news.words, tt));
+      reply = is.reply;
     })
 
-each-set : {X : Type 0} (P : X → Type 0) (xs : List X) (place : ℕ) (x : X) → P x → AllByRecursion P xs → AllByRecursion P (set xs place x)
+pub each-set : {X : Type 0} (P : X → Type 0) (xs : List X) (place : ℕ) (x : X) → P x → AllByRecursion P xs → AllByRecursion P (set xs place x)
 each-set P [] place x here all = all
 each-set P (y ∷ ys) zero x here all = (here, all.1)
 each-set P (y ∷ ys) (suc place) x here all = (all.0, each-set P ys place x here all.1)
 
-map-set : {X Y : Type 0} (f : X → Y) (xs : List X) (place : ℕ) (x y : X) → slice_get xs place ≡ Some y → f x ≡ f y → map f (set xs place x) ≡ map f xs
+pub map-set : {X Y : Type 0} (f : X → Y) (xs : List X) (place : ℕ) (x y : X) → slice_get xs place ≡ Some y → f x ≡ f y → map f (set xs place x) ≡ map f xs
 map-set f [] place x y found same = refl
 map-set f (z ∷ zs) zero x y found same = let here : z ≡ y = cc in λ i. (same ∙ ap f (sym here)) i ∷ map f zs
 map-set f (z ∷ zs) (suc place) x y found same = ap (λ ys. f z ∷ ys) (map-set f zs place x y found same)
@@ -134,18 +137,18 @@ got P (y ∷ ys) zero x found all = let here : y ≡ x = cc in subst P here all.
 got P (y ∷ ys) (suc place) x found all = got P ys place x found all.1
 
 module _ (plant : List Actuator) (now : ℕ) where
-  post-sound : (ps : List Process) (owner : ℕ) (found : Option Process) (at txn : ℕ) (told : What) → slice_get ps owner ≡ found → IsTold plant now told at →
+  post-sound : (ps : List Process) (owner : ℕ) (found : Option Process) (at txn : ℕ) (told : What) → slice_get ps owner ≡ found → IsTold plant now told at txn →
       AllByRecursion (IsProcess plant now) ps → AllByRecursion (IsProcess plant now) (post ps owner found at txn told)
   post-sound ps owner None at txn told is news all = all
   post-sound ps owner (Some p) at txn told is news all =
       each-set (IsProcess plant now) ps owner (posted at txn told p) (posted-sound plant now at txn told p news (got (IsProcess plant now) ps owner p is all)) all
 
-  tell_of-sound : (told : Option What) (ps : List Process) (h : Happening) → IsTidings plant now told h.at →
+  tell_of-sound : (told : Option What) (ps : List Process) (h : Happening) → IsTidings plant now told h.at h.txn →
       AllByRecursion (IsProcess plant now) ps → AllByRecursion (IsProcess plant now) (tell_of told ps h)
   tell_of-sound None ps h news all = all
   tell_of-sound (Some told) ps h news all = post-sound ps h.owner (slice_get ps h.owner) h.at h.txn told refl news all
 
-  pub tell-sound : (ps : List Process) (hs : List Happening) → AllByRecursion (λ h. IsTidings plant now h.told h.at) hs →
+  pub tell-sound : (ps : List Process) (hs : List Happening) → AllByRecursion (λ h. IsTidings plant now h.told h.at h.txn) hs →
       AllByRecursion (IsProcess plant now) ps → AllByRecursion (IsProcess plant now) (fold tell ps hs)
   tell-sound ps [] news all = all
   tell-sound ps (h ∷ hs) news all = tell-sound (tell ps h) hs news.1 (tell_of-sound h.told ps h news.0 all)
@@ -208,6 +211,8 @@ process-later plant now n p later is = record {
   sent = is.sent;
   numbers = is.numbers;
   known = is.known;
+  words = is.words;
+  reply = is.reply;
   past = each-map (λ notice. notice.at ≤ now) (λ notice. notice.at ≤ n) (λ notice past. omega arith) p.kept is.past;
 }
 
@@ -262,7 +267,7 @@ pub record IsGroup (plant : List Actuator) (d : Persistent) (hs : List Happening
   pub new : AllByRecursion (IsNewlyDone d.done) hs
   pub known : AllByRecursion (λ h. is_done h.told ≡ true → is_kept d.txns h.txn ≡ true) hs
   pub once : DoneOnce hs
-  pub told : AllByRecursion (λ h. IsTidings plant d.now h.told h.at) hs
+  pub told : AllByRecursion (λ h. IsTidings plant d.now h.told h.at h.txn) hs
 
 abbrev pub grouped : List Happening → Persistent → Persistent
 grouped hs d = record d {

@@ -1,5 +1,5 @@
 -- Slots: each is taken once, so the lease of a part is found by its slot; and what holds of all reversions together.
-use Rattle.std.proofs.Common.{◌≡◌, ℕ, ◌==◌, List, [], ◌∷◌, ◌++◌, map, Bool, true, false, ◌&&◌, ◌||◌, cond, Option, Some, refl, ap, sym, ◌∙◌, subst, arith}
+use Rattle.std.proofs.Common.{◌≡◌, ℕ, ◌<◌, ◌==◌, List, [], ◌∷◌, ◌++◌, map, Bool, true, false, ◌&&◌, ◌||◌, cond, Option, Some, refl, ap, sym, ◌∙◌, subst, arith}
 use Rattle.std.specs.List.{AllByRecursion, list_any}
 use Rattle.std.proofs.lemmas.Bool.{cond_both}
 use Rattle.std.proofs.lemmas.Bool.Decides.{nat_tests}
@@ -176,3 +176,12 @@ has-after test after how leases (t ∷ ts) txn point priority turns has =
     grind (arith, nat_tests))
     (λ no _. let rest : has_part after (map (record_after how leases) ts) txn point priority ≡ true = has-after test after how leases ts txn point priority turns (grind (arith)) in
     grind (arith)) (grind arith)
+
+-- a part that there is belongs to a transaction that was numbered
+pub has-number : (test : Option End → Bool) (next : ℕ) (txns : List Transaction) (txn point priority : ℕ) → AllByRecursion (λ t. t.txn < next) txns →
+    has_part test txns txn point priority ≡ true → txn < next
+has-number test next [] txn point priority below has = cc
+has-number test next (t ∷ ts) txn point priority below has =
+    let here : t.txn < next = below.0 in
+    cond_both (t.txn == txn) true false (λ b. (t.txn == txn) ≡ b → txn < next) (λ is _. grind (arith, nat_tests))
+    (λ other _. has-number test next ts txn point priority below.1 (grind (arith))) (grind arith)

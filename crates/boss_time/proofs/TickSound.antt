@@ -1,5 +1,5 @@
 -- A tick keeps a sound persistent part sound.
-use Rattle.std.proofs.Common.{◌≡◌, ℕ, ℤ, zero, suc, ◌<◌, ◌≤◌, ◌==◌, nat_lt, nat_le, List, [], ◌∷◌, ◌++◌, length, map, Bool, true, false, not, Option, Some, None, refl, ap, sym, ◌∙◌, subst, arith}
+use Rattle.std.proofs.Common.{◌≡◌, ℕ, ℤ, zero, suc, ◌<◌, ◌≤◌, ◌==◌, nat_lt, nat_le, List, [], ◌∷◌, ◌++◌, length, map, Bool, true, false, not, Option, Some, None, is_none, refl, ap, sym, ◌∙◌, subst, arith}
 use Rattle.std.specs.List.{filter, fold, flat_map, AllByRecursion}
 use Rattle.std.proofs.lemmas.Bool.{cond_both}
 use Rattle.std.proofs.lemmas.Bool.Decides.{nat_tests}
@@ -11,12 +11,12 @@ use Rattle.boss_model.specs.declared.state.Lease.{Lease}
 use Rattle.boss_model.specs.declared.state.Pending.{Pending}
 use Rattle.boss_model.specs.Catalogue.{fits_at}
 use Rattle.boss_model.specs.Happenings.{Happening, rank, turned, reverted, happenings, lives, last_end, done_last, coming, is_done, finish, tell, later}
-use Rattle.boss_model.specs.Limits.{last_moment}
+use Rattle.boss_model.specs.Limits.{last_moment, last_number}
 use Rattle.boss_model.specs.Lists.{member}
 use Rattle.boss_model.specs.Order.{comes_before, put, in_order}
 use Rattle.boss_model.specs.Records.{Transaction}
 use Rattle.boss_model.specs.Reversions.{over, turns, end_of, courses}
-use Rattle.boss_model.specs.Sound.{Rising, is_superseded, IsLease, IsPending, IsKnown, is_kept, number_rank, IsSoundPersistent}
+use Rattle.boss_model.specs.Sound.{Rising, is_superseded, IsWord, IsLease, IsPending, IsKnown, IsWhat, IsTransaction, has_part, is_start, is_kept, number_rank, IsSoundPersistent}
 use Rattle.boss_model.specs.State.{Persistent}
 use Rattle.boss_model.specs.Submit.{is_reversion}
 use Rattle.boss_model.specs.Time.{live, under_way, left, due, kept, record_after, expired, tick_to}
@@ -27,7 +27,7 @@ use Rattle.boss_time.proofs.Filters.{each-mapped, each-always}
 use Rattle.boss_time.proofs.GroupSound.{DoneOnce, IsNewlyDone, IsTidings, IsChange, IsGroup, grouped, group-sound}
 use Rattle.boss_time.proofs.Orders.{each-map, each-filter, each-passed, each-both, each-append, each-put, each-in_order}
 use Rattle.boss_time.proofs.Records.{IsOther}
-use Rattle.boss_time.proofs.Slots.{to-courses, kept-after}
+use Rattle.boss_time.proofs.Slots.{to-courses, kept-after, has-number}
 use Rattle.boss_time.proofs.TickLaw.{started-by}
 
 -- ---- each two of a list
@@ -157,31 +157,57 @@ known-courses plant d sound = to-courses (λ c. c.point < length plant) d.pendin
     (each-map (IsPending plant d.now) (λ r. r.point < length plant) (λ r is. known-pending plant d.now r is) d.pending sound.pending)
     (each-map (IsLease plant d.now) (λ l. l.point < length plant) (λ l is. known-lease plant d.now l is) d.leases sound.leases)
 
--- what happens in a reversion tells of its point
-abbrev pub TellsOf : ℕ → Option What → Type 0
-TellsOf points None = Unit {0}
-TellsOf points (Some told) = IsKnown points told
+-- the numbers of transactions fit the bits that they have
+pub numbers-fit : (plant : List Actuator) (d : Persistent) → IsSoundPersistent plant d → AllByRecursion (λ t. t.txn < d.next) d.txns
+numbers-fit plant d sound = each-map (IsTransaction plant d) (λ t. t.txn < d.next) (λ t is. is.given) d.txns sound.txns
 
-tells-turns : (points : ℕ) (c : Pending) (ts : List ℕ) → AllByRecursion (λ h. TellsOf points h.told) (map (turned c) ts)
+pub lease-numbers : (plant : List Actuator) (d : Persistent) → IsSoundPersistent plant d → AllByRecursion (λ l. l.txn < d.next) d.leases
+lease-numbers plant d sound = each-map (λ l. has_part is_none d.txns l.txn l.point l.priority ≡ true) (λ l. l.txn < d.next)
+    (λ l has. has-number is_none d.next d.txns l.txn l.point l.priority (numbers-fit plant d sound) has) d.leases sound.open_parts
+
+pub pending-numbers : (plant : List Actuator) (d : Persistent) → IsSoundPersistent plant d → AllByRecursion (λ r. r.txn < d.next) d.pending
+pending-numbers plant d sound = each-map (λ r. has_part (is_start r.start) d.txns r.txn r.point r.priority ≡ true) (λ r. r.txn < d.next)
+    (λ r has. has-number (is_start r.start) d.next d.txns r.txn r.point r.priority (numbers-fit plant d sound) has) d.pending sound.ended_parts
+
+pub word-of : (next txn : ℕ) → next ≤ last_number → txn < next → IsWord txn
+word-of next txn few early = omega arith
+
+-- what happens in a reversion tells of its point and of its transaction
+abbrev pub IsWell : ℕ → Pending → Type 0
+IsWell points c = (c.point < points) × IsWord c.txn
+
+abbrev pub TellsOf : ℕ → ℕ → Option What → Type 0
+TellsOf points txn None = Unit {0}
+TellsOf points txn (Some told) = IsKnown points told × (IsWord txn × IsWhat told)
+
+tells-turns : (points : ℕ) (c : Pending) (ts : List ℕ) → AllByRecursion (λ h. TellsOf points h.txn h.told) (map (turned c) ts)
 tells-turns points c [] = tt
 tells-turns points c (t ∷ ts) = (tt, tells-turns points c ts)
 
-tells-reverted : (points : ℕ) (c : Pending) (steps : List Step) → c.point < points → AllByRecursion (λ h. TellsOf points h.told) (reverted c steps)
-tells-reverted points c [] known = tt
-tells-reverted points c (step ∷ steps) known = (known, tt)
+tells-reverted : (points : ℕ) (c : Pending) (steps : List Step) → IsWell points c → AllByRecursion (λ h. TellsOf points h.txn h.told) (reverted c steps)
+tells-reverted points c [] well = tt
+tells-reverted points c (step ∷ steps) well = ((well.0, (well.1, tt)), tt)
 
-tells-happenings : (points : ℕ) (cs : List Pending) → AllByRecursion (λ c. c.point < points) cs → AllByRecursion (λ h. TellsOf points h.told) (flat_map happenings cs)
-tells-happenings points [] known = tt
-tells-happenings points (c ∷ cs) known = (
-  known.0,
-  each-append (λ h. TellsOf points h.told) (map (turned c) (turns c.start c.steps) ++ reverted c c.steps) (flat_map happenings cs)
-      (each-append (λ h. TellsOf points h.told) (map (turned c) (turns c.start c.steps)) (reverted c c.steps) (tells-turns points c (turns c.start c.steps)) (tells-reverted points c c.steps known.0))
-      (tells-happenings points cs known.1),
-)
+tells-happenings : (points : ℕ) (cs : List Pending) → AllByRecursion (IsWell points) cs → AllByRecursion (λ h. TellsOf points h.txn h.told) (flat_map happenings cs)
+tells-happenings points [] well = tt
+tells-happenings points (c ∷ cs) well =
+    let T = λ (h : Happening). TellsOf points h.txn h.told in (
+      (well.0.0, (well.0.1, tt)),
+      each-append T (map (turned c) (turns c.start c.steps) ++ reverted c c.steps) (flat_map happenings cs)
+          (each-append T (map (turned c) (turns c.start c.steps)) (reverted c c.steps) (tells-turns points c (turns c.start c.steps)) (tells-reverted points c c.steps well.0))
+          (tells-happenings points cs well.1),
+    )
 
-pub tidings : (plant : List Actuator) (now at : ℕ) (told : Option What) → TellsOf (length plant) told → at ≤ now → IsTidings plant now told at
-tidings plant now at None of past = tt
-tidings plant now at (Some told) of past = record { past = past; known = of }
+well-courses : (plant : List Actuator) (d : Persistent) → IsSoundPersistent plant d → AllByRecursion (IsWell (length plant)) (courses d.pending d.leases)
+well-courses plant d sound =
+    let N = λ (c : Pending). c.txn < d.next in
+    let numbers : AllByRecursion N (courses d.pending d.leases) = to-courses N d.pending d.leases (pending-numbers plant d sound) (lease-numbers plant d sound) in
+    each-map (λ c. (c.point < length plant) × N c) (IsWell (length plant)) (λ c both. (both.0, word-of d.next c.txn sound.next both.1)) (courses d.pending d.leases)
+    (each-both (λ c. c.point < length plant) N (courses d.pending d.leases) (known-courses plant d sound) numbers)
+
+pub tidings : (plant : List Actuator) (now at txn : ℕ) (told : Option What) → TellsOf (length plant) txn told → at ≤ now → IsTidings plant now told at txn
+tidings plant now at txn None of past = tt
+tidings plant now at txn (Some told) of past = record { past = past; known = of.0; words = of.1 }
 
 -- ---- the tick
 
@@ -241,12 +267,12 @@ tick-group plant d n leases pending sound after =
           (λ t there _ _ _. kept-after (expired n) d.leases d.txns t.txn ∙ there) d.txns (each-kept d.txns)));
       once = once-due n d.now cs d.txns sound.numbers;
       told =
-          let T = λ (h : Happening). TellsOf (length plant) h.told in
-          each-map (λ h. T h × (h.at ≤ now)) (λ h. IsTidings plant now h.told h.at) (λ h both. tidings plant now h.at h.told both.0 both.1) (due n d)
+          let T = λ (h : Happening). TellsOf (length plant) h.txn h.told in
+          each-map (λ h. T h × (h.at ≤ now)) (λ h. IsTidings plant now h.told h.at h.txn) (λ h both. tidings plant now h.at h.txn h.told both.0 both.1) (due n d)
           (each-both T (λ h. h.at ≤ now) (due n d)
           (to-due T n d.now cs d.txns (each-map T (λ h. d.now < h.at → h.at ≤ n → T h) (λ h tells _ _. tells) (all_of cs d.txns)
-          (each-append T (flat_map happenings cs) (map (done_last cs) d.txns) (tells-happenings (length plant) cs (known-courses plant d sound))
-          (each-mapped T (done_last cs) d.txns (each-always (λ t. T (done_last cs t)) (λ t. tt) d.txns)))))
+          (each-append T (flat_map happenings cs) (map (done_last cs) d.txns) (tells-happenings (length plant) cs (well-courses plant d sound))
+          (each-mapped T (done_last cs) d.txns (each-map (λ t. t.txn < d.next) (λ t. T (done_last cs t)) (λ t early. (tt, (word-of d.next t.txn sound.next early, tt))) d.txns (numbers-fit plant d sound))))))
           (later-each d.now (due n d)));
     }
 

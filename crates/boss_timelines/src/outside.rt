@@ -1,11 +1,12 @@
 //! What is outside of the program in a trial.
 
 ghost use Rattle.std.specs.Prelude.{IfOk, IsTrue};
-ghost use Rattle.boss_outside.specs.Stores.{have_distinct_names};
+ghost use Rattle.boss_files.specs.Shelf.{have_distinct_names};
 
+use boss_files::MemoryFiles;
 use boss_manager::{Status, boss};
 use boss_model::Items;
-use boss_outside::{BytesSink, BytesSource, DeviceCall, Got, MemoryFiles, SimActuators, Source};
+use boss_outside::{BytesSink, BytesSource, DeviceCall, Got, SimActuators, Source};
 use std::alloc::{AllocError, Global};
 use std::test::Fail;
 

@@ -150,6 +150,52 @@ write field ahu1.damper 60000 ok
 {"ok":"cancelled","txn":2,"at":7500}
 write field ahu1.damper 25000 ok
 
+== a numbered request is made once
+> {"op":"attach","process":"a"}
+{"ok":"attached","process":"a","next":1}
+> {"at":1000,"op":"submit","seq":5,"writes":[{"point":"ahu1.damper","value":45000,"priority":8,"lease":60000}]}
+{"ok":"accepted","txn":1,"until":61000}
+write field ahu1.damper 45000 ok
+> {"at":2000,"op":"submit","seq":5,"writes":[{"point":"ahu1.damper","value":45000,"priority":8,"lease":60000}]}
+{"ok":"accepted","txn":1,"until":61000}
+> {"at":2000,"op":"submit","seq":4,"writes":[{"point":"ahu1.damper","value":45000,"priority":8,"lease":60000}]}
+{"error":"stale","kept":5}
+> {"at":3000,"op":"renew","seq":6,"txn":1,"length":60000}
+{"ok":"renewed","txn":1,"until":63000}
+> {"at":3000,"op":"submit","seq":5,"writes":[{"point":"ahu1.damper","value":45000,"priority":8,"lease":60000}]}
+{"error":"stale","kept":6}
+> {"at":3000,"op":"cancel","seq":7,"txn":9}
+{"error":"unknown-txn"}
+> {"at":4000,"op":"cancel","seq":7,"txn":1}
+{"ok":"cancelled","txn":1,"at":4000}
+write field ahu1.damper 20000 ok
+
+== the three numbered commands share their numbers
+> {"at":1000,"op":"cancel","seq":1,"txn":1}
+{"error":"not-attached"}
+> {"op":"attach","process":"a"}
+{"ok":"attached","process":"a","next":1}
+> {"at":1000,"op":"submit","seq":5,"writes":[{"point":"lamp","value":1,"lease":60000}]}
+{"ok":"accepted","txn":1,"until":61000}
+write field lamp 1 ok
+> {"at":2000,"op":"renew","seq":5,"txn":1,"length":604800001}
+{"ok":"accepted","txn":1,"until":61000}
+> {"at":2000,"op":"renew","seq":6,"txn":1,"length":604800001}
+{"error":"bad-lease","index":0}
+> {"at":2000,"op":"cancel","seq":4,"txn":9}
+{"error":"stale","kept":5}
+> {"on":2,"at":2000,"op":"attach","process":"b"}
+{"ok":"attached","process":"b","next":1}
+> {"on":2,"at":2000,"op":"cancel","seq":1,"txn":1}
+{"error":"not-yours"}
+> {"at":3000,"op":"gone"}
+{"ok":"gone","ended":1}
+write field lamp 0 ok
+> {"on":3,"at":3000,"op":"attach","process":"a"}
+{"ok":"attached","process":"a","next":3}
+> {"on":3,"at":3000,"op":"cancel","seq":5,"txn":9}
+{"ok":"accepted","txn":1,"until":61000}
+
 == the leases of a lost process end
 > {"op":"attach","process":"a"}
 {"ok":"attached","process":"a","next":1}

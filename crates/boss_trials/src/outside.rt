@@ -1,10 +1,9 @@
-ghost use Rattle.std.specs.Prelude.{◌≡◌, IfOk, IsTrue};
-ghost use Rattle.boss_outside.specs.Stores.{have_distinct_names};
+ghost use Rattle.std.specs.Prelude.{◌≡◌, IfOk};
 
 use boss_model::{Items, NoMemory, PointId};
 use boss_outside::{
-    Actuators, BytesSink, BytesSource, DeviceCall, Failed, FileBytes, FileFault, Files, Got,
-    IdleActuators, MemoryFiles, SimActuators, Sink, Source,
+    Actuators, BytesSink, BytesSource, DeviceCall, Failed, Got, IdleActuators, SimActuators, Sink,
+    Source,
 };
 use std::alloc::{AllocError, Global};
 use std::test::Fail;
@@ -85,51 +84,4 @@ fn devices_note_each_call_and_fail_as_planned(rt: HostRuntime) -> Result<(), Fai
 fn idle_devices_take_every_command(rt: HostRuntime) {
     let mut devices = IdleActuators::new();
     assert_eq!(rt; command_three(&mut devices), [Ok(()), Ok(()), Ok(())]);
-}
-
-/// What was read: the length of the whole file, or that of one which is longer than the limit.
-fn length_within<F: Files>(
-    files: &mut F,
-    alloc: Global,
-    name: &str,
-    limit: u64,
-) -> Result<Result<u64, u64>, FileFault> {
-    Ok(match files.read(alloc, name, limit)? {
-        FileBytes::Whole(bytes) => Ok(bytes.slice().len() as u64),
-        FileBytes::Longer { length } => Err(length),
-    })
-}
-
-/// An empty file, and one of three bytes.
-fn two_files(alloc: Global) -> Result<Items<(Items<u8>, Items<u8>)>, Fail>
-    ensures { IfOk result (λ files. IsTrue (have_distinct_names files)) }
-{
-    let empty = (bytes(alloc, "empty")?, bytes(alloc, "")?);
-    let three = (bytes(alloc, "a")?, bytes(alloc, "one")?);
-    let mut files = Items::new(alloc);
-    files.try_push(empty)?;
-    files.try_push(three)?;
-    Ok(files)
-}
-
-#[test]
-fn files_give_what_is_under_their_names(rt: HostRuntime) -> Result<(), Fail> {
-    let alloc = rt.alloc();
-    let mut files = MemoryFiles::new(alloc, two_files(alloc)?, second_call(alloc)?)?;
-    match files.read(alloc, "a", 3) {
-        Ok(FileBytes::Whole(found)) => assert_eq!(rt; found.slice(), b"one".as_slice()),
-        other => assert!(rt; false, "{other:?}"),
-    }
-    assert_eq!(rt;
-        length_within(&mut files, alloc, "a", 3),
-        Err(FileFault::Failed)
-    );
-    assert_eq!(rt; length_within(&mut files, alloc, "a", 3), Ok(Ok(3)));
-    assert_eq!(rt; length_within(&mut files, alloc, "a", 2), Ok(Err(3)));
-    assert_eq!(rt; length_within(&mut files, alloc, "empty", 0), Ok(Ok(0)));
-    assert_eq!(rt;
-        length_within(&mut files, alloc, "b", 3),
-        Err(FileFault::Failed)
-    );
-    Ok(())
 }

@@ -21,11 +21,11 @@ fn asked(alloc: Global, request: &Request) -> Result<String, Fail> {
 /// Lines of a script over the three points, each below a line `= ..` that says what it is read as. A `#` begins a comment.
 const LINES: &str = r#"
 # Lines of each kind but those that have names of processes.
-= 1 0 Renew { txn: Txn(0), length: -5, points: Items { items: [] } }
+= 1 0 Renew { txn: Txn(0), length: -5, points: Items { items: [] }, seq: 0 }
 {"op":"renew","txn":0,"length":-5}
-= 1 0 Renew { txn: Txn(7), length: 60000, points: Items { items: [PointId(2), PointId(1), PointId(2)] } }
+= 1 0 Renew { txn: Txn(7), length: 60000, points: Items { items: [PointId(2), PointId(1), PointId(2)] }, seq: 0 }
 {"op":"renew","txn":7,"length":60000,"points":["fan","lamp","fan"]}
-= 1 0 Cancel { txn: Txn(9223372036854775807) }
+= 1 0 Cancel { txn: Txn(9223372036854775807), seq: 0 }
 {"op":"cancel","txn":9223372036854775807}
 = 1 0 Gone
 {"op":"gone"}
@@ -43,14 +43,29 @@ const LINES: &str = r#"
 {"op":"notices","from":9223372036854775807,"max":64}
 
 # Submits. What the machine refuses is a request all the same.
-= 1 0 Submit { writes: Items { items: [Setting { point: PointId(0), value: 45000, priority: 16, lease: 60000, revert: Items { items: [] } }] }, policy: Abort }
+= 1 0 Submit { writes: Items { items: [Setting { point: PointId(0), value: 45000, priority: 16, lease: 60000, revert: Items { items: [] } }] }, policy: Abort, seq: 0 }
 {"op":"submit","writes":[{"point":"ahu1.damper","value":45000,"lease":60000}]}
-= 1 0 Submit { writes: Items { items: [Setting { point: PointId(1), value: 1, priority: 8, lease: 60000, revert: Items { items: [] } }] }, policy: Abort }
+= 1 0 Submit { writes: Items { items: [Setting { point: PointId(1), value: 1, priority: 8, lease: 60000, revert: Items { items: [] } }] }, policy: Abort, seq: 0 }
 {"op":"submit","policy":"abort","writes":[{"point":"lamp","value":1,"priority":8,"lease":60000,"revert":[]}]}
-= 1 0 Submit { writes: Items { items: [Setting { point: PointId(2), value: 3, priority: 5, lease: 1, revert: Items { items: [Step { value: 2, hold: 30000 }, Step { value: 1, hold: 5 }] } }, Setting { point: PointId(1), value: 0, priority: 16, lease: 2, revert: Items { items: [] } }] }, policy: Keep }
+= 1 0 Submit { writes: Items { items: [Setting { point: PointId(2), value: 3, priority: 5, lease: 1, revert: Items { items: [Step { value: 2, hold: 30000 }, Step { value: 1, hold: 5 }] } }, Setting { point: PointId(1), value: 0, priority: 16, lease: 2, revert: Items { items: [] } }] }, policy: Keep, seq: 0 }
 {"op":"submit","policy":"keep","writes":[{"point":"fan","value":3,"priority":5,"lease":1,"revert":[[2,30000],[1,5]]},{"point":"lamp","value":0,"lease":2}]}
-= 1 0 Submit { writes: Items { items: [Setting { point: PointId(1), value: -9223372036854775808, priority: 17, lease: 0, revert: Items { items: [Step { value: 9223372036854775807, hold: -1 }, Step { value: 0, hold: 0 }, Step { value: 0, hold: 0 }, Step { value: 0, hold: 0 }, Step { value: 0, hold: 0 }, Step { value: 0, hold: 0 }, Step { value: 0, hold: 0 }, Step { value: 0, hold: 0 }, Step { value: 0, hold: 0 }] } }] }, policy: Abort }
+= 1 0 Submit { writes: Items { items: [Setting { point: PointId(1), value: -9223372036854775808, priority: 17, lease: 0, revert: Items { items: [Step { value: 9223372036854775807, hold: -1 }, Step { value: 0, hold: 0 }, Step { value: 0, hold: 0 }, Step { value: 0, hold: 0 }, Step { value: 0, hold: 0 }, Step { value: 0, hold: 0 }, Step { value: 0, hold: 0 }, Step { value: 0, hold: 0 }, Step { value: 0, hold: 0 }] } }] }, policy: Abort, seq: 0 }
 {"op":"submit","writes":[{"point":"lamp","value":-9223372036854775808,"priority":17,"lease":0,"revert":[[9223372036854775807,-1],[0,0],[0,0],[0,0],[0,0],[0,0],[0,0],[0,0],[0,0]]}]}
+
+# Numbered requests, with the least number and the greatest, and the last of two.
+= 1 0 Submit { writes: Items { items: [Setting { point: PointId(1), value: 1, priority: 16, lease: 60000, revert: Items { items: [] } }] }, policy: Abort, seq: 5 }
+{"op":"submit","seq":5,"writes":[{"point":"lamp","value":1,"lease":60000}]}
+= 1 0 Renew { txn: Txn(7), length: 60000, points: Items { items: [] }, seq: 1 }
+{"op":"renew","txn":7,"length":60000,"seq":1}
+= 1 0 Cancel { txn: Txn(7), seq: 4611686018427387903 }
+{"op":"cancel","txn":7,"seq":4611686018427387903}
+= 1 0 Cancel { txn: Txn(7), seq: 6 }
+{"op":"cancel","txn":7,"seq":0,"seq":6}
+# A key that means nothing to other commands.
+= 1 0 Status { txn: Txn(3) }
+{"op":"status","txn":3,"seq":0}
+= 1 0 Gone
+{"op":"gone","seq":"none"}
 
 # Sessions and moments.
 = 1 0 Gone
@@ -154,6 +169,16 @@ null
 {"op":"notices","from":0}
 {"op":"notices","max":0}
 {"op":"notices","max":65}
+# A number for the request that is none.
+{"op":"cancel","txn":1,"seq":0}
+{"op":"cancel","txn":1,"seq":-1}
+{"op":"cancel","txn":1,"seq":4611686018427387904}
+{"op":"cancel","txn":1,"seq":9223372036854775808}
+{"op":"cancel","txn":1,"seq":5.0}
+{"op":"cancel","txn":1,"seq":"5"}
+{"op":"cancel","txn":1,"seq":null}
+{"op":"renew","txn":1,"length":1,"seq":0}
+{"op":"submit","seq":0,"writes":[{"point":"lamp","value":1,"lease":1}]}
 # An array without an item.
 {"op":"submit","writes":[]}
 {"op":"renew","txn":1,"length":1,"points":[]}
@@ -169,6 +194,8 @@ null
 {"op":"submit","writes":[{"point":"door","value":1,"lease":1}],"policy":"stop"}
 {"op":"renew","txn":1,"length":1,"points":["door",7]}
 {"op":"renew","txn":-1,"length":1,"points":["door"]}
+{"op":"renew","txn":1,"length":1,"points":["door"],"seq":0}
+{"op":"submit","seq":0,"writes":[{"point":"door","value":1,"lease":1}]}
 # Of two equal keys the last counts.
 {"op":"tick","op":7}
 {"op":"cancel","txn":1,"txn":"1"}

@@ -1,2 +1,3 @@
 pub mod RequestRows
 pub mod ScriptRows
+pub mod TextRows

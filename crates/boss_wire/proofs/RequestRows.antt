@@ -22,17 +22,17 @@ site = record {
 
 -- a write that names no priority is at the lowest, and a submit that names no policy is to be aborted
 submitted : parsed site Script (codes "{\"on\":3,\"at\":1000,\"op\":\"submit\",\"writes\":[{\"point\":\"lamp\",\"value\":1,\"lease\":60000,\"revert\":[[0,5000]]}]}")
-    ≡ asks (record { on = 3; at = 1000; command = command.Submit (record { point = 1; value = pos 1; priority = pos 16; lease = pos 60000; revert = record { value = pos 0; hold = pos 5000 } ∷ [] } ∷ []) Abort })
+    ≡ asks (record { on = 3; at = 1000; command = command.Submit (record { point = 1; value = pos 1; priority = pos 16; lease = pos 60000; revert = record { value = pos 0; hold = pos 5000 } ∷ [] } ∷ []) Abort 0 })
 unfolding parsed serde_json_on_literals is_utf8 chars
 submitted = refl
 
 -- a renewal of two points, and one of all leases
 renewed : parsed site Script (codes "{\"op\":\"renew\",\"txn\":7,\"length\":60000,\"points\":[\"lamp\",\"damper\"]}")
-    ≡ asks (record { on = 1; at = 0; command = command.Renew 7 (pos 60000) (1 ∷ 0 ∷ []) })
+    ≡ asks (record { on = 1; at = 0; command = command.Renew 7 (pos 60000) (1 ∷ 0 ∷ []) 0 })
 unfolding parsed serde_json_on_literals is_utf8 chars
 renewed = refl
 
-all_renewed : parsed site Script (codes "{\"op\":\"renew\",\"txn\":7,\"length\":60000}") ≡ asks (record { on = 1; at = 0; command = command.Renew 7 (pos 60000) [] })
+all_renewed : parsed site Script (codes "{\"op\":\"renew\",\"txn\":7,\"length\":60000}") ≡ asks (record { on = 1; at = 0; command = command.Renew 7 (pos 60000) [] 0 })
 unfolding parsed serde_json_on_literals is_utf8 chars
 all_renewed = refl
 
@@ -63,7 +63,7 @@ malformed = refl
 
 -- what the machine refuses is a request all the same
 left_to_the_machine : parsed site Script (codes "{\"op\":\"submit\",\"policy\":\"keep\",\"writes\":[{\"point\":\"lamp\",\"value\":2,\"priority\":17,\"lease\":0}]}")
-    ≡ asks (record { on = 1; at = 0; command = command.Submit (record { point = 1; value = pos 2; priority = pos 17; lease = pos 0; revert = [] } ∷ []) Keep })
+    ≡ asks (record { on = 1; at = 0; command = command.Submit (record { point = 1; value = pos 2; priority = pos 17; lease = pos 0; revert = [] } ∷ []) Keep 0 })
 unfolding parsed serde_json_on_literals is_utf8 chars
 left_to_the_machine = refl
 
@@ -87,10 +87,71 @@ too_many_notices = refl
 
 -- as many points as a renewal may name, and one more
 most_points_named : parsed site Script (codes "{\"op\":\"renew\",\"txn\":7,\"length\":1,\"points\":[\"lamp\",\"lamp\",\"lamp\",\"lamp\",\"lamp\",\"lamp\",\"lamp\",\"lamp\",\"lamp\",\"lamp\",\"lamp\",\"lamp\",\"lamp\",\"lamp\",\"lamp\",\"lamp\",\"lamp\",\"lamp\",\"lamp\",\"lamp\",\"lamp\",\"lamp\",\"lamp\",\"lamp\",\"lamp\",\"lamp\",\"lamp\",\"lamp\",\"lamp\",\"lamp\",\"lamp\",\"lamp\"]}")
-    ≡ asks (record { on = 1; at = 0; command = command.Renew 7 (pos 1) (replicate 32 1) })
+    ≡ asks (record { on = 1; at = 0; command = command.Renew 7 (pos 1) (replicate 32 1) 0 })
 unfolding parsed serde_json_on_literals is_utf8 chars
 most_points_named = refl
 
 too_many_points_named : parsed site Script (codes "{\"op\":\"renew\",\"txn\":7,\"length\":1,\"points\":[\"lamp\",\"lamp\",\"lamp\",\"lamp\",\"lamp\",\"lamp\",\"lamp\",\"lamp\",\"lamp\",\"lamp\",\"lamp\",\"lamp\",\"lamp\",\"lamp\",\"lamp\",\"lamp\",\"lamp\",\"lamp\",\"lamp\",\"lamp\",\"lamp\",\"lamp\",\"lamp\",\"lamp\",\"lamp\",\"lamp\",\"lamp\",\"lamp\",\"lamp\",\"lamp\",\"lamp\",\"lamp\",\"lamp\"]}") ≡ wrong Malformed
 unfolding parsed serde_json_on_literals is_utf8 chars
 too_many_points_named = refl
+
+-- ---- numbered requests
+
+-- a submit, a renewal and a cancel may be numbered, from 1 up to one below 2^62
+submit_numbered : parsed site Script (codes "{\"seq\":5,\"op\":\"submit\",\"writes\":[{\"point\":\"lamp\",\"value\":1,\"lease\":60000}]}")
+    ≡ asks (record { on = 1; at = 0; command = command.Submit (record { point = 1; value = pos 1; priority = pos 16; lease = pos 60000; revert = [] } ∷ []) Abort 5 })
+unfolding parsed serde_json_on_literals is_utf8 chars
+submit_numbered = refl
+
+renewal_numbered : parsed site Script (codes "{\"op\":\"renew\",\"txn\":7,\"length\":60000,\"seq\":1}")
+    ≡ asks (record { on = 1; at = 0; command = command.Renew 7 (pos 60000) [] 1 })
+unfolding parsed serde_json_on_literals is_utf8 chars
+renewal_numbered = refl
+
+cancel_numbered : parsed site Script (codes "{\"op\":\"cancel\",\"txn\":7,\"seq\":4611686018427387903}")
+    ≡ asks (record { on = 1; at = 0; command = command.Cancel 7 4611686018427387903 })
+unfolding parsed serde_json_on_literals is_utf8 chars
+cancel_numbered = refl
+
+cancel_without_number : parsed site Script (codes "{\"op\":\"cancel\",\"txn\":7}")
+    ≡ asks (record { on = 1; at = 0; command = command.Cancel 7 0 })
+unfolding parsed serde_json_on_literals is_utf8 chars
+cancel_without_number = refl
+
+-- any other number, and what is none
+number_0 : parsed site Script (codes "{\"op\":\"cancel\",\"txn\":7,\"seq\":0}")
+    ≡ wrong Malformed
+unfolding parsed serde_json_on_literals is_utf8 chars
+number_0 = refl
+
+number_too_great : parsed site Script (codes "{\"op\":\"cancel\",\"txn\":7,\"seq\":4611686018427387904}")
+    ≡ wrong Malformed
+unfolding parsed serde_json_on_literals is_utf8 chars
+number_too_great = refl
+
+number_below_0 : parsed site Script (codes "{\"op\":\"renew\",\"txn\":7,\"length\":60000,\"seq\":-1}")
+    ≡ wrong Malformed
+unfolding parsed serde_json_on_literals is_utf8 chars
+number_below_0 = refl
+
+number_with_a_fraction : parsed site Script (codes "{\"op\":\"cancel\",\"txn\":7,\"seq\":5.0}")
+    ≡ wrong Malformed
+unfolding parsed serde_json_on_literals is_utf8 chars
+number_with_a_fraction = refl
+
+number_as_text : parsed site Script (codes "{\"op\":\"cancel\",\"txn\":7,\"seq\":\"5\"}")
+    ≡ wrong Malformed
+unfolding parsed serde_json_on_literals is_utf8 chars
+number_as_text = refl
+
+-- a number that is none is told before a point that is not known
+malformed_number_first : parsed site Script (codes "{\"op\":\"submit\",\"seq\":0,\"writes\":[{\"point\":\"door\",\"value\":1,\"lease\":60000}]}")
+    ≡ wrong Malformed
+unfolding parsed serde_json_on_literals is_utf8 chars
+malformed_number_first = refl
+
+-- no other line has a number, and the key is passed over there
+number_passed_over : parsed site Script (codes "{\"op\":\"status\",\"txn\":7,\"seq\":0}")
+    ≡ asks (record { on = 1; at = 0; command = command.Status 7 })
+unfolding parsed serde_json_on_literals is_utf8 chars
+number_passed_over = refl

@@ -1,13 +1,13 @@
 -- What stands under a key of a JSON object; none where it is missing, of another kind, or out of the bounds given here. Of
 -- equal keys the last counts.
-use Rattle.std.specs.Prelude.{ℕ, ℤ, pos, int_le, unsigned_abs, nat_le, Bool, ◌&&◌, if◌then◌else◌, List, [], ◌∷◌, length, codes, bytes_eq, Option, Some, None, option_map}
+use Rattle.std.specs.Prelude.{ℕ, ◌-◌, ℤ, pos, int_le, unsigned_abs, nat_le, Bool, ◌&&◌, if◌then◌else◌, List, [], ◌∷◌, length, codes, bytes_eq, Option, Some, None, option_map}
 use Rattle.std.specs.Option.{option_and_then, option_map_or}
 use Rattle.serde_json.specs.Data.{Data, Items, no_items, item}
 use Rattle.serde_json.specs.Find.{get, as_number, as_i64, as_str, as_array}
 use Rattle.boss_model.specs.declared.command.Policy.{Policy}
 use Rattle.boss_model.specs.declared.command.Policy.TheVariants.{Abort, Keep}
 use Rattle.boss_model.specs.declared.command.Step.{Step}
-use Rattle.boss_model.specs.Limits.{most_writes}
+use Rattle.boss_model.specs.Limits.{most_writes, last_number}
 use Rattle.boss_model.specs.Names.{is_name}
 
 -- what was found, taken on by what follows
@@ -72,6 +72,12 @@ under key read d = get key d >>= read
 -- a key that may be missing, with what is read then
 abbrev pub under_or : {A : Type 0} → List ℕ → (Data → Option A) → A → Data → Option A
 under_or key read default d = option_map_or read (get key d) (Some default)
+
+-- ---- numbered requests
+
+-- the number that a process gives a request: at least 1 and below `last_number`, or 0 where there is none
+abbrev pub seq : Data → Option ℕ
+seq d = under_or (codes "seq") (number_within 1 (last_number - 1)) 0 d
 
 -- ---- parts of a submit
 

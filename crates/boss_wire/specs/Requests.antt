@@ -16,7 +16,7 @@ use Rattle.boss_wire.specs.declared.form.Op.{Op}
 use Rattle.boss_wire.specs.declared.form.Op.TheVariants as op
 use Rattle.boss_model.specs.Catalogue.{Catalogue, place_of}
 use Rattle.boss_model.specs.Limits.{most_told, last_moment, last_session}
-use Rattle.boss_wire.specs.Keys.{all_of, under, under_or, whole, number_from, number_within, name, short_list, policy, Write, write}
+use Rattle.boss_wire.specs.Keys.{all_of, under, under_or, whole, number_from, number_within, name, short_list, seq, policy, Write, write}
 
 -- what a line, or a part of it, asks, or what is wrong with it
 pub data Parsed (A : Type 0) : Type 0 where
@@ -87,21 +87,24 @@ abbrev pub submit_of : Catalogue → Data → Parsed Command
 submit_of catalogue d = do
   items ← formed (under (codes "writes") short_list d)
   policy ← formed (under_or (codes "policy") policy Abort d)
+  seq ← formed (seq d)
   settings ← settings_of catalogue items
-  asks (command.Submit settings policy)
+  asks (command.Submit settings policy seq)
 
 abbrev pub renew_of : Catalogue → Data → Parsed Command
 renew_of catalogue d = do
   txn ← formed (under (codes "txn") (number_from 0) d)
   length ← formed (under (codes "length") whole d)
   items ← formed (under_or (codes "points") short_list [] d)
+  seq ← formed (seq d)
   points ← points_of catalogue items
-  asks (command.Renew txn length points)
+  asks (command.Renew txn length points seq)
 
 abbrev pub cancel_of : Data → Parsed Command
 cancel_of d = do
   txn ← formed (under (codes "txn") (number_from 0) d)
-  asks (command.Cancel txn)
+  seq ← formed (seq d)
+  asks (command.Cancel txn seq)
 
 abbrev pub read_of : Catalogue → Data → Parsed Command
 read_of catalogue d = do

@@ -102,6 +102,7 @@ refusal_text refusal.Malformed = codes "{\"error\":\"malformed\"}"
 refusal_text refusal.UnknownOp = codes "{\"error\":\"unknown-op\"}"
 refusal_text (refusal.UnknownPoint index) = placed (codes "unknown-point") index
 refusal_text refusal.NotAttached = codes "{\"error\":\"not-attached\"}"
+refusal_text (refusal.Stale kept) = codes "{\"error\":\"stale\",\"kept\":" ++ decimal kept ++ codes "}"
 refusal_text (refusal.SamePoint index) = placed (codes "same-point") index
 refusal_text (refusal.BadPriority index) = placed (codes "bad-priority") index
 refusal_text (refusal.OutOfRange index) = placed (codes "out-of-range") index

@@ -1,22 +1,52 @@
 use Rattle.std.proofs.Common.{subst, sym, ap, ◌∙◌}
+use Rattle.boss_model.specs.declared.kept.Acceptance.TheVariants as acceptance
 use Rattle.boss_model.specs.Processes.{process_of}
+use Rattle.boss_model.specs.Submit.{first_until, submitted}
 use Rattle.boss_engine.specs.declared.ready.Ready.{Ready}
 use Rattle.boss_engine.specs.Inside.{state_of}
 use Rattle.boss_engine.specs.Ready.{IsReadyToSubmit}
-use Rattle.boss_engine.proofs.Submitting.{ready-submit, submit-leaves}
+use Rattle.boss_engine.specs.Replying.{with_reply}
+use Rattle.boss_engine.proofs.Submitting.{decided-leaves, ready-submit, refused-leaves, submit-leaves}
 use Rattle.boss_engine.proofs.machine.Machine.submit.Goals as goal
 
 pub returns-in-Submit-clause-state : goal.returns-in-Submit-clause-state
 returns-in-Submit-clause-state c = λ plant session writes policy some is.
     let s = state_of c.args.self.now in
+    let n = c.args.n in
+    let seq = c.args.seq in
     let held = process_of s.attached session in
-    let begun = ready-submit plant held writes policy c.args.n c.in-Submit.transaction c.in-Submit.leases s some
-    (subst (λ (given : Ready). IsReadyToSubmit plant held writes policy c.args.n given s) c.in-Submit.is is) in
-    let after = c.begin.ensures.after begun.owner policy writes begun.is in
+    let begun = ready-submit plant held writes policy seq n c.in-Submit.transaction c.in-Submit.leases s some
+    (subst (λ (given : Ready). IsReadyToSubmit plant held writes policy seq n given s) c.in-Submit.is is) in
+    let after = c.begin.ensures.after begun.owner policy writes begun.is
+    ∙ ap (λ leases. with_reply begun.owner seq (acceptance.Accepted s.persistent.next (first_until leases)) (submitted begun.owner policy writes n s.persistent)) begun.is.leased in
     (λ i. record {
       persistent = after i;
       attached = (c.begin.ensures.others.1 i).items;
       proxies = (c.begin.ensures.others.0 i).proxies;
       wants = (c.begin.ensures.others.0 i).wants;
     })
-    ∙ sym (ap (λ r. r.state) (submit-leaves plant session begun.owner c.args.n writes policy s begun.own begun.passed))
+    ∙ sym (ap (λ r. r.state) (submit-leaves plant session begun.owner seq n writes policy s begun.own begun.undecided begun.passed))
+
+pub returns-in-Decided-clause-answer : goal.returns-in-Decided-clause-answer
+returns-in-Decided-clause-answer c = λ plant session writes policy some is.
+    let s = state_of c.args.self.now in
+    sym (ap (λ r. r.answer) (decided-leaves plant session c.args.seq c.args.n writes policy s c.in-Decided.answer
+    (subst (λ (given : Ready). IsReadyToSubmit plant (process_of s.attached session) writes policy c.args.seq c.args.n given s) c.in-Decided.is is)))
+
+pub returns-in-Decided-clause-state : goal.returns-in-Decided-clause-state
+returns-in-Decided-clause-state c = λ plant session writes policy some is.
+    let s = state_of c.args.self.now in
+    sym (ap (λ r. r.state) (decided-leaves plant session c.args.seq c.args.n writes policy s c.in-Decided.answer
+    (subst (λ (given : Ready). IsReadyToSubmit plant (process_of s.attached session) writes policy c.args.seq c.args.n given s) c.in-Decided.is is)))
+
+pub returns-in-Refused-clause-answer : goal.returns-in-Refused-clause-answer
+returns-in-Refused-clause-answer c = λ plant session writes policy some is.
+    let s = state_of c.args.self.now in
+    sym (ap (λ r. r.answer) (refused-leaves plant session c.args.seq c.args.n writes policy s c.in-Refused.why
+    (subst (λ (given : Ready). IsReadyToSubmit plant (process_of s.attached session) writes policy c.args.seq c.args.n given s) c.in-Refused.is is)))
+
+pub returns-in-Refused-clause-state : goal.returns-in-Refused-clause-state
+returns-in-Refused-clause-state c = λ plant session writes policy some is.
+    let s = state_of c.args.self.now in
+    sym (ap (λ r. r.state) (refused-leaves plant session c.args.seq c.args.n writes policy s c.in-Refused.why
+    (subst (λ (given : Ready). IsReadyToSubmit plant (process_of s.attached session) writes policy c.args.seq c.args.n given s) c.in-Refused.is is)))

@@ -5,4 +5,4 @@ use Rattle.boss_engine.proofs.processes.Processes.named.Given as goal
 
 -- none of the names so far is this one
 abbrev pub invariant-loop-place : goal.invariant-loop-place
-invariant-loop-place l = list_any (λ known. pointwise nat_eq known l.name) (take l.place l.self-inside.names.items) ≡ false
+invariant-loop-place l = list_any (λ known. pointwise nat_eq known.name l.name) (take l.place l.self-inside.entries.items) ≡ false

@@ -1,8 +1,8 @@
 use Rattle.std.proofs.Common.{◌≡◌, true, false, set, get_or, sym, ◌∙◌, ap}
 use Rattle.std.proofs.lemmas.List.Edits.{map_over_more}
 use Rattle.boss_model.specs.Renew.{extended_if, is_meant}
-use Rattle.boss_engine.proofs.queries.extend.Goals as goal
-use Rattle.boss_engine.proofs.queries.extend.Goals.{then-is_meant, else-is_meant}
+use Rattle.boss_engine.proofs.renewing.extend.Goals as goal
+use Rattle.boss_engine.proofs.renewing.extend.Goals.{then-is_meant, else-is_meant}
 
 pub loop-lease-preserved : goal.loop-lease-preserved
 loop-lease-preserved c =
