@@ -1,13 +1,11 @@
 //! The standard input and output, as a source and a sink.
 
-ghost use Rattle.std.specs.Prelude.{◌≡◌, ◌≤◌, [], length, IfOk};
+ghost use Rattle.std.specs.Prelude.{◌≡◌, []};
 
+use crate::read_past_signals;
 use boss_outside::{Failed, Got, Sink, Source};
-use std::io::{ErrorKind, Read, Write};
+use std::io::Write;
 use std::rt::{Stdin, Stdout};
-
-/// How often a read is tried that a signal came between.
-const TRIES: u32 = 1_000;
 
 /// The standard input.
 #[derive(Drop)]
@@ -23,20 +21,6 @@ impl StdSource {
     {
         StdSource { stdin, faults: 0 }
     }
-}
-
-/// Reads, and tries again where a signal came between.
-fn read_past_signals(stdin: &mut Stdin, into: &mut [u8]) -> Result<usize, Failed>
-    ensures { IfOk result (λ count. count ≤ length into.new) }
-{
-    for _ in 0..TRIES {
-        match stdin.read(into) {
-            Ok(count) => return Ok(count),
-            Err(error) if error.kind() == ErrorKind::Interrupted => {}
-            Err(_) => return Err(Failed),
-        }
-    }
-    Err(Failed)
 }
 
 impl Source for StdSource {

@@ -1,11 +1,12 @@
 //! The files of this machine, under their paths.
 
-ghost use Rattle.std.specs.Prelude.{◌≡◌, [], None, Err};
-ghost use Rattle.boss_outside.specs.declared.files.FileBytes.{FileBytes};
-ghost use Rattle.boss_outside.specs.Files.{FileCause};
+ghost use Rattle.std.specs.Prelude.{◌≡◌, [], None, IsErr};
+ghost use Rattle.boss_outside.specs.Counts.{one_more};
+ghost use Rattle.boss_files.specs.Files.{FileCause};
 
+use crate::RealDisk;
+use boss_files::{FileBytes, FileFault, Files};
 use boss_model::Items;
-use boss_outside::{FileBytes, FileFault, Files};
 use std::alloc::Global;
 use std::fs::File;
 use std::io::{self, ErrorKind, Read};
@@ -18,7 +19,7 @@ pub struct RealFiles {
 }
 
 impl RealFiles {
-    /// The files of this machine, of which no read has failed yet.
+    /// The files of this machine, of which no call has failed yet.
     pub fn new(rt: HostRuntime) -> RealFiles
         ensures { ⟦<RealFiles as Files>⟧.faults result ≡ 0 }
     {
@@ -35,18 +36,27 @@ impl RealFiles {
     }
 
     /// What a call that fails with this error answers: want of memory is no fault of the files.
-    fn fault(&mut self, error: io::Error) -> FileFault
-        ensures { FileCause {T = FileBytes} self.old.faults self.new.faults (Err result) }
+    fn fail<T>(&mut self, error: io::Error) -> Result<T, FileFault>
+        ensures fails { IsErr result }
+        ensures cause { FileCause self.old.faults self.new.faults result }
     {
         if error.kind() == ErrorKind::OutOfMemory {
-            return FileFault::NoMemory;
+            return Err(FileFault::NoMemory);
         }
+        self.count_fault();
+        Err(FileFault::Failed)
+    }
+
+    fn count_fault(&mut self)
+        ensures { self.new.faults ≡ one_more self.old.faults }
+    {
         self.faults = self.faults.saturating_add(1);
-        FileFault::Failed
     }
 }
 
 impl Files for RealFiles {
+    type Store = RealDisk;
+
     ghost tells = { ⊥ };
 
     ghost holds = { λ files name. None };
@@ -58,7 +68,7 @@ impl Files for RealFiles {
     fn read(&mut self, alloc: Global, name: &str, limit: u64) -> Result<FileBytes, FileFault> {
         let (bytes, told) = match self.read_front(alloc, name, limit) {
             Ok(front) => front,
-            Err(error) => return Err(self.fault(error)),
+            Err(error) => return self.fail(error),
         };
         let length = bytes.len() as u64;
         if length > limit {
@@ -67,5 +77,18 @@ impl Files for RealFiles {
             });
         }
         Ok(FileBytes::Whole(Items::from_vec(bytes)))
+    }
+
+    fn disk(&mut self, alloc: Global, name: &str) -> Result<RealDisk, FileFault> {
+        match RealDisk::open(self.rt, alloc, name) {
+            Ok(store) => Ok(store),
+            Err(error) => self.fail(error),
+        }
+    }
+
+    fn close(&mut self, _name: &str, store: RealDisk) {
+        if store.faults() > 0 {
+            self.count_fault();
+        }
     }
 }

@@ -26,11 +26,6 @@ FileCause before now (Ok _) = now ≡ before
 FileCause before now (Err Failed) = Rose before now
 FileCause before now (Err NoMemory) = now ≡ before
 
--- the count rises exactly where the part that is taken back has one above 0
-pub record Joins (before part now : ℕ) : Type 0 where
-  pub failed : 0 < part → Rose before now
-  pub fine : part ≡ 0 → now ≡ before
-
 -- each call is noted once under its name, but that one which found no memory may have come to nothing before
 abbrev pub Asks : {T : Type 0} → List (List ℕ) → List (List ℕ) → List ℕ → Result T FileFault → Type 0
 Asks old new name (Ok _) = new ≡ old ++ name ∷ []

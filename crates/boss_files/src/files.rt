@@ -1,5 +1,6 @@
 ghost use Rattle.std.specs.Prelude.{◌≡◌, ◌≢◌, ℕ, List, [], Option, Some, IsSome, IfOk, unwrap_or};
-ghost use Rattle.boss_files.specs.Files.{KeepsLimit, ReadsFile, FileCause, Joins, Asks, opened};
+ghost use Rattle.boss_outside.specs.Counts.{Joins};
+ghost use Rattle.boss_files.specs.Files.{KeepsLimit, ReadsFile, FileCause, Asks, opened};
 
 use boss_disk::Disk;
 use boss_model::{Items, NoMemory};

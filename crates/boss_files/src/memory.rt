@@ -1,7 +1,8 @@
 ghost use Rattle.std.specs.Prelude.{◌≡◌, ◌≢◌, ℕ, ◌||◌, ◌⊎◌, List, [], ◌∷◌, ◌++◌, Option, Some, Err, IfOk, OnOk, OnErr, IsSome, IsTrue, is_none, is_ok, unwrap_or, option_copied, position, bytes_eq};
+ghost use Rattle.boss_outside.specs.Counts.{Joins};
 ghost use Rattle.boss_outside.specs.Plan.{new_plan, fails_next, after_call};
 ghost use Rattle.boss_disk.specs.Record.{state_of};
-ghost use Rattle.boss_files.specs.Files.{KeepsLimit, ReadsFile, FileCause, Joins, opened, is_failed};
+ghost use Rattle.boss_files.specs.Files.{KeepsLimit, ReadsFile, FileCause, opened, is_failed};
 ghost use Rattle.boss_files.specs.Shelf.{ReadsShelf, OpensShelf, bytes_under, have_distinct_names};
 
 use crate::{FileBytes, FileFault, Files};

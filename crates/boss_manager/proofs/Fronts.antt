@@ -1,18 +1,17 @@
 -- Lists that begin with others, and runs that go on with others.
-use Rattle.std.proofs.Common.{ℕ, Bool, true, List, [], ◌∷◌, ◌++◌, Option, Some, None, refl, ap, sym, ◌∙◌, append_assoc, append-nil, ◌||◌, if◌then◌else◌}
+use Rattle.std.proofs.Common.{ℕ, zero, suc, Bool, true, List, [], ◌∷◌, ◌++◌, Option, Some, None, refl, ap, sym, ◌∙◌, append_assoc, append-nil, ◌||◌, if◌then◌else◌}
 use Rattle.std.proofs.lemmas.Bool.{cond_both}
 use Rattle.boss_model.specs.declared.answer.Answer.{Answer}
 use Rattle.boss_model.specs.declared.answer.Answer.TheVariants as answer
+use Rattle.boss_model.specs.declared.command.Command.{Command}
 use Rattle.boss_model.specs.declared.command.Command.TheVariants as command
 use Rattle.boss_wire.specs.declared.form.Form.TheVariants as form
 use Rattle.boss_model.specs.DeviceCall.{DeviceCall}
-use Rattle.boss_model.specs.Catalogue.{Catalogue, actuators}
-use Rattle.boss_model.specs.Devices.{wanting}
+use Rattle.boss_model.specs.Catalogue.{Catalogue}
 use Rattle.boss_model.specs.Lines.{is_blank}
-use Rattle.boss_model.specs.Machine.{step}
 use Rattle.boss_wire.specs.Requests.{Parsed, asks, wrong, Request, parsed}
-use Rattle.boss_wire.specs.Script.{Run, cut_short, say, serve, carry_out, if_wanting, drain, is_too_long, answered, replied, line_read}
-use Rattle.boss_wire.specs.Texts.{answer_text, device_text, line_of, refusal_text, too_long_text}
+use Rattle.boss_wire.specs.Script.{Run, cut_short, say, halted, stepping, stepping_with, rest, written, reported, serve, next_driver, carry_out, if_wanting, drain, is_too_long, answered, replied, line_read}
+use Rattle.boss_wire.specs.Texts.{answer_text, device_text, line_of, refusal_text, stopped_text, too_long_text}
 use Rattle.boss_manager.specs.Runs.{IsFrontOf, Covers, served, lines_taken}
 
 -- ---- fronts
@@ -34,8 +33,22 @@ covers-trans run later text calls second first = (front-trans text run.text late
 stays : (run : Run) → Covers run run.text run.calls
 stays run = (front-whole run.text, front-whole run.calls)
 
+-- a step, and what follows it or its want
+stepping-covers : (catalogue : Catalogue) (session : ℕ) (command : Command) (moment : ℕ) (go : Answer → Run → Run) (halt : Run → Run) (run : Run) →
+    ((given : Answer) (after : Run) → Covers (go given after) after.text after.calls) → ((after : Run) → Covers (halt after) after.text after.calls) →
+    Covers (stepping catalogue session command moment go halt run) run.text run.calls
+stepping-covers catalogue session command moment go halt run goes halts = by run.left
+  where
+    by : (left : Option ℕ) → Covers (stepping_with left catalogue session command moment go halt run) run.text run.calls
+    by None = goes _ _
+    by (Some zero) = halts (halted run)
+    by (Some (suc left)) = goes _ _
+
 carry-covers : (catalogue : Catalogue) (moment : ℕ) (given : Answer) (ok : Bool) (run : Run) → Covers (carry_out catalogue moment given ok run) run.text run.calls
 carry-covers catalogue moment (answer.Want point version value) ok run =
+    let after = written catalogue point value ok run in
+    covers-trans after (reported catalogue moment point version ok after) run.text run.calls
+    (stepping-covers catalogue 0 (command.Report point version ok) moment (λ noted later. later) rest after (λ noted later. stays later) stays)
     ((line_of (device_text catalogue point value ok), refl), (record { point = point; value = value; ok = ok } ∷ [], refl))
 carry-covers catalogue moment given ok run = stays run
 
@@ -46,25 +59,32 @@ if-covers (Some driver) go run text calls goes rests = goes driver
 
 pub drain-covers : (catalogue : Catalogue) (moment : ℕ) (results : List Bool) (run : Run) → Covers (drain catalogue moment results run) run.text run.calls
 unfolding drain
-drain-covers catalogue moment [] run = if-covers (wanting (actuators catalogue) run.state) (λ driver. cut_short (record run { results = [] })) (record run { results = [] }) run.text run.calls
-    (λ driver. stays run) (stays run)
-drain-covers catalogue moment (ok ∷ results) run = if-covers (wanting (actuators catalogue) run.state)
-    (λ driver. drain catalogue moment results (serve catalogue moment ok driver (record run { results = results }))) (record run { results = ok ∷ results }) run.text run.calls
-    (λ driver.
-    let after = serve catalogue moment ok driver (record run { results = results }) in
-    let asked = step (actuators catalogue) 0 (command.Next driver) moment run.state in
-    covers-trans after (drain catalogue moment results after) run.text run.calls (drain-covers catalogue moment results after)
-    (carry-covers catalogue moment asked.answer ok (record run { results = results; state = asked.state }))) (stays run)
+drain-covers catalogue moment [] run = if-covers (next_driver catalogue run) (λ driver. serve catalogue moment (λ asked after. cut_short after) driver (record run { results = [] }))
+    (record run { results = [] }) run.text run.calls
+    (λ driver. stepping-covers catalogue 0 (command.Next driver) moment (λ asked after. cut_short after) rest (record run { results = [] }) (λ asked after. stays after) stays)
+    (stays run)
+drain-covers catalogue moment (ok ∷ results) run =
+    let go : Answer → Run → Run = λ asked after. drain catalogue moment results (carry_out catalogue moment asked ok (record after { results = results })) in
+    if-covers (next_driver catalogue run) (λ driver. serve catalogue moment go driver (record run { results = ok ∷ results })) (record run { results = ok ∷ results }) run.text run.calls
+    (λ driver. stepping-covers catalogue 0 (command.Next driver) moment go rest (record run { results = ok ∷ results })
+    (λ asked after.
+    let carried = carry_out catalogue moment asked ok (record after { results = results }) in
+    covers-trans carried (go asked after) after.text after.calls (drain-covers catalogue moment results carried) (carry-covers catalogue moment asked ok (record after { results = results })))
+    stays)
+    (stays run)
 
 pub served-covers : (catalogue : Catalogue) (moment : ℕ) (run : Run) → Covers (served catalogue moment run) run.text run.calls
 served-covers catalogue moment run = drain-covers catalogue moment run.results run
 
 pub answered-covers : (catalogue : Catalogue) (request : Request) (run : Run) → Covers (answered catalogue request run) run.text run.calls
 answered-covers catalogue request run =
-    let done = step (actuators catalogue) request.on request.command request.at run.state in
-    let told = say (answer_text catalogue done.answer) (record run { state = done.state }) in
-    covers-trans told (answered catalogue request run) run.text run.calls (drain-covers catalogue request.at run.results told)
-    ((line_of (answer_text catalogue done.answer), refl), front-whole run.calls)
+    stepping-covers catalogue request.on request.command request.at
+    (λ given after. drain catalogue request.at after.results (say (answer_text catalogue given) after)) (say stopped_text) run
+    (λ given after.
+    let told = say (answer_text catalogue given) after in
+    covers-trans told (drain catalogue request.at after.results told) after.text after.calls (drain-covers catalogue request.at after.results told)
+    ((line_of (answer_text catalogue given), refl), front-whole after.calls))
+    (λ after. ((line_of stopped_text, refl), front-whole after.calls))
 
 replied-covers : (catalogue : Catalogue) (asked : Parsed Request) (run : Run) → Covers (replied catalogue asked run) run.text run.calls
 replied-covers catalogue (wrong why) run = ((line_of (refusal_text why), refl), front-whole run.calls)
@@ -74,11 +94,14 @@ pub line-covers : (catalogue : Catalogue) (line : List ℕ) (run : Run) → Cove
 line-covers catalogue line run =
     let reply = replied catalogue (parsed catalogue form.Script line) run in
     let long : Run = record (say too_long_text run) { over = true } in
-    cond_both (run.short || run.over) run (if is_too_long line then long else (if is_blank line then run else reply)) (λ later. Covers later run.text run.calls)
+    let told : Run = if run.stopped then say stopped_text run else reply in
+    cond_both (run.short || run.over) run (if is_too_long line then long else (if is_blank line then run else told)) (λ later. Covers later run.text run.calls)
     (λ _. stays run)
-    (λ _. cond_both (is_too_long line) long (if is_blank line then run else reply) (λ later. Covers later run.text run.calls)
+    (λ _. cond_both (is_too_long line) long (if is_blank line then run else told) (λ later. Covers later run.text run.calls)
     (λ _. ((line_of too_long_text, refl), front-whole run.calls))
-    (λ _. cond_both (is_blank line) run reply (λ later. Covers later run.text run.calls) (λ _. stays run) (λ _. replied-covers catalogue (parsed catalogue form.Script line) run)))
+    (λ _. cond_both (is_blank line) run told (λ later. Covers later run.text run.calls) (λ _. stays run)
+    (λ _. cond_both run.stopped (say stopped_text run) reply (λ later. Covers later run.text run.calls) (λ _. ((line_of stopped_text, refl), front-whole run.calls))
+    (λ _. replied-covers catalogue (parsed catalogue form.Script line) run))))
 
 pub lines-cover : (catalogue : Catalogue) (all : List (List ℕ)) (run : Run) → Covers (lines_taken catalogue all run) run.text run.calls
 lines-cover catalogue [] run = stays run

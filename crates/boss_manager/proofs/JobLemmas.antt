@@ -2,7 +2,7 @@
 use Rattle.std.proofs.Common.{arith, ◌≡◌, ◌≢◌, ◌⊎◌, inl, inr, ℕ, ◌++◌, List, [], ◌∷◌, refl, sym, ap, ◌∙◌, Some, Ok, Err, Result}
 use Rattle.boss_model.specs.Catalogue.{Catalogue}
 use Rattle.boss_outside.specs.declared.actuators.Actuators as actuators
-use Rattle.boss_outside.specs.declared.files.Files as files
+use Rattle.boss_files.specs.declared.files.Files as files
 use Rattle.boss_outside.specs.declared.sink.Sink as sink
 use Rattle.boss_outside.specs.declared.source.Source as source
 use Rattle.boss_points.specs.declared.CatalogueRefusal.{CatalogueRefusal}
@@ -14,7 +14,7 @@ use Rattle.boss_manager.specs.Causes.{status_of}
 use Rattle.boss_manager.specs.Jobs.{DoesScript, HadNoCatalogue, RanCatalogue, RefusedCatalogue, World}
 use Rattle.boss_manager.specs.Programs.{usable}
 
-module _ {F S K A : Type 0} (f : files.Ghosts F) (s : source.Ghosts S) (k : sink.Ghosts K) (a : actuators.Ghosts A) (name : List ℕ) (count : ℕ) (old new : World F S K A) (status : ℕ) where
+module _ {F D S K A : Type 0} (f : files.Ghosts F D) (s : source.Ghosts S) (k : sink.Ghosts K) (a : actuators.Ghosts A) (name : List ℕ) (count : ℕ) (old new : World F S K A) (status : ℕ) where
   some-same : {x y : List ℕ} → Some x ≡ Some y → x ≡ y
   some-same e = cc
 
@@ -46,7 +46,7 @@ other-status (Ok Line) is = omega (arith, is)
 other-status (Err WriteFault) is = omega (arith, is)
 other-status (Err NoMemory) is = omega (arith, is)
 
-pub serves : {F S K A : Type 0} {f : files.Ghosts F} {s : source.Ghosts S} {k : sink.Ghosts K} {a : actuators.Ghosts A} {name : List ℕ} {count : ℕ} {old new : World F S K A} {status : ℕ} →
+pub serves : {F D S K A : Type 0} {f : files.Ghosts F D} {s : source.Ghosts S} {k : sink.Ghosts K} {a : actuators.Ghosts A} {name : List ℕ} {count : ℕ} {old new : World F S K A} {status : ℕ} →
     DoesScript f s k a name count old new status → status ≢ 2
 serves does is = elim does.did [
   | inl none ↦ elim none.why [ inl fault ↦ omega (arith, is, fault.0) | inr lack ↦ omega (arith, is, lack.0) ]
@@ -55,5 +55,5 @@ serves does is = elim does.did [
 ]
 
 -- no memory was to be had before anything
-pub lacks : {F S K A : Type 0} (f : files.Ghosts F) (s : source.Ghosts S) (k : sink.Ghosts K) (a : actuators.Ghosts A) (name : List ℕ) (count : ℕ) (old : World F S K A) → DoesScript f s k a name count old old 8
+pub lacks : {F D S K A : Type 0} (f : files.Ghosts F D) (s : source.Ghosts S) (k : sink.Ghosts K) (a : actuators.Ghosts A) (name : List ℕ) (count : ℕ) (old : World F S K A) → DoesScript f s k a name count old old 8
 lacks f s k a name count old = does f s k a name count old old 8 (inl (record { why = inr (refl, refl); source = refl; sink = refl; devices = refl })) (λ tells. inr (refl, refl))

@@ -1,13 +1,16 @@
 -- A line taken, and lines taken, as parts of a script.
-use Rattle.std.proofs.Common.{◌≡◌, ℕ, Bool, true, false, List, [], ◌∷◌, ◌++◌, refl, ap, sym, subst, ◌∙◌, append-nil, arith, length, ◌<◌, ◌≤◌, ◌^◌}
+use Rattle.std.proofs.Common.{◌≡◌, ℕ, Bool, true, false, List, [], ◌∷◌, ◌++◌, refl, ap, ap₂, sym, subst, ◌∙◌, append-nil, arith, length, ◌<◌, ◌≤◌, ◌^◌}
+use Rattle.std.specs.Option.{option_to_list}
 use Rattle.std.proofs.lemmas.Bool.Decides.{nat_tests}
 use Rattle.boss_laws.proofs.Tellable.{tellable}
 use Rattle.boss_model.specs.declared.answer.Refusal.{Refusal}
 use Rattle.boss_model.specs.declared.command.Command.{Command}
 use Rattle.boss_wire.specs.declared.form.Form.TheVariants as form
+use Rattle.boss_model.specs.declared.event.Event.{Event}
 use Rattle.boss_model.specs.declared.state.Actuator.{Actuator}
 use Rattle.boss_model.specs.DeviceCall.{DeviceCall}
 use Rattle.boss_model.specs.Catalogue.{Catalogue, actuators}
+use Rattle.boss_model.specs.Effects.{event_of, step_effect}
 use Rattle.boss_model.specs.Lines.{is_blank}
 use Rattle.boss_model.specs.Machine.{step}
 use Rattle.boss_wire.specs.Requests.{Parsed, asks, wrong, Request, parsed}
@@ -38,18 +41,22 @@ module _ (catalogue : Catalogue) (request : Request) (plant : List Actuator) (s 
   abbrev after : State
   after = (step plant request.on request.command request.at s).state
 
-  answered-leads : Leads (answered catalogue request) (served catalogue request.at) s after answering [] []
-  answered-leads more text earlier =
-      ap (λ p. served catalogue request.at (at (step p request.on request.command request.at s).state (text ++ line_of (answer_text catalogue (step p request.on request.command request.at s).answer)) earlier more)) (sym same)
-      ∙ ap (λ cs. served catalogue request.at (at after (text ++ answering) cs more)) (sym (append-nil earlier))
+  abbrev event_of_step : List Actuator → List Event
+  event_of_step p = option_to_list (event_of request.command (step_effect p request.on request.command request.at s))
+
+  answered-leads : Leads (answered catalogue request) (served catalogue request.at) s after answering [] (event_of_step plant) []
+  answered-leads more text earlier before =
+      ap (λ p. served catalogue request.at (at (step p request.on request.command request.at s).state
+      (text ++ line_of (answer_text catalogue (step p request.on request.command request.at s).answer)) earlier (before ++ event_of_step p) more)) (sym same)
+      ∙ ap (λ cs. served catalogue request.at (at after (text ++ answering) cs (before ++ event_of_step plant) more)) (sym (append-nil earlier))
 
   module _ (old : Trace) (taken : List ℕ) where
     -- the answer is told, and then the wants that it leaves are served
     pub did-answer : taken ≡ old.taken ++ answering → Did (actuators catalogue) (answered catalogue request) (served catalogue request.at) s after old (record old { taken = taken })
-    did-answer told = did-tell answering old taken answered-leads told
+    did-answer told = did-tell answering (event_of_step plant) old taken answered-leads told
 
     pub broke-answer : TakesFront old.taken taken answering → Broke (actuators catalogue) (answered catalogue request) s old (record old { taken = taken })
-    broke-answer takes = broke-tell (served catalogue request.at) after answering old taken answered-leads (served-covers catalogue request.at) takes
+    broke-answer takes = broke-tell (served catalogue request.at) after answering (event_of_step plant) old taken answered-leads (served-covers catalogue request.at) takes
 
 -- ---- a line
 
@@ -61,13 +68,14 @@ is-long line past = grind (arith, nat_tests)
 
 module _ (catalogue : Catalogue) (line : List ℕ) (short : is_too_long line ≡ false) where
   -- a blank line does nothing
-  blank-same : is_blank line ≡ true → (s : State) (text : List ℕ) (earlier : List DeviceCall) (results : List Bool) → line_taken catalogue line (at s text earlier results) ≡ stop (at s text earlier results)
-  blank-same blank s text earlier results = rw (short, blank) refl
+  blank-same : is_blank line ≡ true → (s : State) (text : List ℕ) (earlier : List DeviceCall) (before : List Event) (results : List Bool) →
+      line_taken catalogue line (at s text earlier before results) ≡ stop (at s text earlier before results)
+  blank-same blank s text earlier before results = rw (short, blank) refl
 
   -- any other is replied to
-  replied-same : is_blank line ≡ false → (read : Parsed Request) → parsed catalogue form.Script line ≡ read → (s : State) (text : List ℕ) (earlier : List DeviceCall) (results : List Bool) →
-      line_taken catalogue line (at s text earlier results) ≡ replied catalogue read (at s text earlier results)
-  replied-same full read is s text earlier results = rw (short, full, is) refl
+  replied-same : is_blank line ≡ false → (read : Parsed Request) → parsed catalogue form.Script line ≡ read → (s : State) (text : List ℕ) (earlier : List DeviceCall) (before : List Event) (results : List Bool) →
+      line_taken catalogue line (at s text earlier before results) ≡ replied catalogue read (at s text earlier before results)
+  replied-same full read is s text earlier before results = rw (short, full, is) refl
 
   pub did-blank : is_blank line ≡ true → (s : State) (old : Trace) → Did (actuators catalogue) (line_taken catalogue line) stop s s old old
   did-blank blank s old = did-same (line_taken catalogue line) (blank-same blank) (did-nothing stop s old)
@@ -82,15 +90,15 @@ module _ (catalogue : Catalogue) (line : List ℕ) (short : is_too_long line ≡
 
   -- a refusal
   module _ (full : is_blank line ≡ false) (why : Refusal) (is : parsed catalogue form.Script line ≡ wrong why) (s : State) (old : Trace) (taken : List ℕ) where
-    refused-leads : Leads (line_taken catalogue line) stop s s (line_of (refusal_text why)) [] []
-    refused-leads more text earlier = replied-same full (wrong why) is s text earlier more
-        ∙ ap (λ cs. at s (text ++ line_of (refusal_text why)) cs more) (sym (append-nil earlier))
+    refused-leads : Leads (line_taken catalogue line) stop s s (line_of (refusal_text why)) [] [] []
+    refused-leads more text earlier before = replied-same full (wrong why) is s text earlier before more
+        ∙ ap₂ (λ cs es. at s (text ++ line_of (refusal_text why)) cs es more) (sym (append-nil earlier)) (sym (append-nil before))
 
     pub did-refusal : taken ≡ old.taken ++ line_of (refusal_text why) → Did (actuators catalogue) (line_taken catalogue line) stop s s old (record old { taken = taken })
-    did-refusal told = did-tell (line_of (refusal_text why)) old taken refused-leads told
+    did-refusal told = did-tell (line_of (refusal_text why)) [] old taken refused-leads told
 
     pub broke-refusal : TakesFront old.taken taken (line_of (refusal_text why)) → Broke (actuators catalogue) (line_taken catalogue line) s old (record old { taken = taken })
-    broke-refusal takes = broke-tell stop s (line_of (refusal_text why)) old taken refused-leads (λ run. (front-whole run.text, front-whole run.calls)) takes
+    broke-refusal takes = broke-tell stop s (line_of (refusal_text why)) [] old taken refused-leads (λ run. (front-whole run.text, front-whole run.calls)) takes
 
 -- ---- lines
 
@@ -101,7 +109,7 @@ taken-append catalogue (line ∷ first) rest run = taken-append catalogue first 
 module _ (catalogue : Catalogue) (given : List (List ℕ)) {s s' : State} {old mid : Trace} (first : Did (actuators catalogue) (lines_taken catalogue given) stop s s' old mid) where
   -- lines and then others
   pub did-before : (more : List (List ℕ)) → Did (actuators catalogue) (lines_taken catalogue (given ++ more)) (lines_taken catalogue more) s s' old mid
-  did-before more = did-same (lines_taken catalogue (given ++ more)) (λ t text earlier results. taken-append catalogue given more (at t text earlier results))
+  did-before more = did-same (lines_taken catalogue (given ++ more)) (λ t text earlier before results. taken-append catalogue given more (at t text earlier before results))
       (did-under (lines_taken catalogue more) first)
 
   -- one line more

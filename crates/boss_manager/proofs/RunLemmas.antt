@@ -3,6 +3,7 @@ use Rattle.std.proofs.Common.{◌≡◌, ℕ, zero, suc, ◌+◌, ◌<◌, ◌==
 use Rattle.std.specs.List.{filter, enumerate_from, AllByRecursion}
 use Rattle.std.proofs.lemmas.List.Elements.{filter-append}
 use Rattle.std.proofs.lemmas.Bool.Decides.{nat_tests, Decides-eqb}
+use Rattle.boss_model.specs.declared.event.Event.{Event}
 use Rattle.boss_model.specs.declared.state.Actuator.{Actuator}
 use Rattle.boss_model.specs.DeviceCall.{DeviceCall}
 use Rattle.boss_model.specs.Catalogue.{driver_of}
@@ -14,13 +15,20 @@ use Rattle.boss_manager.specs.Runs.{at, Leads, IsFrontOf, Covers, gained, dealt,
 use Rattle.boss_manager.proofs.Answering.{answered-nothing, answered-then}
 use Rattle.boss_manager.proofs.Fronts.{front-trans, front-under}
 
-pub leads-then : (G H K : Run → Run) (s s' s'' : State) (told told' : List ℕ) (calls calls' : List DeviceCall) (results results' : List Bool) →
-    Leads G H s s' told calls results → Leads H K s' s'' told' calls' results' → Leads G K s s'' (told ++ told') (calls ++ calls') (results ++ results')
-leads-then G H K s s' s'' told told' calls calls' results results' first second more text earlier =
-    ap (λ rs. G (at s text earlier rs)) (append_assoc results results' more)
-    ∙ first (results' ++ more) text earlier
-    ∙ second more (text ++ told) (earlier ++ calls)
-    ∙ ap₂ (λ t cs. K (at s'' t cs more)) (append_assoc text told told') (append_assoc earlier calls calls')
+pub leads-then : (G H K : Run → Run) (s s' s'' : State) (told told' : List ℕ) (calls calls' : List DeviceCall) (made made' : List Event) (results results' : List Bool) →
+    Leads G H s s' told calls made results → Leads H K s' s'' told' calls' made' results' → Leads G K s s'' (told ++ told') (calls ++ calls') (made ++ made') (results ++ results')
+leads-then G H K s s' s'' told told' calls calls' made made' results results' first second more text earlier before =
+    ap (λ rs. G (at s text earlier before rs)) (append_assoc results results' more)
+    ∙ first (results' ++ more) text earlier before
+    ∙ second more (text ++ told) (earlier ++ calls) (before ++ made)
+    ∙ ap₂ (λ t cs. K (at s'' t cs ((before ++ made) ++ made') more)) (append_assoc text told told') (append_assoc earlier calls calls')
+    ∙ ap (λ es. K (at s'' (text ++ (told ++ told')) (earlier ++ (calls ++ calls')) es more)) (append_assoc before made made')
+
+-- nothing was told, called and made
+pub leads-nothing : (G : Run → Run) (s : State) → Leads G G s s [] [] [] []
+leads-nothing G s more text earlier before =
+    ap₂ (λ t cs. G (at s t cs before more)) (sym (append-nil text)) (sym (append-nil earlier))
+    ∙ ap (λ es. G (at s (text ++ []) (earlier ++ []) es more)) (sym (append-nil before))
 
 module _ (plant : List Actuator) where
   abbrev of : ℕ → DeviceCall → Bool
@@ -87,25 +95,26 @@ devices-then plant first second old mid new earlier later all =
 -- a part of a script, from one moment to another
 module _ {plant : List Actuator} where
   -- what was led to and told
-  pub did-told : {G H : Run → Run} {s s' : State} (told : List ℕ) (calls : List DeviceCall) (results : List Bool) (old new : Trace) →
-      Leads G H s s' told calls results → new.taken ≡ old.taken ++ told → Answered results old.faults new.faults → (new.whole → old.whole × (new.calls ≡ dealt plant calls old.calls)) → Did plant G H s s' old new
-  did-told told calls results old new leads text answered devices =
-      record { results = results; told = told; calls = calls; leads = leads; text = text; answered = answered; devices = devices }
+  pub did-told : {G H : Run → Run} {s s' : State} (told : List ℕ) (calls : List DeviceCall) (made : List Event) (results : List Bool) (old new : Trace) →
+      Leads G H s s' told calls made results → new.taken ≡ old.taken ++ told → Answered results old.faults new.faults → (new.whole → old.whole × (new.calls ≡ dealt plant calls old.calls)) → Did plant G H s s' old new
+  did-told told calls made results old new leads text answered devices =
+      record { results = results; told = told; calls = calls; made = made; leads = leads; text = text; answered = answered; devices = devices }
 
   -- no device was called
-  pub did-tell : {G H : Run → Run} {s s' : State} (told : List ℕ) (old : Trace) (taken : List ℕ) →
-      Leads G H s s' told [] [] → taken ≡ old.taken ++ told → Did plant G H s s' old (record old { taken = taken })
-  did-tell told old taken leads text = did-told told [] [] old (record old { taken = taken }) leads text (answered-nothing old.faults) (λ all. (all, sym (dealt-none plant old.calls)))
+  pub did-tell : {G H : Run → Run} {s s' : State} (told : List ℕ) (made : List Event) (old : Trace) (taken : List ℕ) →
+      Leads G H s s' told [] made [] → taken ≡ old.taken ++ told → Did plant G H s s' old (record old { taken = taken })
+  did-tell told made old taken leads text = did-told told [] made [] old (record old { taken = taken }) leads text (answered-nothing old.faults) (λ all. (all, sym (dealt-none plant old.calls)))
 
   pub did-nothing : (G : Run → Run) (s : State) (old : Trace) → Did plant G G s s old old
-  did-nothing G s old = did-tell [] old old.taken (λ more text earlier. ap₂ (λ t cs. G (at s t cs more)) (sym (append-nil text)) (sym (append-nil earlier))) (sym (append-nil old.taken))
+  did-nothing G s old = did-tell [] [] old old.taken (leads-nothing G s) (sym (append-nil old.taken))
 
   pub did-then : {G H K : Run → Run} {s s' s'' : State} {old mid new : Trace} → Did plant G H s s' old mid → Did plant H K s' s'' mid new → Did plant G K s s'' old new
   did-then {G} {H} {K} {s} {s'} {s''} {old} {mid} {new} first second = record {
     results = first.results ++ second.results;
     told = first.told ++ second.told;
     calls = first.calls ++ second.calls;
-    leads = leads-then G H K s s' s'' first.told second.told first.calls second.calls first.results second.results first.leads second.leads;
+    made = first.made ++ second.made;
+    leads = leads-then G H K s s' s'' first.told second.told first.calls second.calls first.made second.made first.results second.results first.leads second.leads;
     text = second.text ∙ ap (λ t. t ++ second.told) first.text ∙ append_assoc old.taken first.told second.told;
     answered = answered-then first.results second.results old.faults mid.faults new.faults first.answered second.answered;
     devices = devices-then plant first.calls second.calls old mid new first.devices second.devices;
@@ -117,7 +126,8 @@ module _ {plant : List Actuator} where
     results = did.results;
     told = did.told;
     calls = did.calls;
-    leads = λ more text earlier. ap H (did.leads more text earlier);
+    made = did.made;
+    leads = λ more text earlier before. ap H (did.leads more text earlier before);
     text = did.text;
     answered = did.answered;
     devices = did.devices;
@@ -125,13 +135,14 @@ module _ {plant : List Actuator} where
 
   -- where G does the same as F
   pub did-same : (G : Run → Run) {F H : Run → Run} {s s' : State} {old new : Trace} →
-      ((t : State) (text : List ℕ) (earlier : List DeviceCall) (results : List Bool) → G (at t text earlier results) ≡ F (at t text earlier results)) →
+      ((t : State) (text : List ℕ) (earlier : List DeviceCall) (before : List Event) (results : List Bool) → G (at t text earlier before results) ≡ F (at t text earlier before results)) →
       Did plant F H s s' old new → Did plant G H s s' old new
   did-same G {F} {H} {s} {s'} {old} {new} same did = record {
     results = did.results;
     told = did.told;
     calls = did.calls;
-    leads = λ more text earlier. same s text earlier (did.results ++ more) ∙ did.leads more text earlier;
+    made = did.made;
+    leads = λ more text earlier before. same s text earlier before (did.results ++ more) ∙ did.leads more text earlier before;
     text = did.text;
     answered = did.answered;
     devices = did.devices;
@@ -140,45 +151,44 @@ module _ {plant : List Actuator} where
   -- ---- what parts did that broke off
 
   -- what was to be told was told in part
-  pub broke-told : {G : Run → Run} (H : Run → Run) {s : State} (s' : State) (told : List ℕ) (calls : List DeviceCall) (results : List Bool) (old new : Trace) →
-      Leads G H s s' told calls results → ((run : Run) → Covers (H run) run.text run.calls) → TakesFront old.taken new.taken told →
+  pub broke-told : {G : Run → Run} (H : Run → Run) {s : State} (s' : State) (told : List ℕ) (calls : List DeviceCall) (made : List Event) (results : List Bool) (old new : Trace) →
+      Leads G H s s' told calls made results → ((run : Run) → Covers (H run) run.text run.calls) → TakesFront old.taken new.taken told →
       Answered results old.faults new.faults → (new.whole → old.whole × (new.calls ≡ dealt plant calls old.calls)) → Broke plant G s old new
-  broke-told {G} H {s} s' told calls results old new leads covers takes answered devices = record {
+  broke-told {G} H {s} s' told calls made results old new leads covers takes answered devices = record {
     results = results;
     told = takes.0;
     calls = calls;
-    begins = λ more text earlier.
-        let there = covers (at s' (text ++ told) (earlier ++ calls) more) in
-        subst (λ run. Covers run (text ++ takes.0) (earlier ++ calls)) (sym (leads more text earlier))
-        (front-trans (text ++ takes.0) (text ++ told) (H (at s' (text ++ told) (earlier ++ calls) more)).text (front-under text takes.0 told (takes.1, takes.2)) there.0, there.1);
+    begins = λ more text earlier before.
+        let there = covers (at s' (text ++ told) (earlier ++ calls) (before ++ made) more) in
+        subst (λ run. Covers run (text ++ takes.0) (earlier ++ calls)) (sym (leads more text earlier before))
+        (front-trans (text ++ takes.0) (text ++ told) (H (at s' (text ++ told) (earlier ++ calls) (before ++ made) more)).text (front-under text takes.0 told (takes.1, takes.2)) there.0, there.1);
     text = takes.3;
     answered = answered;
     devices = devices;
   }
 
   -- no device was called
-  pub broke-tell : {G : Run → Run} (H : Run → Run) {s : State} (s' : State) (told : List ℕ) (old : Trace) (taken : List ℕ) →
-      Leads G H s s' told [] [] → ((run : Run) → Covers (H run) run.text run.calls) → TakesFront old.taken taken told → Broke plant G s old (record old { taken = taken })
-  broke-tell H s' told old taken leads covers takes =
-      broke-told H s' told [] [] old (record old { taken = taken }) leads covers takes (answered-nothing old.faults) (λ all. (all, sym (dealt-none plant old.calls)))
+  pub broke-tell : {G : Run → Run} (H : Run → Run) {s : State} (s' : State) (told : List ℕ) (made : List Event) (old : Trace) (taken : List ℕ) →
+      Leads G H s s' told [] made [] → ((run : Run) → Covers (H run) run.text run.calls) → TakesFront old.taken taken told → Broke plant G s old (record old { taken = taken })
+  broke-tell H s' told made old taken leads covers takes =
+      broke-told H s' told [] made [] old (record old { taken = taken }) leads covers takes (answered-nothing old.faults) (λ all. (all, sym (dealt-none plant old.calls)))
 
   pub broke-nothing : (G : Run → Run) (s : State) (old : Trace) → ((run : Run) → Covers (G run) run.text run.calls) → Broke plant G s old old
-  broke-nothing G s old covers = broke-tell G s [] old old.taken (λ more text earlier. ap₂ (λ t cs. G (at s t cs more)) (sym (append-nil text)) (sym (append-nil earlier)))
-      covers ([], [], refl, sym (append-nil old.taken))
+  broke-nothing G s old covers = broke-tell G s [] [] old old.taken (leads-nothing G s) covers ([], [], refl, sym (append-nil old.taken))
 
   pub broke-then : {G H : Run → Run} {s s' : State} {old mid new : Trace} → Did plant G H s s' old mid → Broke plant H s' mid new → Broke plant G s old new
   broke-then {G} {H} {s} {s'} {old} {mid} {new} first second = record {
     results = first.results ++ second.results;
     told = first.told ++ second.told;
     calls = first.calls ++ second.calls;
-    begins = λ more text earlier.
-        let led = ap (λ rs. G (at s text earlier rs)) (append_assoc first.results second.results more) ∙ first.leads (second.results ++ more) text earlier in
+    begins = λ more text earlier before.
+        let led = ap (λ rs. G (at s text earlier before rs)) (append_assoc first.results second.results more) ∙ first.leads (second.results ++ more) text earlier before in
         subst (λ run. Covers run (text ++ (first.told ++ second.told)) (earlier ++ (first.calls ++ second.calls))) (sym led)
-        (subst (λ t. IsFrontOf t (H (at s' (text ++ first.told) (earlier ++ first.calls) (second.results ++ more))).text
-        × IsFrontOf (earlier ++ (first.calls ++ second.calls)) (H (at s' (text ++ first.told) (earlier ++ first.calls) (second.results ++ more))).calls) (append_assoc text first.told second.told)
-        (subst (λ cs. IsFrontOf ((text ++ first.told) ++ second.told) (H (at s' (text ++ first.told) (earlier ++ first.calls) (second.results ++ more))).text
-        × IsFrontOf cs (H (at s' (text ++ first.told) (earlier ++ first.calls) (second.results ++ more))).calls) (append_assoc earlier first.calls second.calls)
-        (second.begins more (text ++ first.told) (earlier ++ first.calls))));
+        (subst (λ t. IsFrontOf t (H (at s' (text ++ first.told) (earlier ++ first.calls) (before ++ first.made) (second.results ++ more))).text
+        × IsFrontOf (earlier ++ (first.calls ++ second.calls)) (H (at s' (text ++ first.told) (earlier ++ first.calls) (before ++ first.made) (second.results ++ more))).calls) (append_assoc text first.told second.told)
+        (subst (λ cs. IsFrontOf ((text ++ first.told) ++ second.told) (H (at s' (text ++ first.told) (earlier ++ first.calls) (before ++ first.made) (second.results ++ more))).text
+        × IsFrontOf cs (H (at s' (text ++ first.told) (earlier ++ first.calls) (before ++ first.made) (second.results ++ more))).calls) (append_assoc earlier first.calls second.calls)
+        (second.begins more (text ++ first.told) (earlier ++ first.calls) (before ++ first.made))));
     text = second.text ∙ ap (λ t. t ++ second.told) first.text ∙ append_assoc old.taken first.told second.told;
     answered = answered-then first.results second.results old.faults mid.faults new.faults first.answered second.answered;
     devices = devices-then plant first.calls second.calls old mid new first.devices second.devices;
@@ -190,9 +200,9 @@ module _ {plant : List Actuator} where
     results = broke.results;
     told = broke.told;
     calls = broke.calls;
-    begins = λ more text earlier.
-        let run = F (at s text earlier (broke.results ++ more)) in
-        let here = broke.begins more text earlier in
+    begins = λ more text earlier before.
+        let run = F (at s text earlier before (broke.results ++ more)) in
+        let here = broke.begins more text earlier before in
         let there = covers run in
         (front-trans (text ++ broke.told) run.text (H run).text here.0 there.0, front-trans (earlier ++ broke.calls) run.calls (H run).calls here.1 there.1);
     text = broke.text;
@@ -202,13 +212,13 @@ module _ {plant : List Actuator} where
 
   -- where G does the same as F
   pub broke-same : (G : Run → Run) {F : Run → Run} {s : State} {old new : Trace} →
-      ((t : State) (text : List ℕ) (earlier : List DeviceCall) (results : List Bool) → G (at t text earlier results) ≡ F (at t text earlier results)) →
+      ((t : State) (text : List ℕ) (earlier : List DeviceCall) (before : List Event) (results : List Bool) → G (at t text earlier before results) ≡ F (at t text earlier before results)) →
       Broke plant F s old new → Broke plant G s old new
   broke-same G {F} {s} same broke = record {
     results = broke.results;
     told = broke.told;
     calls = broke.calls;
-    begins = λ more text earlier. subst (λ run. Covers run (text ++ broke.told) (earlier ++ broke.calls)) (sym (same s text earlier (broke.results ++ more))) (broke.begins more text earlier);
+    begins = λ more text earlier before. subst (λ run. Covers run (text ++ broke.told) (earlier ++ broke.calls)) (sym (same s text earlier before (broke.results ++ more))) (broke.begins more text earlier before);
     text = broke.text;
     answered = broke.answered;
     devices = broke.devices;

@@ -1,5 +1,6 @@
 -- The wants of the beginning and the lines behind them, as a script.
 use Rattle.std.proofs.Common.{◌≡◌, ℕ, Bool, true, false, List, [], ◌∷◌, ◌++◌, refl, ap, sym, subst, ◌∙◌, append-nil, append_assoc}
+use Rattle.boss_model.specs.declared.event.Event.{Event}
 use Rattle.boss_model.specs.DeviceCall.{DeviceCall}
 use Rattle.boss_model.specs.Catalogue.{Catalogue, actuators}
 use Rattle.boss_wire.specs.Script.{Run, is_too_long, script}
@@ -20,22 +21,24 @@ abbrev opened : Catalogue → List (List ℕ) → Run → Run
 opened catalogue all run = lines_taken catalogue all (served catalogue 0 run)
 
 script-is : (catalogue : Catalogue) (all : List (List ℕ)) (s : State) (results : List Bool) → s ≡ first_state (actuators catalogue) →
-    whole_script catalogue all results ≡ opened catalogue all (at s [] [] results)
+    whole_script catalogue all results ≡ opened catalogue all (at s [] [] [] results)
 unfolding script
-script-is catalogue all s results first = ap (λ t. opened catalogue all (at t [] [] results)) (sym first)
+script-is catalogue all s results first = ap (λ t. opened catalogue all (at t [] [] [] results)) (sym first)
+
+-- a script that is over, all of whose devices' answers were used
+abbrev over_at : State → List ℕ → List DeviceCall → List Event → Run
+over_at s text calls events = record (at s text calls events []) { over = true }
 
 -- once a line was too long no other line does anything
-over-stays : (catalogue : Catalogue) (all : List (List ℕ)) (s : State) (text : List ℕ) (calls : List DeviceCall) →
-    lines_taken catalogue all (record { state = s; text = text; calls = calls; results = []; short = false; over = true })
-    ≡ record { state = s; text = text; calls = calls; results = []; short = false; over = true }
-over-stays catalogue [] s text calls = refl
-over-stays catalogue (line ∷ all) s text calls = over-stays catalogue all s text calls
+over-stays : (catalogue : Catalogue) (all : List (List ℕ)) (s : State) (text : List ℕ) (calls : List DeviceCall) (events : List Event) →
+    lines_taken catalogue all (over_at s text calls events) ≡ over_at s text calls events
+over-stays catalogue [] s text calls events = refl
+over-stays catalogue (line ∷ all) s text calls events = over-stays catalogue all s text calls events
 
-over-here : (catalogue : Catalogue) (line : List ℕ) (more : List (List ℕ)) (s : State) (text : List ℕ) (calls : List DeviceCall) → is_too_long line ≡ true →
-    lines_taken catalogue (line ∷ more) (at s text calls [])
-    ≡ record { state = s; text = text ++ line_of too_long_text; calls = calls; results = []; short = false; over = true }
-over-here catalogue line more s text calls long =
-    ap (lines_taken catalogue more) (rw long refl) ∙ over-stays catalogue more s (text ++ line_of too_long_text) calls
+over-here : (catalogue : Catalogue) (line : List ℕ) (more : List (List ℕ)) (s : State) (text : List ℕ) (calls : List DeviceCall) (events : List Event) → is_too_long line ≡ true →
+    lines_taken catalogue (line ∷ more) (at s text calls events []) ≡ over_at s (text ++ line_of too_long_text) calls events
+over-here catalogue line more s text calls events long =
+    ap (lines_taken catalogue more) (rw long refl) ∙ over-stays catalogue more s (text ++ line_of too_long_text) calls events
 
 -- nothing was told and called yet
 pub nothing : (catalogue : Catalogue) (all : List (List ℕ)) (old : Trace) → BrokeScript catalogue all old old
@@ -54,8 +57,8 @@ nothing catalogue all old = record {
 broke-whole : (catalogue : Catalogue) (all : List (List ℕ)) {s : State} {old new : Trace} → s ≡ first_state (actuators catalogue) →
     Broke (actuators catalogue) (opened catalogue all) s old new → BrokeScript catalogue all old new
 broke-whole catalogue all {s} first broke =
-    let run = script-is catalogue all s broke.results first ∙ ap (λ rs. opened catalogue all (at s [] [] rs)) (sym (append-nil broke.results)) in
-    let covers : Covers (whole_script catalogue all broke.results) broke.told broke.calls = subst (λ r. Covers r broke.told broke.calls) (sym run) (broke.begins [] [] []) in
+    let run = script-is catalogue all s broke.results first ∙ ap (λ rs. opened catalogue all (at s [] [] [] rs)) (sym (append-nil broke.results)) in
+    let covers : Covers (whole_script catalogue all broke.results) broke.told broke.calls = subst (λ r. Covers r broke.told broke.calls) (sym run) (broke.begins [] [] [] []) in
     record { results = broke.results; told = broke.told; calls = broke.calls; front = covers.0; first = covers.1; text = broke.text; answered = broke.answered; devices = broke.devices }
 
 -- the wants of the beginning broke off
@@ -76,8 +79,8 @@ module _ (catalogue : Catalogue) {s s' : State} {old mid : Trace} (first : s ≡
     pub ran-lines : RanScript catalogue given false old new
     ran-lines =
         let all : Did (actuators catalogue) (opened catalogue given) stop s s'' old new = did-then (then-lines given) taken in
-        let run : whole_script catalogue given all.results ≡ at s'' all.told all.calls [] =
-        script-is catalogue given s all.results first ∙ ap (λ rs. opened catalogue given (at s [] [] rs)) (sym (append-nil all.results)) ∙ all.leads [] [] [] in
+        let run : whole_script catalogue given all.results ≡ at s'' all.told all.calls all.made [] =
+        script-is catalogue given s all.results first ∙ ap (λ rs. opened catalogue given (at s [] [] [] rs)) (sym (append-nil all.results)) ∙ all.leads [] [] [] [] in
         record {
           results = all.results;
           finished = ap (λ r. r.short) run;
@@ -92,9 +95,9 @@ module _ (catalogue : Catalogue) {s s' : State} {old mid : Trace} (first : s ≡
       up-to : Did (actuators catalogue) (opened catalogue all) (lines_taken catalogue (line ∷ more)) s s'' old new
       up-to = did-then (then-lines all) (subst (λ ls. Did (actuators catalogue) (lines_taken catalogue ls) (lines_taken catalogue (line ∷ more)) s' s'' mid new) (sym is) (did-before catalogue given taken (line ∷ more)))
 
-      over-run : whole_script catalogue all up-to.results ≡ record { state = s''; text = up-to.told ++ line_of too_long_text; calls = up-to.calls; results = []; short = false; over = true }
-      over-run = script-is catalogue all s up-to.results first ∙ ap (λ rs. opened catalogue all (at s [] [] rs)) (sym (append-nil up-to.results)) ∙ up-to.leads [] [] []
-          ∙ over-here catalogue line more s'' up-to.told up-to.calls long
+      over-run : whole_script catalogue all up-to.results ≡ over_at s'' (up-to.told ++ line_of too_long_text) up-to.calls up-to.made
+      over-run = script-is catalogue all s up-to.results first ∙ ap (λ rs. opened catalogue all (at s [] [] [] rs)) (sym (append-nil up-to.results)) ∙ up-to.leads [] [] [] []
+          ∙ over-here catalogue line more s'' up-to.told up-to.calls up-to.made long
 
       -- these lines, and one that is too long, which is told
       pub ran-over : (told : List ℕ) → told ≡ new.taken ++ line_of too_long_text → RanScript catalogue all true old (record new { taken = told })

@@ -6,7 +6,7 @@ use Rattle.boss_model.specs.Lines.{lines}
 use Rattle.boss_outside.specs.Counts.{Rose}
 use Rattle.boss_outside.specs.Streams.{TakesFront}
 use Rattle.boss_outside.specs.declared.actuators.Actuators as actuators
-use Rattle.boss_outside.specs.declared.files.Files as files
+use Rattle.boss_files.specs.declared.files.Files as files
 use Rattle.boss_outside.specs.declared.sink.Sink as sink
 use Rattle.boss_outside.specs.declared.source.Source as source
 use Rattle.boss_points.specs.declared.CatalogueRefusal.{CatalogueRefusal}
@@ -35,7 +35,7 @@ module _ {K : Type 0} (k : sink.Ghosts K) where
       ⊎ ((status ≡ 7) × (k.tells → TakesFront (k.taken old) (k.taken new) line) × Rose (k.faults old) (k.faults new))
       ⊎ ((status ≡ 8) × (new ≡ old))
 
-module _ {F S K A : Type 0} (f : files.Ghosts F) (s : source.Ghosts S) (k : sink.Ghosts K) (a : actuators.Ghosts A) where
+module _ {F D S K A : Type 0} (f : files.Ghosts F D) (s : source.Ghosts S) (k : sink.Ghosts K) (a : actuators.Ghosts A) where
   -- the words ask for no job that is served: one line tells it, with status 2, and no file is asked for, nothing read and no device called
   pub record SaysUsage (old new : World F S K A) (status : ℕ) : Type 0 where
     pub tells : TellsLine k usage_line 2 old.sink new.sink status

@@ -1,5 +1,6 @@
-use Rattle.std.specs.Prelude.{◌≡◌, ℕ, ◌==◌, Bool, false, List, [], ◌∷◌, ◌++◌, fold, map, filter, slice_set, slice_index_or}
+use Rattle.std.specs.Prelude.{◌≡◌, ℕ, ◌==◌, Bool, false, List, [], ◌∷◌, ◌++◌, fold, map, filter, Option, None, slice_set, slice_index_or}
 use Rattle.std.specs.List.{enumerate_from}
+use Rattle.boss_model.specs.declared.event.Event.{Event}
 use Rattle.boss_model.specs.declared.state.Actuator.{Actuator}
 use Rattle.boss_model.specs.DeviceCall.{DeviceCall}
 use Rattle.boss_model.specs.Catalogue.{Catalogue, driver_of}
@@ -7,9 +8,19 @@ use Rattle.boss_wire.specs.Script.{Run, drain, line_read}
 use Rattle.boss_model.specs.State.{State}
 use Rattle.boss_manager.specs.Outside.{Answered, Trace}
 
--- a script under way that was neither cut short nor is over
-abbrev pub at : State → List ℕ → List DeviceCall → List Bool → Run
-at s text calls results = record { state = s; text = text; calls = calls; results = results; short = false; over = false }
+-- a script under way whose journal does not fail, and that was neither cut short nor is over
+abbrev pub at : State → List ℕ → List DeviceCall → List Event → List Bool → Run
+at s text calls events results = record {
+  state = s;
+  text = text;
+  calls = calls;
+  events = events;
+  results = results;
+  left = None;
+  stopped = false;
+  short = false;
+  over = false;
+}
 
 -- ---- parts of a script: each takes a script under way as far as the part goes
 
@@ -29,10 +40,11 @@ abbrev pub lines_taken : Catalogue → List (List ℕ) → Run → Run
 lines_taken catalogue all run = fold (line_read catalogue) run all
 
 -- From the state `start`, where the devices answer `results` next, carrying out `part` is telling `told`, making the calls
--- `calls`, and then carrying out `rest` from the state `end`; whatever was told and called earlier, and is answered later.
-abbrev pub Leads : (Run → Run) → (Run → Run) → State → State → List ℕ → List DeviceCall → List Bool → Type 0
-Leads part rest start end told calls results = (later : List Bool) (text : List ℕ) (earlier : List DeviceCall) →
-    part (at start text earlier (results ++ later)) ≡ rest (at end (text ++ told) (earlier ++ calls) later)
+-- `calls` and the events `made`, and then carrying out `rest` from the state `end`; whatever was told, called and made earlier,
+-- and is answered later.
+abbrev pub Leads : (Run → Run) → (Run → Run) → State → State → List ℕ → List DeviceCall → List Event → List Bool → Type 0
+Leads part rest start end told calls made results = (later : List Bool) (text : List ℕ) (earlier : List DeviceCall) (before : List Event) →
+    part (at start text earlier before (results ++ later)) ≡ rest (at end (text ++ told) (earlier ++ calls) (before ++ made) later)
 
 -- the one list begins with the other
 abbrev pub IsFrontOf : {A : Type 0} → List A → List A → Type 0
@@ -45,8 +57,8 @@ Covers run text calls = IsFrontOf text run.text × IsFrontOf calls run.calls
 -- From the state `start`, where the devices answer `results` next, carrying out `part` tells `told` and makes the calls `calls`,
 -- and maybe more behind them; whatever was told and called earlier, and is answered later.
 abbrev pub Begins : (Run → Run) → State → List ℕ → List DeviceCall → List Bool → Type 0
-Begins part start told calls results = (later : List Bool) (text : List ℕ) (earlier : List DeviceCall) →
-    Covers (part (at start text earlier (results ++ later))) (text ++ told) (earlier ++ calls)
+Begins part start told calls results = (later : List Bool) (text : List ℕ) (earlier : List DeviceCall) (before : List Event) →
+    Covers (part (at start text earlier before (results ++ later))) (text ++ told) (earlier ++ calls)
 
 -- ---- the calls of the devices: one list for each driver, and the list of driver 0 stands first
 
@@ -66,7 +78,8 @@ pub record Did (plant : List Actuator) (part rest : Run → Run) (start end : St
   pub results : List Bool
   pub told : List ℕ
   pub calls : List DeviceCall
-  pub leads : Leads part rest start end told calls results
+  pub made : List Event
+  pub leads : Leads part rest start end told calls made results
   pub text : new.taken ≡ old.taken ++ told
   pub answered : Answered results old.faults new.faults
   pub devices : new.whole → old.whole × (new.calls ≡ dealt plant calls old.calls)

@@ -1,5 +1,5 @@
 -- A script as a whole.
-use Rattle.std.specs.Prelude.{◌≡◌, ℕ, Bool, false, List, [], ◌++◌}
+use Rattle.std.specs.Prelude.{◌≡◌, ℕ, Bool, false, List, [], ◌++◌, None}
 use Rattle.boss_model.specs.DeviceCall.{DeviceCall}
 use Rattle.boss_model.specs.Catalogue.{Catalogue, actuators}
 use Rattle.boss_wire.specs.Script.{Run, script}
@@ -7,9 +7,9 @@ use Rattle.boss_model.specs.Settle.{first_state}
 use Rattle.boss_manager.specs.Outside.{Answered, Trace}
 use Rattle.boss_manager.specs.Runs.{dealt, IsFrontOf}
 
--- the script over these lines, from the first state, where the devices answer this
+-- the script over these lines, from the first state, where the devices answer this and the journal does not fail
 abbrev pub whole_script : Catalogue → List (List ℕ) → List Bool → Run
-whole_script catalogue all results = script catalogue (first_state (actuators catalogue)) all results
+whole_script catalogue all results = script catalogue (first_state (actuators catalogue)) all results None
 
 -- A script ran to its end, which is that of its lines or, where it is over, a line that is too long: for some answers of the
 -- devices, all of which were used, its text is what the sink took. Where no device's count of faults rose these answers are all

@@ -6,8 +6,8 @@ ghost use Rattle.boss_manager.specs.Devices.{HasDevices};
 ghost use Rattle.boss_manager.specs.Loads.{AsksFor, FaultOnly, Loads};
 ghost use Rattle.boss_manager.specs.Programs.{lacks_device, usable};
 
+use boss_files::{FileBytes, FileFault, Files};
 use boss_model::PointId;
-use boss_outside::{FileBytes, FileFault, Files};
 use boss_points::{Catalogue, CatalogueRefusal, Point};
 use std::alloc::Global;
 

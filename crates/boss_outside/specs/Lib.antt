@@ -1,5 +1,4 @@
 pub mod Counts
-pub mod Files
 pub mod Plan
 pub mod Stores
 pub mod Streams

@@ -1,4 +1,4 @@
-use Rattle.std.specs.Prelude.{ℕ, Bool, true, ◌&&◌, is_none, List, [], ◌∷◌, drop, Option, find, option_map, bytes_eq}
+use Rattle.std.specs.Prelude.{ℕ, Bool, List, drop}
 use Rattle.boss_outside.specs.DeviceCall.{DeviceCall}
 use Rattle.boss_outside.specs.Plan.{Plan}
 
@@ -22,18 +22,3 @@ pub record Devices : Type 0 where
   pub calls : List DeviceCall
   pub whole : Bool
   pub plan : Plan
-
--- files in memory: each name with its bytes, and the names that were asked for
-pub record Shelf : Type 0 where
-  pub files : List (List ℕ × List ℕ)
-  pub asked : List (List ℕ)
-  pub plan : Plan
-
--- the bytes under a name
-abbrev pub bytes_under : List (List ℕ × List ℕ) → List ℕ → Option (List ℕ)
-bytes_under files name = option_map (λ file. file.1) (find (λ file. bytes_eq file.0 name) files)
-
--- no name stands twice
-abbrev pub have_distinct_names : List (List ℕ × List ℕ) → Bool
-have_distinct_names [] = true
-have_distinct_names (file ∷ files) = is_none (bytes_under files file.0) && have_distinct_names files

@@ -1,15 +1,13 @@
 //! The two ends of a connection that was accepted.
 
-ghost use Rattle.std.specs.Prelude.{◌≡◌, ◌≤◌, [], length, IfOk};
+ghost use Rattle.std.specs.Prelude.{◌≡◌, []};
 
+use boss_adapters::read_past_signals;
 use boss_outside::{Failed, Got, Sink, Source};
 use std::alloc::Global;
-use std::io::{ErrorKind, Read, Write};
+use std::io::Write;
 use std::net::TcpStream;
 use std::sync::Arc;
-
-/// How often a read is tried that a signal came between.
-const TRIES: u32 = 1_000;
 
 /// What comes in by a connection. The connection closes when its source and its sink are dropped.
 #[derive(Drop)]
@@ -26,20 +24,6 @@ impl RealSource {
     }
 }
 
-/// Reads, and tries again where a signal came between.
-fn read_past_signals(mut stream: &TcpStream, into: &mut [u8]) -> Result<usize, Failed>
-    ensures { IfOk result (λ count. count ≤ length into.new) }
-{
-    for _ in 0..TRIES {
-        match stream.read(into) {
-            Ok(count) => return Ok(count),
-            Err(error) if error.kind() == ErrorKind::Interrupted => {}
-            Err(_) => return Err(Failed),
-        }
-    }
-    Err(Failed)
-}
-
 impl Source for RealSource {
     ghost tells = { ⊥ };
 
@@ -52,7 +36,8 @@ impl Source for RealSource {
     ghost suffix = { λ source told. absurd told };
 
     fn read(&mut self, into: &mut [u8]) -> Got {
-        match read_past_signals(&self.stream, into) {
+        let mut stream: &TcpStream = &self.stream;
+        match read_past_signals(&mut stream, into) {
             Ok(0) => Got::Finish,
             Ok(count) => Got::Bytes(count),
             Err(Failed) => {

@@ -1,7 +1,6 @@
 pub mod Clocks
 pub mod Either
 pub mod Hosts
-pub mod Joins
 pub mod Log
 pub mod Tasks
 pub mod Waits

@@ -1,8 +1,7 @@
 ghost use Rattle.std.specs.Prelude.{◌≡◌, ℕ, ◌≤◌, List, [], ◌++◌, IfOk};
 ghost use Rattle.boss_model.specs.Limits.{last_moment};
-ghost use Rattle.boss_outside.specs.Counts.{HasCause};
+ghost use Rattle.boss_outside.specs.Counts.{HasCause, Joins};
 ghost use Rattle.boss_workers.specs.Clocks.{Gains};
-ghost use Rattle.boss_workers.specs.Joins.{Joins};
 
 use boss_model::NoMemory;
 use boss_outside::Failed;

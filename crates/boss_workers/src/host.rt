@@ -1,6 +1,5 @@
 ghost use Rattle.std.specs.Prelude.{◌≡◌, ℕ, ◌+◌, ◌-◌, ◌^◌, ◌<◌, min, List, [], ◌∷◌, ◌++◌, IfOk};
-ghost use Rattle.boss_outside.specs.Counts.{HasCause};
-ghost use Rattle.boss_workers.specs.Joins.{Joins};
+ghost use Rattle.boss_outside.specs.Counts.{HasCause, Joins};
 
 use boss_model::{NoMemory, SessionId};
 use boss_outside::{Failed, Sink, Source};

@@ -1,10 +1,9 @@
 ghost use Rattle.std.specs.Prelude.{◌≡◌, ◌≤◌, ◌++◌, map, IfOk, IsTrue, IsErr, is_err};
 ghost use Rattle.std.specs.List.{AllByRecursion};
 ghost use Rattle.boss_model.specs.Limits.{last_moment};
-ghost use Rattle.boss_outside.specs.Counts.{HasCause};
+ghost use Rattle.boss_outside.specs.Counts.{HasCause, Joins};
 ghost use Rattle.boss_outside.specs.Plan.{fails_next, after_call, after_join};
 ghost use Rattle.boss_workers.specs.Clocks.{Gains, GivesNext, new_readings, moment_at};
-ghost use Rattle.boss_workers.specs.Joins.{Joins};
 
 use crate::Clock;
 use crate::log::{Log, Room};

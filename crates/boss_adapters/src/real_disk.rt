@@ -1,0 +1,238 @@
+//! A file of this machine, as a disk.
+
+ghost use Rattle.std.specs.Prelude.{◌≡◌, ◌^◌, ◌+◌, ◌<◌, ◌≤◌, [], length, false, is_err, IfOk, OnOk, IsErr, IsTrue};
+ghost use Rattle.boss_outside.specs.Counts.{HasCause, one_more};
+ghost use Rattle.boss_disk.specs.Window.{settled};
+
+use boss_disk::{Disk, MOST};
+use boss_outside::Failed;
+use std::alloc::Global;
+use std::fs::{self, File, OpenOptions};
+use std::io::{self, ErrorKind};
+use std::os::unix::fs::FileExt;
+use std::path::Path;
+
+/// A file of this machine. Where there is none under its name, the first write makes it, and no other call does.
+#[derive(Drop)]
+pub struct RealDisk {
+    rt: HostRuntime,
+    name: String,
+    file: Option<File>,
+    /// The folder has the name for good.
+    is_named: bool,
+    /// A sync failed. The system may have forgotten what it could not keep, so that a later sync would tell nothing.
+    is_lost: bool,
+    faults: u64,
+}
+
+impl RealDisk {
+    /// The file under this name, to be read and written. Anything else that stands there is refused.
+    pub fn open(rt: HostRuntime, alloc: Global, name: &str) -> io::Result<RealDisk>
+        ensures { IfOk result (λ disk. ⟦<RealDisk as Disk>⟧.faults disk ≡ 0) }
+    {
+        let file = if is_missing(&rt, name)? {
+            None
+        } else {
+            Some(open_file(&rt, name, false)?)
+        };
+        Ok(RealDisk {
+            rt,
+            name: String::from_str(alloc, name)?,
+            file,
+            is_named: false,
+            is_lost: false,
+            faults: 0,
+        })
+    }
+
+    /// How many of its calls failed.
+    pub fn faults(&self) -> u64
+        ensures { result ≡ ⟦<RealDisk as Disk>⟧.faults self.now }
+    {
+        self.faults
+    }
+
+    /// Counts a fault.
+    fn fault(&mut self) -> Failed
+        ensures { self.new ≡ record self.old { faults = one_more self.old.faults } }
+    {
+        self.faults = self.faults.saturating_add(1);
+        Failed
+    }
+
+    /// The number of bytes. A file that is not there has none.
+    fn size(&self) -> io::Result<u64>
+        ensures { IfOk result (λ size. size ≤ 2 ^ 62) }
+    {
+        let Some(file) = &self.file else {
+            return Ok(0);
+        };
+        let size = file.metadata()?.len();
+        if size > MOST {
+            return Err(ErrorKind::FileTooLarge.into());
+        }
+        Ok(size)
+    }
+
+    /// Fills the slice from this place on.
+    fn fill(&self, at: u64, into: &mut [u8]) -> io::Result<()> {
+        match &self.file {
+            Some(file) => file.read_exact_at(into, at),
+            None if into.is_empty() => Ok(()),
+            None => Err(ErrorKind::UnexpectedEof.into()),
+        }
+    }
+
+    /// Makes the file, where there is none.
+    fn make(&mut self) -> io::Result<()>
+        ensures { self.new.faults ≡ self.old.faults }
+    {
+        if self.file.is_some() {
+            return Ok(());
+        }
+        let file = open_file(&self.rt, self.name.as_str(), true)?;
+        if file.metadata()?.len() > 0 {
+            return Err(ErrorKind::AlreadyExists.into());
+        }
+        self.file = Some(file);
+        Ok(())
+    }
+
+    /// Puts all these bytes from this place on.
+    fn put(&mut self, at: u64, bytes: &[u8]) -> io::Result<()>
+        ensures limit { 2 ^ 62 < at + length bytes.now → IsErr result }
+        ensures faults { self.new.faults ≡ self.old.faults }
+    {
+        let size = bytes.len() as u64;
+        if size > MOST || at > MOST - size {
+            return Err(ErrorKind::FileTooLarge.into());
+        }
+        self.make()?;
+        match &self.file {
+            Some(file) => file.write_all_at(bytes, at),
+            None => Err(ErrorKind::NotFound.into()),
+        }
+    }
+
+    /// Drops all bytes from this place on. No file grows.
+    fn drop_from(&self, size: u64) -> io::Result<()> {
+        let Some(file) = &self.file else {
+            return Ok(());
+        };
+        if size < file.metadata()?.len() {
+            file.set_len(size)?;
+        }
+        Ok(())
+    }
+
+    /// Has the system keep the bytes and the length, and once also the name in its folder.
+    fn keep(&mut self) -> io::Result<()>
+        ensures { self.new.faults ≡ self.old.faults }
+    {
+        let Some(file) = &self.file else {
+            return Ok(());
+        };
+        file.sync_data()?;
+        if !self.is_named {
+            folder_of(&self.rt, self.name.as_str())?.sync_all()?;
+            self.is_named = true;
+        }
+        Ok(())
+    }
+
+    /// The same, and notes where it failed. It fails ever after.
+    fn keep_or_lose(&mut self) -> io::Result<()>
+        ensures lost { self.new.is_lost ≡ is_err result }
+        ensures stays { IsTrue self.old.is_lost → IsErr result }
+        ensures faults { self.new.faults ≡ self.old.faults }
+    {
+        if self.is_lost {
+            return Err(ErrorKind::Other.into());
+        }
+        let kept = self.keep();
+        self.is_lost = kept.is_err();
+        kept
+    }
+}
+
+/// Whether nothing stands under a name. It is an error where that can't be told.
+fn is_missing(rt: &HostRuntime, name: &str) -> io::Result<bool> {
+    match fs::metadata(rt, name) {
+        Ok(found) if found.is_file() => Ok(false),
+        Ok(_) => Err(ErrorKind::InvalidInput.into()),
+        Err(error) if error.kind() == ErrorKind::NotFound => Ok(true),
+        Err(error) => Err(error),
+    }
+}
+
+/// The file under a name, to be read and written, which is made where it may be and there is none.
+fn open_file(rt: &HostRuntime, name: &str, may_make: bool) -> io::Result<File> {
+    let mut how = OpenOptions::new();
+    how.read(true).write(true).create(may_make);
+    let file = how.open(rt, name)?;
+    if !file.metadata()?.is_file() {
+        return Err(ErrorKind::InvalidInput.into());
+    }
+    Ok(file)
+}
+
+/// The folder in which a name stands.
+fn folder_of(rt: &HostRuntime, name: &str) -> io::Result<File> {
+    let folder = match Path::new(name).parent() {
+        Some(folder) if !folder.as_str().is_empty() => folder,
+        _ => Path::new("."),
+    };
+    File::open(rt, folder)
+}
+
+impl Disk for RealDisk {
+    ghost tells = { ⊥ };
+
+    ghost reads = { λ disk. [] };
+
+    ghost story = { λ disk. record { past = []; window = settled [] } };
+
+    ghost faults = { λ disk. disk.faults };
+
+    ghost reads_stay = { λ disk told. absurd told };
+
+    fn length(&mut self) -> Result<u64, Failed> {
+        let Ok(size) = self.size() else {
+            return Err(self.fault());
+        };
+        Ok(size)
+    }
+
+    fn read_at(&mut self, at: u64, into: &mut [u8]) -> Result<(), Failed> {
+        let Ok(()) = self.fill(at, into) else {
+            return Err(self.fault());
+        };
+        Ok(())
+    }
+
+    fn write_at(&mut self, at: u64, bytes: &[u8]) -> Result<(), Failed> {
+        let Ok(()) = self.put(at, bytes) else {
+            return Err(self.fault());
+        };
+        Ok(())
+    }
+
+    fn cut(&mut self, size: u64) -> Result<(), Failed> {
+        let Ok(()) = self.drop_from(size) else {
+            return Err(self.fault());
+        };
+        Ok(())
+    }
+
+    // Once a sync has failed, no later one succeeds.
+    fn sync(&mut self) -> Result<(), Failed>
+        ensures cause { HasCause self.old.faults self.new.faults result }
+        ensures kept { OnOk result (self.new.is_lost ≡ false) }
+        ensures lost { IsTrue self.old.is_lost → IsErr result }
+    {
+        let Ok(()) = self.keep_or_lose() else {
+            return Err(self.fault());
+        };
+        Ok(())
+    }
+}
