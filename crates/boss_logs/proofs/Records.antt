@@ -6,7 +6,7 @@ use Rattle.std.proofs.lemmas.Nat.{from_be_bytes-to_be_bytes_4}
 use Rattle.boss_logs.specs.Log.{framed, spelled, AreRecords, longest_record, IsLog, IsDamaged}
 
 -- what stands behind a length is the record, and what follows it
-framed-one : (r s a b : List ℕ) → length r ≤ longest_record → length s ≤ longest_record → framed r ++ a ≡ framed s ++ b → (r ≡ s) × (a ≡ b)
+pub framed-one : (r s a b : List ℕ) → length r ≤ longest_record → length s ≤ longest_record → framed r ++ a ≡ framed s ++ b → (r ≡ s) × (a ≡ b)
 unfolding framed
 framed-one r s a b short few is =
     let same : to_be_bytes w32 (length r) ++ (r ++ a) ≡ to_be_bytes w32 (length s) ++ (s ++ b) =
@@ -21,18 +21,18 @@ framed-one r s a b short few is =
     let second : a ≡ b = sym (drop_at r a (length r) refl) ∙ ap (drop (length r)) rests ∙ drop_at s b (length r) (sym long) in
     (first, second)
 
-head-same : (x y : ℕ) (xs ys : List ℕ) → x ∷ xs ≡ y ∷ ys → x ≡ y
+pub head-same : (x y : ℕ) (xs ys : List ℕ) → x ∷ xs ≡ y ∷ ys → x ≡ y
 head-same x y xs ys is = cc
 
 tail-same : (x y : ℕ) (xs ys : List ℕ) → x ∷ xs ≡ y ∷ ys → xs ≡ ys
 tail-same x y xs ys is = cc
 
 -- what stands behind the gates of two records, with what follows
-record Behind (r s rest other : List ℕ) : Type 0 where
-  same : r ≡ s
-  after : rest ≡ other
+pub record Behind (r s rest other : List ℕ) : Type 0 where
+  pub same : r ≡ s
+  pub after : rest ≡ other
 
-behind : (r s rs ss a b : List ℕ) → length r ≤ longest_record → length s ≤ longest_record →
+pub behind : (r s rs ss a b : List ℕ) → length r ≤ longest_record → length s ≤ longest_record →
     (1 ∷ (framed r ++ rs)) ++ a ≡ (1 ∷ (framed s ++ ss)) ++ b → Behind r s (rs ++ a) (ss ++ b)
 behind r s rs ss a b short few is =
     let bodies : framed r ++ (rs ++ a) ≡ framed s ++ (ss ++ b) =
@@ -45,7 +45,7 @@ some-gate : (rs : List (List ℕ)) (g : ℕ) (t : List ℕ) → (gate : ℕ) × 
 some-gate [] g t = (g, t, refl)
 some-gate (r ∷ rs) g t = (1, (framed r ++ spelled rs) ++ g ∷ t, refl)
 
-record-behind : (r : List ℕ) (rs : List (List ℕ)) (g : ℕ) (t u : List ℕ) → 1 ∷ u ≡ spelled (r ∷ rs) ++ g ∷ t →
+pub record-behind : (r : List ℕ) (rs : List (List ℕ)) (g : ℕ) (t u : List ℕ) → 1 ∷ u ≡ spelled (r ∷ rs) ++ g ∷ t →
     (gate : ℕ) × (more : List ℕ) × (u ≡ framed r ++ gate ∷ more)
 record-behind r rs g t u is =
     let gate = some-gate rs g t in

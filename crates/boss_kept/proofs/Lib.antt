@@ -1,0 +1,3 @@
+pub mod Parts
+pub mod OfEvents
+pub mod OfStates

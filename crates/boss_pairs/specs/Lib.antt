@@ -1,0 +1,4 @@
+pub mod Fronts
+pub mod Contents
+pub mod Damage
+pub mod Pairs

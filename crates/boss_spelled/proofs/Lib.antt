@@ -1,0 +1,4 @@
+pub mod Values
+pub mod Counting
+pub mod Stored
+pub mod Events
