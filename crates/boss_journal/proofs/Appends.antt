@@ -1,0 +1,141 @@
+-- What an append leaves: in each of its two steps the log as it was, or with the record.
+use Rattle.std.proofs.Common.{◌≡◌, ℕ, ◌+◌, ◌<◌, ◌≤◌, inl, inr, ⊎_elim, List, [], ◌∷◌, ◌++◌, length, drop, refl, sym, ap, ◌∙◌, append_assoc, length-append, arith}
+use Rattle.std.specs.Prelude.{Result}
+use Rattle.std.proofs.lemmas.Bool.{cases_eq}
+use Rattle.boss_disk.specs.Images.{length-overwritten}
+use Rattle.boss_disk.specs.Runs.{Leaves, Since, WritesThrough}
+use Rattle.boss_disk.specs.Story.{Story}
+use Rattle.boss_disk.specs.Window.{Window, settled, overwritten}
+use Rattle.boss_disk.proofs.Runs.{write_leaves}
+use Rattle.boss_disk.proofs.Torn.{synced_image, write_behind, write_over, overwritten_behind, overwritten_parts}
+use Rattle.boss_logs.specs.Log.{framed, spelled, AreRecords, longest_record}
+use Rattle.boss_journal.specs.Appends.{IsShutLog, BeforeOrAfter}
+use Rattle.boss_journal.specs.Places.{IsAtRest}
+use Rattle.boss_journal.proofs.Frames.{lone, spelled_more, length-spelled_more}
+
+-- the bytes up to the gate, and from it on
+pub at_gate : (front : List ℕ) (rs : List (List ℕ)) (rest bytes : List ℕ) → bytes ≡ front ++ (spelled rs ++ rest) → bytes ≡ (front ++ spelled rs) ++ rest
+at_gate front rs rest bytes is = is ∙ sym (append_assoc front (spelled rs) rest)
+
+pub from_gate : (front : List ℕ) (rs : List (List ℕ)) (rest bytes : List ℕ) → bytes ≡ (front ++ spelled rs) ++ rest → bytes ≡ front ++ (spelled rs ++ rest)
+from_gate front rs rest bytes is = is ∙ append_assoc front (spelled rs) rest
+
+-- and behind it
+behind_gate : (front : List ℕ) (rs : List (List ℕ)) (gate : ℕ) (tail bytes : List ℕ) → bytes ≡ front ++ (spelled rs ++ gate ∷ tail)
+    → bytes ≡ ((front ++ spelled rs) ++ gate ∷ []) ++ tail
+behind_gate front rs gate tail bytes is =
+    at_gate front rs (gate ∷ tail) bytes is ∙ sym (append_assoc (front ++ spelled rs) (gate ∷ []) tail)
+
+shut_behind : (front : List ℕ) (rs : List (List ℕ)) (rest bytes : List ℕ) → bytes ≡ ((front ++ spelled rs) ++ 0 ∷ []) ++ rest → IsShutLog front rs bytes
+shut_behind front rs rest bytes is = record {
+  tail = rest;
+  is = from_gate front rs (0 ∷ rest) bytes (is ∙ append_assoc (front ++ spelled rs) (0 ∷ []) rest);
+}
+
+-- a log at rest leaves itself
+pub rest_leaves : (front : List ℕ) (rs : List (List ℕ)) (r : List ℕ) (place : ℕ) (reads : List ℕ) (window : Window)
+    → IsAtRest front rs place reads window → Leaves (BeforeOrAfter front rs r) window
+rest_leaves front rs r place reads window rest =
+    λ bytes image. inl (record { tail = rest.tail; is = synced_image window reads bytes rest.synced image ∙ rest.is })
+
+next_place : (front : List ℕ) (rs : List (List ℕ)) (place : ℕ) → place ≡ length (front ++ spelled rs) → place + 1 ≡ length ((front ++ spelled rs) ++ 0 ∷ [])
+next_place front rs place here =
+    let size : length ((front ++ spelled rs) ++ 0 ∷ []) ≡ length (front ++ spelled rs) + 1 = length-append (front ++ spelled rs) (0 ∷ []) in
+    omega arith
+
+-- bytes are written behind the gate, and synced
+pub first_step : {T E : Type 0} (front : List ℕ) (rs : List (List ℕ)) (r bytes : List ℕ) (place : ℕ) (reads : List ℕ) (old new : Story) (result : Result T E)
+    → IsAtRest front rs place reads old.window → WritesThrough (place + 1) bytes reads old new result → Since (BeforeOrAfter front rs r) old new
+first_step front rs r bytes place reads old new result rest run =
+    let here = next_place front rs place rest.here in
+    let parts = behind_gate front rs 0 rest.tail reads rest.is in
+    write_leaves (BeforeOrAfter front rs r) (place + 1) bytes reads old new result run
+    (λ image torn.
+    let found = write_behind ((front ++ spelled rs) ++ 0 ∷ []) rest.tail reads (place + 1) (length bytes) old.window image rest.synced parts here torn in
+    inl (shut_behind front rs found.0 image found.1))
+    (inl (shut_behind front rs _ _ (overwritten_behind ((front ++ spelled rs) ++ 0 ∷ []) rest.tail reads bytes (place + 1) parts here)))
+
+-- the record stands whole behind a gate that is 0 yet, and is synced
+pub record IsFramed (front : List ℕ) (rs : List (List ℕ)) (r : List ℕ) (place : ℕ) (reads : List ℕ) (window : Window) : Type 0 where
+  pub more : List ℕ
+  pub is : reads ≡ (front ++ spelled rs) ++ ((0 ∷ []) ++ (framed r ++ 0 ∷ more))
+  pub here : place ≡ length (front ++ spelled rs)
+  pub each : AreRecords rs
+  pub synced : window ≡ settled reads
+
+pub is_framed : (front : List ℕ) (rs : List (List ℕ)) (r : List ℕ) (place : ℕ) (reads now : List ℕ) (old new : Window)
+    → IsAtRest front rs place reads old → now ≡ overwritten (place + 1) (framed r ++ 0 ∷ []) reads
+    → new ≡ settled (overwritten (place + 1) (framed r ++ 0 ∷ []) reads) → IsFramed front rs r place now new
+is_framed front rs r place reads now old new rest over synced =
+    let here = next_place front rs place rest.here in
+    let parts = behind_gate front rs 0 rest.tail reads rest.is in
+    let more : List ℕ = drop (length (framed r ++ 0 ∷ [])) rest.tail in
+    record {
+      more = drop (length (framed r ++ 0 ∷ [])) rest.tail;
+      is =
+          over ∙ overwritten_behind ((front ++ spelled rs) ++ 0 ∷ []) rest.tail reads (framed r ++ 0 ∷ []) (place + 1) parts here
+          ∙ append_assoc (front ++ spelled rs) (0 ∷ []) ((framed r ++ 0 ∷ []) ++ more)
+          ∙ ap (λ l. (front ++ spelled rs) ++ ((0 ∷ []) ++ l)) (append_assoc (framed r) (0 ∷ []) more);
+      here = rest.here;
+      each = rest.each;
+      synced = synced ∙ ap settled (sym over);
+    }
+
+-- the gate is 1: there is one record more
+opened : (front : List ℕ) (rs : List (List ℕ)) (r more bytes : List ℕ) → bytes ≡ (front ++ spelled rs) ++ ((1 ∷ []) ++ (framed r ++ 0 ∷ more))
+    → bytes ≡ front ++ (spelled (rs ++ r ∷ []) ++ 0 ∷ more)
+opened front rs r more bytes is =
+    from_gate front rs (1 ∷ (framed r ++ 0 ∷ more)) bytes is ∙ ap (λ l. front ++ l) (sym (spelled_more rs r (0 ∷ more)))
+
+-- whatever the gate is, the log is as it was or has the record
+any_gate : (front : List ℕ) (rs : List (List ℕ)) (r more bytes : List ℕ) (gate : ℕ) → bytes ≡ (front ++ spelled rs) ++ ((gate ∷ []) ++ (framed r ++ 0 ∷ more))
+    → BeforeOrAfter front rs r bytes
+any_gate front rs r more bytes gate is =
+    ⊎_elim
+    (λ one. inr (inr (record {
+      tail = more;
+      is = opened front rs r more bytes (is ∙ ap (λ g. (front ++ spelled rs) ++ ((g ∷ []) ++ (framed r ++ 0 ∷ more))) one);
+    })))
+    (λ other. inr (inl (record { gate = gate; tail = more; is = from_gate front rs (gate ∷ (framed r ++ 0 ∷ more)) bytes is; shut = other })))
+    (cases_eq gate 1)
+
+-- the gate is opened, and synced
+pub second_step : {T E : Type 0} (front : List ℕ) (rs : List (List ℕ)) (r : List ℕ) (place : ℕ) (reads : List ℕ) (old new : Story) (result : Result T E)
+    → IsFramed front rs r place reads old.window → WritesThrough place (1 ∷ []) reads old new result → Since (BeforeOrAfter front rs r) old new
+second_step front rs r place reads old new result there run =
+    write_leaves (BeforeOrAfter front rs r) place (1 ∷ []) reads old new result run
+    (λ image torn.
+    let found = write_over (front ++ spelled rs) (0 ∷ []) (framed r ++ 0 ∷ there.more) reads place 1 old.window image there.synced there.is there.here refl torn in
+    let one = lone found.0 found.2 in
+    any_gate front rs r there.more image one.0 (found.1 ∙ ap (λ l. (front ++ spelled rs) ++ (l ++ (framed r ++ 0 ∷ there.more))) one.1))
+    (any_gate front rs r there.more _ 1 (overwritten_parts (front ++ spelled rs) (0 ∷ []) (framed r ++ 0 ∷ there.more) reads (1 ∷ []) place there.is there.here refl))
+
+pub records_more : (rs : List (List ℕ)) (r : List ℕ) → AreRecords rs → length r ≤ longest_record → AreRecords (rs ++ r ∷ [])
+records_more [] r each short = (short, tt)
+records_more (x ∷ rs) r each short = (each.0, records_more rs r each.1 short)
+
+pub next_gate : (front : List ℕ) (rs : List (List ℕ)) (r : List ℕ) (place : ℕ) → place ≡ length (front ++ spelled rs)
+    → place + length r + 5 ≡ length (front ++ spelled (rs ++ r ∷ []))
+next_gate front rs r place here =
+    omega (arith, length-append front (spelled rs), length-append front (spelled (rs ++ r ∷ [])), length-spelled_more rs r)
+
+-- the journal at rest behind the record
+pub at_rest : (front : List ℕ) (rs : List (List ℕ)) (r : List ℕ) (place : ℕ) (reads now : List ℕ) (old new : Window)
+    → IsFramed front rs r place reads old → length r ≤ longest_record → now ≡ overwritten place (1 ∷ []) reads
+    → new ≡ settled (overwritten place (1 ∷ []) reads) → IsAtRest front (rs ++ r ∷ []) (place + length r + 5) now new
+at_rest front rs r place reads now old new there short over synced = record {
+  tail = there.more;
+  is = opened front rs r there.more now
+      (over ∙ overwritten_parts (front ++ spelled rs) (0 ∷ []) (framed r ++ 0 ∷ there.more) reads (1 ∷ []) place there.is there.here refl);
+  here = next_gate front rs r place there.here;
+  each = records_more rs r there.each short;
+  synced = synced ∙ ap settled (sym over);
+}
+
+-- the next gate lies within the bytes
+pub next_inside : (place count : ℕ) (frame reads mid now : List ℕ) → length frame ≡ count + 5 → place < length reads
+    → mid ≡ overwritten (place + 1) frame reads → now ≡ overwritten place (1 ∷ []) mid → place + count + 5 < length now
+next_inside place count frame reads mid now size inside first second =
+    let a : length mid ≡ length (overwritten (place + 1) frame reads) = ap length first in
+    let b : length now ≡ length (overwritten place (1 ∷ []) mid) = ap length second in
+    omega (arith, length-overwritten (place + 1) frame reads, length-overwritten place (1 ∷ []) mid)

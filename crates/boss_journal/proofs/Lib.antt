@@ -1,0 +1,9 @@
+pub mod Frames
+pub mod Appends
+pub mod HeadingBytes
+pub mod Passed
+pub mod Shutting
+pub mod FirstBytes
+pub mod NewJournals
+pub mod OpeningRuns
+pub mod CleanLogs

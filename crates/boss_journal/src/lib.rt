@@ -1,0 +1,26 @@
+//! A journal: records as bytes on a disk, each whole or not there after a crash. A record counts once the byte before it, its
+//! gate, is 1, and that byte is written when the record has been synced.
+#![tactic(auto)]
+
+mod appending;
+mod frame;
+mod heading;
+mod journal;
+mod laws;
+mod looking;
+mod making;
+mod opening;
+mod reading;
+mod refusal;
+mod standing;
+mod start;
+
+pub use appending::Appended;
+pub use heading::LONGEST_RECORD;
+pub use journal::Journal;
+pub use laws::{
+    a_bare_journal_is_clean, a_repair_keeps_the_records, an_append_is_whole_or_nothing,
+};
+pub use looking::Looked;
+pub use reading::NextRecord;
+pub use refusal::OpenRefusal;

@@ -1,0 +1,9 @@
+pub mod OfNotices
+pub mod Whole
+pub mod OfKind
+pub mod OfFronts
+pub mod KeptStates
+pub mod Drafts
+pub mod KeptProcesses
+pub mod Clearings
+pub mod Writings

@@ -1,0 +1,47 @@
+-- What the first 65 bytes tell of all.
+use Rattle.std.proofs.Common.{◌≡◌, ℕ, ◌+◌, ◌<◌, ◌≤◌, ⊎_elim, nat_le, Bool, true, false, cond, ◌&&◌, List, length, take, drop, ap, subst, ◌∙◌, arith}
+use Rattle.std.specs.Prelude.{IsTrue}
+use Rattle.std.specs.Int.{w64, from_be_bytes}
+use Rattle.std.proofs.lemmas.List.{take-take, drop-take, get_or-take}
+use Rattle.std.proofs.lemmas.Bool.{cases_lt}
+use Rattle.std.proofs.lemmas.Bool.Decides.{nat_tests}
+use Rattle.boss_logs.specs.declared.kind.DiskKind.TheVariants.{Idle, Plain, State, Other}
+use Rattle.boss_logs.specs.Kinds.{kind_of, is_idle, mark_is, plain_mark, state_mark, generation_of}
+use Rattle.boss_snapshot.specs.Fronts.{version_of, digest_of, events_of, size_of}
+use Rattle.boss_snapshot.specs.Refusals.{IsState}
+
+module _ (head bytes : List ℕ) (is : head ≡ take 65 bytes) where
+  pub same_version : version_of head ≡ version_of bytes
+  same_version = ap version_of is ∙ get_or-take 65 bytes 8 0 (omega arith)
+
+  pub same_digest : digest_of head ≡ digest_of bytes
+  same_digest = ap digest_of is ∙ ap (take 32) (drop-take 9 56 bytes) ∙ take-take 32 56 (drop 9 bytes) (omega arith)
+
+  pub same_events : events_of head ≡ events_of bytes
+  same_events = ap events_of is ∙ ap (from_be_bytes w64) (ap (take 8) (drop-take 49 16 bytes) ∙ take-take 8 16 (drop 49 bytes) (omega arith))
+
+  pub same_size : size_of head ≡ size_of bytes
+  same_size = ap size_of is ∙ ap (from_be_bytes w64) (ap (take 8) (drop-take 57 8 bytes) ∙ take-take 8 8 (drop 57 bytes) (omega arith))
+
+-- a test that holds where this does, and did not hold
+pub denied : {P : Type 0} (test : Bool) → (P → IsTrue test) → test ≡ false → P → ⊥
+denied {P} test gives failed here = let bad : false ≡ true = subst IsTrue failed (gives here) in cc
+
+pub no_place : (test : Bool) (size end : ℕ) → (65 + size < end → IsTrue test) → test ≡ false → end ≤ 65 + size
+no_place test size end gives failed = ⊎_elim (λ here. absurd (denied test gives failed here)) (λ none. none) (cases_lt (65 + size) end)
+
+-- a kept state has 66 bytes at least
+none_kept : (idle plain : Bool) → IsState (cond idle Idle (cond plain Plain Other)) → ⊥
+none_kept true plain is = is
+none_kept false true is = is
+none_kept false false is = is
+
+pub long_state : (bytes : List ℕ) → IsState (kind_of bytes) → 66 ≤ length bytes
+long_state bytes is =
+    ⊎_elim
+    (λ short.
+    let no : nat_le 66 (length bytes) ≡ false = grind (arith, nat_tests) in
+    absurd (none_kept (is_idle bytes) (nat_le 42 (length bytes) && mark_is bytes plain_mark)
+    (subst (λ t. IsState (cond (is_idle bytes) Idle (cond (nat_le 42 (length bytes) && mark_is bytes plain_mark) Plain (cond (t && mark_is bytes state_mark) (State (generation_of bytes)) Other)))) no is)))
+    (λ long. long)
+    (cases_lt (length bytes) 66)

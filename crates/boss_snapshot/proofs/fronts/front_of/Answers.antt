@@ -1,0 +1,43 @@
+use Rattle.std.proofs.Common.{◌∙◌, sym, subst, refl, inl, inr, arith}
+use Rattle.boss_snapshot.specs.Fronts.{IsKnown}
+use Rattle.boss_snapshot.proofs.OfFronts.{same_version, same_digest, same_events, same_size, denied, no_place}
+use Rattle.boss_snapshot.proofs.fronts.front_of.Goals as goal
+
+pub returns-then-not-is_same-clause-tells : goal.returns-then-not-is_same-clause-tells
+returns-then-not-is_same-clause-tells c bytes is long = (
+  subst IsKnown (same_version c.args.head.now bytes is) (c.is_known.ensures.0 c.if-not-is_known.false),
+  c.copy_from_slice.ensures.after ∙ same_digest c.args.head.now bytes is,
+  refl,
+  λ same. denied c.is_same.result c.is_same.ensures.1 c.if-not-is_same.true same,
+)
+
+pub returns-then-events-gt-LAST_NUMBER-clause-tells : goal.returns-then-events-gt-LAST_NUMBER-clause-tells
+returns-then-events-gt-LAST_NUMBER-clause-tells c bytes is long =
+    let events = c.number_at-events.ensures ∙ same_events c.args.head.now bytes is in (
+      subst IsKnown (same_version c.args.head.now bytes is) (c.is_known.ensures.0 c.if-not-is_known.false),
+      sym (same_digest c.args.head.now bytes is) ∙ sym c.copy_from_slice.ensures.after ∙ c.is_same.ensures.0 c.if-not-is_same.false,
+      inl (refl, omega (arith, events)),
+    )
+
+pub returns-then-not-has_place-clause-tells : goal.returns-then-not-has_place-clause-tells
+returns-then-not-has_place-clause-tells c bytes is long =
+    let events = c.number_at-events.ensures ∙ same_events c.args.head.now bytes is in
+    let size = c.number_at-size.ensures ∙ same_size c.args.head.now bytes is in
+    let none = no_place c.has_place.result c.number_at-size.result c.args.end c.has_place.ensures.1 c.if-not-has_place.true in (
+      subst IsKnown (same_version c.args.head.now bytes is) (c.is_known.ensures.0 c.if-not-is_known.false),
+      sym (same_digest c.args.head.now bytes is) ∙ sym c.copy_from_slice.ensures.after ∙ c.is_same.ensures.0 c.if-not-is_same.false,
+      inr (inl (refl, omega (arith, events), omega (arith, size, none, long))),
+    )
+
+pub returns-clause-tells : goal.returns-clause-tells
+returns-clause-tells c bytes is long =
+    let place = c.has_place.ensures.0 c.if-not-has_place.false in
+    record {
+      known = c.is_known.ensures.0 c.if-not-is_known.false;
+      version_is = same_version c.args.head.now bytes is;
+      same = sym (same_digest c.args.head.now bytes is) ∙ sym c.copy_from_slice.ensures.after ∙ c.is_same.ensures.0 c.if-not-is_same.false;
+      events_are = c.number_at-events.ensures ∙ same_events c.args.head.now bytes is;
+      few = omega arith;
+      size_is = c.number_at-size.ensures ∙ same_size c.args.head.now bytes is;
+      inside = omega (arith, place, long);
+    }

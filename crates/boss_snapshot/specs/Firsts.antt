@@ -1,0 +1,15 @@
+-- The kind of bytes by their length and the first of them.
+use Rattle.std.specs.Prelude.{ℕ, ◌==◌, nat_le, ◌&&◌, ◌||◌, if◌then◌else◌, List, slice_index_or}
+use Rattle.boss_logs.specs.declared.kind.DiskKind.{DiskKind}
+use Rattle.boss_logs.specs.declared.kind.DiskKind.TheVariants.{Idle, Plain, State, Other}
+use Rattle.boss_logs.specs.Kinds.{mark_is, plain_mark, state_mark, generation_of}
+
+-- up to the end of the generation
+abbrev pub first_bytes : ℕ
+first_bytes = 49
+
+abbrev pub kind_by : ℕ → List ℕ → DiskKind
+kind_by size first =
+    if nat_le size 1 || (slice_index_or first 0 0 == 0) then Idle else
+    (if nat_le 42 size && mark_is first plain_mark then Plain else
+    (if nat_le 66 size && mark_is first state_mark then State (generation_of first) else Other))

@@ -1,0 +1,38 @@
+-- What stands before a kept state, by the bytes of its disk.
+use Rattle.std.specs.Prelude.{◌≡◌, ℕ, ◌+◌, ◌<◌, ◌≤◌, ◌⊎◌, List, length, take, drop, slice_index_or}
+use Rattle.std.specs.Int.{w64, from_be_bytes}
+use Rattle.boss_model.specs.Limits.{last_number}
+
+-- byte 8
+abbrev pub version_of : List ℕ → ℕ
+version_of bytes = slice_index_or bytes 8 0
+
+-- bytes 9 to 40
+abbrev pub digest_of : List ℕ → List ℕ
+digest_of bytes = take 32 (drop 9 bytes)
+
+-- the number of events before the state: eight bytes at 49
+abbrev pub events_of : List ℕ → ℕ
+events_of bytes = from_be_bytes w64 (take 8 (drop 49 bytes))
+
+-- how many bytes the state has: eight bytes at 57
+abbrev pub size_of : List ℕ → ℕ
+size_of bytes = from_be_bytes w64 (take 8 (drop 57 bytes))
+
+-- these bytes, from 65 on
+abbrev pub text_of : List ℕ → List ℕ
+text_of bytes = take (size_of bytes) (drop 65 bytes)
+
+-- the versions that are known
+abbrev pub IsKnown : ℕ → Type 0
+IsKnown version = (version ≡ 1) ⊎ (version ≡ 2)
+
+-- a known version, the catalogue with this digest, few events enough, and a place for a gate behind the state
+pub record IsStateHead (digest bytes : List ℕ) (version events size : ℕ) : Type 0 where
+  pub known : IsKnown version
+  pub version_is : version ≡ version_of bytes
+  pub same : digest_of bytes ≡ digest
+  pub events_are : events ≡ events_of bytes
+  pub few : events ≤ last_number
+  pub size_is : size ≡ size_of bytes
+  pub inside : 65 + size < length bytes

@@ -1,0 +1,26 @@
+//! Kept states as bytes: each part of a state read out of them, a state written over what a disk holds, and what it holds.
+#![tactic(auto)]
+
+mod block;
+mod clearing;
+mod draft;
+mod drafting;
+mod fronts;
+mod keeping;
+mod kinds;
+mod leases;
+mod notices;
+mod processes;
+mod reading;
+mod refusal;
+mod spilled;
+mod state;
+mod stored;
+mod txns;
+mod writing;
+
+pub use kinds::kind;
+pub use reading::read_state;
+pub use refusal::SnapshotRefusal;
+pub use state::read_kept;
+pub use writing::write_state;
