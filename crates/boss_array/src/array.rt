@@ -71,14 +71,16 @@ impl Array {
 
     /// The highest level whose slot has a lease, and the lease's key.
     pub fn top_live(&self) -> Option<(Priority, u32)>
-        ensures { result ≡ first_lease 1 self.now }
+        ensures found { result ≡ first_lease 1 self.now }
+        ensures size { length self.now ≡ 16 }
     {
         highest_lease(&self.slots)
     }
 
     /// The highest level whose slot has a reversion, and the reversion's key.
     pub fn top_pending(&self) -> Option<(Priority, u32)>
-        ensures { result ≡ first_pending 1 self.now }
+        ensures found { result ≡ first_pending 1 self.now }
+        ensures size { length self.now ≡ 16 }
     {
         highest_pending(&self.slots)
     }

@@ -1,0 +1,4 @@
+pub mod Gathers
+pub mod BySlot
+pub mod Kept
+pub mod Looked
