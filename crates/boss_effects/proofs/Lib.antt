@@ -1,0 +1,7 @@
+pub mod Parts
+pub mod Changed
+pub mod Flags
+pub mod Redone
+pub mod Lasting
+pub mod Found
+pub mod Early

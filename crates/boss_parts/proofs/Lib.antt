@@ -1,0 +1,11 @@
+pub mod Lookups
+pub mod Counts
+pub mod Ending
+pub mod Own
+pub mod Firsts
+pub mod Named
+pub mod Renewals
+pub mod Reverting
+pub mod Turns
+pub mod Known
+pub mod Recorded
