@@ -1,0 +1,72 @@
+use Rattle.std.proofs.Common.{◌+◌, refl, ap, subst, arith, ◌∙◌}
+use Rattle.boss_lock.specs.Places.{entries_at}
+use Rattle.boss_expiry.specs.declared.end.WorkEnd.TheVariants.{Closed}
+use Rattle.boss_drive.specs.Driving.{Stand, IsTurn}
+use Rattle.boss_drive.proofs.Gains.{took_none, took_idle, took_served, ends_cut, ends_whole, less_at_cut, not_closed}
+use Rattle.boss_drive.proofs.driving.drive.Goals as goal
+use Rattle.boss_drive.proofs.driving.drive.Goals.{then-not-wrote+in-Close+else-number-turns, then-not-wrote+in_default, else-not-wrote}
+
+-- no turn yet
+pub loop-number-init : goal.loop-number-init
+loop-number-init g c = record {
+  own = c.requires.own;
+  parts = refl;
+  took = took_none c.args.driver g.C.Clock.tells g.A.Actuators.tells
+      (record { own = entries_at (g.G.Desk.seen c.args.pass.now) (g.G.Desk.mine c.args.pass.now); given = g.C.Clock.given c.args.clock.now; whole = g.A.Actuators.whole c.args.devices.now; calls = g.A.Actuators.calls c.args.devices.now })
+      g.W.Waiter.tells (g.W.Waiter.pauses c.args.waiter.now);
+  clock = refl;
+  closes = λ _. refl;
+}
+
+-- the clock or the disk ended the work in this turn
+pub returns-in-Err-clause-driven : goal.returns-in-Err-clause-driven
+returns-in-Err-clause-driven g c =
+    let old : Stand = record { own = entries_at (g.G.Desk.seen c.args.pass.now) (g.G.Desk.mine c.args.pass.now); given = g.C.Clock.given c.args.clock.now; whole = g.A.Actuators.whole c.args.devices.now; calls = g.A.Actuators.calls c.args.devices.now } in
+    let mid : Stand = record { own = entries_at (g.G.Desk.seen c.loop-number.pass) (g.G.Desk.mine c.loop-number.pass); given = g.C.Clock.given c.loop-number.clock; whole = g.A.Actuators.whole c.loop-number.devices; calls = g.A.Actuators.calls c.loop-number.devices } in
+    let new : Stand = record { own = entries_at (g.G.Desk.seen c.turn.new.pass) (g.G.Desk.mine c.turn.new.pass); given = g.C.Clock.given c.turn.new.clock; whole = g.A.Actuators.whole c.turn.new.devices; calls = g.A.Actuators.calls c.turn.new.devices } in
+    let pauses = g.W.Waiter.pauses c.args.waiter.now in
+    let pauses' = g.W.Waiter.pauses c.loop-number.waiter in
+    ends_cut c.args.driver g.C.Clock.tells g.A.Actuators.tells old mid new g.W.Waiter.tells pauses pauses' pauses' c.loop-number.number c.args.turns c.in-Err.end c.loop-number.invariant.took c.in-Err.ensures.cut
+    (less_at_cut (g.G.Desk.seen c.turn.new.pass) c.loop-number.number c.args.turns c.in-Err.end c.in-Err.ensures.disk_cause c.loop-number-test.true)
+
+-- the turns up to this pause were whole
+pub returns-then-number-turns-clause-driven : goal.returns-then-number-turns-clause-driven
+returns-then-number-turns-clause-driven g c =
+    let old : Stand = record { own = entries_at (g.G.Desk.seen c.args.pass.now) (g.G.Desk.mine c.args.pass.now); given = g.C.Clock.given c.args.clock.now; whole = g.A.Actuators.whole c.args.devices.now; calls = g.A.Actuators.calls c.args.devices.now } in
+    let mid : Stand = record { own = entries_at (g.G.Desk.seen c.loop-number.pass) (g.G.Desk.mine c.loop-number.pass); given = g.C.Clock.given c.loop-number.clock; whole = g.A.Actuators.whole c.loop-number.devices; calls = g.A.Actuators.calls c.loop-number.devices } in
+    let new : Stand = record { own = entries_at (g.G.Desk.seen c.turn.new.pass) (g.G.Desk.mine c.turn.new.pass); given = g.C.Clock.given c.turn.new.clock; whole = g.A.Actuators.whole c.turn.new.devices; calls = g.A.Actuators.calls c.turn.new.devices } in
+    let pauses = g.W.Waiter.pauses c.args.waiter.now in
+    let pauses' = g.W.Waiter.pauses c.loop-number.waiter in
+    let pauses'' = g.W.Waiter.pauses c.pause.new.self in
+    let turn = subst (λ wrote. IsTurn c.args.driver g.C.Clock.tells g.A.Actuators.tells mid new wrote) c.if-not-wrote.true c.in-Ok.ensures.served in
+    let took = took_idle c.args.driver g.C.Clock.tells g.A.Actuators.tells old mid new g.W.Waiter.tells pauses pauses' pauses'' c.loop-number.number turn c.loop-number.invariant.took (λ tells. (c.pause.ensures.counted tells).0) in
+    ends_whole c.args.driver g.C.Clock.tells g.A.Actuators.tells old new g.W.Waiter.tells pauses pauses'' (c.loop-number.number + 1) c.args.turns Closed took tt
+    (omega (arith, c.if-number-turns.true))
+
+-- one turn more was whole
+pub loop-number-preserved : goal.loop-number-preserved
+loop-number-preserved g c =
+    let old : Stand = record { own = entries_at (g.G.Desk.seen c.args.pass.now) (g.G.Desk.mine c.args.pass.now); given = g.C.Clock.given c.args.clock.now; whole = g.A.Actuators.whole c.args.devices.now; calls = g.A.Actuators.calls c.args.devices.now } in
+    let mid : Stand = record { own = entries_at (g.G.Desk.seen c.loop-number.pass) (g.G.Desk.mine c.loop-number.pass); given = g.C.Clock.given c.loop-number.clock; whole = g.A.Actuators.whole c.loop-number.devices; calls = g.A.Actuators.calls c.loop-number.devices } in
+    let new : Stand = record { own = entries_at (g.G.Desk.seen c.turn.new.pass) (g.G.Desk.mine c.turn.new.pass); given = g.C.Clock.given c.turn.new.clock; whole = g.A.Actuators.whole c.turn.new.devices; calls = g.A.Actuators.calls c.turn.new.devices } in
+    let pauses = g.W.Waiter.pauses c.args.waiter.now in
+    let pauses' = g.W.Waiter.pauses c.loop-number.waiter in
+    record {
+      own = c.turn.ensures.own;
+      parts = c.turn.ensures.parts ∙ c.loop-number.invariant.parts;
+      took = elim c.if-not-wrote.branch [
+        | then-not-wrote+in-Close+else-number-turns w ↦ took_idle c.args.driver g.C.Clock.tells g.A.Actuators.tells old mid new g.W.Waiter.tells pauses pauses' (g.W.Waiter.pauses c.if-not-wrote.waiter) c.loop-number.number (subst (λ wrote. IsTurn c.args.driver g.C.Clock.tells g.A.Actuators.tells mid new wrote) w.if-not-wrote.true c.in-Ok.ensures.served) c.loop-number.invariant.took
+            (λ tells. ap g.W.Waiter.pauses w.waiter-is ∙ (w.pause.ensures.counted tells).0)
+        | then-not-wrote+in_default w ↦ took_idle c.args.driver g.C.Clock.tells g.A.Actuators.tells old mid new g.W.Waiter.tells pauses pauses' (g.W.Waiter.pauses c.if-not-wrote.waiter) c.loop-number.number (subst (λ wrote. IsTurn c.args.driver g.C.Clock.tells g.A.Actuators.tells mid new wrote) w.if-not-wrote.true c.in-Ok.ensures.served) c.loop-number.invariant.took
+            (λ tells. ap g.W.Waiter.pauses w.waiter-is ∙ (w.pause.ensures.counted tells).0)
+        | else-not-wrote w ↦ took_served c.args.driver g.C.Clock.tells g.A.Actuators.tells old mid new g.W.Waiter.tells pauses pauses' (g.W.Waiter.pauses c.if-not-wrote.waiter) c.loop-number.number (subst (λ wrote. IsTurn c.args.driver g.C.Clock.tells g.A.Actuators.tells mid new wrote) w.if-not-wrote.false c.in-Ok.ensures.served) c.loop-number.invariant.took
+            (λ tells. ap g.W.Waiter.pauses w.waiter-is)
+      ];
+      clock = c.in-Ok.ensures.clock ∙ c.loop-number.invariant.clock;
+      closes = λ less. elim c.if-not-wrote.branch [
+        | then-not-wrote+in-Close+else-number-turns w ↦ absurd (omega (arith, less, w.if-number-turns.false))
+        | then-not-wrote+in_default w ↦ ap g.W.Waiter.closes w.waiter-is ∙ not_closed w.pause.result (g.W.Waiter.closes c.loop-number.waiter)
+            (g.W.Waiter.closes w.pause.new.self) (λ is. w.in_default.not-Close is) w.pause.ensures.cause ∙ c.loop-number.invariant.closes (omega (arith, less))
+        | else-not-wrote w ↦ ap g.W.Waiter.closes w.waiter-is ∙ c.loop-number.invariant.closes (omega (arith, less))
+      ];
+    }

@@ -1,0 +1,52 @@
+ghost use Rattle.std.specs.Prelude.{◌≡◌};
+ghost use Rattle.boss_lock.specs.Places.{entries_at};
+ghost use Rattle.boss_expiry.specs.Ends.{ClockCause, EndCause};
+ghost use Rattle.boss_drive.specs.Driving.{Driven};
+
+use crate::turn::turn;
+use boss_expiry::WorkEnd;
+use boss_model::DriverId;
+use boss_outside::Actuators;
+use boss_shared::Desk;
+use boss_workers::{Clock, Waiter, Woke};
+
+/// How long a pause is where the driver has no want, in milliseconds.
+const PAUSE: u64 = 20;
+
+/// Takes so many turns, or fewer where the clock or the disk fails or a pause says that the worker is to end. In each turn the
+/// clock is read and the driver's next want asked for; where there is one its device is written, the clock is read again and
+/// the outcome reported, else there is a pause of 20 ms. It takes no memory.
+pub fn drive<G: Desk, A: Actuators, C: Clock, W: Waiter>(
+    desk: &G,
+    pass: &mut G::Pass,
+    driver: DriverId,
+    devices: &mut A,
+    clock: &mut C,
+    waiter: &mut W,
+    turns: u64,
+) -> WorkEnd
+    requires own { G.owns desk.now pass.old }
+    ensures own { G.owns desk.now pass.new }
+    ensures parts { G.parts pass.new ≡ G.parts pass.old }
+    ensures driven { Driven driver C.tells A.tells
+        (record { own = entries_at (G.seen pass.old) (G.mine pass.old); given = C.given clock.old; whole = A.whole devices.old; calls = A.calls devices.old })
+        (record { own = entries_at (G.seen pass.new) (G.mine pass.new); given = C.given clock.new; whole = A.whole devices.new; calls = A.calls devices.new })
+        W.tells (W.pauses waiter.old) (W.pauses waiter.new) turns result }
+    ensures clock { ClockCause (C.faults clock.old) (C.faults clock.new) result }
+    ensures cause { EndCause (G.seen pass.new) W.tells (W.closed waiter.new) (W.closes waiter.old) (W.closes waiter.new) result }
+{
+    for number in 0..turns {
+        let wrote = match turn(desk, pass, driver, devices, clock) {
+            Err(end) => return end,
+            Ok(wrote) => wrote,
+        };
+        if !wrote {
+            if let Woke::Close = waiter.pause(PAUSE) {
+                if number + 1 < turns {
+                    return WorkEnd::Closed;
+                }
+            }
+        }
+    }
+    WorkEnd::Finished
+}

@@ -1,0 +1,55 @@
+ghost use Rattle.std.specs.Prelude.{◌≡◌, IfOk, IfErr};
+ghost use Rattle.boss_lock.specs.Places.{entries_at};
+ghost use Rattle.boss_expiry.specs.Ends.{ClockCause};
+ghost use Rattle.boss_drive.specs.Driving.{IsTurn, IsCutTurn, DiskCause};
+
+use crate::want::next;
+use boss_expiry::{WorkEnd, work};
+use boss_model::{Command, DriverId};
+use boss_outside::Actuators;
+use boss_shared::Desk;
+use boss_workers::Clock;
+
+/// Takes one turn up to its pause, and tells whether a device was written.
+pub fn turn<G: Desk, A: Actuators, C: Clock>(
+    desk: &G,
+    pass: &mut G::Pass,
+    driver: DriverId,
+    devices: &mut A,
+    clock: &mut C,
+) -> Result<bool, WorkEnd>
+    requires own { G.owns desk.now pass.old }
+    ensures own { G.owns desk.now pass.new }
+    ensures parts { G.parts pass.new ≡ G.parts pass.old }
+    ensures served { IfOk result (IsTurn driver C.tells A.tells
+        (record { own = entries_at (G.seen pass.old) (G.mine pass.old); given = C.given clock.old; whole = A.whole devices.old; calls = A.calls devices.old })
+        (record { own = entries_at (G.seen pass.new) (G.mine pass.new); given = C.given clock.new; whole = A.whole devices.new; calls = A.calls devices.new })) }
+    ensures cut { IfErr result (IsCutTurn driver C.tells A.tells
+        (record { own = entries_at (G.seen pass.old) (G.mine pass.old); given = C.given clock.old; whole = A.whole devices.old; calls = A.calls devices.old })
+        (record { own = entries_at (G.seen pass.new) (G.mine pass.new); given = C.given clock.new; whole = A.whole devices.new; calls = A.calls devices.new })) }
+    ensures clock { IfOk result (λ wrote. C.faults clock.new ≡ C.faults clock.old) }
+    ensures clock_cause { IfErr result (ClockCause (C.faults clock.old) (C.faults clock.new)) }
+    ensures disk_cause { IfErr result (DiskCause (G.seen pass.new)) }
+{
+    let Ok(moment) = clock.now() else {
+        return Err(WorkEnd::ClockFault);
+    };
+    let want = match next(desk, pass, driver, moment) {
+        Err(end) => return Err(end),
+        Ok(None) => return Ok(false),
+        Ok(Some(want)) => want,
+    };
+    let ok = devices.write(want.point, want.value).is_ok();
+    let Ok(told) = clock.now() else {
+        return Err(WorkEnd::ClockFault);
+    };
+    let report = Command::Report {
+        point: want.point,
+        version: want.version,
+        ok,
+    };
+    match work(desk, pass, &report, told) {
+        Err(end) => Err(end),
+        Ok(_) => Ok(true),
+    }
+}

@@ -1,0 +1,16 @@
+use Rattle.std.proofs.Common.{◌≡◌, ◌<◌}
+use Rattle.boss_lock.specs.Places.{entries_at}
+use Rattle.boss_expiry.proofs.Turns.{TookSome}
+use Rattle.boss_expiry.proofs.expiry.expire.Given as goal
+
+-- each turn so far was whole, and no count has risen that ends the work
+abbrev pub invariant-loop-turn : goal.invariant-loop-turn
+invariant-loop-turn g l = record {
+  own : g.G.Desk.owns l.desk l.pass;
+  parts : g.G.Desk.parts l.pass ≡ g.G.Desk.parts l.fn.pass;
+  took : TookSome (entries_at (g.G.Desk.seen l.fn.pass) (g.G.Desk.mine l.fn.pass)) (entries_at (g.G.Desk.seen l.pass) (g.G.Desk.mine l.pass))
+      g.C.Clock.tells (g.C.Clock.given l.fn.clock) (g.C.Clock.given l.clock)
+      g.W.Waiter.tells (g.W.Waiter.pauses l.fn.waiter) (g.W.Waiter.pauses l.waiter) l.turn;
+  clock : g.C.Clock.faults l.clock ≡ g.C.Clock.faults l.fn.clock;
+  closes : l.turn < l.turns → g.W.Waiter.closes l.waiter ≡ g.W.Waiter.closes l.fn.waiter;
+}

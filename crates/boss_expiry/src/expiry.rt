@@ -1,0 +1,45 @@
+ghost use Rattle.std.specs.Prelude.{◌≡◌};
+ghost use Rattle.boss_lock.specs.Places.{entries_at};
+ghost use Rattle.boss_expiry.specs.Ticking.{Expired};
+ghost use Rattle.boss_expiry.specs.Ends.{ClockCause, EndCause};
+
+use crate::{WorkEnd, work};
+use boss_model::Command;
+use boss_shared::Desk;
+use boss_workers::{Clock, Waiter, Woke};
+
+/// How long a pause between two ticks is, in milliseconds.
+const PAUSE: u64 = 100;
+
+/// Takes so many turns, each of which is a reading of the clock, a tick at this moment and a pause of 100 ms, or fewer
+/// where the clock or the disk fails or a pause says that the worker is to end. It takes no memory.
+pub fn expire<G: Desk, C: Clock, W: Waiter>(
+    desk: &G,
+    pass: &mut G::Pass,
+    clock: &mut C,
+    waiter: &mut W,
+    turns: u64,
+) -> WorkEnd
+    requires own { G.owns desk.now pass.old }
+    ensures own { G.owns desk.now pass.new }
+    ensures parts { G.parts pass.new ≡ G.parts pass.old }
+    ensures ticks { Expired (entries_at (G.seen pass.old) (G.mine pass.old)) (entries_at (G.seen pass.new) (G.mine pass.new))
+        C.tells (C.given clock.old) (C.given clock.new) W.tells (W.pauses waiter.old) (W.pauses waiter.new) turns result }
+    ensures clock { ClockCause (C.faults clock.old) (C.faults clock.new) result }
+    ensures cause { EndCause (G.seen pass.new) W.tells (W.closed waiter.new) (W.closes waiter.old) (W.closes waiter.new) result }
+{
+    for turn in 0..turns {
+        let Ok(moment) = clock.now() else {
+            return WorkEnd::ClockFault;
+        };
+        if let Err(end) = work(desk, pass, &Command::Tick, moment) {
+            return end;
+        }
+        if let Woke::Close = waiter.pause(PAUSE) {
+            if turn + 1 < turns {
+                return WorkEnd::Closed;
+            }
+        }
+    }
+    WorkEnd::Finished
+}

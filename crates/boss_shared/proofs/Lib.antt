@@ -1,0 +1,4 @@
+pub mod Holding
+pub mod Joins
+pub mod Telling
+pub mod Turns

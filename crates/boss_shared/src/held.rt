@@ -1,0 +1,23 @@
+ghost use Rattle.boss_shared.specs.Keeping.{IsHeld};
+
+use crate::Keeper;
+use boss_history::Entry;
+use boss_lock::{Seat, Stands};
+
+/// The value behind the lock: a keeper, which stands for the history from the keeper as it was handed over.
+pub struct Held<K: Keeper> {
+    pub(crate) keeper: K,
+}
+
+impl<K: Keeper> Stands for Held<K> {
+    type Start = K;
+
+    type Entry = Entry;
+
+    ghost start = { λ held. held.keeper };
+
+    ghost stands = { λ held start log. IsHeld K.plant K.state K.stopped K.faults K.leaves K.keeps start held.keeper log };
+}
+
+/// A caller's right to take turns at a manager. It has no bytes, and may go to another thread.
+pub type Pass<K> = Seat<Held<K>>;

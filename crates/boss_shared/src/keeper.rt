@@ -1,0 +1,64 @@
+ghost use Rattle.std.specs.Prelude.{◌≡◌, ◌≤◌, ℕ, Bool, List, length, vec_capacity};
+ghost use Rattle.std.specs.List.{AllByRecursion};
+ghost use Rattle.boss_model.specs.declared.event.Event.{Event};
+ghost use Rattle.boss_model.specs.declared.state.Actuator.{Actuator};
+ghost use Rattle.boss_model.specs.State.{Persistent, State};
+ghost use Rattle.boss_history.specs.History.{MayCall};
+ghost use Rattle.boss_history.specs.Made.{made_by, made_by_all};
+ghost use Rattle.boss_shared.specs.Calls.{is_stopped, is_stopped_rest, MayWant, NoneDone, RestFits};
+ghost use Rattle.boss_shared.specs.Keeping.{Keeps};
+
+use boss_history::{Outcome, Outcomes};
+use boss_model::{Answer, Command, Items, SessionId};
+
+/// A machine that keeps what it does, as on a disk. Once its disk has failed it does no more.
+pub trait Keeper {
+    /// The points of the plant.
+    ghost plant: { Self → List Actuator };
+
+    /// The state of the machine.
+    ghost state: { Self → State };
+
+    /// Whether the disk has failed in an earlier call.
+    ghost stopped: { Self → Bool };
+
+    /// How many calls of the disk have failed, up to `2 ^ 64 - 1`, where it stands still.
+    ghost faults: { Self → ℕ };
+
+    /// Each image that a crash may leave of the disk opens to one of these two. Where the disk doesn't tell its images, this says
+    /// nothing.
+    ghost leaves: { Self → Persistent → Persistent → Type 0 };
+
+    /// The disk has as many events as there are in this list. Where the disk doesn't tell, this says nothing.
+    ghost keeps: { Self → List Event → Type 0 };
+
+    /// Does a command of a session at a moment, in milliseconds. Stopped exactly where the disk failed in an earlier call;
+    /// memory is wanted for a submit, an attach and notices alone.
+    fn apply(&mut self, session: SessionId, command: &Command, moment: u64) -> Outcome
+        requires may { MayCall (plant self.old) (command.now, moment) }
+        ensures kept { Keeps plant state stopped faults leaves keeps self.old self.new (made_by session command.now moment result) }
+        ensures stops { is_stopped result ≡ stopped self.old }
+        ensures memory { MayWant command.now result };
+
+    /// Does 1 to 16 commands of a session in order, each at its moment in milliseconds, and keeps them together. `answers` is
+    /// emptied, and then has an answer for each command that was done. Stopped exactly where the disk failed in an earlier call,
+    /// and where it fails in this one none is done. Where memory is wanted for a submit, an attach or notices, that command
+    /// and those behind it are not done.
+    fn apply_all(
+        &mut self,
+        session: SessionId,
+        commands: &Items<(Command, u64)>,
+        answers: &mut Vec<Answer>,
+    ) -> Outcomes
+        requires some { 1 ≤ length commands.now }
+        requires few { length commands.now ≤ 16 }
+        requires may { AllByRecursion (MayCall (plant self.old)) commands.now }
+        requires room { length commands.now ≤ vec_capacity answers.old }
+        ensures kept { Keeps plant state stopped faults leaves keeps self.old self.new
+            (made_by_all session commands.now answers.new.items result.rest) }
+        ensures stops { is_stopped_rest result.rest ≡ stopped self.old }
+        ensures done { length answers.new.items ≡ result.done }
+        ensures rest { RestFits commands.now result.done result.rest }
+        ensures together { NoneDone result.done result.rest }
+        ensures room { vec_capacity answers.new ≡ vec_capacity answers.old };
+}

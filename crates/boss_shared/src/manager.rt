@@ -1,0 +1,181 @@
+ghost use Rattle.std.specs.Prelude.{◌≡◌, ◌<◌, ◌≤◌, ◌+◌, ℕ, Bool, false, List, [], length, None, IfOk, IfErr, vec_capacity};
+ghost use Rattle.std.specs.List.{AllByRecursion};
+ghost use Rattle.boss_model.specs.declared.event.Event.{Event};
+ghost use Rattle.boss_model.specs.Catalogue.{actuators, Catalogue};
+ghost use Rattle.boss_model.specs.Sound.{IsSound};
+ghost use Rattle.boss_model.specs.Tellable.{IsTellable};
+ghost use Rattle.boss_lock.specs.Places.{numbers_from};
+ghost use Rattle.boss_lock.specs.Seats.{first_seat, IsSeatOf};
+ghost use Rattle.boss_history.specs.History.{MayCall};
+ghost use Rattle.boss_history.specs.Made.{made_by, made_by_all};
+ghost use Rattle.boss_shared.specs.Calls.{has_failed_rest, is_stopped_rest, NoneDone, RestFits};
+ghost use Rattle.boss_shared.specs.Keeping.{IsHeld};
+ghost use Rattle.boss_shared.specs.Passes.{Batch, IsPassOf, Turn};
+
+use crate::{Desk, Held, Keeper, Pass};
+use boss_history::{Entry, Outcome, Outcomes};
+use boss_lock::{Made, Ruled};
+use boss_model::{Answer, Command, Items, NoMemory, SessionId};
+use std::alloc::Global;
+use std::sync::Wait;
+
+/// A keeper behind a lock, for many callers at once.
+pub struct Manager<K: Keeper, R: Wait + Sync + Drop> {
+    lock: Ruled<Held<K>>,
+    // By which a call may wait for its turn.
+    rt: R,
+}
+
+// What one call made.
+#[derive(Drop)]
+struct MadeOne<'a> {
+    session: SessionId,
+    command: &'a Command,
+    moment: u64,
+    outcome: &'a Outcome,
+}
+
+impl<'a, K: Keeper> Made<Held<K>> for MadeOne<'a> {
+    ghost entries = { λ made. made_by made.session made.command.now made.moment made.outcome.now };
+}
+
+// What a call of several commands made.
+#[derive(Drop)]
+struct MadeAll<'a> {
+    session: SessionId,
+    commands: &'a Items<(Command, u64)>,
+    answers: &'a Vec<Answer>,
+    outcomes: &'a Outcomes,
+}
+
+impl<'a, K: Keeper> Made<Held<K>> for MadeAll<'a> {
+    ghost entries = { λ made. made_by_all made.session made.commands.now made.answers.now.items made.outcomes.now.rest };
+}
+
+impl<K: Keeper, R: Wait + Sync + Drop> Manager<K, R> {
+    /// A manager of a keeper whose disk never failed, with an empty history, and its only pass, which has all `seats` parts.
+    /// Without memory the keeper comes back as it was.
+    pub fn new(
+        rt: R,
+        alloc: Global,
+        keeper: K,
+        seats: u32,
+    ) -> Result<(Manager<K, R>, Pass<K>), (K, NoMemory)>
+        requires seats { 0 < seats }
+        requires running { K.stopped keeper ≡ false }
+        requires sound { IsSound (K.plant keeper) (K.state keeper) }
+        requires images { K.leaves keeper (K.state keeper).persistent (K.state keeper).persistent }
+        requires events { (before : List Event) × K.keeps keeper before }
+        ensures start { IfOk result (λ made. made.0.lock.start ≡ keeper) }
+        ensures seats { IfOk result (λ made. made.0.lock.seats ≡ seats) }
+        ensures pass { IfOk result (λ made. made.1 ≡ first_seat made.0.lock) }
+        ensures own { IfOk result (λ made. ⟦<Manager<K, R> as Desk>⟧.owns made.0 made.1) }
+        ensures err { IfErr result (λ refused. refused.0 ≡ keeper) }
+    {
+        match Ruled::new(alloc, Held { keeper }, seats) {
+            Ok((lock, pass)) => Ok((Manager { lock, rt }, pass)),
+            Err((held, _)) => {
+                let Held { keeper } = held;
+                Err((keeper, NoMemory))
+            }
+        }
+    }
+
+    /// Ends the manager, and gives its keeper. It stands for all that the pass has seen, every entry of which is the pass's own.
+    /// The pass has to have all parts, so it is the only one left.
+    pub fn close(self, pass: Pass<K>) -> K
+        requires own { ⟦<Manager<K, R> as Desk>⟧.owns self pass }
+        requires all_parts { pass.parts ≡ self.lock.seats }
+        ensures held { IsHeld K.plant K.state K.stopped K.faults K.leaves K.keeps self.lock.start result pass.seen }
+        ensures places { pass.places ≡ numbers_from 0 (length pass.seen) }
+    {
+        let Manager { lock, rt } = self;
+        let Held { keeper } = lock.close(pass);
+        drop(rt);
+        keeper
+    }
+}
+
+impl<K: Keeper, R: Wait + Sync + Drop> Desk for Manager<K, R> {
+    type Pass = Pass<K>;
+
+    ghost plant = { λ manager. K.plant manager.lock.start };
+
+    ghost opening = { λ manager. K.state manager.lock.start };
+
+    ghost owns = { λ manager pass. IsSeatOf manager.lock pass × (pass.turn ≡ None)
+        × IsPassOf (K.plant manager.lock.start) (K.state manager.lock.start) pass.seen pass.places };
+
+    ghost seen = { λ pass. pass.seen };
+
+    ghost mine = { λ pass. pass.places };
+
+    ghost parts = { λ pass. pass.parts };
+
+    fn call(
+        &self,
+        pass: &mut Pass<K>,
+        session: SessionId,
+        command: &Command,
+        moment: u64,
+    ) -> Outcome {
+        let mut held = self.lock.enter(&self.rt, pass);
+        let outcome = held.keeper.apply(session, command, moment);
+        let made = MadeOne {
+            session,
+            command,
+            moment,
+            outcome: &outcome,
+        };
+        self.lock.leave(pass, held, &made);
+        outcome
+    }
+
+    fn call_all(
+        &self,
+        pass: &mut Pass<K>,
+        session: SessionId,
+        commands: &Items<(Command, u64)>,
+        answers: &mut Vec<Answer>,
+    ) -> Outcomes
+        requires own { ⟦<Manager<K, R> as Desk>⟧.owns self.now pass.old }
+        requires some { 1 ≤ length commands.now }
+        requires few { length commands.now ≤ 16 }
+        requires may { AllByRecursion (MayCall (K.plant self.now.lock.start)) commands.now }
+        requires room { length commands.now ≤ vec_capacity answers.old }
+        ensures own { ⟦<Manager<K, R> as Desk>⟧.owns self.now pass.new }
+        ensures parts { pass.new.parts ≡ pass.old.parts }
+        ensures batch { Batch (K.plant self.now.lock.start) (K.state self.now.lock.start) pass.old.seen pass.old.places pass.new.seen pass.new.places
+            session commands.now answers.new.items result.rest }
+        ensures done { length answers.new.items ≡ result.done }
+        ensures rest { RestFits commands.now result.done result.rest }
+        ensures told { (catalogue : Catalogue) → actuators catalogue ≡ K.plant self.now.lock.start →
+            AllByRecursion (IsTellable catalogue) answers.new.items }
+        ensures room { vec_capacity answers.new ≡ vec_capacity answers.old }
+        // Beyond what every desk does: the entries stand next to each other, and none is done where the disk fails.
+        ensures turn { Turn (K.plant self.now.lock.start) (K.state self.now.lock.start) pass.old.seen pass.old.places pass.new.seen pass.new.places
+            (made_by_all session commands.now answers.new.items result.rest) (is_stopped_rest result.rest) }
+        ensures together { NoneDone result.done result.rest }
+    {
+        let mut held = self.lock.enter(&self.rt, pass);
+        let outcomes = held.keeper.apply_all(session, commands, answers);
+        let made = MadeAll {
+            session,
+            commands,
+            answers: &*answers,
+            outcomes: &outcomes,
+        };
+        self.lock.leave(pass, held, &made);
+        outcomes
+    }
+
+    fn split(&self, pass: &mut Pass<K>) -> Pass<K> {
+        self.lock.split(pass)
+    }
+
+    fn join(&self, pass: &mut Pass<K>, other: Pass<K>) {
+        self.lock.join(pass, other);
+    }
+
+    ghost owned = { λ manager pass own. own.2 };
+}

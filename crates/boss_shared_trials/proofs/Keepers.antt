@@ -1,0 +1,85 @@
+-- What a keeper owes for a call: where it had stopped, where its disk fails, and where commands are done.
+use Rattle.std.proofs.Common.{◌≡◌, Bool, true, false, ◌||◌, ℕ, List, [], ◌∷◌, ◌++◌, Option, Some, None, Ok, Err, Result, OnOk, refl, sym, ap, ◌∙◌, subst, append-nil}
+use Rattle.std.specs.List.{AllByRecursion}
+use Rattle.boss_model.specs.declared.answer.Answer.{Answer}
+use Rattle.boss_model.specs.declared.command.Command.{Command}
+use Rattle.boss_model.specs.declared.event.Event.{Event}
+use Rattle.boss_model.specs.declared.state.Actuator.{Actuator}
+use Rattle.boss_model.specs.State.{Persistent, State}
+use Rattle.boss_outside.specs.Counts.{Rose}
+use Rattle.boss_history.specs.declared.entry.Entry.{Entry}
+use Rattle.boss_history.specs.declared.entry.Entry.TheVariants.{Broke}
+use Rattle.boss_history.specs.declared.outcome.Outcome.{Outcome}
+use Rattle.boss_history.specs.declared.outcome.Outcome.TheVariants.{Done, Stopped, DiskFault, NoMemory}
+use Rattle.boss_history.specs.History.{is_broken, run, IsLegal, MayCall}
+use Rattle.boss_history.specs.Made.{done_by, mark_by, made_by_all}
+use Rattle.boss_history.proofs.Going.{tried_whole}
+use Rattle.boss_shared.specs.Calls.{has_failed_rest}
+use Rattle.boss_shared.specs.Keeping.{Keeps}
+
+module _ {V : Type 0} (plant : V → List Actuator) (state : V → State) (stopped : V → Bool) (faults : V → ℕ)
+    (leaves : V → Persistent → Persistent → Type 0) (keeps : V → List Event → Type 0) where
+  never : (v : V) → stopped v ≡ true → stopped v ≡ false → ⊥
+  never v on off = let clash : true ≡ false = sym on ∙ off in cc
+
+  pub idle_keeps : (v : V) (made : List Entry) → stopped v ≡ true → made ≡ [] → Keeps plant state stopped faults leaves keeps v v made
+  idle_keeps v made on nil = subst (Keeps plant state stopped faults leaves keeps v v) (sym nil) (record {
+    legal = tt;
+    same_plant = refl;
+    marked = on ∙ sym (ap (λ b. b || false) on);
+    none = λ _. refl;
+    state_is = λ off. absurd (never v on off);
+    rose = λ off _. absurd (never v on off);
+    stood = λ _. refl;
+    images = λ off. absurd (never v on off);
+    images_stay = λ _ first second there. there;
+    gained = λ off. absurd (never v on off);
+  })
+
+  pub fault_keeps : (old new : V) (session : ℕ) (calls : List (Command × ℕ)) (made : List Entry) → stopped old ≡ false → stopped new ≡ true → plant new ≡ plant old →
+      Rose (faults old) (faults new) → AllByRecursion (MayCall (plant old)) calls → made ≡ Broke session calls ∷ [] →
+      ((second : Persistent) → leaves new (state old).persistent second) → Keeps plant state stopped faults leaves keeps old new made
+  fault_keeps old new session calls made off on same rose may is there = subst (Keeps plant state stopped faults leaves keeps old new) (sym is) (record {
+    legal = (may, refl, tt);
+    same_plant = same;
+    marked = on ∙ sym (ap (λ b. b || true) off);
+    none = λ was. absurd (never old was off);
+    state_is = λ not. absurd (never new on not);
+    rose = λ _ _. rose;
+    stood = λ equal. absurd (never new on (equal ∙ off));
+    images = λ _ _ before _. there _;
+    images_stay = λ was. absurd (never old was off);
+    gained = λ not. absurd (never new on not);
+  })
+
+  pub done_keeps : (old new : V) (made : List Entry) → stopped old ≡ false → stopped new ≡ false → plant new ≡ plant old → faults new ≡ faults old →
+      is_broken made ≡ false → IsLegal (plant old) made (state old) → state new ≡ run (plant old) made (state old) →
+      leaves new (state new).persistent (state new).persistent → ((es : List Event) → keeps new es) → Keeps plant state stopped faults leaves keeps old new made
+  done_keeps old new made off on same stood whole legal ran there any = record {
+    legal = legal;
+    same_plant = same;
+    marked = on ∙ sym (λ i. off i || whole i);
+    none = λ was. absurd (never old was off);
+    state_is = λ _. ran;
+    rose = λ _ stops. absurd (never new stops on);
+    stood = λ _. stood;
+    images = λ _ _ before _. subst (λ (q : State × State). leaves new q.0.persistent q.1.persistent)
+        (λ i. (ran i, (ran ∙ sym (tried_whole (plant old) made (state old) whole)) i)) there;
+    images_stay = λ was. absurd (never old was off);
+    gained = λ _ before _. any _;
+  }
+
+mark_none : (session : ℕ) (calls : List (Command × ℕ)) (rest : Option Outcome) → has_failed_rest rest ≡ false → mark_by session calls rest ≡ []
+mark_none session calls None fine = refl
+mark_none session calls (Some (Done answer)) fine = refl
+mark_none session calls (Some Stopped) fine = refl
+mark_none session calls (Some DiskFault) fine = absurd cc
+mark_none session calls (Some NoMemory) fine = refl
+
+pub made_fine : (session : ℕ) (calls : List (Command × ℕ)) (answers : List Answer) (rest : Option Outcome) → has_failed_rest rest ≡ false →
+    made_by_all session calls answers rest ≡ done_by session calls answers
+made_fine session calls answers rest fine = ap (λ es. done_by session calls answers ++ es) (mark_none session calls rest fine) ∙ append-nil (done_by session calls answers)
+
+pub on_ok : {T E P : Type 0} (result : Result T E) (value : T) → result ≡ Ok value → OnOk result P → P
+on_ok (Ok value) given is held = held
+on_ok (Err error) given is held = absurd cc

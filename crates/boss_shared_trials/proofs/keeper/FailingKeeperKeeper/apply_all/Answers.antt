@@ -1,0 +1,41 @@
+use Rattle.std.proofs.Common.{◌≡◌, Bool, [], ◌++◌, Some, if◌then◌else◌, inl, refl, sym, ap, ◌∙◌, subst, arith}
+use Rattle.boss_outside.specs.Counts.{Rose}
+use Rattle.boss_history.specs.History.{run, IsLegal}
+use Rattle.boss_history.specs.Made.{done_by, mark_by, made_by_all}
+use Rattle.boss_history.specs.declared.outcome.Outcome.TheVariants.{DiskFault}
+use Rattle.boss_shared_trials.proofs.Keepers.{done_keeps, fault_keeps, idle_keeps, made_fine}
+use Rattle.boss_shared_trials.proofs.Steps.{done_none, done_whole}
+use Rattle.boss_shared_trials.proofs.keeper.FailingKeeperKeeper.apply_all.Goals as goal
+
+pub returns-then-self-clause-kept : goal.returns-then-self-clause-kept
+returns-then-self-clause-kept c =
+    let nothing = ap (done_by c.args.session c.args.commands.now) c.clear.ensures.items ∙ done_none c.args.session c.args.commands.now in
+    idle_keeps _ _ _ _ _ _ _ _ c.if-self.true (ap (λ es. es ++ []) nothing)
+
+pub returns-then-fails-clause-kept : goal.returns-then-fails-clause-kept
+returns-then-fails-clause-kept c =
+    let off = c.if-self.false in
+    let on = c.fails.ensures.stopped ∙ c.if-fails.true in
+    let nothing = ap (done_by c.args.session c.args.commands.now) c.clear.ensures.items ∙ done_none c.args.session c.args.commands.now in
+    fault_keeps _ _ _ _ _ _ _ _ c.args.session c.args.commands.now _ off on (ap (λ e. e.plant) c.fails.ensures.engine)
+    (subst (λ (q : Bool × Bool). Rose (if q.0 then 1 else 0) (if q.1 then 1 else 0)) (λ i. (sym off i, sym on i)) (omega arith))
+    c.requires.may (ap (λ es. es ++ mark_by c.args.session c.args.commands.now (Some DiskFault)) nothing) (λ _. inl (ap (λ e. e.state.persistent) c.fails.ensures.engine))
+
+pub returns-clause-kept : goal.returns-clause-kept
+returns-clause-kept c =
+    let off = c.if-self.false in
+    let on = c.fails.ensures.stopped ∙ c.if-fails.false in
+    let same = c.fails.ensures.engine in
+    let step = c.step_all.ensures in
+    let done = c.slice.result.now in
+    let made = done_by c.args.session done c.step_all.new.answers.items in
+    let is = ap (λ calls. made_by_all c.args.session calls c.step_all.new.answers.items c.step_all.result.rest) (sym c.slice.ensures)
+    ∙ made_fine c.args.session done c.step_all.new.answers.items c.step_all.result.rest step.no_fault in
+    let kept = done_keeps _ _ _ _ _ _ c.args.self.now (record { engine = c.step_all.new.engine; good_calls = c.fails.new.self.good_calls; stopped = c.fails.new.self.stopped }) made off on
+    (step.plant ∙ ap (λ e. e.plant) same)
+    (ap (λ (b : Bool). if b then 1 else 0) (on ∙ sym off))
+    (done_whole c.args.session done c.step_all.new.answers.items)
+    (subst (λ e. IsLegal e.plant made e.state) same step.legal)
+    (subst (λ e. c.step_all.new.engine.state ≡ run e.plant made e.state) same step.state)
+    (inl refl) (λ _. tt) in
+    rw is kept

@@ -1,0 +1,9 @@
+//! Trials of the shared manager over a real engine: callers in two threads, several commands at once, and a disk that fails.
+#![tactic(auto)]
+
+#[cfg(test)]
+mod keeper;
+#[cfg(test)]
+mod threads;
+#[cfg(test)]
+mod trials;

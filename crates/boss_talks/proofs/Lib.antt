@@ -1,0 +1,7 @@
+pub mod BatchLemmas
+pub mod Lasting
+pub mod OfSession
+pub mod TalkLemmas
+mod TalkRows
+pub mod Telling
+pub mod WatchLemmas

@@ -1,0 +1,4 @@
+pub mod Batches
+pub mod Speech
+pub mod Talks
+pub mod Watching
