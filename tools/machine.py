@@ -1,0 +1,408 @@
+"""A small model of the lease machine, written apart from the program: what a session is answered, what processes are told, and
+what devices are told. Devices take every command. Moments are milliseconds, values thousandths."""
+
+import json
+from dataclasses import dataclass, field
+
+WEEK = 604_800_000
+DAY = 86_400_000
+KEPT_DONE = 1024
+KEPT_NOTICES = 1024
+NUMBERED = ["submit", "renew", "cancel"]
+
+
+@dataclass(frozen=True)
+class Point:
+    name: str
+    driver: str
+    kind: str
+    least: int
+    most: int
+    default: int
+
+    def fits(self, value):
+        return self.least <= value <= self.most
+
+    def table(self):
+        bounds = {
+            "analog": f"min = {self.least}\nmax = {self.most}\n",
+            "binary": "",
+            "multi": f"states = {self.most}\n",
+        }[self.kind]
+        return (f'[[point]]\nname = "{self.name}"\ndriver = "{self.driver}"\nkind = "{self.kind}"\n'
+                f"{bounds}default = {self.default}\n")
+
+
+@dataclass
+class Lease:
+    txn: int
+    owner: int
+    point: int
+    priority: int
+    value: int
+    until: int
+    steps: list
+    since: int
+    # How it ended, if it did.
+    ended: "End | None" = None
+
+
+@dataclass
+class Reversion:
+    txn: int
+    owner: int
+    point: int
+    priority: int
+    steps: list
+    start: int
+    # When a new lease took its slot, if one did.
+    cut: int | None = None
+
+    def boundaries(self):
+        moment, found = self.start, []
+        for _, hold in self.steps:
+            moment += hold
+            found.append(moment)
+        return found
+
+    def end(self):
+        return self.boundaries()[-1]
+
+    def value_at(self, moment):
+        for (value, _), boundary in zip(self.steps, self.boundaries()):
+            if moment < boundary:
+                return value
+        raise ValueError("the reversion is over")
+
+
+@dataclass
+class Transaction:
+    owner: int
+    # By point, in the order of the writes: how its lease ended, or None.
+    ends: dict = field(default_factory=dict)
+
+
+@dataclass
+class End:
+    cause: str
+    at: int
+    by: int = 0
+
+    def keys(self):
+        return {"cause": self.cause, **({"by": self.by} if self.cause == "superseded" else {})}
+
+
+KINDS = ["fault", "ended", "reverted", "cut", "done"]
+
+
+@dataclass
+class Notice:
+    at: int
+    txn: int
+    kind: str
+    point: int = 0
+    keys: dict = field(default_factory=dict)
+
+    def rank(self):
+        return self.at, self.txn, KINDS.index(self.kind), self.point
+
+    def told(self, number, names):
+        point = {} if self.kind == "done" else {"point": names[self.point]}
+        return {"n": number, "at": self.at, "txn": self.txn, "kind": self.kind, **point, **self.keys}
+
+
+def ok(what, **keys):
+    return json.dumps({"ok": what, **keys}, separators=(",", ":"))
+
+
+def error(what, **keys):
+    return json.dumps({"error": what, **keys}, separators=(",", ":"))
+
+
+class Machine:
+    def __init__(self, drivers, points):
+        self.drivers = drivers
+        self.points = points
+        self.names = [point.name for point in points]
+        self.now = 0
+        self.next = 1
+        self.leases = []
+        self.reversions = []
+        self.transactions = {}
+        self.done = []
+        self.processes = []
+        # Of each process all that it was told.
+        self.told = []
+        # Of a process the number of its last numbered request that was accepted, and what that was answered.
+        self.kept = {}
+        self.attached = {}
+        self.commanded = [point.default for point in points]
+        self.marks = ["pending"] * len(points)
+        self.wants = list(range(len(points)))
+        self.lines = []
+        self.drain()
+
+    def answer(self, session, request, moment):
+        n = self.pass_time(moment)
+        self.settle()
+        text = self.act(session, request, n)
+        self.settle()
+        self.lines.append(text)
+        self.drain()
+
+    def act(self, session, request, n):
+        """What a request is answered. Of a process that numbers its requests each is made once."""
+        make = getattr(self, request["op"])
+        if "seq" not in request or request["op"] not in NUMBERED or session not in self.attached:
+            return make(session, request, n)
+        process, number = self.attached[session], request["seq"]
+        kept, reply = self.kept.get(process, (0, None))
+        if kept == number:
+            return reply
+        if kept > number:
+            return error("stale", kept=kept)
+        text = make(session, request, n)
+        if "ok" in json.loads(text):
+            self.kept[process] = number, text
+        return text
+
+    # -- time
+
+    def pass_time(self, moment):
+        n = max(self.now, moment)
+        expired = [lease for lease in self.leases if lease.until <= n]
+        self.leases = [lease for lease in self.leases if lease.until > n]
+        notices = [self.end(lease, End("expired", lease.until)) for lease in expired]
+        due = {lease.until for lease in expired}
+        due |= {b for reversion in self.reversions for b in reversion.boundaries() if self.now < b <= n}
+        over = [reversion for reversion in self.reversions if reversion.end() <= n]
+        self.reversions = [reversion for reversion in self.reversions if reversion.end() > n]
+        notices += [Notice(reversion.end(), reversion.txn, "reverted", reversion.point) for reversion in over]
+        self.tell(notices)
+        self.now = max(due, default=self.now)
+        return n
+
+    def end(self, lease, end):
+        """A lease ends and its reversion begins. What the owner is told."""
+        self.transactions[lease.txn].ends[lease.point] = end
+        lease.ended = end
+        if lease.steps and end.cause != "superseded":
+            self.reversions.append(
+                Reversion(lease.txn, lease.owner, lease.point, lease.priority, lease.steps, end.at))
+        return Notice(end.at, lease.txn, "ended", lease.point, end.keys())
+
+    def tell(self, notices):
+        """Tells notices of parts that ended, and which transactions became done with them."""
+        last = {}
+        for notice in notices:
+            last[notice.txn] = max(last.get(notice.txn, 0), notice.at)
+        held = {part.txn for part in self.leases + self.reversions}
+        done = [Notice(at, txn, "done") for txn, at in last.items() if txn not in held]
+        for notice in sorted(notices + done, key=Notice.rank):
+            self.told[self.transactions[notice.txn].owner].append(notice)
+        self.done += [notice.txn for notice in sorted(done, key=Notice.rank)]
+        while len(self.done) > KEPT_DONE:
+            del self.transactions[self.done.pop(0)]
+
+    # -- points and devices
+
+    def basis(self, point):
+        leases = [lease for lease in self.leases if lease.point == point]
+        if leases:
+            lease = min(leases, key=lambda lease: lease.priority)
+            return "lease", lease, lease.value
+        reversions = [reversion for reversion in self.reversions if reversion.point == point]
+        if reversions:
+            reversion = min(reversions, key=lambda reversion: reversion.priority)
+            return "pending", reversion, reversion.value_at(self.now)
+        return "default", None, self.points[point].default
+
+    def settle(self):
+        for point in range(len(self.points)):
+            _, _, target = self.basis(point)
+            if target != self.commanded[point]:
+                self.commanded[point] = target
+                self.marks[point] = "pending"
+                self.wants = [want for want in self.wants if want != point] + [point]
+
+    def drain(self):
+        while self.wants:
+            point = min(self.wants, key=lambda point: self.drivers.index(self.points[point].driver))
+            self.wants.remove(point)
+            self.marks[point] = "settled"
+            driver, name = self.points[point].driver, self.points[point].name
+            self.lines.append(f"write {driver} {name} {self.commanded[point]} ok")
+
+    # -- commands
+
+    def attach(self, session, request, n):
+        name = request["process"]
+        if session in self.attached:
+            return error("already", process=self.processes[self.attached[session]])
+        if name not in self.processes:
+            self.processes.append(name)
+            self.told.append([])
+            self.now = n
+        process = self.processes.index(name)
+        for other, held in self.attached.items():
+            if held == process:
+                return error("taken", session=other)
+        self.attached[session] = process
+        return ok("attached", process=name, next=len(self.told[process]) + 1)
+
+    def submit(self, session, request, n):
+        if session not in self.attached:
+            return error("not-attached")
+        writes = request["writes"]
+        why = self.wrong_write(writes)
+        if why:
+            return why
+        txn, owner = self.next, self.attached[session]
+        self.next += 1
+        self.transactions[txn] = Transaction(owner)
+        notices = [notice for write in writes for notice in self.take_slot(txn, write, n)]
+        for write in writes:
+            point = self.names.index(write["point"])
+            self.leases.append(Lease(txn, owner, point, write.get("priority", 16), write["value"],
+                                     n + write["lease"], write.get("revert", []), n))
+            self.transactions[txn].ends[point] = None
+        self.now = n
+        self.tell(notices)
+        return ok("accepted", txn=txn, until=min(n + write["lease"] for write in writes))
+
+    def wrong_write(self, writes):
+        points = [self.points[self.names.index(write["point"])] for write in writes]
+        tests = [
+            ("same-point", lambda i: points[i] in points[:i]),
+            ("bad-priority", lambda i: writes[i].get("priority", 16) not in {*range(1, 17)} - {6}),
+            ("out-of-range", lambda i: not points[i].fits(writes[i]["value"])),
+            ("bad-lease", lambda i: not 1 <= writes[i]["lease"] <= WEEK),
+            ("bad-reversion", lambda i: len(writes[i].get("revert", [])) > 8 or any(
+                not points[i].fits(value) or not 1 <= hold <= DAY
+                for value, hold in writes[i].get("revert", []))),
+        ]
+        for why, fails in tests:
+            for place in range(len(writes)):
+                if fails(place):
+                    return error(why, index=place)
+        return None
+
+    def take_slot(self, txn, write, n):
+        """What stands in the slot of a write goes out. What its owners are told."""
+        slot = self.names.index(write["point"]), write.get("priority", 16)
+        leases = [lease for lease in self.leases if (lease.point, lease.priority) == slot]
+        reversions = [reversion for reversion in self.reversions if (reversion.point, reversion.priority) == slot]
+        self.leases = [lease for lease in self.leases if lease not in leases]
+        self.reversions = [reversion for reversion in self.reversions if reversion not in reversions]
+        for reversion in reversions:
+            reversion.cut = n
+        ended = [self.end(lease, End("superseded", n, txn)) for lease in leases]
+        return ended + [Notice(n, cut.txn, "cut", cut.point, {"by": txn}) for cut in reversions]
+
+    def own_transaction(self, session, txn):
+        """The transaction, and why the session may not change it."""
+        if txn not in self.transactions:
+            return None, error("unknown-txn")
+        transaction = self.transactions[txn]
+        return transaction, error("not-yours") if transaction.owner != self.attached[session] else None
+
+    def renew(self, session, request, n):
+        if session not in self.attached:
+            return error("not-attached")
+        if not 1 <= request["length"] <= WEEK:
+            return error("bad-lease", index=0)
+        transaction, why = self.own_transaction(session, request["txn"])
+        if why:
+            return why
+        named = [self.names.index(name) for name in request.get("points", [])]
+        for place, point in enumerate(named):
+            if point not in transaction.ends:
+                return error("not-in-txn", index=place)
+        named = named or list(transaction.ends)
+        for point in named:
+            end = transaction.ends[point]
+            if end:
+                return error("ended", **end.keys(), at=end.at, moment=n)
+        renewed = [lease for lease in self.leases if lease.txn == request["txn"] and lease.point in named]
+        for lease in renewed:
+            lease.until = max(lease.until, n + request["length"])
+        self.now = n
+        return ok("renewed", txn=request["txn"], until=min(lease.until for lease in renewed))
+
+    def end_all(self, leases, cause, n):
+        self.leases = [lease for lease in self.leases if lease not in leases]
+        notices = [self.end(lease, End(cause, n)) for lease in leases]
+        self.now = n
+        self.tell(notices)
+
+    def cancel(self, session, request, n):
+        if session not in self.attached:
+            return error("not-attached")
+        transaction, why = self.own_transaction(session, request["txn"])
+        if why:
+            return why
+        leases = [lease for lease in self.leases if lease.txn == request["txn"]]
+        if not leases:
+            return error("over", at=max(end.at for end in transaction.ends.values()))
+        self.end_all(leases, "cancelled", n)
+        return ok("cancelled", txn=request["txn"], at=n)
+
+    def gone(self, session, request, n):
+        if session not in self.attached:
+            return error("not-attached")
+        leases = [lease for lease in self.leases if lease.owner == self.attached[session]]
+        if leases:
+            self.end_all(leases, "died", n)
+        del self.attached[session]
+        return ok("gone", ended=len(leases))
+
+    # -- questions
+
+    def tick(self, session, request, n):
+        return ok("tick", now=self.now)
+
+    def read(self, session, request, n):
+        point = self.names.index(request["point"])
+        kind, basis, value = self.basis(point)
+        held = {"priority": basis.priority, "txn": basis.txn} if basis else {}
+        return ok("read", point=self.names[point], value=value, **{"from": kind}, **held, mark=self.marks[point])
+
+    def array(self, session, request, n):
+        point = self.names.index(request["point"])
+        slots = [None] * 16
+        for lease in self.leases:
+            if lease.point == point:
+                slots[lease.priority - 1] = {"value": lease.value, "txn": lease.txn, "until": lease.until}
+        for reversion in self.reversions:
+            if reversion.point == point:
+                slots[reversion.priority - 1] = {
+                    "value": reversion.value_at(self.now), "txn": reversion.txn, "end": reversion.end()}
+        return ok("array", point=self.names[point], default=self.points[point].default, slots=slots)
+
+    def status(self, session, request, n):
+        txn = request["txn"]
+        if txn not in self.transactions:
+            return error("unknown-txn")
+        live = sum(lease.txn == txn for lease in self.leases)
+        pending = sum(reversion.txn == txn for reversion in self.reversions)
+        stage = "run" if live else "revert" if pending else "done"
+        owner = self.processes[self.transactions[txn].owner]
+        return ok("status", txn=txn, owner=owner, stage=stage, live=live, pending=pending)
+
+    def asked_of(self, session, request):
+        """What the process was told that is asked of, or None where the session holds none."""
+        if "process" not in request:
+            return self.told[self.attached[session]] if session in self.attached else None
+        if request["process"] not in self.processes:
+            return []
+        return self.told[self.processes.index(request["process"])]
+
+    def notices(self, session, request, n):
+        kept = self.asked_of(session, request)
+        if kept is None:
+            return error("not-attached")
+        first = max(1, len(kept) - KEPT_NOTICES + 1)
+        start = min(max(request.get("from", 1), first), len(kept) + 1)
+        end = min(start + request.get("max", 16), len(kept) + 1)
+        told = [kept[number - 1].told(number, self.names) for number in range(start, end)]
+        return ok("notices", first=first, next=end, list=told)
