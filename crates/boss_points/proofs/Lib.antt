@@ -5,4 +5,5 @@ pub mod Drivers
 pub mod Whole
 pub mod Fed
 pub mod Found
+pub mod PointKinds
 pub mod Texts

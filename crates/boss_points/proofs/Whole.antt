@@ -11,6 +11,7 @@ use Rattle.boss_model.specs.Catalogue.{fits}
 use Rattle.boss_points.specs.declared.point.Point.{Point}
 use Rattle.boss_points.specs.Keys.{text_at, kind_of, default_of, driver_of, point_of}
 use Rattle.boss_points.specs.Kept.{IsWhole}
+use Rattle.boss_points.proofs.PointKinds.{kind_of-is_kind}
 
 default_of-fits : (d : Data) (kind : Kind) (default : ℤ) → kind_of d ≡ Some kind → default_of d ≡ Some default → fits kind default ≡ true
 default_of-fits d kind default kinded defaulted =
@@ -32,6 +33,7 @@ point_of-whole drivers d point is =
     option_and_then_some _ _ point rest (λ default defaulted more.
     option_and_then_some _ _ point more (λ driver driven made.
     let whole : IsWhole (length drivers) (record { name = name; kind = kind; default = default; driver = driver }) = record {
+      kind = kind_of-is_kind d kind kinded;
       fitting = default_of-fits d kind default kinded defaulted;
       known = driver_of-known drivers d driver driven;
     } in

@@ -3,11 +3,13 @@ use Rattle.std.specs.Prelude.{◌≡◌, ℕ, ◌<◌, ◌≤◌, true, List, le
 use Rattle.std.specs.declared.alloc.Global.{Global}
 use Rattle.boss_model.specs.Catalogue.{fits}
 use Rattle.boss_model.specs.Limits.{most_drivers, most_points}
+use Rattle.boss_model.specs.Plants.{IsKind}
 use Rattle.boss_points.specs.declared.point.Point.{Point}
 use Rattle.boss_points.specs.Seen.{texts}
 
--- the point's default is a value that it takes, and its driver is one of so many
+-- the point's limits lie within bounds, its default is a value that it takes, and its driver is one of so many
 pub record IsWhole (drivers : ℕ) (point : Point) : Type 0 where
+  pub kind : IsKind point.kind
   pub fitting : fits point.kind point.default ≡ true
   pub known : point.driver < drivers
 

@@ -1,8 +1,9 @@
 ghost use Rattle.std.specs.Prelude.{◌≡◌, ◌<◌, ◌≤◌, length, true, slice_get, Some};
 ghost use Rattle.sha2.specs.Sha256.{sha256};
 ghost use Rattle.toml.specs.View.{view};
-ghost use Rattle.boss_model.specs.Catalogue.{place_of, fits};
+ghost use Rattle.boss_model.specs.Catalogue.{actuators, place_of, fits};
 ghost use Rattle.boss_model.specs.Limits.{most_points};
+ghost use Rattle.boss_model.specs.Plants.{IsPlant};
 ghost use Rattle.boss_points.specs.Canonical.{canonical};
 ghost use Rattle.boss_points.specs.Given.{Gives};
 ghost use Rattle.boss_points.specs.Reading.{catalogue_of, catalogue_in};
@@ -94,6 +95,7 @@ impl Catalogue {
     pub fn count(&self) -> u32
         ensures count { result ≡ length self.now.points }
         ensures few { result ≤ most_points }
+        ensures plant { IsPlant (actuators self.now) }
     {
         self.points.len() as u32
     }
