@@ -33,7 +33,7 @@ plain_kind first more written long =
     let enough : nat_le 42 (length (first ∷ (plain_mark ++ more))) ≡ true = le-leb _ _ (omega (arith, long)) in
     rw (idle, enough) refl
 
-state_kind : (first version generation : ℕ) (digest more : List ℕ) → first ≢ 0 → length digest ≡ 32 → generation < 2 ^ 64 → 17 ≤ length more →
+pub state_kind : (first version generation : ℕ) (digest more : List ℕ) → first ≢ 0 → length digest ≡ 32 → generation < 2 ^ 64 → 17 ≤ length more →
     kind_of (first ∷ (state_mark ++ version ∷ (digest ++ (number_text w64 generation ++ more)))) ≡ State generation
 state_kind first version generation digest more written len small long =
     let bytes = first ∷ (state_mark ++ version ∷ (digest ++ (number_text w64 generation ++ more))) in

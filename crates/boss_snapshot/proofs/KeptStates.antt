@@ -15,6 +15,7 @@ module _ (digest bytes : List ℕ) (version events size : ℕ) (head : IsStateHe
     same = head.same;
     events_are = head.events_are;
     few = head.few;
+    counts = head.counts;
     spells = subst (λ v. SpellsState v d (text_of bytes)) head.version_is (subst (SpellsState version d) whole_text spells);
     behind = ap (λ n. 65 + n) head.size_is;
     gate = head.inside;

@@ -1,9 +1,12 @@
 pub mod OfNotices
 pub mod Whole
 pub mod OfKind
+pub mod Counts
 pub mod OfFronts
 pub mod KeptStates
 pub mod Drafts
 pub mod KeptProcesses
 pub mod Clearings
 pub mod Writings
+pub mod Again
+pub mod KeptFronts

@@ -29,11 +29,17 @@ notice_more front n bytes rest x count left is one =
     ∙ ap (λ found. with_front front (numbered n (found >>= λ y. items_at told left y.1 >>= next_items y.0))) is
     ∙ front_notice front n x (items_at told left rest)
 
-pub no_notice : (front : List Notice) (n : ℕ) (bytes : List ℕ) (count left : ℕ) → told.at bytes ≡ None → count ≡ suc left
+no_notice : (front : List Notice) (n : ℕ) (bytes : List ℕ) (count left : ℕ) → told.at bytes ≡ None → count ≡ suc left
     → with_front front (numbered n (items_at told count bytes)) ≡ None
 no_notice front n bytes count left is one =
     ap (λ k. with_front front (numbered n (items_at told k bytes))) one
     ∙ ap (λ found. with_front front (numbered n (found >>= λ y. items_at told left y.1 >>= next_items y.0))) is
+
+-- where a notice is not read, neither are all
+pub notices_end : (e : Unread) (front : List Notice) (n : ℕ) (bytes : List ℕ) (count left : ℕ) (whole : Option (List Notice × List ℕ))
+    → Misses e (told.at bytes) → count ≡ suc left → with_front front (numbered n (items_at told count bytes)) ≡ whole → Misses e whole
+notices_end unread.NoSpelling front n bytes count left whole none one is = sym is ∙ no_notice front n bytes count left none one
+notices_end unread.NoMemory front n bytes count left whole none one is = tt
 
 pub all_notices : (front : List Notice) (n : ℕ) (bytes : List ℕ) (count : ℕ) → count ≡ 0
     → with_front front (numbered n (items_at told count bytes)) ≡ Some (front, bytes)

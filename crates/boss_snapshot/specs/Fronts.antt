@@ -1,6 +1,8 @@
 -- What stands before a kept state, by the bytes of its disk.
-use Rattle.std.specs.Prelude.{◌≡◌, ℕ, ◌+◌, ◌<◌, ◌≤◌, ◌⊎◌, List, length, take, drop, slice_index_or}
+use Rattle.std.specs.Prelude.{◌≡◌, ℕ, ◌+◌, ◌^◌, ◌<◌, ◌≤◌, ◌⊎◌, List, ◌++◌, length, take, drop, slice_index_or}
 use Rattle.std.specs.Int.{w64, from_be_bytes}
+use Rattle.boss_fields.specs.Fields.{number_text}
+use Rattle.boss_logs.specs.Kinds.{generation_of}
 use Rattle.boss_model.specs.Limits.{last_number}
 
 -- byte 8
@@ -23,6 +25,11 @@ size_of bytes = from_be_bytes w64 (take 8 (drop 57 bytes))
 abbrev pub text_of : List ℕ → List ℕ
 text_of bytes = take (size_of bytes) (drop 65 bytes)
 
+-- the generation, the number of events and the length are spelled from 41 on
+pub record HasCounts (bytes : List ℕ) : Type 0 where
+  pub spelled : take 24 (drop 41 bytes) ≡ number_text w64 (generation_of bytes) ++ (number_text w64 (events_of bytes) ++ number_text w64 (size_of bytes))
+  pub counted : generation_of bytes < 2 ^ 64
+
 -- the versions that are known
 abbrev pub IsKnown : ℕ → Type 0
 IsKnown version = (version ≡ 1) ⊎ (version ≡ 2)
@@ -35,4 +42,5 @@ pub record IsStateHead (digest bytes : List ℕ) (version events size : ℕ) : T
   pub events_are : events ≡ events_of bytes
   pub few : events ≤ last_number
   pub size_is : size ≡ size_of bytes
+  pub counts : HasCounts bytes
   pub inside : 65 + size < length bytes

@@ -8,7 +8,7 @@ use Rattle.boss_model.specs.State.{Persistent}
 use Rattle.boss_snapshot.specs.declared.fronts.StateHead.{StateHead}
 use Rattle.boss_snapshot.specs.declared.refusal.SnapshotRefusal.{SnapshotRefusal}
 use Rattle.boss_snapshot.specs.declared.refusal.SnapshotRefusal.TheVariants.{Version, Catalogue, Damaged, DiskFault, NoMemory}
-use Rattle.boss_snapshot.specs.Fronts.{version_of, digest_of, events_of, size_of, text_of, IsKnown, IsStateHead}
+use Rattle.boss_snapshot.specs.Fronts.{version_of, digest_of, events_of, size_of, text_of, HasCounts, IsKnown, IsStateHead}
 use Rattle.boss_snapshot.specs.Spells.{SpellsState}
 
 -- this kind is that of a kept state
@@ -54,6 +54,7 @@ pub record IsKeptState (digest bytes : List ℕ) (d : Persistent) (events place 
   pub same : digest_of bytes ≡ digest
   pub events_are : events ≡ events_of bytes
   pub few : events ≤ last_number
+  pub counts : HasCounts bytes
   pub spells : SpellsState (version_of bytes) d (text_of bytes)
   pub behind : place ≡ 65 + size_of bytes
   pub gate : place < length bytes

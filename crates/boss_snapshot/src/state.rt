@@ -5,7 +5,8 @@ ghost use Rattle.boss_bytes.specs.States.{state};
 ghost use Rattle.boss_records.specs.Given.{Gives};
 ghost use Rattle.boss_snapshot.specs.Spells.{SpellsState};
 
-use crate::stored::{read_list16, read_list32};
+use crate::lists::{read_list16, read_list32};
+use crate::processes::read_processes;
 use boss_model::{Items, Kept, NoMemory, Txn};
 use boss_records::{Unread, read_u64};
 use std::alloc::Global;
@@ -16,11 +17,11 @@ fn kept_at(alloc: Global, version: u8, bytes: &[u8]) -> Result<(Kept, &[u8]), Un
 {
     let (now, rest) = read_u64(bytes)?;
     let (next, rest) = read_u64(rest)?;
-    let (processes, rest) = read_list16(alloc, version, rest)?;
-    let (txns, rest) = read_list32(alloc, version, rest)?;
-    let (done, rest) = read_list16(alloc, version, rest)?;
-    let (leases, rest) = read_list32(alloc, version, rest)?;
-    let (pending, rest) = read_list32(alloc, version, rest)?;
+    let (processes, rest) = read_processes(alloc, version, rest)?;
+    let (txns, rest) = read_list32(alloc, rest)?;
+    let (done, rest) = read_list16(alloc, rest)?;
+    let (leases, rest) = read_list32(alloc, rest)?;
+    let (pending, rest) = read_list32(alloc, rest)?;
     let kept = Kept {
         now,
         next: Txn(next),

@@ -1,4 +1,4 @@
-ghost use Rattle.std.specs.Prelude.{◌≡◌, ℕ, ◌+◌, ◌-◌, ◌≤◌, true, List, [], ◌∷◌, ◌++◌, length, OnOk, IfOk};
+ghost use Rattle.std.specs.Prelude.{◌≡◌, ℕ, ◌+◌, ◌-◌, ◌^◌, ◌≤◌, true, List, [], ◌∷◌, ◌++◌, length, OnOk, IfOk};
 ghost use Rattle.std.specs.Int.{w64};
 ghost use Rattle.boss_bytes.specs.States.{state};
 ghost use Rattle.boss_disk.specs.Fronts.{KeepsFront};
@@ -43,6 +43,7 @@ pub fn write_state<D: Disk>(
     requires few { events ≤ last_number }
     ensures done { D.tells → IfOk result (λ place.
         IsWritten digest.now generation events (seen kept.entry.now) place (D.reads disk.new) (D.story disk.new).window) }
+    ensures low { IfOk result (λ place. place ≤ 2 ^ 62) }
     // What a crash leaves, where the disk was synced as the call began.
     ensures images { D.tells → (D.story disk.old).window ≡ settled (D.reads disk.old)
         → Since (WhileWriting (D.reads disk.old) digest.now generation events (seen kept.entry.now)) (D.story disk.old) (D.story disk.new) }
@@ -88,6 +89,7 @@ fn write_rest<D: Disk>(
     requires alone { D.tells → D.reads disk.old ≡ 0 ∷ [] }
     ensures text { D.tells → OnOk result (D.reads disk.new ≡ state_front 0 digest.now generation events (seen kept.entry.now) ++ 0 ∷ []) }
     ensures place { D.tells → IfOk result (λ place. place ≡ length (state_front 0 digest.now generation events (seen kept.entry.now))) }
+    ensures low { IfOk result (λ place. place ≤ 2 ^ 62) }
     ensures goes { D.tells → Goes (D.story disk.old) (D.story disk.new) }
     ensures cause { HasCause (D.faults disk.old) (D.faults disk.new) result }
 {
@@ -112,6 +114,7 @@ fn write_all<D: Disk>(
         ≡ (0 ∷ []) ++ (state_opening digest.now generation events ++ (number_text w64 0 ++ (state_text (seen kept.entry.now) ++ 0 ∷ [])))) }
     ensures end { D.tells → IfOk result (λ end. end ≡ length (D.reads disk.new)) }
     ensures behind { IfOk result (λ end. 1 ≤ end) }
+    ensures low { IfOk result (λ end. end ≤ 2 ^ 62) }
     ensures goes { D.tells → Goes (D.story disk.old) (D.story disk.new) }
     ensures cause { HasCause (D.faults disk.old) (D.faults disk.new) result }
 {

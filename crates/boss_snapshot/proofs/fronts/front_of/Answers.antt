@@ -1,5 +1,6 @@
 use Rattle.std.proofs.Common.{◌∙◌, sym, subst, refl, inl, inr, arith}
 use Rattle.boss_snapshot.specs.Fronts.{IsKnown}
+use Rattle.boss_snapshot.proofs.Counts.{has_counts}
 use Rattle.boss_snapshot.proofs.OfFronts.{same_version, same_digest, same_events, same_size, denied, no_place}
 use Rattle.boss_snapshot.proofs.fronts.front_of.Goals as goal
 
@@ -39,5 +40,6 @@ returns-clause-tells c bytes is long =
       events_are = c.number_at-events.ensures ∙ same_events c.args.head.now bytes is;
       few = omega arith;
       size_is = c.number_at-size.ensures ∙ same_size c.args.head.now bytes is;
+      counts = has_counts bytes c.args.head.now is (λ i. omega (arith, c.fits-head i)) (omega (arith, place, long));
       inside = omega (arith, place, long);
     }

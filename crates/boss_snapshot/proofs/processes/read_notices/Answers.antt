@@ -4,14 +4,14 @@ use Rattle.boss_model.specs.declared.notice.What.{What}
 use Rattle.boss_bytes.specs.States.{told}
 use Rattle.boss_records.proofs.Items.{with_front}
 use Rattle.boss_snapshot.specs.Numbered.{numbered}
-use Rattle.boss_snapshot.proofs.OfNotices.{notice, notice_more, no_notice}
+use Rattle.boss_snapshot.proofs.OfNotices.{notice, notice_more, notices_end}
 use Rattle.boss_snapshot.proofs.processes.read_notices.Goals as goal
 
 pub returns-in-Err : goal.returns-in-Err
 returns-in-Err c =
     let left = c.args.count - (c.loop-place.place + 1) in
     let one : c.args.count - c.loop-place.place ≡ suc left = omega arith in
-    sym c.loop-place.invariant ∙ no_notice c.loop-place.notices.items _ c.loop-place.rest.now (c.args.count - c.loop-place.place) left c.in-Err.ensures one
+    notices_end c.in-Err.unread c.loop-place.notices.items _ c.loop-place.rest.now (c.args.count - c.loop-place.place) left _ c.in-Err.ensures one c.loop-place.invariant
 
 pub loop-place-preserved : goal.loop-place-preserved
 loop-place-preserved c =

@@ -1,0 +1,18 @@
+//! Trials of kept states over a disk in memory: the bytes that the format spells by its table, a state read as it was written,
+//! each refusal at its place, and a disk that fails or stops at each of its calls.
+#![tactic(auto)]
+
+#[cfg(test)]
+mod bytes;
+#[cfg(test)]
+mod disks;
+#[cfg(test)]
+mod made;
+#[cfg(test)]
+mod refusals;
+#[cfg(test)]
+mod same;
+#[cfg(test)]
+mod stops;
+#[cfg(test)]
+mod writing;
