@@ -1,0 +1,9 @@
+pub mod Orders
+pub mod Forced
+pub mod Appends
+pub mod Generations
+pub mod Words
+pub mod Readings
+pub mod Repairs
+pub mod Findings
+pub mod Beginnings
