@@ -110,7 +110,7 @@ cancel-none owner txn d = none-own owner (λ t. cond (list_any (is_of txn) d.lea
 
 -- ---- a request of a process that may be numbered
 
-number-some : (owner seq : ℕ) (d : Persistent) (why : Option Refusal) (given : Answer) (changed : Persistent) →
+pub number-some : (owner seq : ℕ) (d : Persistent) (why : Option Refusal) (given : Answer) (changed : Persistent) →
     is_some (by_number owner seq d (unless why given changed)) ≡ (is_known_process d owner && (is_new owner seq d && is_none why))
 number-some owner seq d why given changed = by (is_repeat owner seq d) refl
   where

@@ -1,5 +1,5 @@
 -- What commands that are not refused leave.
-use Rattle.std.proofs.Common.{◌≡◌, ℕ, ℤ, ◌+◌, ◌<◌, nat_lt, List, [], ◌∷◌, ◌++◌, length, filter, map, Bool, true, false, if◌then◌else◌, Option, Some, None, unsigned_abs, refl, ap, ◌∙◌, arith}
+use Rattle.std.proofs.Common.{◌≡◌, ℕ, ℤ, ◌+◌, ◌<◌, ◌==◌, nat_lt, List, [], ◌∷◌, ◌++◌, length, filter, map, Bool, true, false, not, ◌&&◌, ◌||◌, if◌then◌else◌, Option, Some, None, unsigned_abs, refl, ap, ◌∙◌, arith}
 use Rattle.std.specs.Prelude.{slice_get}
 use Rattle.std.proofs.lemmas.Bool.Decides.{nat_tests}
 use Rattle.boss_model.specs.declared.answer.Answer.TheVariants as answer
@@ -15,39 +15,34 @@ use Rattle.boss_model.specs.Happenings.{tell}
 use Rattle.boss_model.specs.Machine.{act, after}
 use Rattle.boss_model.specs.Outcomes.{did}
 use Rattle.boss_model.specs.Processes.{attach_refused, attached_too, enrol, enrol_unless, next_notice, number_of, process_named, process_of}
-use Rattle.boss_model.specs.Renew.{is_meant, extended_if, renew_refused}
+use Rattle.boss_model.specs.Renew.{renewed, renew_refused}
 use Rattle.boss_model.specs.Sound.{IsSoundPersistent}
 use Rattle.boss_model.specs.State.{Persistent, Process, State}
 use Rattle.boss_model.specs.Replies.{once}
-use Rattle.boss_model.specs.Submit.{first_until}
 use Rattle.boss_model.specs.Target.{in_force}
 use Rattle.boss_policy.specs.Decision.{decision}
-use Rattle.boss_policy.specs.declared.Decision.TheVariants.{EndAll, Tell}
-use Rattle.boss_engine.proofs.Concluded.{kept-fault, renewed-plain}
+use Rattle.boss_policy.specs.declared.Decision.TheVariants.{EndAll, Mark, Tell}
+use Rattle.boss_effects.specs.Changes.{failure_changes, may_be_told}
+use Rattle.boss_engine.proofs.Concluded.{kept-fault}
 use Rattle.boss_engine.proofs.Counted.{any-counted}
 use Rattle.boss_engine.proofs.Replied.{once-did}
-use Rattle.boss_engine.specs.Replying.{decided, with_reply}
+use Rattle.boss_engine.specs.Replying.{decided, renewed_until, with_reply}
 
 -- ---- renew
 
-module _ (plant any : List Actuator) (session owner txn : ℕ) (asked : ℤ) (points : List ℕ) (seq n : ℕ) (s : State) (sound : IsSoundPersistent plant s.persistent)
+module _ (any : List Actuator) (session owner txn : ℕ) (asked : ℤ) (points : List ℕ) (seq n : ℕ) (s : State)
     (held : process_of s.attached session ≡ Some owner) (undecided : decided s.persistent.processes owner seq ≡ None)
     (passed : renew_refused owner txn asked points n s.persistent ≡ None) where
-  -- the leases after the renewal, and the first moment at which one of them ends
-  abbrev later : List Lease
-  later = map (extended_if (is_meant txn points) (n + unsigned_abs asked)) s.persistent.leases
-
   abbrev until : ℕ
-  until = first_until (filter (is_meant txn points) later)
+  until = renewed_until txn asked points n s.persistent
 
   pub renew-leaves : act any session n (command.Renew txn asked points seq) s
       ≡ record {
         answer = answer.Renewed txn until;
-        state = record s { persistent = with_reply owner seq (acceptance.Renewed txn until) (record s.persistent { now = n; leases = later }) };
+        state = record s { persistent = with_reply owner seq (acceptance.Renewed txn until) (renewed txn asked points n s.persistent) };
       }
   renew-leaves = rw (held, passed) (
-      ap (λ d. after s (once owner seq s.persistent (did (answer.Renewed txn (first_until (filter (is_meant txn points) d.leases))) d))) (renewed-plain plant txn asked points n s.persistent sound)
-      ∙ ap (after s) (once-did owner seq s.persistent (acceptance.Renewed txn until) (record s.persistent { now = n; leases = later }) undecided))
+      ap (after s) (once-did owner seq s.persistent (acceptance.Renewed txn until) (renewed txn asked points n s.persistent) undecided))
 
 -- ---- a process is lost
 
@@ -87,6 +82,33 @@ pub told-only : (plant : List Actuator) (point n : ℕ) (lease : Lease) (first :
 told-only plant point n lease first d sound found is =
     let both : (lease.policy ≡ Keep) × (first ≡ true) = decided-tell lease.policy first is in
     rw (← found, both.1, both.0) (kept-fault plant n lease d sound)
+
+-- whether it changes something
+pub ended-changed : (point n : ℕ) (lease : Lease) (first : Bool) (d : Persistent) → Some lease ≡ in_force d.leases point → EndAll ≡ decision (Some lease.policy) first →
+    true ≡ (first && failure_changes n (in_force d.leases point) d)
+ended-changed point n lease first d found is =
+    let both : (lease.policy ≡ Abort) × (first ≡ true) = decided-end lease.policy first is in
+    rw (← found, both.1, both.0) refl
+
+pub told-changed : (point n : ℕ) (lease : Lease) (first : Bool) (d : Persistent) → Some lease ≡ in_force d.leases point → Tell ≡ decision (Some lease.policy) first →
+    (not (d.now == n) || may_be_told d.processes lease.owner) ≡ (first && failure_changes n (in_force d.leases point) d)
+told-changed point n lease first d found is =
+    let both : (lease.policy ≡ Keep) × (first ≡ true) = decided-tell lease.policy first is in
+    rw (← found, both.1, both.0) refl
+
+decided-mark : (policy : Policy) (first : Bool) → Mark ≡ decision (Some policy) first → first ≡ false
+decided-mark Abort true is = cc
+decided-mark Abort false is = refl
+decided-mark Keep true is = cc
+decided-mark Keep false is = refl
+
+pub marked-unchanged : (point n : ℕ) (lease : Lease) (first : Bool) (d : Persistent) → Mark ≡ decision (Some lease.policy) first →
+    false ≡ (first && failure_changes n (in_force d.leases point) d)
+marked-unchanged point n lease first d is = rw (decided-mark lease.policy first is) refl
+
+pub none-unchanged : (point n : ℕ) (first : Bool) (d : Persistent) → None ≡ in_force d.leases point → false ≡ (first && failure_changes n (in_force d.leases point) d)
+none-unchanged point n true d none = rw (← none) refl
+none-unchanged point n false d none = refl
 
 -- ---- attach
 

@@ -1,25 +1,26 @@
--- A machine keeps its places where a command leaves no more in its rows than there was.
-use Rattle.std.proofs.Common.{◌≡◌, ℕ, ◌≤◌, List, vec_capacity, ◌∙◌, arith}
+-- A machine keeps its places where a command leaves its points and its room.
+use Rattle.std.proofs.Common.{◌≡◌, ℕ, List, vec_capacity, sym, ◌∙◌, arith}
 use Rattle.boss_model.specs.declared.state.Actuator.{Actuator}
 use Rattle.boss_model.specs.State.{Process}
 use Rattle.boss_engine.specs.declared.lasting.Lasting.{Lasting}
 use Rattle.boss_engine.specs.declared.machine.Machine.{Machine}
 use Rattle.boss_engine.specs.Inside.{HasPlaces}
-use Rattle.boss_engine.specs.Lasting.{IsKept, most_tellings}
+use Rattle.boss_engine.specs.Lasting.{IsKept}
 
 pub keeps-places : (plant : List Actuator) (m m' : Machine) → HasPlaces plant m → m'.marks.drivers ≡ m.marks.drivers → vec_capacity m'.attached ≡ vec_capacity m.attached →
-    IsKept m'.lasting → vec_capacity m'.told ≡ vec_capacity m.told → most_tellings m'.lasting ≤ most_tellings m.lasting → HasPlaces plant m'
-keeps-places plant m m' places drivers attached kept told few = record {
+    m'.lasting.holdings.points ≡ m.lasting.holdings.points → IsKept m'.lasting → vec_capacity m'.told ≡ vec_capacity m.told → HasPlaces plant m'
+keeps-places plant m m' places drivers attached points kept told = record {
   small = places.small;
   drivers = drivers ∙ places.drivers;
+  points = places.points ∙ sym points;
   rows = kept;
-  attached = omega (arith, places.attached);
-  told = omega (arith, places.told);
+  attached = omega (arith, places.attached, attached);
+  told = omega (arith, places.told, told);
 }
 
 -- the moment and the processes aside
-pub kept-aside : (l : Lasting) (moment : ℕ) (processes : List Process) → IsKept l → IsKept (record l { moment = moment; processes = processes })
-kept-aside l moment processes kept = record {
+pub kept-aside : (l : Lasting) (now : ℕ) (processes : List Process) → IsKept l → IsKept (record l { holdings = record l.holdings { now = now }; processes = processes })
+kept-aside l now processes kept = record {
   stands = record { txns = kept.stands.txns; done = kept.stands.done; reverting = kept.stands.reverting };
-  room = kept.room;
+  slots = kept.slots;
 }

@@ -5,6 +5,8 @@ use Rattle.std.specs.Cmp.Lexicographic.{pointwise}
 use Rattle.std.specs.List.{position_or_len}
 use Rattle.boss_model.specs.declared.notice.What.{What}
 use Rattle.boss_model.specs.Happenings.{post, posted}
+use Rattle.boss_model.specs.Limits.{last_number}
+use Rattle.boss_effects.specs.Changes.{may_be_told}
 use Rattle.boss_model.specs.Processes.{process_named, name_of, next_notice}
 use Rattle.boss_notices.specs.Rings.{Ring, ring_of, posted as posted_to}
 use Rattle.boss_model.specs.declared.kept.Acceptance.{Acceptance}
@@ -76,6 +78,10 @@ name-there entries rings i same within = rw (process-there entries rings i same 
 pub next-there : (entries : List Entry) (rings : List Ring) (i : ℕ) → length entries ≡ length rings → i < length entries →
     next_notice (processes_of entries rings) i ≡ (ring_of rings i).count + 1
 next-there entries rings i same within = rw (process-there entries rings i same within) refl
+
+pub told-more-there : (entries : List Entry) (rings : List Ring) (i : ℕ) → length entries ≡ length rings → i < length entries →
+    may_be_told (processes_of entries rings) i ≡ not ((ring_of rings i).count == last_number)
+told-more-there entries rings i same within = rw (process-there entries rings i same within) refl
 
 -- a process is told what its ring is
 told-ring : (at txn : ℕ) (what : What) (entry : Entry) (ring : Ring) → posted at txn what (process_of entry ring) ≡ process_of entry (posted_to at txn what ring)

@@ -1,8 +1,14 @@
 -- The parts of a step, one after another, are the machine's step.
-use Rattle.std.proofs.Common.{◌≡◌, ℕ, ◌≤◌, ◌^◌, max, length, List, [], ap, sym, subst, ◌∙◌, arith}
+use Rattle.std.proofs.Common.{◌≡◌, ℕ, ◌≤◌, ◌==◌, ◌^◌, max, length, List, [], Bool, not, cond, refl, ap, sym, subst, ◌∙◌, arith}
 use Rattle.std.specs.List.{AllByRecursion}
 use Rattle.boss_model.specs.declared.answer.Answer.{Answer}
 use Rattle.boss_model.specs.declared.command.Command.{Command}
+use Rattle.boss_model.specs.declared.command.Command.TheVariants as command
+use Rattle.boss_model.specs.declared.event.Effect.TheVariants as effect
+use Rattle.boss_model.specs.Effects.{concerned, step_effect}
+use Rattle.boss_model.specs.Time.{tick_to}
+use Rattle.boss_effects.specs.Changes.{changes}
+use Rattle.boss_effects.proofs.Flags.{step-flags}
 use Rattle.boss_model.specs.declared.state.Actuator.{Actuator}
 use Rattle.boss_model.specs.Machine.{act, pass_time, step}
 use Rattle.boss_model.specs.Settle.{settle}
@@ -14,6 +20,22 @@ use Rattle.boss_soundness.proofs.StepSound.{passed-sound, step-sound}
 use Rattle.boss_books.specs.Playing.{IsPlayable}
 use Rattle.boss_engine.proofs.Playable.{all-playable}
 use Rattle.boss_engine.proofs.Waiting.{length-settled}
+
+-- a command concerns the same process whatever the devices were told
+concerned-passed : (plant : List Actuator) (session n : ℕ) (s : State) (c : Command) →
+    concerned c session (pass_time plant n s) ≡ concerned c session (record s { persistent = tick_to n s.persistent })
+concerned-passed plant session n s (command.Attach name) = refl
+concerned-passed plant session n s (command.Submit writes policy seq) = refl
+concerned-passed plant session n s (command.Renew txn asked points seq) = refl
+concerned-passed plant session n s (command.Cancel txn seq) = refl
+concerned-passed plant session n s command.Gone = refl
+concerned-passed plant session n s command.Tick = refl
+concerned-passed plant session n s (command.Next driver) = refl
+concerned-passed plant session n s (command.Report point version ok) = refl
+concerned-passed plant session n s (command.Read point) = refl
+concerned-passed plant session n s (command.Array point) = refl
+concerned-passed plant session n s (command.Status txn) = refl
+concerned-passed plant session n s (command.Notices name from most) = refl
 
 module _ (plant : List Actuator) (session : ℕ) (c : Command) (m n : ℕ) (s : State) (at : n ≡ max s.persistent.now m)
     (allowed : IsAllowed plant c) (small : m ≤ 2 ^ 60) (sound : IsSound plant s) (p : State) (passed : p ≡ pass_time plant n s) where
@@ -46,3 +68,16 @@ module _ (plant : List Actuator) (session : ℕ) (c : Command) (m n : ℕ) (s : 
   pub acted-number : (a : State) → a ≡ (act plant session n c p).state → (marks : Marks) → a.proxies ≡ marks.proxies → length marks.proxies ≡ length plant
   acted-number a is marks same =
       sym (ap length same) ∙ sym (length-settled plant a.persistent (record { drivers = []; proxies = a.proxies; wants = a.wants })) ∙ (settled-well a is).proxies
+
+  -- what two flags and the process that the command concerns tell is the effect
+  pub told-by : (changed : Bool) (owner before end : ℕ) → changed ≡ changes plant session n c p → owner ≡ concerned c session p → before ≡ s.persistent.now → end ≡ p.persistent.now →
+      cond changed (effect.Whole n owner) (cond (not (end == before)) (effect.Tick end) effect.Unchanged) ≡ step_effect plant session c m s
+  told-by changed owner before end is-changed is-owner is-before is-end =
+      let k = max s.persistent.now m in
+      let flag : changed ≡ changes plant session k c (pass_time plant k s) =
+      is-changed ∙ ap (changes plant session n c) passed ∙ ap (λ x. changes plant session x c (pass_time plant x s)) at in
+      let whose : owner ≡ concerned c session (record s { persistent = tick_to k s.persistent }) =
+      is-owner ∙ ap (concerned c session) passed ∙ ap (λ x. concerned c session (pass_time plant x s)) at ∙ concerned-passed plant session k s c in
+      let reached : end ≡ (tick_to k s.persistent).now = is-end ∙ ap (λ t. t.persistent.now) passed ∙ ap (λ x. (tick_to x s.persistent).now) at in
+      (λ i. cond (flag i) (effect.Whole (at i) (whose i)) (cond (not (reached i == is-before i)) (effect.Tick (reached i)) effect.Unchanged))
+      ∙ sym (step-flags plant s session c m sound allowed small)

@@ -1,5 +1,5 @@
 -- A submit that is made ready is not refused, and leaves what the model says.
-use Rattle.std.proofs.Common.{◌≡◌, ℕ, ◌≤◌, List, length, Vec, Global, Option, Some, None, refl, ap, sym}
+use Rattle.std.proofs.Common.{◌≡◌, ℕ, ◌≤◌, List, length, Vec, Global, Option, Some, None, is_none, false, refl, ap, sym, ◌∙◌}
 use Rattle.boss_model.specs.declared.answer.Answer.{Answer}
 use Rattle.boss_model.specs.declared.answer.Answer.TheVariants as answer
 use Rattle.boss_model.specs.declared.answer.Refusal.{Refusal}
@@ -18,6 +18,8 @@ use Rattle.boss_engine.specs.Lasting.{IsSubmit}
 use Rattle.boss_engine.specs.Ready.{IsReadyToSubmit}
 use Rattle.boss_engine.specs.declared.ready.Ready.TheVariants as ready
 use Rattle.boss_engine.specs.Replying.{decided, with_reply}
+use Rattle.boss_effects.specs.Changes.{if_held, is_made}
+use Rattle.boss_engine.proofs.Flagged.{made-decided, made-new}
 use Rattle.boss_engine.proofs.Replied.{once-decided, once-did, once-refused}
 
 -- the session holds a process, the writes are not refused, and the record and the leases are theirs
@@ -81,3 +83,16 @@ module _ (plant : List Actuator) (session seq n : ℕ) (writes : List Setting) (
   pub refused-leaves : (why : Refusal) → IsReadyToSubmit plant (process_of s.attached session) writes policy seq n (ready.Refused why) s →
       act plant session n (command.Submit writes policy seq) s ≡ answered (answer.Refused why) s
   refused-leaves why made = refused-held (process_of s.attached session) why refl made
+
+-- ---- what a reply decides, and what is refused, changes nothing
+
+pub decided-unchanged : (plant : List Actuator) (held : Option ℕ) (writes : List Setting) (policy : Policy) (seq n : ℕ) (given : Answer) (s : State) →
+    IsReadyToSubmit plant held writes policy seq n (ready.Decided given) s → false ≡ if_held held (λ owner. is_made owner seq s.persistent (submit_refused plant writes s.persistent))
+decided-unchanged plant None writes policy seq n given s is = absurd is
+decided-unchanged plant (Some owner) writes policy seq n given s is = sym (made-decided owner seq s.persistent given (submit_refused plant writes s.persistent) is)
+
+pub refused-unchanged : (plant : List Actuator) (held : Option ℕ) (writes : List Setting) (policy : Policy) (seq n : ℕ) (why : Refusal) (s : State) →
+    IsReadyToSubmit plant held writes policy seq n (ready.Refused why) s → false ≡ if_held held (λ owner. is_made owner seq s.persistent (submit_refused plant writes s.persistent))
+refused-unchanged plant None writes policy seq n why s is = refl
+refused-unchanged plant (Some owner) writes policy seq n why s is =
+    sym (made-new owner seq s.persistent (submit_refused plant writes s.persistent) is.0 ∙ ap is_none is.1)

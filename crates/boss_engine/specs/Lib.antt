@@ -1,3 +1,5 @@
+pub mod Again
+pub mod Asking
 pub mod Inside
 pub mod Lasting
 pub mod Meant

@@ -1,4 +1,4 @@
-use Rattle.std.specs.Prelude.{◌≡◌, ℕ, ◌≤◌, List, [], Option, Some, None, vec_len, vec_capacity}
+use Rattle.std.specs.Prelude.{◌≡◌, ℕ, ◌≤◌, ◌<◌, List, [], length, Option, Some, None, vec_capacity}
 use Rattle.boss_model.specs.declared.answer.Refusal.TheVariants as refusal
 use Rattle.boss_model.specs.declared.command.Command.{Command}
 use Rattle.boss_model.specs.declared.command.Command.TheVariants as command
@@ -6,10 +6,9 @@ use Rattle.boss_model.specs.declared.command.Policy.{Policy}
 use Rattle.boss_model.specs.declared.command.Setting.{Setting}
 use Rattle.boss_model.specs.declared.state.Actuator.{Actuator}
 use Rattle.boss_model.specs.Processes.{attach_refused, process_named, process_of}
-use Rattle.boss_model.specs.State.{State}
+use Rattle.boss_model.specs.State.{Persistent, State}
 use Rattle.boss_model.specs.Submit.{begun, granted, submit_refused}
 use Rattle.boss_notices.specs.Rings.{no_notices}
-use Rattle.boss_engine.specs.Inside.{HasPlacesFor}
 use Rattle.boss_engine.specs.Replying.{decided}
 use Rattle.boss_engine.specs.declared.machine.Machine.{Machine}
 use Rattle.boss_engine.specs.declared.ready.Ready.{Ready}
@@ -46,10 +45,10 @@ MustBeThere None = ⊥
 MustBeThere (Some process) = Unit {0}
 
 -- the process of this name is there, or can be taken on
-abbrev pub CanTakeOn : List ℕ → Ready → State → Type 0
-CanTakeOn name (ready.Process ring) s = (process_named s.persistent.processes name ≡ None) × (ring ≡ no_notices)
-CanTakeOn name ready.Nothing s = MustBeThere (process_named s.persistent.processes name)
-CanTakeOn name other s = ⊥
+abbrev pub CanTakeOn : List ℕ → Ready → Persistent → Type 0
+CanTakeOn name (ready.Process ring) d = (process_named d.processes name ≡ None) × (ring ≡ no_notices)
+CanTakeOn name ready.Nothing d = MustBeThere (process_named d.processes name)
+CanTakeOn name other d = ⊥
 
 abbrev pub IsReadyToAttach : ℕ → List ℕ → Ready → State → Type 0
 IsReadyToAttach session name (ready.Refused why) s = attach_refused session name s.attached s.persistent ≡ Some why
@@ -85,7 +84,7 @@ IsReadyFor plant session (command.Submit writes policy seq) n given s =
 IsReadyFor plant session (command.Notices name from most) n given s = IsReadyToList name (process_of s.attached session) most given
 IsReadyFor plant session other n given s = Unit {0}
 
--- there is room for a new transaction
+-- there is room for the record of a new transaction
 abbrev pub HasRoomFor : Ready → Machine → Type 0
-HasRoomFor (ready.Submit transaction leases) m = HasPlacesFor (vec_len leases) m
+HasRoomFor (ready.Submit transaction leases) m = length m.lasting.stages.kept < m.lasting.stages.room
 HasRoomFor other m = Unit {0}

@@ -1,12 +1,14 @@
 -- What the reply that is kept of a process means for its next numbered request.
-use Rattle.std.specs.Prelude.{ℕ, ◌==◌, nat_lt, if◌then◌else◌, List, Option, Some, None}
+use Rattle.std.specs.Prelude.{ℕ, ◌==◌, nat_lt, ℤ, if◌then◌else◌, List, filter, Option, Some, None}
 use Rattle.boss_model.specs.declared.answer.Answer.{Answer}
 use Rattle.boss_model.specs.declared.answer.Answer.TheVariants as answer
 use Rattle.boss_model.specs.declared.answer.Refusal.TheVariants as refusal
 use Rattle.boss_model.specs.declared.kept.Acceptance.{Acceptance}
 use Rattle.boss_model.specs.declared.kept.KeptReply.{KeptReply}
+use Rattle.boss_model.specs.Renew.{is_meant, renewed}
 use Rattle.boss_model.specs.Replies.{answer_of, keep_reply, reply_of}
 use Rattle.boss_model.specs.State.{Process, Persistent}
+use Rattle.boss_model.specs.Submit.{first_until}
 
 -- the answer to a request of this number, if the reply decides it: what was answered before, or that its number is stale
 abbrev pub decided_by : ℕ → Option KeptReply → Option Answer
@@ -25,3 +27,7 @@ accepted owner seq given processes = if seq == 0 then processes else keep_reply 
 
 abbrev pub with_reply : ℕ → ℕ → Acceptance → Persistent → Persistent
 with_reply owner seq given d = record d { processes = accepted owner seq given d.processes }
+
+-- the first moment at which one of the leases ends that a renewal has made longer
+abbrev pub renewed_until : ℕ → ℤ → List ℕ → ℕ → Persistent → ℕ
+renewed_until txn length points n d = first_until (filter (is_meant txn points) (renewed txn length points n d).leases)

@@ -1,4 +1,4 @@
-ghost use Rattle.std.specs.Prelude.{◌≡◌, ℕ, ◌≤◌, ◌<◌, ◌+◌, if◌then◌else◌, List, [], ◌∷◌, length, filter, Some, None, vec_len};
+ghost use Rattle.std.specs.Prelude.{◌≡◌, ℕ, ◌≤◌, ◌<◌, ◌+◌, ◌==◌, not, ◌&&◌, ◌||◌, if◌then◌else◌, List, [], ◌∷◌, length, filter, Some, None, is_none, vec_len};
 ghost use Rattle.std.specs.List.{AllByRecursion};
 ghost use Rattle.boss_model.specs.declared.state.Actuator.{Actuator};
 ghost use Rattle.boss_model.specs.declared.answer.Answer.TheVariants as answer;
@@ -8,29 +8,31 @@ ghost use Rattle.boss_model.specs.declared.command.Setting.{Setting};
 ghost use Rattle.boss_model.specs.declared.kept.Acceptance.TheVariants as acceptance;
 ghost use Rattle.boss_model.specs.declared.notice.Cause.TheVariants as cause;
 ghost use Rattle.boss_model.specs.declared.state.Lease.{Lease};
-ghost use Rattle.boss_model.specs.Ends.{end_leases, fault, faulted, is_of, is_owned_by, lost};
+ghost use Rattle.boss_model.specs.Ends.{cancel_refused, end_leases, fault, faulted, is_of, is_owned_by, lost};
 ghost use Rattle.boss_model.specs.Happenings.{tell};
 ghost use Rattle.boss_model.specs.Limits.{last_moment, last_number, most_processes, most_writes};
 ghost use Rattle.boss_model.specs.Machine.{act};
 ghost use Rattle.boss_model.specs.Processes.{enrol, number_of, process_named, process_of};
-ghost use Rattle.boss_model.specs.Sound.{IsSoundPersistent};
+ghost use Rattle.boss_model.specs.Renew.{renew_refused, renewed};
 ghost use Rattle.boss_model.specs.Submit.{first_until, submitted};
 ghost use Rattle.boss_model.specs.Target.{in_force};
-ghost use Rattle.boss_engine.specs.Inside.{CanRun, HasPlaces, HasPlacesFor, state_of};
+ghost use Rattle.boss_holdings.specs.Held.{AreApart};
+ghost use Rattle.boss_engine.specs.Inside.{CanAct, CanRun, HasPlaces, state_of};
 ghost use Rattle.boss_engine.specs.Lasting.{IsSomeSubmit, IsSubmit, persistent_of};
+ghost use Rattle.boss_effects.specs.Changes.{changes, failure_changes, may_be_told, renewal_changes};
 ghost use Rattle.boss_books.specs.Passed.{IsPassed};
 ghost use Rattle.boss_books.specs.Playing.{IsPlayable};
 ghost use Rattle.boss_engine.specs.Ready.{CanTakeOn, HasRoomFor, IsReadyToAttach, IsReadyToList, IsReadyToSubmit};
-ghost use Rattle.boss_engine.specs.Replying.{with_reply};
+ghost use Rattle.boss_engine.specs.Replying.{renewed_until, with_reply};
 
 use crate::attached::{attach, detach, process_of};
+use crate::done::Done;
+use crate::lasting::Which;
 use crate::machine::Machine;
-use crate::queries::{first_until, first_until_of, notices};
+use crate::queries::{first_until, notices};
 use crate::ready::Ready;
 use crate::refusals::{cancel_refused, renew_refused};
-use crate::renewing::extend;
-use crate::slots::Which;
-use crate::target::{basis_of, in_force, slots_of, target_of};
+use crate::target::{basis_of, slots_of, target_of};
 use boss_books::{Happening, Telling};
 use boss_marks::Reported;
 use boss_model::{
@@ -40,78 +42,112 @@ use boss_model::{
 use boss_policy::{Decision, on_fault};
 use boss_stages::Transaction;
 
+/// A process that has this name, and whether it was taken on with it.
+#[derive(Clone, Copy)]
+pub struct Entrant {
+    pub process: ProcId,
+    pub is_new: bool,
+}
+
 /// The commands, at a moment n up to which time has passed.
 impl Machine {
     /// The session becomes the process of this name.
-    pub fn attach(&mut self, session: SessionId, name: &Name, n: u64, ready: Ready) -> Answer
+    pub fn attach(&mut self, session: SessionId, name: &Name, n: u64, ready: Ready) -> Done
         requires can_run { (plant : List Actuator) × CanRun plant self.old }
+        requires moment { self.old.lasting.holdings.now ≤ n }
         requires ready { IsReadyToAttach session name.now ready (state_of self.old) }
-        ensures answer { (plant : List Actuator) → result ≡ (act plant session n (command.Attach name.now) (state_of self.old)).answer }
+        ensures answer { (plant : List Actuator) → result.answer ≡ (act plant session n (command.Attach name.now) (state_of self.old)).answer }
         ensures state { (plant : List Actuator) → state_of self.new ≡ (act plant session n (command.Attach name.now) (state_of self.old)).state }
+        ensures changed { (plant : List Actuator) → result.changed ≡ changes plant session n (command.Attach name.now) (state_of self.old) }
         ensures places { (plant : List Actuator) → HasPlaces plant self.old → HasPlaces plant self.new }
     {
         if let Ready::Refused(why) = ready {
-            return Answer::Refused(why);
+            return Done::refused(why);
         }
-        let process = self.process_for(name, n, ready);
-        attach(&mut self.attached, session, process);
-        Answer::Attached {
-            name: name.copied(),
-            next: self.lasting.processes.next_notice(process),
+        let entrant = self.process_for(name, n, ready);
+        attach(&mut self.attached, session, entrant.process);
+        Done {
+            answer: Answer::Attached {
+                name: name.copied(),
+                next: self.lasting.processes.next_notice(entrant.process),
+            },
+            changed: entrant.is_new,
         }
     }
 
     /// The process of this name, which is taken on if it is new.
-    fn process_for(&mut self, name: &Name, n: u64, ready: Ready) -> ProcId
+    pub fn process_for(&mut self, name: &Name, n: u64, ready: Ready) -> Entrant
         requires few { process_named self.old.lasting.processes name.now ≡ None → length self.old.lasting.processes < most_processes }
-        requires ready { CanTakeOn name.now ready (state_of self.old) }
-        ensures process { result ≡ number_of self.old.lasting.processes (process_named self.old.lasting.processes name.now) }
-        ensures known { result < length self.new.lasting.processes }
+        requires moment { self.old.lasting.holdings.now ≤ n }
+        requires ready { CanTakeOn name.now ready (persistent_of self.old.lasting) }
+        ensures process { result.process ≡ number_of self.old.lasting.processes (process_named self.old.lasting.processes name.now) }
+        ensures known { result.process < length self.new.lasting.processes }
+        ensures is_new { result.is_new ≡ is_none (process_named self.old.lasting.processes name.now) }
         ensures after { persistent_of self.new.lasting ≡ enrol name.now n (persistent_of self.old.lasting) }
-        ensures others { self.new ≡ record self.old { lasting = record self.old.lasting { moment = self.new.lasting.moment; processes = self.new.lasting.processes } } }
+        ensures others { self.new ≡ record self.old { lasting = record self.old.lasting { holdings = record self.old.lasting.holdings { now = self.new.lasting.holdings.now }; processes = self.new.lasting.processes } } }
     {
         if let Some(process) = self.lasting.processes.named(name) {
-            return process;
+            return Entrant {
+                process,
+                is_new: false,
+            };
         }
         let process = ProcId(self.lasting.processes.count() as u16);
         if let Ready::Process(ring) = ready {
             self.lasting.processes.enrol(name.copied(), ring);
-            self.lasting.moment = n;
+            self.lasting.holdings.reach(n);
         }
-        process
+        Entrant {
+            process,
+            is_new: true,
+        }
     }
 
     /// The leases of a new transaction take their slots. `seq` is the number of the request, 0 for none.
-    pub fn submit(&mut self, seq: u64, n: u64, ready: Ready) -> Answer
-        requires can_run { (plant : List Actuator) × CanRun plant self.old }
-        requires moment { (self.old.lasting.moment ≤ n) × (n ≤ last_moment) }
-        requires ready { (plant : List Actuator) × (session : ℕ) × (writes : List Setting) × (policy : Policy) × (1 ≤ length writes) × IsReadyToSubmit plant (process_of self.old.attached.items session) writes policy seq n ready (state_of self.old) }
+    pub fn submit(&mut self, seq: u64, n: u64, ready: Ready) -> Done
+        requires moment { (self.old.lasting.holdings.now ≤ n) × (n ≤ last_moment) }
+        requires ready { (plant : List Actuator) × CanAct plant self.old × (session : ℕ) × (writes : List Setting) × (policy : Policy) × (1 ≤ length writes) × IsReadyToSubmit plant (process_of self.old.attached.items session) writes policy seq n ready (state_of self.old) }
         requires room { HasRoomFor ready self.old }
         ensures answer { (plant : List Actuator) (session : ℕ) (writes : List Setting) (policy : Policy) → 1 ≤ length writes →
             IsReadyToSubmit plant (process_of self.old.attached.items session) writes policy seq n ready (state_of self.old) →
-            result ≡ (act plant session n (command.Submit writes policy seq) (state_of self.old)).answer }
+            result.answer ≡ (act plant session n (command.Submit writes policy seq) (state_of self.old)).answer }
         ensures state { (plant : List Actuator) (session : ℕ) (writes : List Setting) (policy : Policy) → 1 ≤ length writes →
             IsReadyToSubmit plant (process_of self.old.attached.items session) writes policy seq n ready (state_of self.old) →
             state_of self.new ≡ (act plant session n (command.Submit writes policy seq) (state_of self.old)).state }
+        ensures changed { (plant : List Actuator) (session : ℕ) (writes : List Setting) (policy : Policy) → 1 ≤ length writes →
+            IsReadyToSubmit plant (process_of self.old.attached.items session) writes policy seq n ready (state_of self.old) →
+            result.changed ≡ changes plant session n (command.Submit writes policy seq) (state_of self.old) }
         ensures places { (plant : List Actuator) → HasPlaces plant self.old → HasPlaces plant self.new }
     {
         match ready {
             Ready::Submit {
                 transaction,
                 leases,
-            } => self.begin(transaction, leases, seq, n),
-            Ready::Decided(answer) => answer,
-            Ready::Refused(why) => Answer::Refused(why),
+            } => Done {
+                answer: self.begin(transaction, leases, seq, n),
+                changed: true,
+            },
+            Ready::Decided(answer) => Done::unchanged(answer),
+            Ready::Refused(why) => Done::refused(why),
             _ => unreachable!(),
         }
     }
 
     /// The same of a transaction that is not refused.
-    fn begin(&mut self, transaction: Transaction, leases: Vec<Lease>, seq: u64, n: u64) -> Answer
-        requires can_run { (plant : List Actuator) × CanRun plant self.old }
+    pub fn begin(
+        &mut self,
+        transaction: Transaction,
+        leases: Vec<Lease>,
+        seq: u64,
+        n: u64,
+    ) -> Answer
+        requires can_act { (plant : List Actuator) × CanAct plant self.old }
+        requires moment { self.old.lasting.holdings.now ≤ n }
         requires begun { IsSomeSubmit n transaction leases.items (persistent_of self.old.lasting) }
+        requires slots { AllByRecursion (λ lease. (lease.point < self.old.lasting.holdings.points) × (1 ≤ lease.priority) × (lease.priority ≤ 16)) leases.items }
+        requires apart { AreApart leases.items }
         requires next { self.old.lasting.next_txn < last_number }
-        requires room { HasPlacesFor (vec_len leases) self.old }
+        requires room { length self.old.lasting.stages.kept < self.old.lasting.stages.room }
         ensures answer { result ≡ answer.Accepted self.old.lasting.next_txn (first_until leases.items) }
         ensures after { (owner : ℕ) (policy : Policy) (writes : List Setting) →
             IsSubmit n transaction leases.items (persistent_of self.old.lasting) owner policy writes →
@@ -137,51 +173,100 @@ impl Machine {
         points: &[PointId],
         seq: u64,
         n: u64,
-    ) -> Answer
-        requires can_run { (plant : List Actuator) × CanRun plant self.old }
-        requires moment { (self.old.lasting.moment ≤ n) × (n ≤ last_moment) }
+    ) -> Done
+        requires can_act { (plant : List Actuator) × CanAct plant self.old }
+        requires moment { (self.old.lasting.holdings.now ≤ n) × (n ≤ last_moment) }
         requires points { length points.now ≤ most_writes }
-        ensures answer { (plant : List Actuator) → result ≡ (act plant session n (command.Renew txn duration points.now seq) (state_of self.old)).answer }
+        ensures answer { (plant : List Actuator) → result.answer ≡ (act plant session n (command.Renew txn duration points.now seq) (state_of self.old)).answer }
         ensures state { (plant : List Actuator) → state_of self.new ≡ (act plant session n (command.Renew txn duration points.now seq) (state_of self.old)).state }
+        ensures changed { (plant : List Actuator) → result.changed ≡ changes plant session n (command.Renew txn duration points.now seq) (state_of self.old) }
         ensures places { (plant : List Actuator) → HasPlaces plant self.old → HasPlaces plant self.new }
     {
         let Some(owner) = process_of(&self.attached, session) else {
-            return Answer::Refused(Refusal::NotAttached);
+            return Done::refused(Refusal::NotAttached);
         };
         if let Some(answer) = self.lasting.processes.decided(owner, seq) {
-            return answer;
+            return Done::unchanged(answer);
         }
         if let Some(why) = renew_refused(&self.lasting, owner, txn, duration, points, n) {
-            return Answer::Refused(why);
+            return Done::refused(why);
         }
+        self.renew_for(owner, txn, duration, points, seq, n)
+    }
+
+    /// The same for a process, of a renewal that is not refused.
+    pub fn renew_for(
+        &mut self,
+        owner: ProcId,
+        txn: Txn,
+        duration: i64,
+        points: &[PointId],
+        seq: u64,
+        n: u64,
+    ) -> Done
+        requires can_act { (plant : List Actuator) × CanAct plant self.old }
+        requires moment { (self.old.lasting.holdings.now ≤ n) × (n ≤ last_moment) }
+        requires points { length points.now ≤ most_writes }
+        requires passed { renew_refused owner txn duration points.now n (persistent_of self.old.lasting) ≡ None }
+        ensures answer { result.answer ≡ answer.Renewed txn (renewed_until txn duration points.now n (persistent_of self.old.lasting)) }
+        ensures changed { result.changed ≡ renewal_changes n txn duration points.now seq (persistent_of self.old.lasting) }
+        ensures after { persistent_of self.new.lasting ≡ with_reply owner seq
+            (acceptance.Renewed txn (renewed_until txn duration points.now n (persistent_of self.old.lasting)))
+            (renewed txn duration points.now n (persistent_of self.old.lasting)) }
+        ensures others { (self.new.marks ≡ self.old.marks) × (self.new.attached ≡ self.old.attached) }
+        ensures places { (plant : List Actuator) → HasPlaces plant self.old → HasPlaces plant self.new }
+    {
         let until = n + duration.unsigned_abs();
-        extend(&mut self.lasting.leases, txn, points, until);
-        self.lasting.moment = n;
+        let later = self.lasting.holdings.now() != n;
+        let extended = self.lasting.extend(txn, points, until);
+        self.lasting.holdings.reach(n);
         let acceptance = Acceptance::Renewed {
             txn,
-            until: first_until_of(&self.lasting.leases, txn, points),
+            until: extended.first_until,
         };
-        self.lasting.processes.accept(owner, seq, acceptance)
+        Done {
+            answer: self.lasting.processes.accept(owner, seq, acceptance),
+            changed: 0 < seq || later || extended.longer,
+        }
     }
 
     /// The live leases of a transaction end. `seq` is the number of the request, 0 for none.
-    pub fn cancel(&mut self, session: SessionId, txn: Txn, seq: u64, n: u64) -> Answer
-        requires can_run { (plant : List Actuator) × CanRun plant self.old }
+    pub fn cancel(&mut self, session: SessionId, txn: Txn, seq: u64, n: u64) -> Done
+        requires can_act { (plant : List Actuator) × CanAct plant self.old }
         requires passed { IsPassed n (persistent_of self.old.lasting) }
-        requires moment { (self.old.lasting.moment ≤ n) × (n ≤ last_moment) }
-        ensures answer { (plant : List Actuator) → result ≡ (act plant session n (command.Cancel txn seq) (state_of self.old)).answer }
+        requires moment { (self.old.lasting.holdings.now ≤ n) × (n ≤ last_moment) }
+        ensures answer { (plant : List Actuator) → result.answer ≡ (act plant session n (command.Cancel txn seq) (state_of self.old)).answer }
         ensures state { (plant : List Actuator) → state_of self.new ≡ (act plant session n (command.Cancel txn seq) (state_of self.old)).state }
+        ensures changed { (plant : List Actuator) → result.changed ≡ changes plant session n (command.Cancel txn seq) (state_of self.old) }
         ensures places { (plant : List Actuator) → HasPlaces plant self.old → HasPlaces plant self.new }
     {
         let Some(owner) = process_of(&self.attached, session) else {
-            return Answer::Refused(Refusal::NotAttached);
+            return Done::refused(Refusal::NotAttached);
         };
         if let Some(answer) = self.lasting.processes.decided(owner, seq) {
-            return answer;
+            return Done::unchanged(answer);
         }
         if let Some(why) = cancel_refused(&self.lasting, owner, txn) {
-            return Answer::Refused(why);
+            return Done::refused(why);
         }
+        Done {
+            answer: self.cancel_for(owner, txn, seq, n),
+            changed: true,
+        }
+    }
+
+    /// The same for a process, of a cancel that is not refused.
+    pub fn cancel_for(&mut self, owner: ProcId, txn: Txn, seq: u64, n: u64) -> Answer
+        requires can_act { (plant : List Actuator) × CanAct plant self.old }
+        requires passed { IsPassed n (persistent_of self.old.lasting) }
+        requires moment { (self.old.lasting.holdings.now ≤ n) × (n ≤ last_moment) }
+        requires allowed { cancel_refused owner txn (persistent_of self.old.lasting) ≡ None }
+        ensures answer { result ≡ answer.Cancelled txn n }
+        ensures after { persistent_of self.new.lasting ≡ with_reply owner seq (acceptance.Cancelled txn n)
+            (end_leases (is_of txn) cause.Cancelled n [] (persistent_of self.old.lasting)) }
+        ensures others { (self.new.marks ≡ self.old.marks) × (self.new.attached ≡ self.old.attached) }
+        ensures places { (plant : List Actuator) → HasPlaces plant self.old → HasPlaces plant self.new }
+    {
         self.told.clear();
         self.lasting.end_leases(
             &Which::OfTransaction(txn),
@@ -194,33 +279,37 @@ impl Machine {
     }
 
     /// The session's process is lost: its live leases end, and the session no longer holds it.
-    pub fn gone(&mut self, session: SessionId, n: u64) -> Answer
-        requires can_run { (plant : List Actuator) × CanRun plant self.old }
+    pub fn gone(&mut self, session: SessionId, n: u64) -> Done
+        requires can_act { (plant : List Actuator) × CanAct plant self.old }
         requires passed { IsPassed n (persistent_of self.old.lasting) }
-        requires moment { (self.old.lasting.moment ≤ n) × (n ≤ last_moment) }
-        ensures answer { (plant : List Actuator) → result ≡ (act plant session n (command.Gone) (state_of self.old)).answer }
+        requires moment { (self.old.lasting.holdings.now ≤ n) × (n ≤ last_moment) }
+        ensures answer { (plant : List Actuator) → result.answer ≡ (act plant session n (command.Gone) (state_of self.old)).answer }
         ensures state { (plant : List Actuator) → state_of self.new ≡ (act plant session n (command.Gone) (state_of self.old)).state }
+        ensures changed { (plant : List Actuator) → result.changed ≡ changes plant session n (command.Gone) (state_of self.old) }
         ensures places { (plant : List Actuator) → HasPlaces plant self.old → HasPlaces plant self.new }
     {
         let Some(owner) = process_of(&self.attached, session) else {
-            return Answer::Refused(Refusal::NotAttached);
+            return Done::refused(Refusal::NotAttached);
         };
         let ended = self.lose(owner, n);
         detach(&mut self.attached, session);
-        Answer::Gone { ended }
+        Done {
+            answer: Answer::Gone { ended },
+            changed: 0 < ended,
+        }
     }
 
     /// The live leases of a process end, if it has any. The answer is how many it had.
-    fn lose(&mut self, owner: ProcId, n: u64) -> u64
-        requires can_run { (plant : List Actuator) × CanRun plant self.old }
+    pub fn lose(&mut self, owner: ProcId, n: u64) -> u64
+        requires can_act { (plant : List Actuator) × CanAct plant self.old }
         requires passed { IsPassed n (persistent_of self.old.lasting) }
-        requires moment { (self.old.lasting.moment ≤ n) × (n ≤ last_moment) }
-        ensures ended { result ≡ length (filter (is_owned_by owner) self.old.lasting.leases.items) }
+        requires moment { (self.old.lasting.holdings.now ≤ n) × (n ≤ last_moment) }
+        ensures ended { result ≡ length (filter (is_owned_by owner) self.old.lasting.holdings.leases) }
         ensures after { persistent_of self.new.lasting ≡ lost owner n (persistent_of self.old.lasting) }
         ensures others { (self.new.marks ≡ self.old.marks) × (self.new.attached ≡ self.old.attached) }
         ensures places { (plant : List Actuator) → HasPlaces plant self.old → HasPlaces plant self.new }
     {
-        let ended = count_owned(&self.lasting.leases, owner);
+        let ended = self.lasting.holdings.owned(owner) as u64;
         if ended == 0 {
             return 0;
         }
@@ -247,47 +336,56 @@ impl Machine {
     }
 
     /// Takes a device's answer to a write down.
-    pub fn report(&mut self, point: PointId, version: u64, ok: bool, n: u64) -> Answer
-        requires can_run { (plant : List Actuator) × CanRun plant self.old × (point < length plant) }
+    pub fn report(&mut self, point: PointId, version: u64, ok: bool, n: u64) -> Done
+        requires can_act { (plant : List Actuator) × CanAct plant self.old × (point < length plant) }
         requires passed { IsPassed n (persistent_of self.old.lasting) }
-        requires moment { (self.old.lasting.moment ≤ n) × (n ≤ last_moment) }
-        ensures answer { (plant : List Actuator) (session : ℕ) → HasPlaces plant self.old → result ≡ (act plant session n (command.Report point version ok) (state_of self.old)).answer }
+        requires moment { (self.old.lasting.holdings.now ≤ n) × (n ≤ last_moment) }
+        ensures answer { (plant : List Actuator) (session : ℕ) → HasPlaces plant self.old → result.answer ≡ (act plant session n (command.Report point version ok) (state_of self.old)).answer }
         ensures state { (plant : List Actuator) (session : ℕ) → HasPlaces plant self.old → state_of self.new ≡ (act plant session n (command.Report point version ok) (state_of self.old)).state }
+        ensures changed { (plant : List Actuator) (session : ℕ) → HasPlaces plant self.old → result.changed ≡ changes plant session n (command.Report point version ok) (state_of self.old) }
         ensures places { (plant : List Actuator) → HasPlaces plant self.old → HasPlaces plant self.new }
     {
         let reported = self.marks.report(point, version, ok, n);
         if reported == Reported::Old {
-            return Answer::Noted { current: false };
+            return Done::unchanged(Answer::Noted { current: false });
         }
-        self.follow_up(point, reported == Reported::FirstFailure, n);
-        Answer::Noted { current: true }
+        Done {
+            changed: self.follow_up(point, reported == Reported::FirstFailure, n),
+            answer: Answer::Noted { current: true },
+        }
     }
 
     /// What follows for the lease in force on a point, whose device has failed to take its value, for the first time or again.
-    fn follow_up(&mut self, point: PointId, first: bool, n: u64)
-        requires can_run { (plant : List Actuator) × IsSoundPersistent plant (persistent_of self.old.lasting) × HasPlaces plant self.old }
+    /// The answer is whether it changed something.
+    pub fn follow_up(&mut self, point: PointId, first: bool, n: u64) -> bool
+        requires can_act { (plant : List Actuator) × CanAct plant self.old }
+        requires point { point < self.old.lasting.holdings.points }
         requires passed { IsPassed n (persistent_of self.old.lasting) }
-        requires moment { (self.old.lasting.moment ≤ n) × (n ≤ last_moment) }
+        requires moment { (self.old.lasting.holdings.now ≤ n) × (n ≤ last_moment) }
+        ensures changed { result ≡ (first && failure_changes n (in_force (persistent_of self.old.lasting).leases point) (persistent_of self.old.lasting)) }
         ensures after { persistent_of self.new.lasting ≡ (if first then faulted (in_force (persistent_of self.old.lasting).leases point) n (persistent_of self.old.lasting) else persistent_of self.old.lasting) }
         ensures others { (self.new.marks ≡ self.old.marks) × (self.new.attached ≡ self.old.attached) }
         ensures places { (plant : List Actuator) → HasPlaces plant self.old → HasPlaces plant self.new }
     {
-        let Some(lease) = in_force(&self.lasting.leases, point) else {
-            return;
+        let Some(lease) = self.lasting.in_force(point) else {
+            return false;
         };
         let happened = fault_of(lease, n);
         match on_fault(Some(lease.policy), first) {
-            Decision::EndAll => self.abort(happened, n),
+            Decision::EndAll => {
+                self.abort(happened, n);
+                true
+            }
             Decision::Tell => self.tell(happened, n),
-            Decision::Mark => {}
+            Decision::Mark => false,
         }
     }
 
     /// The owner is told of a fault, and all live leases of the transaction end.
     fn abort(&mut self, happened: Happening, n: u64)
-        requires can_run { (plant : List Actuator) × IsSoundPersistent plant (persistent_of self.old.lasting) × HasPlaces plant self.old }
+        requires can_act { (plant : List Actuator) × CanAct plant self.old }
         requires passed { IsPassed n (persistent_of self.old.lasting) }
-        requires moment { (self.old.lasting.moment ≤ n) × (n ≤ last_moment) }
+        requires moment { (self.old.lasting.holdings.now ≤ n) × (n ≤ last_moment) }
         requires fault { (point : ℕ) × (lease : Lease) × (in_force (persistent_of self.old.lasting).leases point ≡ Some lease) × (happened ≡ fault n lease) }
         ensures after { persistent_of self.new.lasting ≡ end_leases (is_of happened.txn) cause.Fault n (happened ∷ []) (persistent_of self.old.lasting) }
         ensures others { (self.new.marks ≡ self.old.marks) × (self.new.attached ≡ self.old.attached) }
@@ -306,15 +404,20 @@ impl Machine {
         );
     }
 
-    /// The owner is told of a fault.
-    fn tell(&mut self, happened: Happening, n: u64)
+    /// The owner is told of a fault. The answer is whether that changed something: its notices may have come to their last number.
+    fn tell(&mut self, happened: Happening, n: u64) -> bool
         requires owner { happened.owner < length self.old.lasting.processes }
+        requires moment { self.old.lasting.holdings.now ≤ n }
+        ensures changed { result ≡ (not (self.old.lasting.holdings.now == n) || may_be_told self.old.lasting.processes happened.owner) }
         ensures after { persistent_of self.new.lasting ≡ record (persistent_of self.old.lasting) { now = n; processes = tell self.old.lasting.processes happened } }
         ensures others { (self.new.marks ≡ self.old.marks) × (self.new.attached ≡ self.old.attached) }
         ensures places { (plant : List Actuator) → HasPlaces plant self.old → HasPlaces plant self.new }
     {
+        let changed = self.lasting.holdings.now() != n
+            || self.lasting.processes.may_be_told(happened.owner);
         self.lasting.processes.tell(&happened);
-        self.lasting.moment = n;
+        self.lasting.holdings.reach(n);
+        changed
     }
 
     /// Tells the value that a point is to have.
@@ -323,29 +426,24 @@ impl Machine {
         requires point { point < length plant.now }
         ensures { (session n : ℕ) → result ≡ (act plant.now session n (command.Read point) (state_of self.now)).answer }
     {
-        let leases = &self.lasting.leases;
-        let pending = &self.lasting.pending;
+        let holdings = &self.lasting.holdings;
         Answer::Reading {
             point,
-            value: target_of(plant, leases, pending, self.lasting.moment, point),
-            basis: basis_of(leases, pending, point),
+            value: target_of(plant, holdings, point),
+            basis: basis_of(holdings, point),
             mark: self.marks.mark(point),
         }
     }
 
     /// Tells the sixteen slots of a point.
     pub fn array(&self, point: PointId) -> Answer
-        requires { AllByRecursion IsPlayable self.now.lasting.pending.items }
+        requires point { point < self.now.lasting.holdings.points }
+        requires pending { AllByRecursion IsPlayable self.now.lasting.holdings.pending }
         ensures { (plant : List Actuator) (session n : ℕ) → result ≡ (act plant session n (command.Array point) (state_of self.now)).answer }
     {
         Answer::Array {
             point,
-            slots: slots_of(
-                &self.lasting.leases,
-                &self.lasting.pending,
-                self.lasting.moment,
-                point,
-            ),
+            slots: slots_of(&self.lasting.holdings, point),
         }
     }
 
@@ -372,13 +470,6 @@ impl Machine {
             _ => unreachable!(),
         }
     }
-}
-
-/// How many leases the process has.
-fn count_owned(leases: &[Lease], owner: ProcId) -> u64
-    ensures { result ≡ length (filter (is_owned_by owner) leases.now) }
-{
-    leases.iter().filter(|lease| lease.owner == owner).count() as u64
 }
 
 /// A device did not take the lease's value.

@@ -1,15 +1,24 @@
-ghost use Rattle.std.specs.Prelude.{◌≡◌, ◌≤◌, length, IfOk, OnErr};
+ghost use Rattle.std.specs.Prelude.{◌≡◌, ◌≤◌, ◌&&◌, not, length, map, min, is_some, IfOk, OnOk, OnErr};
+ghost use Rattle.std.specs.Option.{option_map_or};
+ghost use Rattle.boss_model.specs.Acts.{replay};
 ghost use Rattle.boss_model.specs.Catalogue.{actuators};
 ghost use Rattle.boss_model.specs.Devices.{wanting};
+ghost use Rattle.boss_model.specs.Effects.{step_effect};
 ghost use Rattle.boss_model.specs.Limits.{last_moment, most_points};
 ghost use Rattle.boss_model.specs.Machine.{step};
-ghost use Rattle.boss_model.specs.Settle.{first_state};
+ghost use Rattle.boss_model.specs.Order.{least};
+ghost use Rattle.boss_model.specs.Processes.{process_named};
+ghost use Rattle.boss_model.specs.Settle.{first_state, opened};
 ghost use Rattle.boss_model.specs.Sound.{IsAllowed, IsSound};
 ghost use Rattle.boss_points.specs.Seen.{seen};
+ghost use Rattle.boss_spelled.specs.Ranges.{IsSpelled};
+ghost use Rattle.boss_engine.specs.Again.{TakesOn};
 ghost use Rattle.boss_engine.specs.Ready.{MayNeedMemory};
 
 use crate::machine::Machine;
-use boss_model::{Actuator, Answer, Command, DriverId, NoMemory, PointId, SessionId};
+use boss_model::{
+    Actuator, Answer, Command, DriverId, Effect, Event, Name, NoMemory, PointId, SessionId,
+};
 use boss_points::{Catalogue, Point};
 use std::alloc::Global;
 use std::marker::Model;
@@ -22,6 +31,9 @@ use std::marker::Model;
 pub struct Engine {
     plant: Vec<Actuator>,
     machine: Machine,
+    /// Whether the points are open. An event that is done again closes them; then the marks and the attached sessions count for
+    /// nothing until the points are opened.
+    is_open: bool,
 }
 
 impl Model for Engine {
@@ -54,14 +66,50 @@ impl Engine {
         ensures { IfOk result (λ engine. engine ≡ record { plant = plant.items; state = first_state plant.items }) }
     {
         let machine = Machine::first(alloc, &plant)?;
-        Ok(Engine { plant, machine })
+        Ok(Engine {
+            plant,
+            machine,
+            is_open: true,
+        })
     }
 
     /// The least driver that has a want.
     pub fn wanting(&self) -> Option<DriverId>
         ensures { result ≡ wanting self.now.plant self.now.state }
     {
-        self.machine.marks.wanting()
+        if self.is_open {
+            self.machine.marks.wanting()
+        } else {
+            first_driver(&self.plant)
+        }
+    }
+
+    /// The moment of the last change, in milliseconds.
+    pub fn now(&self) -> u64
+        ensures { result ≡ self.now.state.persistent.now }
+    {
+        self.machine.lasting.holdings.now()
+    }
+
+    /// How many leases are live.
+    pub fn leases(&self) -> u64
+        ensures { result ≡ length self.now.state.persistent.leases }
+    {
+        self.machine.lasting.holdings.leases() as u64
+    }
+
+    /// How many reversions are under way.
+    pub fn pending(&self) -> u64
+        ensures { result ≡ length self.now.state.persistent.pending }
+    {
+        self.machine.lasting.holdings.pending() as u64
+    }
+
+    /// Whether a process of this name is known. It takes no memory.
+    pub fn knows(&self, name: &Name) -> bool
+        ensures { result ≡ is_some (process_named self.now.state.persistent.processes name.now) }
+    {
+        self.machine.lasting.processes.named(name).is_some()
     }
 
     /// Carries a session's command out: time passes up to `moment`, in milliseconds, or to the engine's last moment
@@ -75,18 +123,81 @@ impl Engine {
         session: SessionId,
         command: &Command,
         moment: u64,
-    ) -> Result<Answer, NoMemory>
+    ) -> Result<(Answer, Effect), NoMemory>
         requires moment { moment ≤ last_moment }
         requires allowed { IsAllowed self.old.plant command.now }
 
-        ensures answer { IfOk result (λ answer. answer ≡ (step self.old.plant session command.now moment self.old.state).answer) }
+        ensures answer { IfOk result (λ told. told.0 ≡ (step self.old.plant session command.now moment self.old.state).answer) }
+        ensures effect { IfOk result (λ told. told.1 ≡ step_effect self.old.plant session command.now moment self.old.state) }
         ensures state { IfOk result (λ _. self.new.state ≡ (step self.old.plant session command.now moment self.old.state).state) }
         ensures sound { IsSound self.new.plant self.new.state }
         ensures plant { self.new.plant ≡ self.old.plant }
         ensures err { OnErr result (self.new ≡ self.old) }
         ensures memory { OnErr result (MayNeedMemory self.old.plant session command.now self.old.state) }
     {
+        self.machine.open_unless(self.is_open, &self.plant);
+        self.is_open = true;
         self.machine.step(&self.plant, session, command, moment)
+    }
+
+    /// Does an event again, wherever it comes from: time passes up to its moment, or to the engine's last moment where that is
+    /// later, and its act is done. The answer is whether the event is effective: its process and its points are known, its act is
+    /// not refused and was not made before, and something that outlasts a stop changes. If it is not, nothing has changed. If it
+    /// is, the state is the one that the points open to: nobody is attached, and every point wants its target anew.
+    ///
+    /// No memory is to be had only for a submit or the enrolment of a new name. Then nothing has changed.
+    pub fn replay(&mut self, event: &Event) -> Result<bool, NoMemory>
+        requires { IsSpelled event.now }
+
+        ensures effective { IfOk result (λ done. done ≡ is_some (replay self.old.plant event.now self.old.state.persistent)) }
+        ensures state { OnOk result (self.new.state ≡ option_map_or (opened self.old.plant) (replay self.old.plant event.now self.old.state.persistent) self.old.state) }
+        ensures sound { IsSound self.new.plant self.new.state }
+        ensures plant { self.new.plant ≡ self.old.plant }
+        ensures err { OnErr result (self.new ≡ self.old) }
+        ensures memory { OnErr result (TakesOn event.now.act) }
+    {
+        let effective = self.machine.replay(&self.plant, event)?;
+        self.is_open = stays_open(self.is_open, effective);
+        Ok(effective)
+    }
+
+    /// Every point wants its target anew, as version 1, and nobody is attached any more. After events were done again this is
+    /// what the next step would begin with. It takes no memory.
+    pub fn open_points(&mut self)
+        ensures state { self.new.state ≡ opened self.old.plant self.old.state.persistent }
+        ensures sound { IsSound self.new.plant self.new.state }
+        ensures plant { self.new.plant ≡ self.old.plant }
+    {
+        self.machine.open_points(&self.plant);
+        self.is_open = true;
+    }
+}
+
+/// Whether points that were open, or not, are so still after an event that was effective, or not.
+fn stays_open(is_open: bool, effective: bool) -> bool
+    ensures { result ≡ (is_open && not effective) }
+{
+    is_open && !effective
+}
+
+/// The least driver of the points.
+fn first_driver(plant: &[Actuator]) -> Option<DriverId>
+    ensures { result ≡ least (λ driver. driver) (map (λ actuator. actuator.driver) plant.now) }
+{
+    let mut first = None;
+    for actuator in plant {
+        first = Some(earlier(first, actuator.driver));
+    }
+    first
+}
+
+/// The first driver so far, or a further one where it comes before.
+fn earlier(first: Option<DriverId>, driver: DriverId) -> DriverId
+    ensures { result ≡ option_map_or (λ before. min before driver) first driver }
+{
+    match first {
+        Some(before) => before.min(driver),
+        None => driver,
     }
 }
 

@@ -1,43 +1,54 @@
-ghost use Rattle.std.specs.Prelude.{◌≡◌, ℕ, false, List, ◌≤◌, ◌<◌, ◌+◌, ◌*◌, length, map, vec_len, vec_capacity, IfOk};
+ghost use Rattle.std.specs.Prelude.{◌≡◌, ℕ, ◌++◌, ◌==◌, ◌&&◌, false, [], List, ◌≤◌, ◌<◌, ◌+◌, ◌*◌, find, fold, length, map, filter, flat_map, not, vec_capacity, IfOk};
+ghost use Rattle.std.specs.Option.{option_copied};
+ghost use Rattle.std.specs.List.{AllByRecursion};
+ghost use Rattle.std.specs.List.Sorted.{IsPermutation};
 ghost use Rattle.boss_model.specs.declared.command.Policy.{Policy};
 ghost use Rattle.boss_model.specs.declared.command.Setting.{Setting};
-ghost use Rattle.boss_model.specs.Ends.{end_leases};
+ghost use Rattle.boss_model.specs.Ends.{end_leases, shortened_if};
 ghost use Rattle.boss_model.specs.Happenings.{Happening};
 ghost use Rattle.boss_model.specs.Limits.{last_moment, last_number, most_points};
+ghost use Rattle.boss_model.specs.Reversions.{courses};
 ghost use Rattle.boss_model.specs.Sound.{is_superseded};
 ghost use Rattle.boss_model.specs.State.{first_persistent};
 ghost use Rattle.boss_model.specs.Submit.{submitted};
-ghost use Rattle.boss_model.specs.Time.{tick_to};
-ghost use Rattle.boss_books.specs.Gathered.{plain};
-ghost use Rattle.boss_engine.specs.Lasting.{IsKept, IsSomeSubmit, IsSoundOfSome, IsSubmit, persistent_of, most_tellings};
+ghost use Rattle.boss_model.specs.Target.{in_force, playing};
+ghost use Rattle.boss_model.specs.Time.{live, tick_to, under_way};
+ghost use Rattle.boss_books.specs.Gathered.{end_tellings, plain};
 ghost use Rattle.boss_books.specs.Passed.{IsFirstTold, IsPassed};
+ghost use Rattle.boss_effects.specs.Early.{slot_lease};
+ghost use Rattle.boss_holdings.specs.Held.{AreApart};
+ghost use Rattle.boss_engine.specs.Lasting.{IsKept, IsSomeSubmit, IsSoundOfSome, IsSubmit, persistent_of};
 ghost use Rattle.boss_engine.specs.Meant.{is_meant};
 
 use crate::booking::book_all;
 use crate::processes::Processes;
-use crate::slots::{Which, cut_slots, end_some, pass_on, take_slots};
-use crate::telling::{gather_due, gather_ends, gather_replaced, last_due};
 use boss_books::Telling;
-use boss_model::{Cause, Lease, NoMemory, Pending, Txn};
+use boss_holdings::Holdings;
+use boss_model::{Cause, Lease, MOST_WRITES, NoMemory, Pending, PointId, Priority, ProcId, Txn};
+use boss_slots::Place;
 use boss_stages::{Stages, Transaction};
 use std::alloc::Global;
 
-/// The slots of a point.
-const LEVELS: usize = 16;
-
-/// What outlasts a stop: leases and reversions as plain lists, the records of transactions, and the processes.
+/// What outlasts a stop: leases and reversions, the records of transactions, and the processes.
 #[derive(Drop)]
 pub struct Lasting {
-    /// The moment of the last change, in milliseconds.
-    pub moment: u64,
     /// The number of the next transaction.
     pub next_txn: u64,
-    /// In the order of slots.
-    pub leases: Vec<Lease>,
-    /// In the order of slots.
-    pub pending: Vec<Pending>,
+    /// Leases and reversions, and the moment of the last change.
+    pub holdings: Holdings,
     pub stages: Stages,
     pub processes: Processes,
+    /// Room for the slots of one transaction, which are filled in where a command is about them.
+    pub slots: Vec<Place>,
+}
+
+/// Which leases are to end before their time.
+#[derive(Clone, Copy)]
+pub enum Which {
+    /// All those of a transaction.
+    OfTransaction(Txn),
+    /// All those of the transactions that a process submitted.
+    OfProcess(ProcId),
 }
 
 impl Lasting {
@@ -46,62 +57,117 @@ impl Lasting {
         requires { points ≤ most_points }
         ensures first { IfOk result (λ lasting. persistent_of lasting ≡ first_persistent) }
         ensures kept { IfOk result IsKept }
+        ensures points { IfOk result (λ lasting. lasting.holdings.points ≡ points) }
     {
-        let slots = points as usize * LEVELS;
         Ok(Lasting {
-            moment: 0,
             next_txn: 1,
-            leases: Vec::with_capacity(alloc, slots)?,
-            pending: Vec::with_capacity(alloc, slots)?,
+            holdings: Holdings::first(alloc, points)?,
             stages: Stages::new(alloc, points)?,
             processes: Processes::new(alloc)?,
+            slots: Vec::with_capacity(alloc, MOST_WRITES)?,
         })
+    }
+
+    /// The lease in force on a point, if there is one.
+    pub fn in_force(&self, point: PointId) -> Option<&Lease>
+        requires { point < self.now.holdings.points }
+        ensures { option_copied result ≡ in_force (persistent_of self.now).leases point }
+    {
+        self.holdings.in_force(point)
+    }
+
+    /// The reversion that counts on a point that has no lease, if there is one.
+    pub fn playing(&self, point: PointId) -> Option<&Pending>
+        requires { point < self.now.holdings.points }
+        ensures { option_copied result ≡ playing (persistent_of self.now).pending point }
+    {
+        self.holdings.playing(point)
+    }
+
+    /// The lease in a slot, if there is one.
+    pub fn lease_at(&self, point: PointId, priority: Priority) -> Option<&Lease>
+        requires point { point < self.now.holdings.points }
+        requires level { (1 ≤ priority) × (priority ≤ 16) }
+        ensures { option_copied result ≡ slot_lease (persistent_of self.now).leases point priority }
+    {
+        self.holdings.lease_at(point, priority)
+    }
+
+    /// The reversion in a slot, if there is one.
+    pub fn pending_at(&self, point: PointId, priority: Priority) -> Option<&Pending>
+        requires point { point < self.now.holdings.points }
+        requires level { (1 ≤ priority) × (priority ≤ 16) }
+        ensures { option_copied result ≡ find (λ reversion. (reversion.point == point) && (reversion.priority == priority)) (persistent_of self.now).pending }
+    {
+        self.holdings.pending_at(point, priority)
     }
 
     /// Lets time pass up to `n`: leases and reversions end at their moments, and their owners are told. What is told is
     /// gathered in `told`. It takes no memory.
     pub fn tick(&mut self, n: u64, told: &mut Vec<Telling>)
-        requires sound { IsSoundOfSome (persistent_of self.old) }
+        requires sound { IsSoundOfSome self.old }
         requires moment { ((persistent_of self.old).now ≤ n) × (n ≤ last_moment) }
         requires kept { IsKept self.old }
-        requires told { most_tellings self.old ≤ vec_capacity told.old }
+        requires told { 32 * self.old.holdings.points < vec_capacity told.old }
         ensures after { persistent_of self.new ≡ tick_to n (persistent_of self.old) }
         ensures kept { IsKept self.new }
-        ensures leases { vec_capacity self.new.leases ≡ vec_capacity self.old.leases }
-        ensures pending { vec_capacity self.new.pending ≡ vec_capacity self.old.pending }
+        ensures points { self.new.holdings.points ≡ self.old.holdings.points }
         ensures stages { self.new.stages.room ≡ self.old.stages.room }
         ensures told { vec_capacity told.new ≡ vec_capacity told.old }
     {
-        let last = last_due(&self.leases, &self.pending, self.moment, n);
-        if last == self.moment {
-            return;
-        }
-        gather_due(&self.leases, &self.pending, n, told);
-        pass_on(&mut self.leases, &mut self.pending, n);
+        let most = 2 * self.holdings.leases() as usize + self.holdings.pending() as usize;
+        prove!(most <= told.capacity());
+        self.holdings.tick(n, told);
         book_all(&mut self.stages, &mut self.processes, told);
-        self.moment = last;
     }
 
     /// The leases concerned end at moment `n`, and start their reversions. `told` has what is told beside that. It takes no
     /// memory.
     pub fn end_leases(&mut self, which: &Which, cause: &Cause, n: u64, told: &mut Vec<Telling>)
-        requires sound { IsSoundOfSome (persistent_of self.old) }
+        requires sound { IsSoundOfSome self.old }
         requires passed { IsPassed n (persistent_of self.old) }
         requires moment { n ≤ last_moment }
         requires cause { is_superseded cause.now ≡ false }
         requires kept { IsKept self.old }
         requires first { (first : List Happening) × (told.old.items ≡ map plain first) × IsFirstTold cause.now n (persistent_of self.old) first }
-        requires told { most_tellings self.old ≤ vec_capacity told.old }
+        requires told { 32 * self.old.holdings.points < vec_capacity told.old }
         ensures after { (first : List Happening) → told.old.items ≡ map plain first →
             persistent_of self.new ≡ end_leases (is_meant which.now) cause.now n first (persistent_of self.old) }
         ensures kept { IsKept self.new }
-        ensures few { most_tellings self.new ≤ most_tellings self.old }
+        ensures points { self.new.holdings.points ≡ self.old.holdings.points }
         ensures told { vec_capacity told.new ≡ vec_capacity told.old }
     {
-        gather_ends(&self.leases, which, cause, n, told);
-        end_some(&mut self.leases, &mut self.pending, n, *which);
+        let live = self.holdings.leases() as usize;
+        prove!(told.len() + live <= told.capacity());
+        self.end_held(which, cause, n, told);
         book_all(&mut self.stages, &mut self.processes, told);
-        self.moment = n;
+    }
+
+    /// The same of the leases alone: what is told of it comes to `told`, in no order, and nothing of it is noted yet.
+    fn end_held(&mut self, which: &Which, cause: &Cause, n: u64, told: &mut Vec<Telling>)
+        requires sound { IsSoundOfSome self.old }
+        requires passed { IsPassed n (persistent_of self.old) }
+        requires moment { n ≤ last_moment }
+        requires kept { IsKept self.old }
+        requires told { length told.old.items + length self.old.holdings.leases ≤ vec_capacity told.old }
+        ensures leases { self.new.holdings.leases ≡ live n (map (shortened_if (is_meant which.now) n) self.old.holdings.leases) }
+        ensures pending { self.new.holdings.pending ≡ under_way n (courses self.old.holdings.pending (map (shortened_if (is_meant which.now) n) self.old.holdings.leases)) }
+        ensures now { self.new.holdings.now ≡ n }
+        ensures points { self.new.holdings.points ≡ self.old.holdings.points }
+        ensures told { IsPermutation (told.old.items ++ end_tellings (is_meant which.now) cause.now n self.old.holdings.leases) told.new.items }
+        ensures next { self.new.next_txn ≡ self.old.next_txn }
+        ensures stages { self.new.stages ≡ self.old.stages }
+        ensures processes { self.new.processes ≡ self.old.processes }
+        ensures slots { vec_capacity self.new.slots ≡ vec_capacity self.old.slots }
+        ensures capacity { vec_capacity told.new ≡ vec_capacity told.old }
+    {
+        match *which {
+            Which::OfTransaction(txn) => {
+                self.fill_slots(txn, &[]);
+                self.holdings.end_at(&self.slots, cause, n, told);
+            }
+            Which::OfProcess(owner) => self.holdings.end_owned(owner, cause, n, told),
+        }
     }
 
     /// The leases of a new transaction take their slots at moment `n`. It takes no memory.
@@ -112,28 +178,28 @@ impl Lasting {
         n: u64,
         told: &mut Vec<Telling>,
     )
-        requires sound { IsSoundOfSome (persistent_of self.old) }
+        requires sound { IsSoundOfSome self.old }
+        requires moment { (persistent_of self.old).now ≤ n }
         requires submit { IsSomeSubmit n transaction new.items (persistent_of self.old) }
+        requires slots { AllByRecursion (λ lease. (lease.point < self.old.holdings.points) × (1 ≤ lease.priority) × (lease.priority ≤ 16)) new.items }
+        requires apart { AreApart new.items }
         requires next { self.old.next_txn < last_number }
         requires kept { IsKept self.old }
-        requires leases { vec_len self.old.leases + vec_len new ≤ vec_capacity self.old.leases }
-        requires pending { vec_len self.old.leases + vec_len self.old.pending + vec_len new ≤ vec_capacity self.old.pending }
         requires stages { length self.old.stages.kept < self.old.stages.room }
-        requires told { most_tellings self.old ≤ vec_capacity told.old }
+        requires told { 32 * self.old.holdings.points < vec_capacity told.old }
         ensures after { (owner : ℕ) (policy : Policy) (writes : List Setting) →
             IsSubmit n transaction new.items (persistent_of self.old) owner policy writes →
             persistent_of self.new ≡ submitted owner policy writes n (persistent_of self.old) }
         ensures kept { IsKept self.new }
-        ensures few { most_tellings self.new ≤ most_tellings self.old + 2 * vec_len new }
+        ensures points { self.new.holdings.points ≡ self.old.holdings.points }
         ensures told { vec_capacity told.new ≡ vec_capacity told.old }
     {
+        let most = self.holdings.leases() as usize + self.holdings.pending() as usize;
+        prove!(most <= told.capacity());
         let by = Txn(self.next_txn);
-        gather_replaced(&self.leases, &self.pending, &new, by, n, told);
         self.stages.add(transaction);
-        cut_slots(&mut self.pending, &new);
-        take_slots(&mut self.leases, new);
+        self.holdings.take(new, by, n, told);
         book_all(&mut self.stages, &mut self.processes, told);
         self.next_txn += 1;
-        self.moment = n;
     }
 }

@@ -5,20 +5,23 @@
 mod attached;
 mod booking;
 mod commands;
+mod done;
+mod early;
+mod effects;
 mod engine;
 mod lasting;
 mod machine;
+mod meaning;
 mod preparing;
 mod processes;
 mod queries;
 mod ready;
 mod refusals;
 mod renewing;
+mod reopening;
+mod replaying;
 mod replies;
-mod reversions;
 mod settling;
-mod slots;
 mod target;
-mod telling;
 
 pub use engine::Engine;

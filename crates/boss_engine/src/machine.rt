@@ -1,8 +1,10 @@
 ghost use Rattle.std.specs.Prelude.{◌≡◌, ◌≤◌, length, map, IfOk, OnOk, OnErr};
+ghost use Rattle.boss_model.specs.Effects.{step_effect};
 ghost use Rattle.boss_model.specs.Limits.{last_moment, most_points};
 ghost use Rattle.boss_model.specs.Machine.{act, pass_time, step};
 ghost use Rattle.boss_model.specs.Sound.{IsAllowed, IsSound};
 ghost use Rattle.boss_model.specs.Settle.{first_state};
+ghost use Rattle.boss_effects.specs.Changes.{changes};
 ghost use Rattle.boss_engine.specs.declared.ready.Ready.{Ready};
 ghost use Rattle.boss_engine.specs.Inside.{CanRun, HasPlaces, state_of};
 ghost use Rattle.boss_engine.specs.Lasting.{persistent_of};
@@ -10,19 +12,23 @@ ghost use Rattle.boss_books.specs.Passed.{IsPassed};
 ghost use Rattle.boss_engine.specs.Ready.{HasRoomFor, IsReadyFor, MayNeedMemory};
 
 use crate::attached::Attachment;
+use crate::done::Done;
+use crate::effects::effect_of;
 use crate::lasting::Lasting;
 use crate::queries::status;
 use crate::ready::Ready;
 use crate::settling::settle;
 use boss_books::Telling;
 use boss_marks::Marks;
-use boss_model::{Actuator, Answer, Command, DriverId, Items, MOST_PROCESSES, NoMemory, SessionId};
+use boss_model::{
+    Actuator, Answer, Command, DriverId, Effect, Items, MOST_PROCESSES, NoMemory, SessionId,
+};
 use std::alloc::Global;
 
 /// The most that one step tells of a point's slots: of each that a lease ended, and that its reversion did.
 const TOLD_OF_A_POINT: usize = 32;
 
-/// The rows of the machine, as plain lists.
+/// What the machine keeps.
 #[derive(Drop)]
 pub struct Machine {
     pub alloc: Global,
@@ -57,27 +63,34 @@ impl Machine {
         session: SessionId,
         command: &Command,
         moment: u64,
-    ) -> Result<Answer, NoMemory>
+    ) -> Result<(Answer, Effect), NoMemory>
         requires moment { moment ≤ last_moment }
         requires allowed { IsAllowed plant.now command.now }
         requires ready { CanRun plant.now self.old }
-        ensures answer { IfOk result (λ answer. answer ≡ (step plant.now session command.now moment (state_of self.old)).answer) }
+        ensures answer { IfOk result (λ told. told.0 ≡ (step plant.now session command.now moment (state_of self.old)).answer) }
+        ensures effect { IfOk result (λ told. told.1 ≡ step_effect plant.now session command.now moment (state_of self.old)) }
         ensures state { OnOk result (state_of self.new ≡ (step plant.now session command.now moment (state_of self.old)).state) }
         ensures ready { CanRun plant.now self.new }
         ensures err { OnErr result (state_of self.new ≡ state_of self.old) }
         ensures memory { OnErr result (MayNeedMemory plant.now session command.now (state_of self.old)) }
     {
-        let n = self.lasting.moment.max(moment);
+        let before = self.lasting.holdings.now();
+        let n = before.max(moment);
         let ready = self.make_ready(plant, session, command, n)?;
         self.pass_time(plant, n);
-        let answer = self.act(plant, session, command, n, ready);
+        let passed = self.lasting.holdings.now();
+        let owner = self.concerned(session, command);
+        let done = self.act(plant, session, command, n, ready);
         settle(plant, &self.lasting, &mut self.marks);
-        Ok(answer)
+        Ok((
+            done.answer,
+            effect_of(done.changed, n, owner, before, passed),
+        ))
     }
 
     /// Lets time pass up to `n`, failed devices be tried again, and the points settle.
     fn pass_time(&mut self, plant: &[Actuator], n: u64)
-        requires moment { (self.old.lasting.moment ≤ n) × (n ≤ last_moment) }
+        requires moment { (self.old.lasting.holdings.now ≤ n) × (n ≤ last_moment) }
         requires ready { CanRun plant.now self.old }
         ensures state { state_of self.new ≡ pass_time plant.now n (state_of self.old) }
         ensures places { HasPlaces plant.now self.new }
@@ -96,14 +109,15 @@ impl Machine {
         command: &Command,
         n: u64,
         ready: Ready,
-    ) -> Answer
+    ) -> Done
         requires passed { IsPassed n (persistent_of self.old.lasting) }
-        requires moment { (self.old.lasting.moment ≤ n) × (n ≤ last_moment) }
+        requires moment { (self.old.lasting.holdings.now ≤ n) × (n ≤ last_moment) }
         requires allowed { IsAllowed plant.now command.now }
         requires can_run { CanRun plant.now self.old }
         requires ready { IsReadyFor plant.now session command.now n ready (state_of self.old) }
         requires room { HasRoomFor ready self.old }
-        ensures answer { result ≡ (act plant.now session n command.now (state_of self.old)).answer }
+        ensures answer { result.answer ≡ (act plant.now session n command.now (state_of self.old)).answer }
+        ensures changed { result.changed ≡ changes plant.now session n command.now (state_of self.old) }
         ensures state { state_of self.new ≡ (act plant.now session n command.now (state_of self.old)).state }
         ensures places { HasPlaces plant.now self.new }
     {
@@ -118,17 +132,33 @@ impl Machine {
             } => self.renew(session, *txn, *length, points.slice(), *seq, n),
             Command::Cancel { txn, seq } => self.cancel(session, *txn, *seq, n),
             Command::Gone => self.gone(session, n),
-            Command::Tick => Answer::Ticked {
-                now: self.lasting.moment,
+            Command::Tick => Done {
+                answer: Answer::Ticked {
+                    now: self.lasting.holdings.now(),
+                },
+                changed: false,
             },
-            Command::Next { driver } => self.next(*driver),
+            Command::Next { driver } => Done {
+                answer: self.next(*driver),
+                changed: false,
+            },
             Command::Report { point, version, ok } => self.report(*point, *version, *ok, n),
-            Command::Read { point } => self.read(plant, *point),
-            Command::Array { point } => self.array(*point),
-            Command::Status { txn } => status(&self.lasting, *txn),
-            Command::Notices { name, from, max } => {
-                self.notices(session, name, *from, *max, ready)
-            }
+            Command::Read { point } => Done {
+                answer: self.read(plant, *point),
+                changed: false,
+            },
+            Command::Array { point } => Done {
+                answer: self.array(*point),
+                changed: false,
+            },
+            Command::Status { txn } => Done {
+                answer: status(&self.lasting, *txn),
+                changed: false,
+            },
+            Command::Notices { name, from, max } => Done {
+                answer: self.notices(session, name, *from, *max, ready),
+                changed: false,
+            },
         }
     }
 }

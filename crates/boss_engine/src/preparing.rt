@@ -5,13 +5,13 @@ ghost use Rattle.boss_model.specs.Limits.{last_moment, most_told, most_writes};
 ghost use Rattle.boss_model.specs.Processes.{attach_refused, process_named, process_of};
 ghost use Rattle.boss_model.specs.Sound.{IsAllowed};
 ghost use Rattle.boss_model.specs.Submit.{begun, granted, lease_of};
-ghost use Rattle.boss_engine.specs.Inside.{CanRun, HasPlaces, HasPlacesFor, state_of};
-ghost use Rattle.boss_engine.specs.Lasting.{IsKept, persistent_of, most_tellings};
-ghost use Rattle.boss_engine.specs.Ready.{HasRoomFor, IsReadyFor, IsReadyToAttach, IsReadyToList, IsReadyToSubmit, MayList, MaySubmit, MayTakeOn, MayNeedMemory};
+ghost use Rattle.boss_engine.specs.Inside.{CanRun, HasPlaces, state_of};
+ghost use Rattle.boss_engine.specs.Lasting.{persistent_of};
+ghost use Rattle.boss_engine.specs.Again.{IsReadyToBegin};
+ghost use Rattle.boss_engine.specs.Ready.{CanTakeOn, HasRoomFor, IsReadyFor, IsReadyToAttach, IsReadyToList, IsReadyToSubmit, MayList, MaySubmit, MayTakeOn, MayNeedMemory};
 ghost use Rattle.boss_engine.specs.Writing.{IsWritable};
 
 use crate::attached::process_of;
-use crate::lasting::Lasting;
 use crate::machine::Machine;
 use crate::ready::Ready;
 use crate::refusals::{attach_refused, submit_refused};
@@ -65,6 +65,15 @@ impl Machine {
         if let Some(why) = attach_refused(&self.lasting, &self.attached, session, name) {
             return Ok(Ready::Refused(why));
         }
+        self.ready_entrant(name)
+    }
+
+    /// Makes the ring of a process of this name, unless there is one.
+    pub fn ready_entrant(&self, name: &Name) -> Result<Ready, NoMemory>
+        ensures ready { IfOk result (λ ready. CanTakeOn name.now ready (persistent_of self.now.lasting)) }
+        ensures room { IfOk result (λ ready. HasRoomFor ready self.now) }
+        ensures memory { OnErr result (MayTakeOn (process_named self.now.lasting.processes name.now)) }
+    {
         if self.lasting.processes.named(name).is_some() {
             return Ok(Ready::Nothing);
         }
@@ -99,33 +108,31 @@ impl Machine {
         if let Some(why) = submit_refused(plant, writes, &self.lasting) {
             return Ok(Ready::Refused(why));
         }
-        self.make_room(writes.len())?;
+        self.ready_transaction(owner, policy, writes, n)
+    }
+
+    /// Makes the record and the leases of a transaction that is not refused, and room for them.
+    pub fn ready_transaction(
+        &mut self,
+        owner: ProcId,
+        policy: Policy,
+        writes: &[Setting],
+        n: u64,
+    ) -> Result<Ready, NoMemory>
+        requires writes { AllByRecursion IsWritable writes.now }
+        requires moment { n ≤ last_moment }
+        ensures state { state_of self.new ≡ state_of self.old }
+        ensures places { (plant : List Actuator) → HasPlaces plant self.old → HasPlaces plant self.new }
+        ensures others { (self.new.marks ≡ self.old.marks) × (self.new.attached ≡ self.old.attached) }
+        ensures ready { IfOk result (λ ready. IsReadyToBegin owner policy writes.now n ready (persistent_of self.old.lasting)) }
+        ensures room { IfOk result (λ ready. HasRoomFor ready self.new) }
+    {
+        self.lasting.stages.reserve()?;
         let txn = Txn(self.lasting.next_txn);
         Ok(Ready::Submit {
             transaction: begun(self.alloc, owner, policy, txn, writes)?,
             leases: granted(self.alloc, owner, policy, txn, n, writes)?,
         })
-    }
-
-    /// Makes room for a transaction of so many writes.
-    fn make_room(&mut self, writes: usize) -> Result<(), NoMemory>
-        requires writes { writes ≤ most_writes }
-        requires rows { IsKept self.old.lasting }
-        requires told { most_tellings self.old.lasting ≤ vec_capacity self.old.told }
-        ensures state { state_of self.new ≡ state_of self.old }
-        ensures places { (plant : List Actuator) → HasPlaces plant self.old → HasPlaces plant self.new }
-        ensures room { OnOk result (HasPlacesFor writes self.new) }
-    {
-        let most = most_tellings(&self.lasting) + 2 * writes;
-        self.lasting
-            .pending
-            .reserve(self.lasting.leases.len() + writes)?;
-        self.lasting.leases.reserve(writes)?;
-        self.lasting.stages.reserve()?;
-        // What the last step told is handed out.
-        self.told.clear();
-        self.told.reserve(most)?;
-        Ok(())
     }
 
     /// Makes room for a list of notices.
@@ -145,14 +152,6 @@ impl Machine {
         }
         Ok(Ready::List(Vec::with_capacity(self.alloc, max as usize)?))
     }
-}
-
-/// The most that one step tells of these rows.
-fn most_tellings(lasting: &Lasting) -> usize
-    requires { most_tellings lasting.now < 2 ^ 63 }
-    ensures { result ≡ most_tellings lasting.now }
-{
-    2 * lasting.leases.len() + lasting.pending.len() + 1
 }
 
 /// The leases of these writes, at moment `n`.

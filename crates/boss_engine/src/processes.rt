@@ -1,17 +1,19 @@
 ghost use Rattle.std.specs.Prelude.{◌≡◌, ◌<◌, ◌≤◌, ◌+◌, [], ◌∷◌, ◌++◌, length, slice_get, unwrap_or, vec_capacity, IfOk, OnOk, OnErr, Some, None};
 ghost use Rattle.boss_model.specs.Happenings.{post, tell};
 ghost use Rattle.boss_model.specs.Limits.{most_processes};
-ghost use Rattle.boss_model.specs.Processes.{name_of, next_notice, process_named};
+ghost use Rattle.boss_model.specs.Processes.{name_of, next_notice, number_of, process_named};
 ghost use Rattle.boss_model.specs.Queries.{first_kept, numbered_from, start};
 ghost use Rattle.boss_notices.specs.Rings.{no_notices};
 ghost use Rattle.boss_model.specs.Replies.{answer_of, keep_reply, reply_of};
+ghost use Rattle.boss_effects.specs.Changes.{may_be_told};
 ghost use Rattle.boss_engine.specs.Processes.{process_at};
 ghost use Rattle.boss_engine.specs.Replying.{accepted, decided};
 
 use crate::replies::{answer_of, decided_by};
 use boss_books::Happening;
 use boss_model::{
-    Acceptance, Answer, KeptReply, MOST_PROCESSES, Name, NoMemory, Notice, ProcId, Txn, What,
+    Acceptance, Answer, KeptReply, LAST_NUMBER, MOST_PROCESSES, Name, NoMemory, Notice, ProcId,
+    Txn, What,
 };
 use boss_notices::{Ring, Rings};
 use std::alloc::Global;
@@ -74,6 +76,17 @@ impl Processes {
         None
     }
 
+    /// The place of the process of this name, which a new one would get.
+    pub fn number_of(&self, name: &Name) -> ProcId
+        requires { length self.now ≤ most_processes }
+        ensures { result ≡ number_of self.now (process_named self.now name.now) }
+    {
+        match self.named(name) {
+            Some(process) => process,
+            None => ProcId(self.count() as u16),
+        }
+    }
+
     /// The name of a process.
     pub fn name(&self, process: ProcId) -> Name
         requires { process < length self.now }
@@ -88,6 +101,14 @@ impl Processes {
         ensures { result ≡ next_notice self.now process }
     {
         self.rings.count(process) + 1
+    }
+
+    /// Whether a process may be told more: its notices are numbered up to 2^62.
+    pub fn may_be_told(&self, process: ProcId) -> bool
+        requires { process < length self.now }
+        ensures { result ≡ may_be_told self.now process }
+    {
+        self.rings.count(process) != LAST_NUMBER
     }
 
     /// Takes a process of this name on, which has been told nothing and answered nothing.

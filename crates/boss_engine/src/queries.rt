@@ -1,19 +1,20 @@
-ghost use Rattle.std.specs.Prelude.{◌≡◌, ◌==◌, ◌≤◌, ◌<◌, min, length, map, filter, Some, IfSome, vec_capacity};
-ghost use Rattle.std.specs.List.{AllByRecursion};
+ghost use Rattle.std.specs.Prelude.{◌≡◌, ℕ, ◌≤◌, ◌<◌, min, length, Some, IfSome, vec_capacity};
 ghost use Rattle.std.specs.Option.{option_map_or};
+ghost use Rattle.boss_model.specs.Lists.{member};
 ghost use Rattle.boss_model.specs.Queries.{notices, stage_of, status, status_of};
-ghost use Rattle.boss_model.specs.Renew.{is_meant};
+ghost use Rattle.boss_model.specs.Renew.{transaction_of};
 ghost use Rattle.boss_model.specs.Submit.{first_until};
-ghost use Rattle.boss_engine.specs.Lasting.{persistent_of};
+ghost use Rattle.boss_books.specs.Books.{reverts_on};
+ghost use Rattle.boss_engine.specs.Lasting.{IsKept, IsSoundOfSome, persistent_of};
 
 use crate::lasting::Lasting;
-use crate::renewing::is_meant;
-use boss_model::{Answer, Items, Lease, Notice, Pending, PointId, ProcId, Refusal, Stage, Txn};
+use boss_model::{Answer, Items, Lease, Notice, ProcId, Refusal, Stage, Txn};
 use boss_stages::Transaction;
 
 /// How far the transaction has come.
 pub fn status(lasting: &Lasting, txn: Txn) -> Answer
-    requires { AllByRecursion (λ transaction. transaction.owner < length (persistent_of lasting.now).processes) (persistent_of lasting.now).txns }
+    requires sound { IsSoundOfSome lasting.now }
+    requires kept { IsKept lasting.now }
     ensures { result ≡ status txn (persistent_of lasting.now) }
 {
     match lasting.stages.find(txn) {
@@ -22,38 +23,22 @@ pub fn status(lasting: &Lasting, txn: Txn) -> Answer
     }
 }
 
-/// The same of a transaction that is kept.
+/// The same of a transaction that is kept, which its record tells.
 fn status_of(lasting: &Lasting, transaction: &Transaction) -> Answer
-    requires { transaction.now.transaction.owner < length (persistent_of lasting.now).processes }
+    requires sound { IsSoundOfSome lasting.now }
+    requires found { transaction_of (persistent_of lasting.now).txns transaction.now.transaction.txn ≡ Some transaction.now.transaction }
+    requires reverting { (point : ℕ) → member point transaction.now.reverting ≡ reverts_on transaction.now.transaction.txn point (persistent_of lasting.now).pending }
     ensures { result ≡ status_of (Some transaction.now.transaction) (persistent_of lasting.now) }
 {
-    let txn = Txn(transaction.number());
-    let live = live_of(&lasting.leases, txn);
-    let pending = pending_of(&lasting.pending, txn);
+    let live = transaction.live_parts();
+    let pending = transaction.pending_parts();
     Answer::Status {
-        txn,
+        txn: Txn(transaction.number()),
         owner: lasting.processes.name(transaction.owner()),
         stage: stage_of(live, pending),
         live,
         pending,
     }
-}
-
-/// How many live leases the transaction has.
-fn live_of(leases: &[Lease], txn: Txn) -> u64
-    ensures { result ≡ length (filter (λ lease. lease.txn == txn) leases.now) }
-{
-    leases.iter().filter(|lease| lease.txn == txn).count() as u64
-}
-
-/// How many reversions under way the transaction has.
-fn pending_of(pending: &[Pending], txn: Txn) -> u64
-    ensures { result ≡ length (filter (λ reversion. reversion.txn == txn) pending.now) }
-{
-    pending
-        .iter()
-        .filter(|reversion| reversion.txn == txn)
-        .count() as u64
 }
 
 /// The stage of a transaction with this number of live leases and of reversions under way.
@@ -107,21 +92,8 @@ pub fn first_until(leases: &[Lease]) -> u64
     first.unwrap_or(0)
 }
 
-/// The same of those leases of a transaction that are on these points, or of all its leases where no point is named.
-pub fn first_until_of(leases: &[Lease], txn: Txn, points: &[PointId]) -> u64
-    ensures { result ≡ first_until (filter (is_meant txn points.now) leases.now) }
-{
-    let mut first = None;
-    for lease in leases {
-        if is_meant(lease, txn, points) {
-            first = Some(earlier(first, lease.until));
-        }
-    }
-    first.unwrap_or(0)
-}
-
 /// The first moment so far, or a further one where it is earlier.
-fn earlier(first: Option<u64>, until: u64) -> u64
+pub fn earlier(first: Option<u64>, until: u64) -> u64
     ensures { result ≡ option_map_or (λ moment. min moment until) first until }
 {
     match first {

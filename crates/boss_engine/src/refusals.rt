@@ -9,7 +9,7 @@ ghost use Rattle.boss_model.specs.Processes.{attach_refused, is_full, session_of
 ghost use Rattle.boss_model.specs.Renew.{named_parts, part_on, renew_refused, wrote};
 ghost use Rattle.boss_model.specs.Submit.{is_length, is_level, is_reversion, is_step, repeated, submit_refused};
 ghost use Rattle.boss_engine.specs.Refusals.{parts_refused};
-ghost use Rattle.boss_engine.specs.Lasting.{persistent_of};
+ghost use Rattle.boss_engine.specs.Lasting.{IsSoundOfSome, persistent_of};
 
 use crate::attached::{Attachment, process_of, session_of};
 use crate::lasting::Lasting;
@@ -123,7 +123,7 @@ fn first_bad_lease(writes: &[Setting]) -> Option<u32>
 }
 
 /// How long a lease may be, in milliseconds.
-fn is_length(length: i64) -> bool
+pub fn is_length(length: i64) -> bool
     ensures { result ≡ is_length length }
 {
     1 <= length && length <= LONGEST_LEASE
@@ -250,6 +250,7 @@ fn end_on(parts: &[Part], point: PointId) -> Option<End>
 
 /// Why a cancel by this process is refused, if it is.
 pub fn cancel_refused(lasting: &Lasting, owner: ProcId, txn: Txn) -> Option<Refusal>
+    requires sound { IsSoundOfSome lasting.now }
     ensures { result ≡ cancel_refused owner txn (persistent_of lasting.now) }
 {
     let Some(transaction) = lasting.stages.find(txn) else {
@@ -258,19 +259,12 @@ pub fn cancel_refused(lasting: &Lasting, owner: ProcId, txn: Txn) -> Option<Refu
     if transaction.owner() != owner {
         return Some(Refusal::NotYours);
     }
-    if has_lease(&lasting.leases, txn) {
+    if transaction.has_live() {
         return None;
     }
     Some(Refusal::Over {
         at: last_part_end(transaction.parts()),
     })
-}
-
-/// Whether the transaction has a lease.
-fn has_lease(leases: &[Lease], txn: Txn) -> bool
-    ensures { result ≡ list_any (is_of txn) leases.now }
-{
-    leases.iter().any(|lease| lease.txn == txn)
 }
 
 /// The last of the moments at which the transaction's leases ended; 0 where none did.
@@ -318,7 +312,7 @@ fn taken(attached: &[Attachment], process: ProcId) -> Option<Refusal>
 }
 
 /// There are as many processes as there may be.
-fn full(lasting: &Lasting) -> Option<Refusal>
+pub fn full(lasting: &Lasting) -> Option<Refusal>
     ensures { result ≡ (if is_full (persistent_of lasting.now).processes then Some Refusal.TooManyProcesses else None) }
 {
     if MOST_PROCESSES <= lasting.processes.count() {

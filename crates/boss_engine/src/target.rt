@@ -1,88 +1,38 @@
-ghost use Rattle.std.specs.Prelude.{◌≡◌, ◌<◌, ◌==◌, ◌&&◌, length, find, option_copied, unwrap_or, Some, None};
+ghost use Rattle.std.specs.Prelude.{◌≡◌, ◌≤◌, ◌<◌, ◌==◌, ◌&&◌, length, find, unwrap_or, None, Some};
 ghost use Rattle.std.specs.List.{AllByRecursion};
 ghost use Rattle.boss_model.specs.Catalogue.{default_of};
-ghost use Rattle.boss_model.specs.Order.{kept};
 ghost use Rattle.boss_model.specs.Queries.{playing_slot};
 ghost use Rattle.boss_model.specs.Reversions.{value_at};
 ghost use Rattle.boss_model.specs.Target.{basis_of, in_force, playing, value_of};
 ghost use Rattle.boss_books.specs.Playing.{IsPlayable};
 ghost use Rattle.boss_engine.specs.Slots.{slot_in, slots_in};
 
-use crate::reversions::{end_of, value_at};
-use boss_model::{Actuator, Basis, Lease, Pending, PointId, Priority, Slot, Slots};
+use boss_holdings::Holdings;
+use boss_model::{Actuator, Basis, Pending, PointId, Priority, Slot, Slots};
+use boss_reversion::{end_of, value_at};
 
-/// The lease in force on a point.
-pub fn in_force(leases: &[Lease], point: PointId) -> Option<&Lease>
-    ensures { option_copied result ≡ in_force leases.now point }
-{
-    let mut found = None;
-    for lease in leases {
-        if lease.point == point {
-            found = Some(stronger_lease(found, lease));
-        }
-    }
-    found
-}
-
-/// Of the lease found so far and a further one, the one that counts.
-fn stronger_lease<'a>(found: Option<&'a Lease>, lease: &'a Lease) -> &'a Lease
-    ensures { result.now ≡ kept (λ x. x.priority) (option_copied found.entry) lease.now }
-{
-    match found {
-        Some(first) if first.priority <= lease.priority => first,
-        _ => lease,
-    }
-}
-
-/// Of the reversions under way on a point the one that counts where there is no lease.
-pub fn playing(pending: &[Pending], point: PointId) -> Option<&Pending>
-    ensures { option_copied result ≡ playing pending.now point }
-{
-    let mut found = None;
-    for reversion in pending {
-        if reversion.point == point {
-            found = Some(stronger_reversion(found, reversion));
-        }
-    }
-    found
-}
-
-/// Of the reversion found so far and a further one, the one that counts.
-fn stronger_reversion<'a>(found: Option<&'a Pending>, reversion: &'a Pending) -> &'a Pending
-    ensures { result.now ≡ kept (λ x. x.priority) (option_copied found.entry) reversion.now }
-{
-    match found {
-        Some(first) if first.priority <= reversion.priority => first,
-        _ => reversion,
-    }
-}
-
-/// The value that a point is to have at a moment up to which nothing more is due.
-pub fn target_of(
-    plant: &[Actuator],
-    leases: &[Lease],
-    pending: &[Pending],
-    now: u64,
-    point: PointId,
-) -> i64
+/// The value that a point is to have at the moment of the last change.
+pub fn target_of(plant: &[Actuator], holdings: &Holdings, point: PointId) -> i64
     requires point { point < length plant.now }
-    requires pending { AllByRecursion IsPlayable pending.now }
-    ensures { result ≡ value_of (default_of plant.now point) now (in_force leases.now point) (playing pending.now point) }
+    requires held { point < holdings.now.points }
+    requires pending { AllByRecursion IsPlayable holdings.now.pending }
+    ensures { result ≡ value_of (default_of plant.now point) holdings.now.now (in_force holdings.now.leases point) (playing holdings.now.pending point) }
 {
     let default = plant[point.0 as usize].default;
-    match in_force(leases, point) {
+    match holdings.in_force(point) {
         Some(lease) => lease.value,
-        None => value_without_lease(pending, now, point, default),
+        None => value_without_lease(holdings, point, default),
     }
 }
 
 /// The value that a point without a lease is to have.
-fn value_without_lease(pending: &[Pending], now: u64, point: PointId, default: i64) -> i64
-    requires { AllByRecursion IsPlayable pending.now }
-    ensures { result ≡ value_of default now None (playing pending.now point) }
+fn value_without_lease(holdings: &Holdings, point: PointId, default: i64) -> i64
+    requires held { point < holdings.now.points }
+    requires pending { AllByRecursion IsPlayable holdings.now.pending }
+    ensures { result ≡ value_of default holdings.now.now None (playing holdings.now.pending point) }
 {
-    match playing(pending, point) {
-        Some(reversion) => value_or(reversion, now, default),
+    match holdings.playing(point) {
+        Some(reversion) => value_or(reversion, holdings.now(), default),
         None => default,
     }
 }
@@ -99,23 +49,25 @@ fn value_or(reversion: &Pending, now: u64, default: i64) -> i64
 }
 
 /// What that value rests on.
-pub fn basis_of(leases: &[Lease], pending: &[Pending], point: PointId) -> Basis
-    ensures { result ≡ basis_of (in_force leases.now point) (playing pending.now point) }
+pub fn basis_of(holdings: &Holdings, point: PointId) -> Basis
+    requires { point < holdings.now.points }
+    ensures { result ≡ basis_of (in_force holdings.now.leases point) (playing holdings.now.pending point) }
 {
-    match in_force(leases, point) {
+    match holdings.in_force(point) {
         Some(lease) => Basis::Lease {
             priority: lease.priority,
             txn: lease.txn,
         },
-        None => basis_without_lease(pending, point),
+        None => basis_without_lease(holdings, point),
     }
 }
 
 /// What the value of a point without a lease rests on.
-fn basis_without_lease(pending: &[Pending], point: PointId) -> Basis
-    ensures { result ≡ basis_of None (playing pending.now point) }
+fn basis_without_lease(holdings: &Holdings, point: PointId) -> Basis
+    requires { point < holdings.now.points }
+    ensures { result ≡ basis_of None (playing holdings.now.pending point) }
 {
-    match playing(pending, point) {
+    match holdings.playing(point) {
         Some(reversion) => Basis::Pending {
             priority: reversion.priority,
             txn: reversion.txn,
@@ -125,82 +77,43 @@ fn basis_without_lease(pending: &[Pending], point: PointId) -> Basis
 }
 
 /// The sixteen slots of a point.
-pub fn slots_of(leases: &[Lease], pending: &[Pending], now: u64, point: PointId) -> Slots
-    requires { AllByRecursion IsPlayable pending.now }
-    ensures { result.at ≡ slots_in leases.now pending.now now point }
+pub fn slots_of(holdings: &Holdings, point: PointId) -> Slots
+    requires held { point < holdings.now.points }
+    requires pending { AllByRecursion IsPlayable holdings.now.pending }
+    ensures { result.at ≡ slots_in holdings.now.leases holdings.now.pending holdings.now.now point }
 {
-    let at = std::array::from_fn(|place| slot_in(
-        leases,
-        pending,
-        now,
-        point,
-        Priority(place as u8 + 1),
-    ));
+    let at = std::array::from_fn(|place| slot_in(holdings, point, Priority(place as u8 + 1)));
     Slots { at }
 }
 
 /// A slot of a point.
-fn slot_in(
-    leases: &[Lease],
-    pending: &[Pending],
-    now: u64,
-    point: PointId,
-    priority: Priority,
-) -> Slot
-    requires { AllByRecursion IsPlayable pending.now }
-    ensures { result ≡ slot_in leases.now pending.now now point priority }
+fn slot_in(holdings: &Holdings, point: PointId, priority: Priority) -> Slot
+    requires held { point < holdings.now.points }
+    requires level { (1 ≤ priority) × (priority ≤ 16) }
+    requires pending { AllByRecursion IsPlayable holdings.now.pending }
+    ensures { result ≡ slot_in holdings.now.leases holdings.now.pending holdings.now.now point priority }
 {
-    match lease_at(leases, point, priority) {
+    match holdings.lease_at(point, priority) {
         Some(lease) => Slot::Lease {
             value: lease.value,
             txn: lease.txn,
             until: lease.until,
         },
-        None => slot_without_lease(pending, now, point, priority),
+        None => slot_without_lease(holdings, point, priority),
     }
 }
 
 /// A slot of a point that no lease holds.
-fn slot_without_lease(pending: &[Pending], now: u64, point: PointId, priority: Priority) -> Slot
-    requires { AllByRecursion IsPlayable pending.now }
-    ensures { result ≡ playing_slot now (find (λ reversion. (reversion.point == point) && (reversion.priority == priority)) pending.now) }
+fn slot_without_lease(holdings: &Holdings, point: PointId, priority: Priority) -> Slot
+    requires held { point < holdings.now.points }
+    requires level { (1 ≤ priority) × (priority ≤ 16) }
+    requires pending { AllByRecursion IsPlayable holdings.now.pending }
+    ensures { result ≡ playing_slot holdings.now.now (find (λ reversion. (reversion.point == point) && (reversion.priority == priority)) holdings.now.pending) }
 {
-    match reversion_at(pending, point, priority) {
-        Some(reversion) => playing_slot(reversion, now),
+    match holdings.pending_at(point, priority) {
+        Some(reversion) => playing_slot(reversion, holdings.now()),
         None => Slot::Empty,
     }
-}
-
-/// The lease that holds a slot.
-fn lease_at(leases: &[Lease], point: PointId, priority: Priority) -> Option<&Lease>
-    ensures { option_copied result ≡ find (λ lease. (lease.point == point) && (lease.priority == priority)) leases.now }
-{
-    leases
-        .iter()
-        .find(|lease| lease_holds(lease, point, priority))
-}
-
-/// Whether the lease holds the slot.
-pub fn lease_holds(lease: &Lease, point: PointId, priority: Priority) -> bool
-    ensures { result ≡ (lease.now.point == point) && (lease.now.priority == priority) }
-{
-    lease.point == point && lease.priority == priority
-}
-
-/// The reversion that keeps a slot.
-fn reversion_at(pending: &[Pending], point: PointId, priority: Priority) -> Option<&Pending>
-    ensures { option_copied result ≡ find (λ reversion. (reversion.point == point) && (reversion.priority == priority)) pending.now }
-{
-    pending
-        .iter()
-        .find(|reversion| reversion_keeps(reversion, point, priority))
-}
-
-/// Whether the reversion keeps the slot.
-fn reversion_keeps(reversion: &Pending, point: PointId, priority: Priority) -> bool
-    ensures { result ≡ (reversion.now.point == point) && (reversion.now.priority == priority) }
-{
-    reversion.point == point && reversion.priority == priority
 }
 
 /// The slot that a reversion under way keeps.

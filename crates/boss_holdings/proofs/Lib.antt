@@ -5,3 +5,5 @@ pub mod Ticked
 pub mod Orderly
 pub mod Taken
 pub mod Shown
+pub mod Counted
+pub mod Placed

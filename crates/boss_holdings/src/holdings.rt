@@ -7,7 +7,8 @@ ghost use Rattle.boss_model.specs.Limits.{last_moment, most_points};
 ghost use Rattle.boss_model.specs.Order.{in_order};
 ghost use Rattle.boss_model.specs.Renew.{extended_if};
 ghost use Rattle.boss_model.specs.Reversions.{courses, end_of};
-ghost use Rattle.boss_model.specs.State.{lease_slot};
+ghost use Rattle.boss_model.specs.Sound.{Rising};
+ghost use Rattle.boss_model.specs.State.{lease_slot, pending_slot};
 ghost use Rattle.boss_model.specs.Submit.{cut, is_taken, superseded};
 ghost use Rattle.boss_model.specs.Target.{in_force, playing};
 ghost use Rattle.boss_model.specs.Time.{live, under_way};
@@ -16,9 +17,12 @@ ghost use Rattle.boss_books.specs.Gathered.{end_tellings, lease_tellings, pendin
 ghost use Rattle.boss_books.specs.Playing.{IsEndable, IsPlayable};
 ghost use Rattle.boss_slots.specs.Flags.{IsNext};
 ghost use Rattle.boss_holdings.specs.Held.{AreApart, in_slots, is_touched, shown};
+ghost use Rattle.boss_holdings.specs.Putting.{IsUnderWay};
 
+use crate::counting::count_owned;
 use crate::ending::{end_owned, end_slots};
 use crate::passing::pass_to;
+use crate::putting::put_reversions;
 use crate::taking::{clear_slots, put_leases};
 use boss_books::Telling;
 use boss_model::{Cause, Lease, NoMemory, Pending, PointId, Priority, ProcId, Txn};
@@ -68,6 +72,36 @@ impl Holdings {
         let touched = Flags::new(alloc, points)?;
         Ok(Holdings {
             moment: 0,
+            tables,
+            touched,
+        })
+    }
+
+    /// What outlasted a stop, on so many points: the moment of the last change, in milliseconds, and leases and reversions in
+    /// the order of their slots, of which none has both. The reversions are under way. Nothing is touched. `NoMemory` where
+    /// there is no memory for sixteen leases and sixteen reversions a point.
+    pub fn put_back(
+        alloc: Global,
+        points: u32,
+        now: u64,
+        leases: Vec<Lease>,
+        pending: Vec<Pending>,
+    ) -> Result<Holdings, NoMemory>
+        requires points { points ≤ most_points }
+        requires lease_slots { Rising lease_slot leases.items }
+        requires pending_slots { Rising pending_slot pending.items }
+        requires slots { Rising pending_slot (courses pending.items leases.items) }
+        requires leases { AllByRecursion (λ lease. (lease.point < points) × (1 ≤ lease.priority) × (lease.priority ≤ 16)) leases.items }
+        requires pending { AllByRecursion (λ reversion. (reversion.point < points) × (1 ≤ reversion.priority) × (reversion.priority ≤ 16)) pending.items }
+        requires playing { AllByRecursion (IsUnderWay now) pending.items }
+        ensures { IfOk result (λ holdings. holdings ≡ record { now = now; points = points; leases = leases.items; pending = pending.items; touched = replicate points false }) }
+    {
+        let mut tables = empty_tables(alloc, points)?;
+        let touched = Flags::new(alloc, points)?;
+        put_leases(&mut tables, leases);
+        put_reversions(&mut tables, pending, now);
+        Ok(Holdings {
+            moment: now,
             tables,
             touched,
         })
@@ -236,6 +270,13 @@ impl Holdings {
         self.tables.live
     }
 
+    /// How many leases a process has. It looks into each slot once.
+    pub fn owned(&self, owner: ProcId) -> u32
+        ensures { result ≡ length (filter (is_owned_by owner) self.now.leases) }
+    {
+        count_owned(&self.tables, owner)
+    }
+
     /// How many reversions are under way.
     pub fn pending(&self) -> u32
         ensures { result ≡ length self.now.pending }
@@ -246,6 +287,7 @@ impl Holdings {
     /// The first touched point from `from` on.
     pub fn next_touched(&self, from: PointId) -> Option<PointId>
         ensures some { IfSome result (λ point. IsNext self.now.touched from point) }
+        ensures within { IfSome result (λ point. point < self.now.points) }
         ensures none { IfNone result ((point : ℕ) → from ≤ point → is_touched self.now point ≡ false) }
     {
         self.touched.next(from)

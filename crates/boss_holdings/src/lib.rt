@@ -1,9 +1,11 @@
 //! Leases and reversions by slot, seen as the two ordered lists of the definitions.
 #![tactic(auto)]
 
+mod counting;
 mod ending;
 mod holdings;
 mod passing;
+mod putting;
 mod taking;
 mod telling;
 

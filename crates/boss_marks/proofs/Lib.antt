@@ -1,6 +1,7 @@
-pub mod Members
-pub mod Links
+pub mod Early
 pub mod Firsts
 pub mod Least
-pub mod Wanting
+pub mod Links
+pub mod Members
 pub mod Rounds
+pub mod Wanting

@@ -5,6 +5,7 @@ use Rattle.std.specs.List.{enumerate_from, range_with_len}
 use Rattle.std.proofs.lemmas.Bool.{cases_Bool}
 use Rattle.std.proofs.lemmas.Grind.{common_steps}
 use Rattle.std.proofs.lemmas.List.{append_assoc, append-nil, take_more, drop_more, set_at, length-take-le, map_push, get_or_at}
+use Rattle.std.proofs.Math.Seq.{take-length, drop-length}
 use Rattle.std.proofs.lemmas.Option.{unwrap_or-slice_get}
 use Rattle.boss_model.specs.Devices.{proxy_of}
 use Rattle.boss_model.specs.Lists.{member, without}
@@ -160,3 +161,45 @@ module _ (test : ℕ × Proxy → Bool) (change : ℕ × Proxy → Proxy) where
       (proxy_at (changed_if test change (take count marks.proxies)) proxy back count (length-changed_if test change (take count marks.proxies) ∙ is))
       ∙ (turn_next count marks.drivers (take count marks.proxies) proxy back marks.wants is
       ∙ ap (λ done. with_proxies done back) (sym front)))
+
+  -- a point whose test fails has no turn
+  turned_below-stays : (count : ℕ) (marks : Marks) → count < length marks.proxies → test (count, proxy_of marks.proxies count) ≡ false →
+      turned_below (count + 1) marks ≡ turned_below count marks
+  unfolding turn_of
+  turned_below-stays count marks more fails =
+      let proxy = get_or marks.proxies count (fresh (pos 0)) in
+      let own : proxy_of marks.proxies count ≡ proxy = unwrap_or-slice_get marks.proxies count (fresh (pos 0)) in
+      let rest : drop count marks.proxies ≡ proxy ∷ drop (count + 1) marks.proxies = drop_more marks.proxies count (fresh (pos 0)) more in
+      let is : length (take count marks.proxies) ≡ count = length-take-le count marks.proxies (omega arith) in
+      let there : proxy_of (turned_below count marks).proxies count ≡ proxy =
+      ap (λ left. proxy_of (changed_if test change (take count marks.proxies) ++ left) count) rest
+      ∙ proxy_at (changed_if test change (take count marks.proxies)) proxy (drop (count + 1) marks.proxies) count (length-changed_if test change (take count marks.proxies) ∙ is) in
+      let idle : test (count, proxy) ≡ false = ap (λ p. test (count, p)) (sym own) ∙ fails in
+      sym (turned_below-more count marks more)
+      ∙ (turned-turn count proxy (turned_below count marks) there
+      ∙ ap (λ b. cond b (wanted count (change (count, proxy)) (turned_below count marks)) (turned_below count marks)) idle)
+
+  -- points whose tests fail are passed over
+  pub turned_below-skips : (from count : ℕ) (marks : Marks) → from + count ≤ length marks.proxies →
+      ((k : ℕ) → from ≤ k → k < from + count → test (k, proxy_of marks.proxies k) ≡ false) → turned_below (from + count) marks ≡ turned_below from marks
+  turned_below-skips from zero marks within fails = ap (λ k. turned_below k marks) (let same : from + zero ≡ from = omega arith in same)
+  turned_below-skips from (suc count) marks within fails =
+      let next : from + suc count ≡ from + count + 1 = omega arith in
+      ap (λ k. turned_below k marks) next
+      ∙ turned_below-stays (from + count) marks (omega arith) (fails (from + count) (omega arith) (omega arith))
+      ∙ turned_below-skips from count marks (omega arith) (λ k low high. fails k low (omega arith))
+
+  -- and after all points had their turn
+  pub turned_below-all : (marks : Marks) → turned_below (length marks.proxies) marks
+      ≡ record marks { proxies = changed_if test change marks.proxies; wants = wanted_anew (places test marks.proxies) marks.wants }
+  turned_below-all marks = rw (take-length marks.proxies, drop-length marks.proxies, append-nil) refl
+
+  -- where no test passes nothing changes
+  pub turned-none : (marks : Marks) → ((k : ℕ) → k < length marks.proxies → test (k, proxy_of marks.proxies k) ≡ false) →
+      record marks { proxies = changed_if test change marks.proxies; wants = wanted_anew (places test marks.proxies) marks.wants } ≡ marks
+  turned-none marks fails =
+      let all : 0 + length marks.proxies ≡ length marks.proxies = omega arith in
+      sym (turned_below-all marks)
+      ∙ ap (λ count. turned_below count marks) (sym all)
+      ∙ turned_below-skips 0 (length marks.proxies) marks (omega arith) (λ k low high. fails k (omega arith))
+      ∙ turned_below-none marks

@@ -1,10 +1,10 @@
-use Rattle.std.specs.Prelude.{ℕ, ◌==◌, ℤ, Bool, not, ◌&&◌, if◌then◌else◌, List, [], ◌∷◌, ◌++◌, map, length, Option, slice_set}
-use Rattle.std.specs.List.{range_with_len}
+use Rattle.std.specs.Prelude.{◌≡◌, ℕ, ◌==◌, ◌≤◌, ◌^◌, ℤ, Bool, true, not, ◌&&◌, if◌then◌else◌, List, [], ◌∷◌, ◌++◌, map, length, Option, slice_set}
+use Rattle.std.specs.List.{range_with_len, AllByRecursion}
 use Rattle.std.specs.Option.{option_map_or}
 use Rattle.std.specs.Ordering.{int_eq}
 use Rattle.boss_model.specs.Devices.{proxy_of}
 use Rattle.boss_model.specs.Lists.{member, without}
-use Rattle.boss_model.specs.Settle.{fresh, wanted_anew, places, changed_if, is_retried, retried}
+use Rattle.boss_model.specs.Settle.{fresh, wanted_anew, places, changed_if, is_failed, is_retried, retried}
 use Rattle.boss_model.specs.declared.state.Proxy.{Proxy}
 use Rattle.boss_marks.specs.declared.proxy.Reported.{Reported}
 use Rattle.boss_marks.specs.declared.proxy.Reported.TheVariants as reported
@@ -81,3 +81,13 @@ retried_all n marks = record marks {
   proxies = changed_if (is_retried n) retried marks.proxies;
   wants = wanted_anew (places (is_retried n) marks.proxies) marks.wants;
 }
+
+-- a write that failed is to be tried again no sooner
+abbrev pub IsEarly : ℕ → Proxy → Type 0
+IsEarly next proxy = is_failed proxy.mark ≡ true → next ≤ proxy.retry_at
+
+-- each point has a driver, and no failed write is to be tried again before `next`
+pub record IsMarks (proxies : List Proxy) (drivers : List ℕ) (next : ℕ) : Type 0 where
+  pub served : length proxies ≡ length drivers
+  pub few : length proxies ≤ 2 ^ 32
+  pub early : AllByRecursion (IsEarly next) proxies

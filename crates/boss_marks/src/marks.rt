@@ -5,7 +5,7 @@ ghost use Rattle.boss_model.specs.Devices.{proxy_of};
 ghost use Rattle.boss_model.specs.Limits.{last_moment};
 ghost use Rattle.boss_model.specs.Sound.{Distinct};
 ghost use Rattle.boss_marks.specs.Wants.{least_wanting};
-ghost use Rattle.boss_marks.specs.Marks.{opened, started, settled, want_of, first_want, handed_out, answer_to, after_reporting, retried_at, retried_all};
+ghost use Rattle.boss_marks.specs.Marks.{IsEarly, opened, started, settled, want_of, first_want, handed_out, answer_to, after_reporting, retried_at, retried_all};
 
 use crate::proxy::{Reported, fresh, is_due, recommand, report};
 use crate::wants::Wants;
@@ -29,17 +29,20 @@ pub struct Want {
 pub struct Marks {
     proxies: Vec<Proxy>,
     wants: Wants,
+    /// No failed write is to be tried again before this moment, in milliseconds.
+    next_retry: u64,
 }
 
 impl Model for Marks {
-    ghost use Rattle.std.specs.Prelude.{◌≡◌, ◌≤◌, ◌^◌, length};
     ghost use Rattle.boss_marks.specs.Marks.{Marks as Standing};
 
     ghost Value = { Standing };
 
     ghost view = { λ m. record { drivers = m.wants.drivers; proxies = m.proxies.items; wants = m.wants.points } };
 
-    ghost invariant = { λ m. (length m.proxies.items ≡ length m.wants.drivers) × (length m.proxies.items ≤ 2 ^ 32) };
+    ghost use Rattle.boss_marks.specs.Marks.{IsMarks};
+
+    ghost invariant = { λ m. IsMarks m.proxies.items m.wants.drivers m.next_retry };
 }
 
 impl Marks {
@@ -60,7 +63,11 @@ impl Marks {
         for point in 0..count {
             wants.put_last(PointId(point as u32));
         }
-        Ok(Marks { proxies, wants })
+        Ok(Marks {
+            proxies,
+            wants,
+            next_retry: u64::MAX,
+        })
     }
 
     /// The number of points. Each has a driver, and wants its device to be written at most once.
@@ -129,7 +136,11 @@ impl Marks {
         if self.proxies[place].version != version || self.wants.contains(point) {
             return Reported::Old;
         }
-        report(&mut self.proxies[place], ok, n)
+        let reported = report(&mut self.proxies[place], ok, n);
+        if !ok {
+            self.next_retry = self.next_retry.min(self.proxies[place].retry_at);
+        }
+        reported
     }
 
     /// The points whose failed write is due at moment `n` want their devices to be written again, by rising point. It
@@ -137,9 +148,13 @@ impl Marks {
     pub fn retry_due(&mut self, n: u64)
         ensures { self.new ≡ retried_all n self.old }
     {
+        if n < self.next_retry {
+            return;
+        }
         for point in 0..self.proxies.len() {
             self.retry_if_due(PointId(point as u32), n);
         }
+        self.next_retry = first_retry(&self.proxies);
     }
 
     /// The point's device is to be written again if its failed write is due at moment `n`.
@@ -168,4 +183,17 @@ impl Marks {
     {
         self.wants.least_driver()
     }
+}
+
+/// A moment before which no failed write is to be tried again: the first one where there is one.
+fn first_retry(proxies: &[Proxy]) -> u64
+    ensures { AllByRecursion (IsEarly result) proxies.now }
+{
+    let mut first = u64::MAX;
+    for proxy in proxies {
+        if proxy.mark == Mark::Failed {
+            first = first.min(proxy.retry_at);
+        }
+    }
+    first
 }

@@ -1,9 +1,9 @@
 ghost use Rattle.std.specs.Prelude.{◌≡◌, ◌+◌, ◌-◌, ◌≤◌, ◌<◌, length, take, drop, vec_capacity, IfOk};
-ghost use Rattle.boss_model.specs.Limits.{last_number};
+ghost use Rattle.boss_model.specs.Limits.{last_number, notices_kept};
 ghost use Rattle.boss_model.specs.Sound.{NumberedFrom};
 ghost use Rattle.boss_notices.specs.Rings.{no_notices, posted, first_kept, start, notices_from};
 
-use boss_model::{LAST_NUMBER, NOTICES_KEPT, NoMemory, Notice, Txn, What};
+use boss_model::{Items, LAST_NUMBER, NOTICES_KEPT, NoMemory, Notice, Txn, What};
 use circular_buffer::HeapCircularBuffer;
 use std::alloc::Global;
 use std::marker::Model;
@@ -35,6 +35,28 @@ impl Ring {
     {
         let kept = HeapCircularBuffer::with_capacity(alloc, NOTICES_KEPT)?;
         Ok(Ring { count: 0, kept })
+    }
+
+    /// A process that was told so many notices, of which these are the last: at most 2^62, and at most 1,024 of them are
+    /// there, numbered up to the count without a gap.
+    pub fn put_back(alloc: Global, count: u64, notices: &[Notice]) -> Result<Ring, NoMemory>
+        requires count { count ≤ last_number }
+        requires few { (length notices.now ≤ notices_kept) × (length notices.now ≤ count) }
+        requires numbers { NumberedFrom (count + 1 - length notices.now) notices.now }
+        ensures { IfOk result (λ ring. ring ≡ record { count = count; kept = notices.now }) }
+    {
+        let mut kept = HeapCircularBuffer::with_capacity(alloc, NOTICES_KEPT)?;
+        kept.extend_from_slice(notices);
+        Ok(Ring { count, kept })
+    }
+
+    /// How many notices there were in all, and those that are kept.
+    pub fn keep(&self, alloc: Global) -> Result<(u64, Items<Notice>), NoMemory>
+        ensures count { IfOk result (λ kept. kept.0 ≡ self.now.count) }
+        ensures notices { IfOk result (λ kept. kept.1 ≡ self.now.kept) }
+    {
+        let notices = self.kept.to_vec(alloc)?;
+        Ok((self.count, Items::from_vec(notices)))
     }
 
     /// How many notices there were in all, kept or not.

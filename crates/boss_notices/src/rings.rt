@@ -1,9 +1,10 @@
-ghost use Rattle.std.specs.Prelude.{◌≡◌, ◌+◌, ◌<◌, ◌≤◌, [], ◌∷◌, ◌++◌, length, slice_set, vec_capacity, IfOk, OnOk, OnErr};
-ghost use Rattle.boss_model.specs.Limits.{most_processes, last_number};
+ghost use Rattle.std.specs.Prelude.{◌≡◌, ◌+◌, ◌-◌, ◌<◌, ◌≤◌, [], ◌∷◌, ◌++◌, length, slice_set, vec_capacity, IfOk, OnOk, OnErr};
+ghost use Rattle.boss_model.specs.Limits.{most_processes, notices_kept, last_number};
+ghost use Rattle.boss_model.specs.Sound.{NumberedFrom};
 ghost use Rattle.boss_notices.specs.Rings.{ring_of, no_notices, posted, first_kept, start, notices_from};
 
 use crate::ring::Ring;
-use boss_model::{MOST_PROCESSES, NoMemory, Notice, ProcId, Txn, What};
+use boss_model::{Items, MOST_PROCESSES, NoMemory, Notice, ProcId, Txn, What};
 use std::alloc::Global;
 use std::marker::Model;
 
@@ -63,6 +64,37 @@ impl Rings {
         let ring = Ring::new(alloc)?;
         self.add(ring);
         Ok(process)
+    }
+
+    /// A process more, which was told so many notices, of which these are the last: at most 2^62, and at most 1,024 of them are
+    /// there, numbered up to the count without a gap. There may be 256 processes.
+    pub fn put_back(
+        &mut self,
+        alloc: Global,
+        count: u64,
+        notices: &Items<Notice>,
+    ) -> Result<ProcId, NoMemory>
+        requires processes { length self.old < most_processes }
+        requires count { count ≤ last_number }
+        requires few { (length notices.now ≤ notices_kept) × (length notices.now ≤ count) }
+        requires numbers { NumberedFrom (count + 1 - length notices.now) notices.now }
+        ensures process { IfOk result (λ process. process ≡ length self.old) }
+        ensures ok { OnOk result (self.new ≡ self.old ++ (record { count = count; kept = notices.now }) ∷ []) }
+        ensures err { OnErr result (self.new ≡ self.old) }
+    {
+        let process = ProcId(self.rings.len() as u16);
+        let ring = Ring::put_back(alloc, count, notices.slice())?;
+        self.add(ring);
+        Ok(process)
+    }
+
+    /// How many notices this process was told, and those that are kept.
+    pub fn keep(&self, alloc: Global, owner: ProcId) -> Result<(u64, Items<Notice>), NoMemory>
+        requires { owner < length self.now }
+        ensures count { IfOk result (λ kept. kept.0 ≡ (ring_of self.now owner).count) }
+        ensures notices { IfOk result (λ kept. kept.1 ≡ (ring_of self.now owner).kept) }
+    {
+        self.rings[owner.0 as usize].keep(alloc)
     }
 
     /// A notice more for this process, with the next number, if that is at most 2^62: what happened to its transaction at

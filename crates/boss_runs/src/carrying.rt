@@ -30,8 +30,8 @@ pub fn carry_out(
 {
     told.reserve(calls.len())?;
     for call in calls {
-        let answer = engine.step(call.session, &call.command, call.moment)?;
-        told.push_reserved(answer);
+        let done = engine.step(call.session, &call.command, call.moment)?;
+        told.push_reserved(done.0);
     }
     Ok(())
 }

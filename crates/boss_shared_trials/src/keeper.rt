@@ -85,7 +85,7 @@ fn step_all(
     let mut done = 0;
     for call in commands {
         match engine.step(session, &call.0, call.1) {
-            Ok(answer) => answers.push_reserved(answer),
+            Ok((answer, _)) => answers.push_reserved(answer),
             Err(NoMemory) => {
                 return Outcomes {
                     done,
@@ -119,7 +119,7 @@ impl Keeper for FailingKeeper {
             return Outcome::DiskFault;
         }
         match self.engine.step(session, command, moment) {
-            Ok(answer) => Outcome::Done { answer },
+            Ok((answer, _)) => Outcome::Done { answer },
             Err(NoMemory) => Outcome::NoMemory,
         }
     }

@@ -1,7 +1,8 @@
 ghost use Rattle.std.specs.Prelude.{◌≡◌, ◌==◌};
+ghost use Rattle.boss_model.specs.Seen.{seen_part};
 ghost use Rattle.boss_stages.specs.Stages.{is_live, slot_of, end_as, live_part, ended_on};
 
-use boss_model::{Cause, PointId, Priority};
+use boss_model::{Cause, KeptPart, PointId, Priority};
 use std::marker::Model;
 
 /// How a part of a transaction stands: one of its writes.
@@ -104,6 +105,30 @@ impl Part {
     {
         if self.point == point {
             self.end = Some(End { cause: *cause, at });
+        }
+    }
+}
+
+impl Part {
+    /// What outlasts a stop of it.
+    pub fn keep(&self) -> KeptPart
+        ensures { seen_part result ≡ self.now }
+    {
+        KeptPart {
+            point: self.point,
+            priority: self.priority,
+            end: self.end.map(|end| (end.cause, end.at)),
+        }
+    }
+
+    /// The part of which this outlasted a stop.
+    pub fn put_back(kept: &KeptPart) -> Part
+        ensures { result ≡ seen_part kept.now }
+    {
+        Part {
+            point: kept.point,
+            priority: kept.priority,
+            end: kept.end.map(|(cause, at)| End { cause, at }),
         }
     }
 }

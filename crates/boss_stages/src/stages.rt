@@ -1,15 +1,16 @@
-ghost use Rattle.std.specs.Prelude.{◌≡◌, ◌+◌, ◌<◌, ◌≤◌, ◌==◌, ◌∷◌, [], ◌++◌, true, length, option_copied, option_and_then, slice_get, All, IfOk, IfSome, OnOk, OnErr};
+ghost use Rattle.std.specs.Prelude.{◌≡◌, ◌+◌, ◌<◌, ◌≤◌, ◌==◌, ◌∷◌, [], ◌++◌, true, length, map, option_copied, option_and_then, slice_get, All, IfOk, IfSome, OnOk, OnErr};
 ghost use Rattle.std.specs.List.{position_from, remove};
 ghost use Rattle.std.specs.Option.{option_map};
 ghost use Rattle.std.specs.VecDeque.{deque_capacity};
 ghost use Rattle.boss_model.specs.Limits.{done_kept};
+ghost use Rattle.boss_model.specs.Seen.{seen_txn};
 ghost use Rattle.boss_stages.specs.declared.part.PartEnd.TheVariants.{Live};
 ghost use Rattle.boss_stages.specs.Stages.{number, stage_of, slot_of, begun, kept_as, end_on, is_reverting, is_over, without, finished, finished_if_over, after_lease, after_reversion};
 
 use crate::part::PartEnd;
 use crate::transaction::Transaction;
 use boss_model::{
-    Cause, DONE_KEPT, Items, NoMemory, PointId, Policy, Priority, ProcId, Stage, Txn,
+    Cause, DONE_KEPT, Items, KeptTxn, NoMemory, PointId, Policy, Priority, ProcId, Stage, Txn,
 };
 use circular_buffer::HeapCircularBuffer;
 use std::alloc::Global;
@@ -211,6 +212,39 @@ impl Stages {
         if let Some(place) = self.place_of(txn) {
             drop_at(&mut self.transactions, place);
         }
+    }
+}
+
+impl Stages {
+    /// What outlasts a stop of the transactions, in order of number, and which of them are done, in the order of becoming done.
+    pub fn keep(&self, alloc: Global) -> Result<(Items<KeptTxn>, Items<Txn>), NoMemory>
+        ensures txns { IfOk result (λ kept. map seen_txn kept.0 ≡ map (λ one. one.transaction) self.now.kept) }
+        ensures done { IfOk result (λ kept. kept.1 ≡ self.now.done) }
+    {
+        let txns = self.keep_transactions(alloc)?;
+        let done = self.done.to_vec(alloc)?;
+        Ok((txns, Items::from_vec(done)))
+    }
+
+    /// What outlasts a stop of the transactions, in order of number.
+    fn keep_transactions(&self, alloc: Global) -> Result<Items<KeptTxn>, NoMemory>
+        ensures { IfOk result (λ kept. map seen_txn kept ≡ map (λ one. one.transaction) self.now.kept) }
+    {
+        let mut kept = Vec::with_capacity(alloc, self.transactions.len())?;
+        for place in 0..self.transactions.len() {
+            kept.push_reserved(self.transactions[place].keep(alloc)?);
+        }
+        Ok(Items::from_vec(kept))
+    }
+
+    /// These of the transactions are done, in the order of becoming done; at most 1,024, where none was done before. The
+    /// transactions themselves are put back by `add`. It takes no memory.
+    pub fn put_back_done(&mut self, done: &[Txn])
+        requires none { self.old.done ≡ [] }
+        requires few { length done.now ≤ done_kept }
+        ensures { self.new ≡ record self.old { done = done.now } }
+    {
+        self.done.extend_from_slice(done);
     }
 }
 

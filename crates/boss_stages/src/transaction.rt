@@ -1,11 +1,15 @@
-ghost use Rattle.std.specs.Prelude.{◌≡◌, ◌==◌, true, not, ◌&&◌, length, map, find, slice_get, option_copied, IfOk};
+ghost use Rattle.std.specs.Prelude.{◌≡◌, ◌==◌, ◌+◌, ◌≤◌, true, not, ◌&&◌, length, map, filter, find, slice_get, option_copied, IfOk};
 ghost use Rattle.std.specs.List.{list_any};
 ghost use Rattle.std.specs.Option.{option_map};
+ghost use Rattle.boss_model.specs.Lists.{member};
+ghost use Rattle.boss_model.specs.Seen.{seen_part, seen_txn};
 ghost use Rattle.boss_stages.specs.declared.part.PartEnd.TheVariants.{Live};
-ghost use Rattle.boss_stages.specs.Stages.{number, has_live, has_pending, stage_of, slot_of, part_end, part_on, begun, ended_on, with_end, without_reversion};
+ghost use Rattle.boss_stages.specs.Stages.{number, is_live, has_live, has_pending, stage_of, slot_of, part_end, part_on, begun, ended_on, with_end, without_reversion};
 
 use crate::part::{Part, PartEnd};
-use boss_model::{Cause, NoMemory, PointId, Policy, Priority, ProcId, Stage, Txn};
+use boss_model::{
+    Cause, Items, KeptPart, KeptTxn, NoMemory, PointId, Policy, Priority, ProcId, Stage, Txn,
+};
 use std::alloc::Global;
 use std::marker::Model;
 
@@ -96,8 +100,25 @@ impl Transaction {
         !self.has_live() && !self.has_pending()
     }
 
+    /// How many of its parts have live leases.
+    pub fn live_parts(&self) -> u64
+        ensures { result ≡ length (filter is_live self.now.transaction.parts) }
+    {
+        self.parts.iter().filter(|part| part.is_live()).count() as u64
+    }
+
+    /// How many of its parts are on points with a pending reversion of it.
+    pub fn pending_parts(&self) -> u64
+        ensures { result ≡ length (filter (λ part. member part.point self.now.reverting) self.now.transaction.parts) }
+    {
+        self.parts
+            .iter()
+            .filter(|part| has_point(&self.reverting, part.point))
+            .count() as u64
+    }
+
     /// Whether it has a live lease.
-    fn has_live(&self) -> bool
+    pub fn has_live(&self) -> bool
         ensures { result ≡ has_live self.now }
     {
         self.parts.iter().any(|part| part.is_live())
@@ -131,7 +152,7 @@ impl Transaction {
     }
 
     /// Its part on the point.
-    fn part_on(&self, point: PointId) -> Option<&Part>
+    pub fn part_on(&self, point: PointId) -> Option<&Part>
         ensures { option_copied result ≡ part_on point self.now.transaction.parts }
     {
         self.parts.iter().find(|part| part.is_on(point))
@@ -154,6 +175,74 @@ impl Transaction {
     {
         self.reverting.retain(|other| *other != point);
     }
+}
+
+/// Whether the point is one of these.
+fn has_point(points: &[PointId], point: PointId) -> bool
+    ensures { result ≡ member point points.now }
+{
+    points.iter().any(|other| *other == point)
+}
+
+impl Transaction {
+    /// The transaction of which this outlasted a stop, with pending reversions on these points, in the order in which they
+    /// began. Where each of its parts has a live lease, a pending reversion or neither, there is room for all of them.
+    pub fn put_back(
+        alloc: Global,
+        kept: &KeptTxn,
+        reverting: &[PointId],
+    ) -> Result<Transaction, NoMemory>
+        requires { length reverting.now + length (filter is_live (map seen_part kept.now.parts)) ≤ length kept.now.parts }
+        ensures { IfOk result (λ transaction. transaction ≡ record { transaction = seen_txn kept.now; reverting = reverting.now }) }
+    {
+        let parts = parts_put_back(alloc, kept.parts.slice())?;
+        let mut pending = Vec::with_capacity(alloc, parts.len())?;
+        for point in reverting {
+            pending.push_reserved(*point);
+        }
+        Ok(Transaction {
+            txn: kept.txn,
+            owner: kept.owner,
+            policy: kept.policy,
+            parts,
+            reverting: pending,
+        })
+    }
+
+    /// What outlasts a stop of it.
+    pub fn keep(&self, alloc: Global) -> Result<KeptTxn, NoMemory>
+        ensures { IfOk result (λ kept. seen_txn kept ≡ self.now.transaction) }
+    {
+        let parts = kept_parts(alloc, &self.parts)?;
+        Ok(KeptTxn {
+            txn: self.txn,
+            owner: self.owner,
+            policy: self.policy,
+            parts,
+        })
+    }
+}
+
+/// The parts of which these outlasted a stop.
+fn parts_put_back(alloc: Global, kept: &[KeptPart]) -> Result<Vec<Part>, NoMemory>
+    ensures { IfOk result (λ parts. parts.items ≡ map seen_part kept.now) }
+{
+    let mut parts = Vec::with_capacity(alloc, kept.len())?;
+    for part in kept {
+        parts.push_reserved(Part::put_back(part));
+    }
+    Ok(parts)
+}
+
+/// What outlasts a stop of these parts.
+fn kept_parts(alloc: Global, parts: &[Part]) -> Result<Items<KeptPart>, NoMemory>
+    ensures { IfOk result (λ kept. map seen_part kept ≡ parts.now) }
+{
+    let mut kept = Vec::with_capacity(alloc, parts.len())?;
+    for part in parts {
+        kept.push_reserved(part.keep());
+    }
+    Ok(Items::from_vec(kept))
 }
 
 /// The leases of the parts on the point end so.

@@ -1,11 +1,19 @@
-use Rattle.std.proofs.Common.{◌==◌, length, filter, refl, ap, ◌∙◌}
-use Rattle.boss_model.specs.declared.state.Lease.{Lease}
-use Rattle.boss_model.specs.declared.state.Pending.{Pending}
+use Rattle.std.proofs.Common.{refl, sym, ◌∙◌, arith}
+use Rattle.boss_engine.specs.Lasting.{persistent_of}
+use Rattle.boss_parts.proofs.Own.{live-count, own}
+use Rattle.boss_parts.proofs.Reverting.{pending-by-points}
 use Rattle.boss_engine.proofs.queries.status_of.Goals as goal
+
+pub name-requires : goal.name-requires
+name-requires c =
+    let t = c.args.transaction.now.transaction in
+    omega (arith, c.owner.ensures, (own c.requires.sound.0 (persistent_of c.args.lasting.now) c.requires.sound.2 t.txn t c.requires.found).owner)
 
 pub returns : goal.returns
 returns c =
-    let txn = c.number.result in
-    let live = c.live_of-live.ensures ∙ ap (λ leases. length (filter (λ (lease : Lease). lease.txn == txn) leases)) c.deref.ensures.value in
-    let pending = c.pending_of-pending.ensures ∙ ap (λ pending. length (filter (λ (reversion : Pending). reversion.txn == txn) pending)) c.deref-2.ensures.value in
+    let t = c.args.transaction.now.transaction in
+    let d = persistent_of c.args.lasting.now in
+    let live = c.live_parts-live.ensures ∙ sym (live-count c.requires.sound.0 d c.requires.sound.2 t.txn t c.requires.found) in
+    let pending = c.pending_parts-pending.ensures
+    ∙ sym (pending-by-points c.requires.sound.0 d c.requires.sound.2 t.txn t c.requires.found c.args.transaction.now.reverting c.requires.reverting) in
     rw (c.stage_of.ensures, c.name.ensures, live, pending, c.owner.ensures, c.number.ensures) refl

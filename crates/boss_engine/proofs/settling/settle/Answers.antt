@@ -21,7 +21,7 @@ loop-place-preserved c =
     let d = persistent_of c.args.lasting.now in
     let place = c.loop-place.place in
     let marks = c.loop-place.marks in
-    let told : c.target_of.result ≡ target plant d place = rw (c.deref.ensures.value, c.deref-in-loop-place.ensures.value) at c.target_of.ensures in
+    let told : c.target_of.result ≡ target plant d place = c.target_of.ensures in
     let more : place < length c.args.marks.now.proxies = omega arith in
     (simp to_z-of_z at c.settle.ensures.after)
     ∙ (ap (λ value. settled place value marks) told

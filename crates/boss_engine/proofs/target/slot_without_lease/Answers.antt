@@ -6,5 +6,5 @@ use Rattle.boss_engine.proofs.target.slot_without_lease.Goals as goal
 
 pub playing_slot-requires : goal.playing_slot-requires
 playing_slot-requires c =
-    each-found IsPlayable (λ (reversion : Pending). (reversion.point == c.args.point) && (reversion.priority == c.args.priority)) c.args.pending.now c.in-Some.reversion.now c.requires
+    each-found IsPlayable (λ (reversion : Pending). (reversion.point == c.args.point) && (reversion.priority == c.args.priority)) c.args.holdings.now.pending c.in-Some.reversion.now c.requires.pending
     (sym c.in-Some.ensures)

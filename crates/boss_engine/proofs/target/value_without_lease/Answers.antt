@@ -6,5 +6,5 @@ use Rattle.boss_engine.proofs.target.value_without_lease.Goals as goal
 
 pub value_or-requires : goal.value_or-requires
 value_or-requires c =
-    each-least IsPlayable (λ (reversion : Pending). reversion.priority) (λ reversion. reversion.point == c.args.point) c.args.pending.now c.in-Some.reversion.now c.requires
+    each-least IsPlayable (λ (reversion : Pending). reversion.priority) (λ reversion. reversion.point == c.args.point) c.args.holdings.now.pending c.in-Some.reversion.now c.requires.pending
     (sym c.in-Some.ensures)

@@ -26,4 +26,4 @@ returns-clause-after c =
 
 pub returns-clause-places : goal.returns-clause-places
 returns-clause-places c = λ plant places.
-    keeps-places plant c.args.self.now _ places refl refl c.end_leases.ensures.kept (c.end_leases.ensures.told ∙ c.push_reserved.ensures.capacity ∙ c.clear.ensures.capacity) c.end_leases.ensures.few
+    keeps-places plant c.args.self.now _ places refl refl c.end_leases.ensures.points c.end_leases.ensures.kept (c.end_leases.ensures.told ∙ c.push_reserved.ensures.capacity ∙ c.clear.ensures.capacity)

@@ -1,11 +1,10 @@
 use Rattle.std.proofs.Common.{FitsSigned, w64, rules}
 use Rattle.std.proofs.lemmas.Int.{to_z-of_z}
-use Rattle.boss_books.proofs.Owners.{txns-known}
 use Rattle.boss_engine.proofs.Playable.{all-playable}
 use Rattle.boss_engine.proofs.machine.Machine.act.Goals as goal
 
-pub array-requires : goal.array-requires
-array-requires c = all-playable c.args.plant.now _ c.requires.can_run.sound.persistent
+pub array-requires-clause-pending : goal.array-requires-clause-pending
+array-requires-clause-pending c = all-playable c.args.plant.now _ c.requires.can_run.sound.persistent
 
 pub returns-in-Attach-clause-answer : goal.returns-in-Attach-clause-answer
 returns-in-Attach-clause-answer c = rw c.in-Attach.is (c.attach.ensures.answer c.args.plant.now)
@@ -56,5 +55,19 @@ returns-in-Array-clause-answer c = rw c.in-Array.is (c.array.ensures c.args.plan
 pub returns-in-Notices-clause-answer : goal.returns-in-Notices-clause-answer
 returns-in-Notices-clause-answer c = rw c.in-Notices.is (c.notices.ensures c.args.plant.now c.args.n)
 
-pub status-requires : goal.status-requires
-status-requires c = txns-known c.args.plant.now _ c.requires.can_run.sound.persistent
+pub returns-in-Attach-clause-changed : goal.returns-in-Attach-clause-changed
+returns-in-Attach-clause-changed c = rw c.in-Attach.is (c.attach.ensures.changed c.args.plant.now)
+
+pub returns-in-Cancel-clause-changed : goal.returns-in-Cancel-clause-changed
+returns-in-Cancel-clause-changed c = rw c.in-Cancel.is (c.cancel.ensures.changed c.args.plant.now)
+
+pub returns-in-Gone-clause-changed : goal.returns-in-Gone-clause-changed
+returns-in-Gone-clause-changed c = rw c.in-Gone.is (c.gone.ensures.changed c.args.plant.now)
+
+pub returns-in-Renew-clause-changed : goal.returns-in-Renew-clause-changed
+returns-in-Renew-clause-changed c =
+    let fits : FitsSigned w64 c.in-Renew.length = search rules in
+    rw (c.in-Renew.is, ← c.slice.ensures) (simp to_z-of_z at (c.renew.ensures.changed c.args.plant.now))
+
+pub returns-in-Report-clause-changed : goal.returns-in-Report-clause-changed
+returns-in-Report-clause-changed c = rw c.in-Report.is (c.report.ensures.changed c.args.plant.now c.args.session c.requires.can_run.places)

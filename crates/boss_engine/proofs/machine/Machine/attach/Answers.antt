@@ -1,9 +1,9 @@
-use Rattle.std.proofs.Common.{◌≡◌, ◌<◌, ◌≤◌, length, vec_capacity, subst, sym, ap, ◌∙◌, arith}
+use Rattle.std.proofs.Common.{◌≡◌, ◌<◌, ◌≤◌, length, ◌&&◌, is_none, vec_capacity, subst, sym, ap, ◌∙◌, arith}
 use Rattle.boss_model.specs.declared.answer.Answer.TheVariants as answer
 use Rattle.boss_model.specs.Processes.{attached_too, next_notice, number_of, process_named}
 use Rattle.boss_engine.specs.declared.machine.Machine.{Machine}
 use Rattle.boss_engine.specs.Inside.{state_of}
-use Rattle.boss_engine.specs.Lasting.{IsKept, most_tellings}
+use Rattle.boss_engine.specs.Lasting.{IsKept}
 use Rattle.boss_engine.proofs.Attaching.{few-attached, ready-attach}
 use Rattle.boss_engine.proofs.Doing.{attach-leaves, next-enrolled}
 use Rattle.boss_engine.proofs.Keeping.{keeps-places, kept-aside}
@@ -15,7 +15,7 @@ attach-requires c =
     let s = state_of m in
     let passed = ready-attach c.args.session c.args.name.now c.args.ready s c.requires.ready c.in_default.not-Refused in
     let few : length m.attached.items < 256 = few-attached c.requires.can_run.0 c.args.session c.args.name.now s c.requires.can_run.1.sound passed in
-    let same : c.process_for-process.new.self.attached ≡ m.attached = ap (λ m. m.attached) c.process_for-process.ensures.others in
+    let same : c.process_for-entrant.new.self.attached ≡ m.attached = ap (λ m. m.attached) c.process_for-entrant.ensures.others in
     let room : 256 ≤ vec_capacity m.attached = c.requires.can_run.1.places.attached in
     rw same (omega (arith, m.attached.ok.0))
 
@@ -25,7 +25,7 @@ returns-clause-answer c = λ any.
     let passed = ready-attach c.args.session c.args.name.now c.args.ready s c.requires.ready c.in_default.not-Refused in
     let number = number_of s.persistent.processes (process_named s.persistent.processes c.args.name.now) in
     let next : c.next_notice.result ≡ next_notice s.persistent.processes number =
-    c.next_notice.ensures ∙ (λ i. next_notice (c.process_for-process.ensures.after i).processes (c.process_for-process.ensures.process i)) ∙ next-enrolled c.args.name.now c.args.n s.persistent in
+    c.next_notice.ensures ∙ (λ i. next_notice (c.process_for-entrant.ensures.after i).processes (c.process_for-entrant.ensures.process i)) ∙ next-enrolled c.args.name.now c.args.n s.persistent in
     (λ i. answer.Attached (c.copied.ensures i) (next i)) ∙ sym (ap (λ r. r.answer) (attach-leaves any c.args.session c.args.n c.args.name.now s passed))
 
 pub returns-clause-state : goal.returns-clause-state
@@ -33,21 +33,27 @@ returns-clause-state c = λ any.
     let s = state_of c.args.self.now in
     let passed = ready-attach c.args.session c.args.name.now c.args.ready s c.requires.ready c.in_default.not-Refused in
     let items : c.attach.new.attached.items ≡ attached_too c.args.session (number_of s.persistent.processes (process_named s.persistent.processes c.args.name.now)) s.attached =
-    c.attach.ensures.items ∙ (λ i. attached_too c.args.session (c.process_for-process.ensures.process i) (c.process_for-process.ensures.others i).attached.items) in
+    c.attach.ensures.items ∙ (λ i. attached_too c.args.session (c.process_for-entrant.ensures.process i) (c.process_for-entrant.ensures.others i).attached.items) in
     (λ i. record {
-      persistent = c.process_for-process.ensures.after i;
+      persistent = c.process_for-entrant.ensures.after i;
       attached = items i;
-      proxies = (c.process_for-process.ensures.others i).marks.proxies;
-      wants = (c.process_for-process.ensures.others i).marks.wants;
+      proxies = (c.process_for-entrant.ensures.others i).marks.proxies;
+      wants = (c.process_for-entrant.ensures.others i).marks.wants;
     })
     ∙ sym (ap (λ r. r.state) (attach-leaves any c.args.session c.args.n c.args.name.now s passed))
 
 pub returns-clause-places : goal.returns-clause-places
 returns-clause-places c = λ plant places.
     let m = c.args.self.now in
-    let others = c.process_for-process.ensures.others in
+    let others = c.process_for-entrant.ensures.others in
     let drivers = ap (λ (m : Machine). m.marks.drivers) others in
     let attached = c.attach.ensures.room ∙ ap (λ (m : Machine). vec_capacity m.attached) others in
     let told = ap (λ (m : Machine). vec_capacity m.told) others in
-    let few : most_tellings c.process_for-process.new.self.lasting ≤ most_tellings m.lasting = subst (λ (after : Machine). most_tellings after.lasting ≤ most_tellings m.lasting) (sym others) (omega arith) in
-    keeps-places plant m _ places drivers attached (subst (λ (after : Machine). IsKept after.lasting) (sym others) (kept-aside m.lasting _ _ places.rows)) told few
+    let points = ap (λ (m : Machine). m.lasting.holdings.points) others in
+    keeps-places plant m _ places drivers attached points (subst (λ (after : Machine). IsKept after.lasting) (sym others) (kept-aside m.lasting _ _ places.rows)) told
+
+pub returns-clause-changed : goal.returns-clause-changed
+returns-clause-changed c = λ any.
+    let s = state_of c.args.self.now in
+    let passed = ready-attach c.args.session c.args.name.now c.args.ready s c.requires.ready c.in_default.not-Refused in
+    c.process_for-entrant.ensures.is_new ∙ sym (ap (λ why. is_none why && is_none (process_named s.persistent.processes c.args.name.now)) passed)

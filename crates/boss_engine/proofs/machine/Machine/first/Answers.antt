@@ -1,4 +1,4 @@
-use Rattle.std.proofs.Common.{◌≡◌, ◌∙◌, rules, ap, ap₂, arith, length, map, vec_len}
+use Rattle.std.proofs.Common.{◌≡◌, ◌∙◌, sym, rules, ap, ap₂, arith, map}
 use Rattle.boss_marks.specs.Marks.{opened}
 use Rattle.boss_engine.specs.Waiting.{state_of}
 use Rattle.boss_engine.proofs.Opening.{device_of, drivers-opened, state-opened}
@@ -13,12 +13,10 @@ returns-clause-state c =
 pub returns-clause-ready : goal.returns-clause-ready
 returns-clause-ready c =
     let marks : c.in_ok-new.field-0 ≡ opened (map device_of c.args.plant.now) = search rules in
-    let l = c.in_ok-first.field-0 in
-    let leases : vec_len l.leases ≡ 0 = l.leases.ok.0 ∙ ap (λ d. length d.leases) c.in_ok-first.ensures.first in
-    let pending : vec_len l.pending ≡ 0 = l.pending.ok.0 ∙ ap (λ d. length d.pending) c.in_ok-first.ensures.first in
     record {
       small = omega (arith, c.requires);
       drivers = ap (λ m. m.drivers) marks ∙ drivers-opened c.args.plant.now;
+      points = sym c.in_ok-first.ensures.points;
       rows = c.in_ok-first.ensures.kept;
       attached = search rules;
       told = omega (arith, c.in_ok-with_capacity-2.ensures.capacity);

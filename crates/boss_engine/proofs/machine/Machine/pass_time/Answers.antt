@@ -4,7 +4,7 @@ use Rattle.boss_time.proofs.TickSound.{tick-sound}
 use Rattle.boss_engine.specs.Lasting.{persistent_of}
 use Rattle.boss_books.proofs.DueLemmas.{IsNoMore, few-after}
 use Rattle.boss_engine.proofs.Playable.{all-playable}
-use Rattle.boss_engine.proofs.Rooms.{fewer-told, room-left}
+use Rattle.boss_engine.proofs.Rooms.{room-left}
 use Rattle.boss_engine.proofs.Waiting.{length-retried}
 use Rattle.boss_engine.proofs.machine.Machine.pass_time.Goals as goal
 
@@ -19,18 +19,19 @@ settle-requires-clause-pending c =
     (tick-sound plant (persistent_of c.args.self.now.lasting) c.args.n c.requires.ready.sound.persistent c.requires.moment.0 c.requires.moment.1) in
     all-playable plant (persistent_of c.tick.new.self) sound
 
+pub settle-requires-clause-points : goal.settle-requires-clause-points
+settle-requires-clause-points c = c.requires.ready.places.points ∙ sym c.tick.ensures.points
+
 pub returns-clause-places : goal.returns-clause-places
 returns-clause-places c =
-    let old = c.args.self.now.lasting in
-    let new = c.tick.new.self in
-    let few : IsNoMore (persistent_of old) (persistent_of new) = subst (IsNoMore (persistent_of old)) (sym c.tick.ensures.after) (few-after c.args.n (persistent_of old)) in
     let places = c.requires.ready.places in
     record {
       small = places.small;
       drivers = ap (λ marks. marks.drivers) c.settle.ensures ∙ ap (λ marks. marks.drivers) c.retry_due.ensures ∙ places.drivers;
+      points = places.points ∙ sym c.tick.ensures.points;
       rows = c.tick.ensures.kept;
       attached = places.attached;
-      told = omega (arith, fewer-told old new few, c.tick.ensures.told, places.told);
+      told = omega (arith, c.tick.ensures.told, places.told);
     }
 
 pub returns-clause-room : goal.returns-clause-room
@@ -38,4 +39,4 @@ returns-clause-room c =
     let old = c.args.self.now.lasting in
     let new = c.tick.new.self in
     let few : IsNoMore (persistent_of old) (persistent_of new) = subst (IsNoMore (persistent_of old)) (sym c.tick.ensures.after) (few-after c.args.n (persistent_of old)) in
-    room-left c.args.self.now _ few c.tick.ensures.leases c.tick.ensures.pending c.tick.ensures.stages c.tick.ensures.told
+    room-left c.args.self.now _ few c.tick.ensures.stages

@@ -1,10 +1,7 @@
-use Rattle.std.proofs.Common.{subst, sym}
-use Rattle.std.specs.List.{AllByRecursion}
 use Rattle.boss_engine.specs.Lasting.{persistent_of}
-use Rattle.boss_books.specs.Playing.{IsPlayable}
 use Rattle.boss_engine.proofs.Playable.{all-playable}
 use Rattle.boss_engine.proofs.machine.Machine.read.Goals as goal
 
 pub target_of-requires-clause-pending : goal.target_of-requires-clause-pending
 target_of-requires-clause-pending c =
-    subst (AllByRecursion IsPlayable) (sym c.deref-2.ensures.value) (all-playable c.args.plant.now (persistent_of c.args.self.now.lasting) c.requires.can_run.sound.persistent)
+    all-playable c.args.plant.now (persistent_of c.args.self.now.lasting) c.requires.can_run.sound.persistent

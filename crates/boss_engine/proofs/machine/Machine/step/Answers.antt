@@ -1,4 +1,4 @@
-use Rattle.std.proofs.Common.{◌≡◌, ap, refl, sym, subst, ◌∙◌}
+use Rattle.std.proofs.Common.{◌≡◌, max, ap, refl, sym, subst, ◌∙◌}
 use Rattle.boss_model.specs.Machine.{pass_time, step}
 use Rattle.boss_model.specs.Sound.{IsSound}
 use Rattle.boss_soundness.proofs.StepSound.{step-sound}
@@ -6,59 +6,68 @@ use Rattle.boss_engine.specs.Inside.{state_of}
 use Rattle.boss_engine.specs.Lasting.{persistent_of}
 use Rattle.boss_engine.specs.Ready.{IsReadyFor}
 use Rattle.boss_engine.proofs.Readied.{readied}
-use Rattle.boss_engine.proofs.Stepping.{passed-at, passed-moment, passed-well, answered, stepped, acted-playable, acted-number}
+use Rattle.boss_engine.proofs.Stepping.{told-by, passed-at, passed-moment, passed-well, answered, stepped, acted-playable, acted-number}
 use Rattle.boss_engine.proofs.machine.Machine.step.Goals as goal
 
 passes : (c : goal.After-act-arg-1) → state_of c.pass_time.new.self ≡ pass_time c.args.plant.now c.max-n.result (state_of c.args.self.now)
 passes c = c.pass_time.ensures.state ∙ ap (pass_time c.args.plant.now c.max-n.result) c.in_ok-ready.ensures.state
 
-pub act-answer-requires-clause-moment : goal.act-answer-requires-clause-moment
-act-answer-requires-clause-moment c =
-    passed-moment c.args.plant.now c.args.session c.args.command.now c.args.moment c.max-n.result (state_of c.args.self.now) c.max-n.ensures
+pub concerned-owner-requires : goal.concerned-owner-requires
+concerned-owner-requires c = (
+  c.args.plant.now,
+  c.pass_time.ensures.places.points,
+  c.requires.allowed,
+  (passed-well c.args.plant.now c.args.session c.args.command.now c.args.moment c.max-n.result (state_of c.args.self.now) (c.max-n.ensures ∙ ap (λ k. max k c.args.moment) c.now-before.ensures)
+      c.requires.allowed c.requires.moment c.requires.ready.sound (state_of c.pass_time.new.self) (c.pass_time.ensures.state ∙ ap (pass_time c.args.plant.now c.max-n.result) c.in_ok-ready.ensures.state)).persistent,
+)
+
+pub act-done-requires-clause-moment : goal.act-done-requires-clause-moment
+act-done-requires-clause-moment c =
+    passed-moment c.args.plant.now c.args.session c.args.command.now c.args.moment c.max-n.result (state_of c.args.self.now) (c.max-n.ensures ∙ ap (λ k. max k c.args.moment) c.now-before.ensures)
     c.requires.allowed c.requires.moment c.requires.ready.sound (state_of c.pass_time.new.self) (passes c)
 
-pub act-answer-requires-clause-passed : goal.act-answer-requires-clause-passed
-act-answer-requires-clause-passed c =
-    let at = passed-at c.args.plant.now c.args.session c.args.command.now c.args.moment c.max-n.result (state_of c.args.self.now) c.max-n.ensures
+pub act-done-requires-clause-passed : goal.act-done-requires-clause-passed
+act-done-requires-clause-passed c =
+    let at = passed-at c.args.plant.now c.args.session c.args.command.now c.args.moment c.max-n.result (state_of c.args.self.now) (c.max-n.ensures ∙ ap (λ k. max k c.args.moment) c.now-before.ensures)
     c.requires.allowed c.requires.moment c.requires.ready.sound (state_of c.pass_time.new.self) (passes c) in
     record { reached = at.reached; live = at.live; running = at.running }
 
-pub act-answer-requires-clause-can_run : goal.act-answer-requires-clause-can_run
-act-answer-requires-clause-can_run c = record {
-  sound = passed-well c.args.plant.now c.args.session c.args.command.now c.args.moment c.max-n.result (state_of c.args.self.now) c.max-n.ensures
+pub act-done-requires-clause-can_run : goal.act-done-requires-clause-can_run
+act-done-requires-clause-can_run c = record {
+  sound = passed-well c.args.plant.now c.args.session c.args.command.now c.args.moment c.max-n.result (state_of c.args.self.now) (c.max-n.ensures ∙ ap (λ k. max k c.args.moment) c.now-before.ensures)
       c.requires.allowed c.requires.moment c.requires.ready.sound (state_of c.pass_time.new.self) (passes c);
   places = c.pass_time.ensures.places;
 }
 
-pub act-answer-requires-clause-ready : goal.act-answer-requires-clause-ready
-act-answer-requires-clause-ready c = subst (IsReadyFor c.args.plant.now c.args.session c.args.command.now c.max-n.result c.in_ok-ready.ready) (sym (passes c))
+pub act-done-requires-clause-ready : goal.act-done-requires-clause-ready
+act-done-requires-clause-ready c = subst (IsReadyFor c.args.plant.now c.args.session c.args.command.now c.max-n.result c.in_ok-ready.ready) (sym (passes c))
     (readied c.args.plant.now c.args.session c.args.command.now c.max-n.result c.in_ok-ready.ready (state_of c.args.self.now) c.in_ok-ready.ensures.ready)
 
 pub settle-requires-clause-number : goal.settle-requires-clause-number
 settle-requires-clause-number c =
-    acted-number c.args.plant.now c.args.session c.args.command.now c.args.moment c.max-n.result (state_of c.args.self.now) c.max-n.ensures
+    acted-number c.args.plant.now c.args.session c.args.command.now c.args.moment c.max-n.result (state_of c.args.self.now) (c.max-n.ensures ∙ ap (λ k. max k c.args.moment) c.now-before.ensures)
     c.requires.allowed c.requires.moment c.requires.ready.sound (state_of c.pass_time.new.self) (c.pass_time.ensures.state ∙ ap (pass_time c.args.plant.now c.max-n.result) c.in_ok-ready.ensures.state)
-    (state_of c.act-answer.new.self) c.act-answer.ensures.state c.act-answer.new.self.marks refl
+    (state_of c.act-done.new.self) c.act-done.ensures.state c.act-done.new.self.marks refl
 
 pub settle-requires-clause-pending : goal.settle-requires-clause-pending
 settle-requires-clause-pending c =
-    acted-playable c.args.plant.now c.args.session c.args.command.now c.args.moment c.max-n.result (state_of c.args.self.now) c.max-n.ensures
+    acted-playable c.args.plant.now c.args.session c.args.command.now c.args.moment c.max-n.result (state_of c.args.self.now) (c.max-n.ensures ∙ ap (λ k. max k c.args.moment) c.now-before.ensures)
     c.requires.allowed c.requires.moment c.requires.ready.sound (state_of c.pass_time.new.self) (c.pass_time.ensures.state ∙ ap (pass_time c.args.plant.now c.max-n.result) c.in_ok-ready.ensures.state)
-    (state_of c.act-answer.new.self) c.act-answer.ensures.state
+    (state_of c.act-done.new.self) c.act-done.ensures.state
 
 pub returns-clause-answer : goal.returns-clause-answer
 returns-clause-answer c =
-    answered c.args.plant.now c.args.session c.args.command.now c.args.moment c.max-n.result (state_of c.args.self.now) c.max-n.ensures
+    answered c.args.plant.now c.args.session c.args.command.now c.args.moment c.max-n.result (state_of c.args.self.now) (c.max-n.ensures ∙ ap (λ k. max k c.args.moment) c.now-before.ensures)
     c.requires.allowed c.requires.moment c.requires.ready.sound (state_of c.pass_time.new.self) (c.pass_time.ensures.state ∙ ap (pass_time c.args.plant.now c.max-n.result) c.in_ok-ready.ensures.state)
-    c.act-answer.result c.act-answer.ensures.answer
+    c.act-done.result.answer c.act-done.ensures.answer
 
-over : (c : goal.After-settle) → record { persistent = persistent_of c.act-answer.new.self.lasting; attached = c.act-answer.new.self.attached.items; proxies = c.settle.new.marks.proxies; wants = c.settle.new.marks.wants }
+over : (c : goal.After-effect_of) → record { persistent = persistent_of c.act-done.new.self.lasting; attached = c.act-done.new.self.attached.items; proxies = c.settle.new.marks.proxies; wants = c.settle.new.marks.wants }
     ≡ (step c.args.plant.now c.args.session c.args.command.now c.args.moment (state_of c.args.self.now)).state
 over c =
-    ap (λ marks. record { persistent = persistent_of c.act-answer.new.self.lasting; attached = c.act-answer.new.self.attached.items; proxies = marks.proxies; wants = marks.wants }) c.settle.ensures
-    ∙ stepped c.args.plant.now c.args.session c.args.command.now c.args.moment c.max-n.result (state_of c.args.self.now) c.max-n.ensures
+    ap (λ marks. record { persistent = persistent_of c.act-done.new.self.lasting; attached = c.act-done.new.self.attached.items; proxies = marks.proxies; wants = marks.wants }) c.settle.ensures
+    ∙ stepped c.args.plant.now c.args.session c.args.command.now c.args.moment c.max-n.result (state_of c.args.self.now) (c.max-n.ensures ∙ ap (λ k. max k c.args.moment) c.now-before.ensures)
     c.requires.allowed c.requires.moment c.requires.ready.sound (state_of c.pass_time.new.self) (c.pass_time.ensures.state ∙ ap (pass_time c.args.plant.now c.max-n.result) c.in_ok-ready.ensures.state)
-    (state_of c.act-answer.new.self) c.act-answer.ensures.state
+    (state_of c.act-done.new.self) c.act-done.ensures.state
 
 pub returns-clause-state : goal.returns-clause-state
 returns-clause-state c = over c
@@ -68,10 +77,17 @@ returns-clause-ready c = record {
   sound = subst (IsSound c.args.plant.now) (sym (over c))
       (step-sound c.args.plant.now c.args.session c.args.command.now c.args.moment (state_of c.args.self.now) c.requires.allowed c.requires.moment c.requires.ready.sound);
   places = record {
-    small = c.act-answer.ensures.places.small;
-    drivers = ap (λ marks. marks.drivers) c.settle.ensures ∙ c.act-answer.ensures.places.drivers;
-    rows = c.act-answer.ensures.places.rows;
-    attached = c.act-answer.ensures.places.attached;
-    told = c.act-answer.ensures.places.told;
+    small = c.act-done.ensures.places.small;
+    drivers = ap (λ marks. marks.drivers) c.settle.ensures ∙ c.act-done.ensures.places.drivers;
+    points = c.act-done.ensures.places.points;
+    rows = c.act-done.ensures.places.rows;
+    attached = c.act-done.ensures.places.attached;
+    told = c.act-done.ensures.places.told;
   };
 }
+
+pub returns-clause-effect : goal.returns-clause-effect
+returns-clause-effect c = c.effect_of.ensures
+    ∙ told-by c.args.plant.now c.args.session c.args.command.now c.args.moment c.max-n.result (state_of c.args.self.now) (c.max-n.ensures ∙ ap (λ k. max k c.args.moment) c.now-before.ensures)
+    c.requires.allowed c.requires.moment c.requires.ready.sound (state_of c.pass_time.new.self) (c.pass_time.ensures.state ∙ ap (pass_time c.args.plant.now c.max-n.result) c.in_ok-ready.ensures.state)
+    c.act-done.result.changed c.concerned-owner.result c.now-before.result c.now-passed.result c.act-done.ensures.changed c.concerned-owner.ensures c.now-before.ensures c.now-passed.ensures

@@ -1,0 +1,8 @@
+use Rattle.std.proofs.Common.{length, sym, ap, ◌∙◌}
+use Rattle.boss_engine.proofs.Seen.{seen-persistent}
+use Rattle.boss_engine.proofs.engine.Engine.leases.Goals as goal
+
+pub returns : goal.returns
+returns c =
+    let inside = c.self.inside in
+    c.leases.ensures.count ∙ ap (λ d. length d.leases) (sym (seen-persistent inside.plant.items inside.machine inside.is_open)) ∙ ap (λ running. length running.state.persistent.leases) c.self.view_is
