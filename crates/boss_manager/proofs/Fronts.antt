@@ -9,8 +9,11 @@ use Rattle.boss_wire.specs.declared.form.Form.TheVariants as form
 use Rattle.boss_model.specs.DeviceCall.{DeviceCall}
 use Rattle.boss_model.specs.Catalogue.{Catalogue}
 use Rattle.boss_model.specs.Lines.{is_blank}
-use Rattle.boss_wire.specs.Requests.{Parsed, asks, wrong, Request, parsed}
-use Rattle.boss_wire.specs.Script.{Run, cut_short, say, halted, stepping, stepping_with, rest, written, reported, serve, next_driver, carry_out, if_wanting, drain, is_too_long, answered, replied, line_read}
+use Rattle.boss_wire.specs.declared.request.Ask.{Ask}
+use Rattle.boss_wire.specs.declared.request.Ask.TheVariants as ask
+use Rattle.boss_wire.specs.declared.request.Request.{Request}
+use Rattle.boss_wire.specs.Requests.{Parsed, asks, wrong, parsed}
+use Rattle.boss_wire.specs.Script.{Run, cut_short, say, halted, stepping, stepping_with, rest, written, reported, serve, next_driver, carry_out, if_wanting, drain, is_too_long, answered, taken_up, replied, line_read}
 use Rattle.boss_wire.specs.Texts.{answer_text, device_text, line_of, refusal_text, stopped_text, too_long_text}
 use Rattle.boss_manager.specs.Runs.{IsFrontOf, Covers, served, lines_taken}
 
@@ -76,19 +79,23 @@ drain-covers catalogue moment (ok ∷ results) run =
 pub served-covers : (catalogue : Catalogue) (moment : ℕ) (run : Run) → Covers (served catalogue moment run) run.text run.calls
 served-covers catalogue moment run = drain-covers catalogue moment run.results run
 
-pub answered-covers : (catalogue : Catalogue) (request : Request) (run : Run) → Covers (answered catalogue request run) run.text run.calls
-answered-covers catalogue request run =
-    stepping-covers catalogue request.on request.command request.at
-    (λ given after. drain catalogue request.at after.results (say (answer_text catalogue given) after)) (say stopped_text) run
+pub answered-covers : (catalogue : Catalogue) (session : ℕ) (command : Command) (moment : ℕ) (run : Run) → Covers (answered catalogue session command moment run) run.text run.calls
+answered-covers catalogue session command moment run =
+    stepping-covers catalogue session command moment
+    (λ given after. drain catalogue moment after.results (say (answer_text catalogue given) after)) (say stopped_text) run
     (λ given after.
     let told = say (answer_text catalogue given) after in
-    covers-trans told (drain catalogue request.at after.results told) after.text after.calls (drain-covers catalogue request.at after.results told)
+    covers-trans told (drain catalogue moment after.results told) after.text after.calls (drain-covers catalogue moment after.results told)
     ((line_of (answer_text catalogue given), refl), front-whole after.calls))
     (λ after. ((line_of stopped_text, refl), front-whole after.calls))
 
+taken_up-covers : (catalogue : Catalogue) (session : ℕ) (asked : Ask) (moment : ℕ) (run : Run) → Covers (taken_up catalogue session asked moment run) run.text run.calls
+taken_up-covers catalogue session (ask.Command command) moment run = answered-covers catalogue session command moment run
+taken_up-covers catalogue session (ask.Watch name from) moment run = stays run
+
 replied-covers : (catalogue : Catalogue) (asked : Parsed Request) (run : Run) → Covers (replied catalogue asked run) run.text run.calls
 replied-covers catalogue (wrong why) run = ((line_of (refusal_text why), refl), front-whole run.calls)
-replied-covers catalogue (asks request) run = answered-covers catalogue request run
+replied-covers catalogue (asks request) run = taken_up-covers catalogue request.on request.ask request.at run
 
 pub line-covers : (catalogue : Catalogue) (line : List ℕ) (run : Run) → Covers (line_read catalogue run line) run.text run.calls
 line-covers catalogue line run =

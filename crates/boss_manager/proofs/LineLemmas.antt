@@ -13,8 +13,10 @@ use Rattle.boss_model.specs.Catalogue.{Catalogue, actuators}
 use Rattle.boss_model.specs.Effects.{event_of, step_effect}
 use Rattle.boss_model.specs.Lines.{is_blank}
 use Rattle.boss_model.specs.Machine.{step}
-use Rattle.boss_wire.specs.Requests.{Parsed, asks, wrong, Request, parsed}
-use Rattle.boss_wire.specs.Script.{Run, is_too_long, answered, replied, line_read}
+use Rattle.boss_wire.specs.declared.request.Ask.TheVariants as ask
+use Rattle.boss_wire.specs.declared.request.Request.{Request}
+use Rattle.boss_wire.specs.Requests.{Parsed, asks, wrong, parsed}
+use Rattle.boss_wire.specs.Script.{Run, is_too_long, answered, taken_up, replied, line_read}
 use Rattle.boss_model.specs.Sound.{IsAllowed, IsSound}
 use Rattle.boss_model.specs.State.{State}
 use Rattle.boss_model.specs.Tellable.{IsTellable}
@@ -32,31 +34,31 @@ told-step catalogue plant s session c moment same sound allowed small =
     subst (λ p. IsTellable catalogue (step p session c moment s).answer) (sym same)
     (tellable catalogue s session c moment (subst (λ p. IsSound p s) same sound) allowed small)
 
--- ---- a request
+-- ---- a command
 
-module _ (catalogue : Catalogue) (request : Request) (plant : List Actuator) (s : State) (same : plant ≡ actuators catalogue) where
+module _ (catalogue : Catalogue) (session : ℕ) (command : Command) (moment : ℕ) (plant : List Actuator) (s : State) (same : plant ≡ actuators catalogue) where
   abbrev answering : List ℕ
-  answering = line_of (answer_text catalogue (step plant request.on request.command request.at s).answer)
+  answering = line_of (answer_text catalogue (step plant session command moment s).answer)
 
   abbrev after : State
-  after = (step plant request.on request.command request.at s).state
+  after = (step plant session command moment s).state
 
   abbrev event_of_step : List Actuator → List Event
-  event_of_step p = option_to_list (event_of request.command (step_effect p request.on request.command request.at s))
+  event_of_step p = option_to_list (event_of command (step_effect p session command moment s))
 
-  answered-leads : Leads (answered catalogue request) (served catalogue request.at) s after answering [] (event_of_step plant) []
+  answered-leads : Leads (answered catalogue session command moment) (served catalogue moment) s after answering [] (event_of_step plant) []
   answered-leads more text earlier before =
-      ap (λ p. served catalogue request.at (at (step p request.on request.command request.at s).state
-      (text ++ line_of (answer_text catalogue (step p request.on request.command request.at s).answer)) earlier (before ++ event_of_step p) more)) (sym same)
-      ∙ ap (λ cs. served catalogue request.at (at after (text ++ answering) cs (before ++ event_of_step plant) more)) (sym (append-nil earlier))
+      ap (λ p. served catalogue moment (at (step p session command moment s).state
+      (text ++ line_of (answer_text catalogue (step p session command moment s).answer)) earlier (before ++ event_of_step p) more)) (sym same)
+      ∙ ap (λ cs. served catalogue moment (at after (text ++ answering) cs (before ++ event_of_step plant) more)) (sym (append-nil earlier))
 
   module _ (old : Trace) (taken : List ℕ) where
     -- the answer is told, and then the wants that it leaves are served
-    pub did-answer : taken ≡ old.taken ++ answering → Did (actuators catalogue) (answered catalogue request) (served catalogue request.at) s after old (record old { taken = taken })
+    pub did-answer : taken ≡ old.taken ++ answering → Did (actuators catalogue) (answered catalogue session command moment) (served catalogue moment) s after old (record old { taken = taken })
     did-answer told = did-tell answering (event_of_step plant) old taken answered-leads told
 
-    pub broke-answer : TakesFront old.taken taken answering → Broke (actuators catalogue) (answered catalogue request) s old (record old { taken = taken })
-    broke-answer takes = broke-tell (served catalogue request.at) after answering (event_of_step plant) old taken answered-leads (served-covers catalogue request.at) takes
+    pub broke-answer : TakesFront old.taken taken answering → Broke (actuators catalogue) (answered catalogue session command moment) s old (record old { taken = taken })
+    broke-answer takes = broke-tell (served catalogue moment) after answering (event_of_step plant) old taken answered-leads (served-covers catalogue moment) takes
 
 -- ---- a line
 
@@ -80,13 +82,16 @@ module _ (catalogue : Catalogue) (line : List ℕ) (short : is_too_long line ≡
   pub did-blank : is_blank line ≡ true → (s : State) (old : Trace) → Did (actuators catalogue) (line_taken catalogue line) stop s s old old
   did-blank blank s old = did-same (line_taken catalogue line) (blank-same blank) (did-nothing stop s old)
 
-  pub broke-request : is_blank line ≡ false → (request : Request) → parsed catalogue form.Script line ≡ asks request → {s : State} {old new : Trace} →
-      Broke (actuators catalogue) (answered catalogue request) s old new → Broke (actuators catalogue) (line_taken catalogue line) s old new
-  broke-request full request is broke = broke-same (line_taken catalogue line) (replied-same full (asks request) is) broke
+  module _ (full : is_blank line ≡ false) (request : Request) (command : Command) (asked : request.ask ≡ ask.Command command) (is : parsed catalogue form.Script line ≡ asks request) where
+    pub broke-request : {s : State} {old new : Trace} →
+        Broke (actuators catalogue) (answered catalogue request.on command request.at) s old new → Broke (actuators catalogue) (line_taken catalogue line) s old new
+    broke-request {s} {old} {new} broke = broke-same (line_taken catalogue line) (replied-same full (asks request) is)
+        (subst (λ a. Broke (actuators catalogue) (taken_up catalogue request.on a request.at) s old new) (sym asked) broke)
 
-  pub did-request : is_blank line ≡ false → (request : Request) → parsed catalogue form.Script line ≡ asks request → {s s' : State} {old new : Trace} →
-      Did (actuators catalogue) (answered catalogue request) stop s s' old new → Did (actuators catalogue) (line_taken catalogue line) stop s s' old new
-  did-request full request is did = did-same (line_taken catalogue line) (replied-same full (asks request) is) did
+    pub did-request : {s s' : State} {old new : Trace} →
+        Did (actuators catalogue) (answered catalogue request.on command request.at) stop s s' old new → Did (actuators catalogue) (line_taken catalogue line) stop s s' old new
+    did-request {s} {s'} {old} {new} did = did-same (line_taken catalogue line) (replied-same full (asks request) is)
+        (subst (λ a. Did (actuators catalogue) (taken_up catalogue request.on a request.at) stop s s' old new) (sym asked) did)
 
   -- a refusal
   module _ (full : is_blank line ≡ false) (why : Refusal) (is : parsed catalogue form.Script line ≡ wrong why) (s : State) (old : Trace) (taken : List ℕ) where

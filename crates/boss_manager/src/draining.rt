@@ -86,7 +86,7 @@ fn serve<K: Sink, A: Actuators>(
         (trace ⟦<K as Sink>⟧ ⟦<A as Actuators>⟧ sink.old devices.old.items)
         (trace ⟦<K as Sink>⟧ ⟦<A as Actuators>⟧ sink.new devices.new.items)) }
 {
-    let Ok(answer) = engine.step(OWN, &Command::Next { driver }, moment) else {
+    let Ok((answer, _)) = engine.step(OWN, &Command::Next { driver }, moment) else {
         unreachable!()
     };
     let Answer::Want {

@@ -5,7 +5,6 @@ ghost use Rattle.boss_model.specs.Lines.{lines};
 ghost use Rattle.boss_model.specs.Sound.{IsAllowed, IsSound};
 ghost use Rattle.boss_wire.specs.Script.{answered};
 ghost use Rattle.boss_lines.specs.Given.{GivesLines};
-ghost use Rattle.boss_requests.specs.Seen.{asked, seen};
 ghost use Rattle.boss_manager.specs.Causes.{ReadCause, WriteCause, status_of};
 ghost use Rattle.boss_manager.specs.Devices.{HasDevices};
 ghost use Rattle.boss_manager.specs.Ends.{EndsScript};
@@ -20,10 +19,10 @@ use crate::draining::drain;
 use boss_answers::{tell_answer, tell_too_long};
 use boss_engine::Engine;
 use boss_lines::{Lines, Next};
-use boss_model::{Answer, Buffer, Command, MOST_LINES};
+use boss_model::{Answer, Buffer, Command, MOST_LINES, SessionId};
 use boss_outside::{Actuators, Sink, Source};
 use boss_points::Catalogue;
-use boss_requests::{Ask, Form, ReadRefusal, Request, is_blank, read_request};
+use boss_requests::{Ask, Form, ReadRefusal, is_blank, read_request};
 use std::alloc::Global;
 
 /// How many bytes there is room for where a line is written.
@@ -177,7 +176,12 @@ fn take_line<K: Sink, A: Actuators>(
         return Ok(());
     }
     match read_request(alloc, catalogue, line, Form::Script) {
-        Ok(request) => answer(catalogue, engine, &request, text, sink, devices),
+        Ok(request) => match &request.ask {
+            Ask::Command(command) => answer(
+                catalogue, engine, request.on, command, request.at, text, sink, devices,
+            ),
+            Ask::Watch { .. } => unreachable!(),
+        },
         Err(ReadRefusal::Refused(refusal)) => {
             tell_answer(catalogue, &Answer::Refused(refusal), text, sink)?;
             Ok(())
@@ -186,17 +190,19 @@ fn take_line<K: Sink, A: Actuators>(
     }
 }
 
-/// Does what a line asks, tells the answer, and serves the wants that are left then.
+/// Does a command, tells the answer, and serves the wants that are left then.
 fn answer<K: Sink, A: Actuators>(
     catalogue: &Catalogue,
     engine: &mut Engine,
-    request: &Request,
+    session: SessionId,
+    command: &Command,
+    moment: u64,
     text: &mut Buffer,
     sink: &mut K,
     devices: &mut Vec<A>,
 ) -> Result<(), Broken>
-    requires moment { request.now.at ≤ last_moment }
-    requires allowed { IsAllowed (actuators catalogue.now) (asked request.now.ask) }
+    requires moment { moment ≤ last_moment }
+    requires allowed { IsAllowed (actuators catalogue.now) command.now }
     requires plant { engine.old.plant ≡ actuators catalogue.now }
     requires sound { IsSound engine.old.plant engine.old.state }
     requires room { 32768 ≤ text.old.capacity }
@@ -207,26 +213,17 @@ fn answer<K: Sink, A: Actuators>(
     ensures room { text.new.capacity ≡ text.old.capacity }
     ensures len { vec_len devices.new ≡ vec_len devices.old }
     ensures write { WriteCause (K.faults sink.old) (K.faults sink.new) result }
-    ensures did { OnOk result (K.tells → Did (actuators catalogue.now) (answered catalogue.now (seen request.now)) stop
+    ensures did { OnOk result (K.tells → Did (actuators catalogue.now) (answered catalogue.now session command.now moment) stop
         engine.old.state engine.new.state
         (trace ⟦<K as Sink>⟧ ⟦<A as Actuators>⟧ sink.old devices.old.items)
         (trace ⟦<K as Sink>⟧ ⟦<A as Actuators>⟧ sink.new devices.new.items)) }
-    ensures broke { OnErr result (K.tells → Broke (actuators catalogue.now) (answered catalogue.now (seen request.now))
+    ensures broke { OnErr result (K.tells → Broke (actuators catalogue.now) (answered catalogue.now session command.now moment)
         engine.old.state
         (trace ⟦<K as Sink>⟧ ⟦<A as Actuators>⟧ sink.old devices.old.items)
         (trace ⟦<K as Sink>⟧ ⟦<A as Actuators>⟧ sink.new devices.new.items)) }
 {
-    let answer = engine.step(request.on, command_in(&request.ask), request.at)?;
-    tell_answer(catalogue, &answer, text, sink)?;
-    drain(catalogue, engine, request.at, text, sink, devices)?;
+    let done = engine.step(session, command, moment)?;
+    tell_answer(catalogue, &done.0, text, sink)?;
+    drain(catalogue, engine, moment, text, sink, devices)?;
     Ok(())
-}
-
-/// The command that is asked.
-fn command_in(ask: &Ask) -> &Command
-    ensures { result.now ≡ asked ask.now }
-{
-    match ask {
-        Ask::Command(command) => command,
-    }
 }

@@ -1,4 +1,5 @@
 pub mod Each
 pub mod Formed
+pub mod Forms
 pub mod Values
 pub mod Views

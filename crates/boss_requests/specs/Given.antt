@@ -1,4 +1,14 @@
-use Rattle.std.specs.Prelude.{◌≡◌, Result, Ok, Err}
+use Rattle.std.specs.Prelude.{◌≡◌, ◌≤◌, ℕ, true, List, Result, Ok, Err}
+use Rattle.boss_model.specs.declared.state.Actuator.{Actuator}
+use Rattle.boss_model.specs.Limits.{last_session}
+use Rattle.boss_model.specs.Names.{is_name}
+use Rattle.boss_model.specs.Sound.{IsAllowed}
+use Rattle.boss_wire.specs.declared.form.Form.{Form}
+use Rattle.boss_wire.specs.declared.form.Form.TheVariants.{Script, FirstLine, LaterLine}
+use Rattle.boss_wire.specs.declared.form.Op.{Op}
+use Rattle.boss_wire.specs.declared.form.Op.TheVariants as op
+use Rattle.boss_wire.specs.declared.request.Ask.{Ask}
+use Rattle.boss_wire.specs.declared.request.Ask.TheVariants.{Command, Watch}
 use Rattle.boss_wire.specs.Requests.{Parsed, asks, wrong}
 use Rattle.boss_requests.specs.declared.refusal.ReadRefusal.{ReadRefusal}
 use Rattle.boss_requests.specs.declared.refusal.ReadRefusal.TheVariants.{Refused, NoMemory}
@@ -12,3 +22,27 @@ IsTold NoMemory read = Unit {0}
 abbrev pub Gives : {A B : Type 0} → (A → B) → Result A ReadRefusal → Parsed B → Type 0
 Gives view (Ok x) read = read ≡ asks (view x)
 Gives view (Err refusal) read = IsTold refusal read
+
+-- what is asked can be done on this plant
+abbrev pub MayAsk : List Actuator → Ask → Type 0
+MayAsk plant (Command command) = IsAllowed plant command
+MayAsk plant (Watch name from) = (is_name name ≡ true) × (1 ≤ from)
+
+-- only the first line of a connection asks to watch: by its op, and by what is asked for that
+abbrev pub IsOpOf : Form → Op → Type 0
+IsOpOf form op.Watch = form ≡ FirstLine
+IsOpOf form other = Unit {0}
+
+abbrev pub IsAskOf : Op → Ask → Type 0
+IsAskOf by (Command command) = Unit {0}
+IsAskOf by (Watch name from) = by ≡ op.Watch
+
+abbrev pub IsOfForm : Form → Ask → Type 0
+IsOfForm form (Command command) = Unit {0}
+IsOfForm form (Watch name from) = form ≡ FirstLine
+
+-- a line of a script has a session, and in the place of that of a connection stands 0
+abbrev pub IsSession : Form → ℕ → Type 0
+IsSession Script session = (1 ≤ session) × (session ≤ last_session)
+IsSession FirstLine session = session ≡ 0
+IsSession LaterLine session = session ≡ 0

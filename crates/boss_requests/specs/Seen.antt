@@ -1,17 +1,13 @@
--- What contracts see of values and requests.
+-- What contracts see of values.
 use Rattle.std.specs.Prelude.{ℕ, List, map}
 use Rattle.serde_json.specs.Data.{Data}
 use Rattle.serde_json.specs.Find.{as_str}
 use Rattle.serde_json.specs.View.{view}
 use Rattle.serde_json.specs.declared.value.Value.{Value}
-use Rattle.boss_model.specs.declared.command.Command.{Command as Asked}
 use Rattle.boss_model.specs.declared.command.Setting.{Setting}
 use Rattle.boss_model.specs.Catalogue.{Catalogue}
 use Rattle.boss_wire.specs.Keys.{write}
-use Rattle.boss_wire.specs.Requests.{Parsed, formed, point_at, setting_at, ◌>>=◌, Request as Meant}
-use Rattle.boss_requests.specs.declared.request.Ask.{Ask}
-use Rattle.boss_requests.specs.declared.request.Ask.TheVariants.{Command}
-use Rattle.boss_requests.specs.declared.request.Request.{Request}
+use Rattle.boss_wire.specs.Requests.{Parsed, formed, point_at, setting_at, ◌>>=◌}
 
 abbrev pub views : List Value → List Data
 views values = map view values
@@ -27,10 +23,3 @@ abbrev pub setting_in : Catalogue → ℕ → Data → Parsed Setting
 setting_in catalogue index d = do
   write ← formed (write d)
   setting_at catalogue index write
-
--- the command that is asked
-abbrev pub asked : Ask → Asked
-asked (Command command) = command
-
-abbrev pub seen : Request → Meant
-seen request = record { on = request.on; at = request.at; command = asked request.ask }

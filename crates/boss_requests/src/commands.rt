@@ -1,12 +1,13 @@
-ghost use Rattle.std.specs.Prelude.{◌≡◌, ◌<◌, codes, length, List, IfOk};
+ghost use Rattle.std.specs.Prelude.{◌≡◌, ◌<◌, codes, length, List, IfOk, IfSome};
 ghost use Rattle.serde_json.specs.View.{view};
-ghost use Rattle.boss_wire.specs.declared.form.Form.TheVariants.{Script};
+ghost use Rattle.boss_wire.specs.declared.form.Form.{Form};
+ghost use Rattle.boss_wire.specs.declared.form.Form.TheVariants.{Script, FirstLine};
+ghost use Rattle.boss_wire.specs.declared.form.Op.TheVariants.{Attach, Submit, Renew, Cancel, Read, Array, Status, Notices};
 ghost use Rattle.boss_model.specs.declared.state.Actuator.{Actuator};
 ghost use Rattle.boss_model.specs.Catalogue.{actuators};
 ghost use Rattle.boss_wire.specs.Keys.{number_from, under};
-ghost use Rattle.boss_wire.specs.Requests.{array_of, attach_of, cancel_of, command_of, formed, notices_of, op_named, point_of, read_of, renew_of, status_of, submit_of};
-ghost use Rattle.boss_model.specs.Sound.{IsAllowed};
-ghost use Rattle.boss_requests.specs.Given.{Gives};
+ghost use Rattle.boss_wire.specs.Requests.{array_of, ask_of, attach_of, cancel_of, common_op, formed, notices_of, op_named, point_of, read_of, renew_of, status_of, submit_of, watch_of};
+ghost use Rattle.boss_requests.specs.Given.{Gives, IsAskOf, IsOpOf, MayAsk};
 
 use crate::ReadRefusal;
 use crate::keys::{
@@ -18,21 +19,46 @@ use crate::refusal::MALFORMED;
 use crate::writes::settings_in;
 use boss_model::{Command, MOST_TOLD, PointId, Txn};
 use boss_points::Catalogue;
-use boss_wire::{Form, Op};
+use boss_wire::{Ask, Form, Op};
 use serde_json::Value;
 use std::alloc::Global;
 
 /// What the text under `op` asks for.
 pub(crate) fn op_named(form: Form, text: &str) -> Option<Op>
-    ensures { result ≡ op_named form text.now }
+    ensures op { result ≡ op_named form text.now }
+    ensures form { IfSome result (IsOpOf form) }
 {
     match form {
         Form::Script => script_op(text),
+        Form::FirstLine => first_op(text),
+        Form::LaterLine => common_op(text),
     }
 }
 
 fn script_op(text: &str) -> Option<Op>
-    ensures { result ≡ op_named Script text.now }
+    ensures op { result ≡ op_named Script text.now }
+    ensures form { IfSome result (IsOpOf Script) }
+{
+    match text {
+        "gone" => Some(Op::Gone),
+        "tick" => Some(Op::Tick),
+        other => common_op(other),
+    }
+}
+
+fn first_op(text: &str) -> Option<Op>
+    ensures op { result ≡ op_named FirstLine text.now }
+    ensures form { IfSome result (IsOpOf FirstLine) }
+{
+    match text {
+        "watch" => Some(Op::Watch),
+        other => common_op(other),
+    }
+}
+
+fn common_op(text: &str) -> Option<Op>
+    ensures op { result ≡ common_op text.now }
+    ensures form { (form : Form) → IfSome result (IsOpOf form) }
 {
     match text {
         "attach" => Some(Op::Attach),
@@ -43,21 +69,20 @@ fn script_op(text: &str) -> Option<Op>
         "array" => Some(Op::Array),
         "status" => Some(Op::Status),
         "notices" => Some(Op::Notices),
-        "gone" => Some(Op::Gone),
-        "tick" => Some(Op::Tick),
         _ => None,
     }
 }
 
-/// The command that an object spells.
-pub(crate) fn command_in(
+/// What an object asks.
+pub(crate) fn ask_in(
     alloc: Global,
     catalogue: &Catalogue,
     op: Op,
     value: &Value,
-) -> Result<Command, ReadRefusal>
-    ensures command { Gives (λ command. command) result (command_of catalogue.now op (view value.now)) }
-    ensures allowed { IfOk result (IsAllowed (actuators catalogue.now)) }
+) -> Result<Ask, ReadRefusal>
+    ensures ask { Gives (λ ask. ask) result (ask_of catalogue.now op (view value.now)) }
+    ensures allowed { IfOk result (MayAsk (actuators catalogue.now)) }
+    ensures op { IfOk result (IsAskOf op) }
 {
     match op {
         Op::Attach => attach_in(value),
@@ -68,92 +93,110 @@ pub(crate) fn command_in(
         Op::Array => array_in(catalogue, value),
         Op::Status => status_in(value),
         Op::Notices => notices_in(value),
-        Op::Gone => Ok(Command::Gone),
-        Op::Tick => Ok(Command::Tick),
+        Op::Gone => Ok(Ask::Command(Command::Gone)),
+        Op::Tick => Ok(Ask::Command(Command::Tick)),
+        Op::Watch => watch_in(value),
     }
 }
 
-fn attach_in(value: &Value) -> Result<Command, ReadRefusal>
-    ensures command { Gives (λ command. command) result (attach_of (view value.now)) }
-    ensures allowed { (plant : List Actuator) → IfOk result (IsAllowed plant) }
+fn attach_in(value: &Value) -> Result<Ask, ReadRefusal>
+    ensures ask { Gives (λ ask. ask) result (attach_of (view value.now)) }
+    ensures allowed { (plant : List Actuator) → IfOk result (MayAsk plant) }
+    ensures op { IfOk result (IsAskOf Attach) }
 {
     let name = process_of(value).ok_or(MALFORMED)?;
-    Ok(Command::Attach { name })
+    Ok(Ask::Command(Command::Attach { name }))
 }
 
-fn submit_in(alloc: Global, catalogue: &Catalogue, value: &Value) -> Result<Command, ReadRefusal>
-    ensures command { Gives (λ command. command) result (submit_of catalogue.now (view value.now)) }
-    ensures allowed { IfOk result (IsAllowed (actuators catalogue.now)) }
+fn submit_in(alloc: Global, catalogue: &Catalogue, value: &Value) -> Result<Ask, ReadRefusal>
+    ensures ask { Gives (λ ask. ask) result (submit_of catalogue.now (view value.now)) }
+    ensures allowed { IfOk result (MayAsk (actuators catalogue.now)) }
+    ensures op { IfOk result (IsAskOf Submit) }
 {
     let values = writes_of(value).ok_or(MALFORMED)?;
     let policy = policy_of(value).ok_or(MALFORMED)?;
     let seq = seq_of(value).ok_or(MALFORMED)?;
     let writes = settings_in(alloc, catalogue, values)?;
-    Ok(Command::Submit {
+    Ok(Ask::Command(Command::Submit {
         writes,
         policy,
         seq,
-    })
+    }))
 }
 
-fn renew_in(alloc: Global, catalogue: &Catalogue, value: &Value) -> Result<Command, ReadRefusal>
-    ensures command { Gives (λ command. command) result (renew_of catalogue.now (view value.now)) }
-    ensures allowed { IfOk result (IsAllowed (actuators catalogue.now)) }
+fn renew_in(alloc: Global, catalogue: &Catalogue, value: &Value) -> Result<Ask, ReadRefusal>
+    ensures ask { Gives (λ ask. ask) result (renew_of catalogue.now (view value.now)) }
+    ensures allowed { IfOk result (MayAsk (actuators catalogue.now)) }
+    ensures op { IfOk result (IsAskOf Renew) }
 {
     let txn = txn_of(value)?;
     let length = whole_under(value, "length").ok_or(MALFORMED)?;
     let names = points_of(value).ok_or(MALFORMED)?;
     let seq = seq_of(value).ok_or(MALFORMED)?;
     let points = points_named(alloc, catalogue, names)?;
-    Ok(Command::Renew {
+    Ok(Ask::Command(Command::Renew {
         txn,
         length,
         points,
         seq,
-    })
+    }))
 }
 
-fn cancel_in(value: &Value) -> Result<Command, ReadRefusal>
-    ensures command { Gives (λ command. command) result (cancel_of (view value.now)) }
-    ensures allowed { (plant : List Actuator) → IfOk result (IsAllowed plant) }
+fn cancel_in(value: &Value) -> Result<Ask, ReadRefusal>
+    ensures ask { Gives (λ ask. ask) result (cancel_of (view value.now)) }
+    ensures allowed { (plant : List Actuator) → IfOk result (MayAsk plant) }
+    ensures op { IfOk result (IsAskOf Cancel) }
 {
     let txn = txn_of(value)?;
     let seq = seq_of(value).ok_or(MALFORMED)?;
-    Ok(Command::Cancel { txn, seq })
+    Ok(Ask::Command(Command::Cancel { txn, seq }))
 }
 
-fn read_in(catalogue: &Catalogue, value: &Value) -> Result<Command, ReadRefusal>
-    ensures command { Gives (λ command. command) result (read_of catalogue.now (view value.now)) }
-    ensures allowed { IfOk result (IsAllowed (actuators catalogue.now)) }
+fn read_in(catalogue: &Catalogue, value: &Value) -> Result<Ask, ReadRefusal>
+    ensures ask { Gives (λ ask. ask) result (read_of catalogue.now (view value.now)) }
+    ensures allowed { IfOk result (MayAsk (actuators catalogue.now)) }
+    ensures op { IfOk result (IsAskOf Read) }
 {
     let point = point_of(catalogue, value)?;
-    Ok(Command::Read { point })
+    Ok(Ask::Command(Command::Read { point }))
 }
 
-fn array_in(catalogue: &Catalogue, value: &Value) -> Result<Command, ReadRefusal>
-    ensures command { Gives (λ command. command) result (array_of catalogue.now (view value.now)) }
-    ensures allowed { IfOk result (IsAllowed (actuators catalogue.now)) }
+fn array_in(catalogue: &Catalogue, value: &Value) -> Result<Ask, ReadRefusal>
+    ensures ask { Gives (λ ask. ask) result (array_of catalogue.now (view value.now)) }
+    ensures allowed { IfOk result (MayAsk (actuators catalogue.now)) }
+    ensures op { IfOk result (IsAskOf Array) }
 {
     let point = point_of(catalogue, value)?;
-    Ok(Command::Array { point })
+    Ok(Ask::Command(Command::Array { point }))
 }
 
-fn status_in(value: &Value) -> Result<Command, ReadRefusal>
-    ensures command { Gives (λ command. command) result (status_of (view value.now)) }
-    ensures allowed { (plant : List Actuator) → IfOk result (IsAllowed plant) }
+fn status_in(value: &Value) -> Result<Ask, ReadRefusal>
+    ensures ask { Gives (λ ask. ask) result (status_of (view value.now)) }
+    ensures allowed { (plant : List Actuator) → IfOk result (MayAsk plant) }
+    ensures op { IfOk result (IsAskOf Status) }
 {
     let txn = txn_of(value)?;
-    Ok(Command::Status { txn })
+    Ok(Ask::Command(Command::Status { txn }))
 }
 
-fn notices_in(value: &Value) -> Result<Command, ReadRefusal>
-    ensures command { Gives (λ command. command) result (notices_of (view value.now)) }
-    ensures allowed { (plant : List Actuator) → IfOk result (IsAllowed plant) }
+fn notices_in(value: &Value) -> Result<Ask, ReadRefusal>
+    ensures ask { Gives (λ ask. ask) result (notices_of (view value.now)) }
+    ensures allowed { (plant : List Actuator) → IfOk result (MayAsk plant) }
+    ensures op { IfOk result (IsAskOf Notices) }
 {
     let name = some_process_of(value).ok_or(MALFORMED)?;
     let from = first_notice(value).ok_or(MALFORMED)?;
     let max = number_within(value, "max", 1, MOST_TOLD, 16).ok_or(MALFORMED)?;
-    Ok(Command::Notices { name, from, max })
+    Ok(Ask::Command(Command::Notices { name, from, max }))
+}
+
+fn watch_in(value: &Value) -> Result<Ask, ReadRefusal>
+    ensures ask { Gives (λ ask. ask) result (watch_of (view value.now)) }
+    ensures allowed { (plant : List Actuator) → IfOk result (MayAsk plant) }
+{
+    let name = process_of(value).ok_or(MALFORMED)?;
+    let from = first_notice(value).ok_or(MALFORMED)?;
+    Ok(Ask::Watch { name, from })
 }
 
 /// The number of the transaction that a line is about.

@@ -11,6 +11,6 @@ mod request;
 mod writes;
 
 pub use blank::is_blank;
-pub use boss_wire::Form;
+pub use boss_wire::{Ask, Form, Request};
 pub use refusal::ReadRefusal;
-pub use request::{Ask, Request, read_request};
+pub use request::read_request;

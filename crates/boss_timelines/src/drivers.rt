@@ -114,7 +114,9 @@ fn session_call(alloc: Global, catalogue: &Catalogue, line: &str) -> Result<Call
     ensures allowed { IfOk result (λ call. IsAllowed (actuators catalogue.now) call.command) }
 {
     let Request { on, at, ask } = read_request(alloc, catalogue, line.as_bytes(), Form::Script)?;
-    let Ask::Command(command) = ask;
+    let Ask::Command(command) = ask else {
+        unreachable!()
+    };
     Ok(Call {
         session: on,
         command,

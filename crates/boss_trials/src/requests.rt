@@ -4,9 +4,9 @@ use boss_requests::{Ask, Form, ReadRefusal, Request, is_blank, read_request};
 use std::alloc::{AllocError, Global};
 use std::test::Fail;
 
-/// What a line of a script is read as: its session, its moment and its command, or why it is refused.
-fn reading(alloc: Global, catalogue: &Catalogue, line: &[u8]) -> Result<String, Fail> {
-    match read_request(alloc, catalogue, line, Form::Script) {
+/// What a line is read as: its session, its moment and what it asks, or why it is refused.
+fn reading(alloc: Global, catalogue: &Catalogue, form: Form, line: &[u8]) -> Result<String, Fail> {
+    match read_request(alloc, catalogue, line, form) {
         Ok(request) => asked(alloc, &request),
         Err(ReadRefusal::Refused(refusal)) => Ok(format!(in alloc; "{refusal:?}")?),
         Err(ReadRefusal::NoMemory) => Err("no memory".into()),
@@ -14,8 +14,11 @@ fn reading(alloc: Global, catalogue: &Catalogue, line: &[u8]) -> Result<String, 
 }
 
 fn asked(alloc: Global, request: &Request) -> Result<String, Fail> {
-    let Ask::Command(command) = &request.ask;
-    Ok(format!(in alloc; "{} {} {command:?}", request.on.0, request.at)?)
+    let (on, at) = (request.on.0, request.at);
+    match &request.ask {
+        Ask::Command(command) => Ok(format!(in alloc; "{on} {at} {command:?}")?),
+        Ask::Watch { name, from } => Ok(format!(in alloc; "{on} {at} watch {name} from {from}")?),
+    }
 }
 
 /// Lines of a script over the three points, each below a line `= ..` that says what it is read as. A `#` begins a comment.
@@ -234,7 +237,50 @@ null
 {"op":"submit","writes":[{"point":"lamp","value":1,"lease":1,"priority":17},{"point":"door","value":1,"lease":0}]}
 "#;
 
-/// Lines that are no text, or have blanks at their ends, and what they are read as.
+/// First lines of connections.
+const FIRST_LINES: &str = r#"
+= 0 0 watch schedule from 1
+{"op":"watch","process":"schedule"}
+= 0 0 watch night.shift_2-b from 9223372036854775807
+{"op":"watch","from":9223372036854775807,"process":"night.shift_2-b","max":7}
+= 0 0 Status { txn: Txn(3) }
+{"op":"status","txn":3}
+# Which session asks, and when, is passed over.
+{"on":7,"at":1000,"op":"status","txn":3}
+{"on":0,"at":"soon","op":"status","txn":3}
+= Malformed
+{"op":"watch"}
+{"op":"watch","process":7}
+{"op":"watch","process":"Schedule"}
+{"op":"watch","process":null,"from":1}
+{"op":"watch","process":"schedule","from":0}
+{"op":"watch","process":"schedule","from":"1"}
+{"op":"watch","process":"schedule","from":9223372036854775808}
+= UnknownOp
+{"op":"tick"}
+{"op":"gone"}
+{"op":"next","driver":0}
+"#;
+
+/// Later lines of connections.
+const LATER_LINES: &str = r#"
+= UnknownOp
+{"op":"watch","process":"schedule"}
+{"op":"watch"}
+{"op":"tick"}
+{"op":"gone"}
+= 0 0 Notices { name: None, from: 1, max: 16 }
+{"on":65536,"at":-1,"op":"notices"}
+"#;
+
+/// Lines of each form.
+const TABLES: &[(Form, &str)] = &[
+    (Form::Script, LINES),
+    (Form::FirstLine, FIRST_LINES),
+    (Form::LaterLine, LATER_LINES),
+];
+
+/// Lines of a script that are no text, or have blanks at their ends, and what they are read as.
 const ENDS: &[(&[u8], &str)] = &[
     (b"", "Malformed"),
     (b"{\"op\":\"tick\",\"x\":\"\xff\"}", "Malformed"),
@@ -245,17 +291,19 @@ const ENDS: &[(&[u8], &str)] = &[
 fn a_line_is_read_as_its_request(rt: HostRuntime) -> Result<(), Fail> {
     let alloc = rt.alloc();
     let catalogue = Catalogue::read(alloc, THREE_POINTS.as_bytes())?;
-    for group in LINES.split("\n= ").skip(1) {
-        let (wanted, lines) = group.split_once('\n').ok_or("a group")?;
-        for line in lines.split('\n') {
-            if !line.is_empty() && !line.starts_with('#') {
-                let read = reading(alloc, &catalogue, line.as_bytes())?;
-                assert_eq!(rt; read.as_str(), wanted, "{line}");
+    for (form, table) in TABLES {
+        for group in table.split("\n= ").skip(1) {
+            let (wanted, lines) = group.split_once('\n').ok_or("a group")?;
+            for line in lines.split('\n') {
+                if !line.is_empty() && !line.starts_with('#') {
+                    let read = reading(alloc, &catalogue, *form, line.as_bytes())?;
+                    assert_eq!(rt; read.as_str(), wanted, "{line}");
+                }
             }
         }
     }
     for (line, wanted) in ENDS {
-        let read = reading(alloc, &catalogue, line)?;
+        let read = reading(alloc, &catalogue, Form::Script, line)?;
         assert_eq!(rt; read.as_str(), *wanted, "{line:?}");
     }
     Ok(())
@@ -310,10 +358,10 @@ fn a_line_has_its_bounds(rt: HostRuntime) -> Result<(), Fail> {
     let catalogue = Catalogue::read(alloc, THREE_POINTS.as_bytes())?;
     for (front, part, other, back, most) in LONGEST {
         let longest = line_of(alloc, front, part, other, back, *most)?;
-        let read = reading(alloc, &catalogue, longest.as_bytes())?;
+        let read = reading(alloc, &catalogue, Form::Script, longest.as_bytes())?;
         assert!(rt; read.starts_with("1 0 "), "{longest}");
         let longer = line_of(alloc, front, part, other, back, most.saturating_add(1))?;
-        let read = reading(alloc, &catalogue, longer.as_bytes())?;
+        let read = reading(alloc, &catalogue, Form::Script, longer.as_bytes())?;
         assert_eq!(rt; read.as_str(), "Malformed", "{longer}");
     }
     Ok(())

@@ -6,14 +6,16 @@ use Rattle.serde_json.specs.Find.{as_str}
 use Rattle.serde_json.specs.Read.{read}
 use Rattle.boss_model.specs.declared.answer.Refusal.{Refusal}
 use Rattle.boss_model.specs.declared.answer.Refusal.TheVariants.{Malformed, UnknownOp, UnknownPoint}
-use Rattle.boss_model.specs.declared.command.Command.{Command}
 use Rattle.boss_model.specs.declared.command.Command.TheVariants as command
 use Rattle.boss_model.specs.declared.command.Policy.TheVariants.{Abort}
 use Rattle.boss_model.specs.declared.command.Setting.{Setting}
 use Rattle.boss_wire.specs.declared.form.Form.{Form}
-use Rattle.boss_wire.specs.declared.form.Form.TheVariants.{Script}
+use Rattle.boss_wire.specs.declared.form.Form.TheVariants.{Script, FirstLine, LaterLine}
 use Rattle.boss_wire.specs.declared.form.Op.{Op}
 use Rattle.boss_wire.specs.declared.form.Op.TheVariants as op
+use Rattle.boss_wire.specs.declared.request.Ask.{Ask}
+use Rattle.boss_wire.specs.declared.request.Ask.TheVariants as ask
+use Rattle.boss_wire.specs.declared.request.Request.{Request}
 use Rattle.boss_model.specs.Catalogue.{Catalogue, place_of}
 use Rattle.boss_model.specs.Limits.{most_told, last_moment, last_session}
 use Rattle.boss_wire.specs.Keys.{all_of, under, under_or, whole, number_from, number_within, name, short_list, seq, policy, Write, write}
@@ -76,75 +78,82 @@ settings_of catalogue items = do
   writes ← formed (all_of write items)
   each_from (setting_at catalogue) 0 writes
 
--- ---- commands
+-- ---- what is asked
 
-abbrev pub attach_of : Data → Parsed Command
+abbrev pub attach_of : Data → Parsed Ask
 attach_of d = do
   name ← formed (under (codes "process") name d)
-  asks (command.Attach name)
+  asks (ask.Command (command.Attach name))
 
-abbrev pub submit_of : Catalogue → Data → Parsed Command
+abbrev pub submit_of : Catalogue → Data → Parsed Ask
 submit_of catalogue d = do
   items ← formed (under (codes "writes") short_list d)
   policy ← formed (under_or (codes "policy") policy Abort d)
   seq ← formed (seq d)
   settings ← settings_of catalogue items
-  asks (command.Submit settings policy seq)
+  asks (ask.Command (command.Submit settings policy seq))
 
-abbrev pub renew_of : Catalogue → Data → Parsed Command
+abbrev pub renew_of : Catalogue → Data → Parsed Ask
 renew_of catalogue d = do
   txn ← formed (under (codes "txn") (number_from 0) d)
   length ← formed (under (codes "length") whole d)
   items ← formed (under_or (codes "points") short_list [] d)
   seq ← formed (seq d)
   points ← points_of catalogue items
-  asks (command.Renew txn length points seq)
+  asks (ask.Command (command.Renew txn length points seq))
 
-abbrev pub cancel_of : Data → Parsed Command
+abbrev pub cancel_of : Data → Parsed Ask
 cancel_of d = do
   txn ← formed (under (codes "txn") (number_from 0) d)
   seq ← formed (seq d)
-  asks (command.Cancel txn seq)
+  asks (ask.Command (command.Cancel txn seq))
 
-abbrev pub read_of : Catalogue → Data → Parsed Command
+abbrev pub read_of : Catalogue → Data → Parsed Ask
 read_of catalogue d = do
   point ← point_of catalogue d
-  asks (command.Read point)
+  asks (ask.Command (command.Read point))
 
-abbrev pub array_of : Catalogue → Data → Parsed Command
+abbrev pub array_of : Catalogue → Data → Parsed Ask
 array_of catalogue d = do
   point ← point_of catalogue d
-  asks (command.Array point)
+  asks (ask.Command (command.Array point))
 
-abbrev pub status_of : Data → Parsed Command
+abbrev pub status_of : Data → Parsed Ask
 status_of d = do
   txn ← formed (under (codes "txn") (number_from 0) d)
-  asks (command.Status txn)
+  asks (ask.Command (command.Status txn))
 
-abbrev pub notices_of : Data → Parsed Command
+abbrev pub notices_of : Data → Parsed Ask
 notices_of d = do
   name ← formed (under_or (codes "process") (λ p. option_map Some (name p)) None d)
   from ← formed (under_or (codes "from") (number_from 1) 1 d)
   most ← formed (under_or (codes "max") (number_within 1 most_told) 16 d)
-  asks (command.Notices name from most)
+  asks (ask.Command (command.Notices name from most))
 
-abbrev pub command_of : Catalogue → Op → Data → Parsed Command
-command_of catalogue op.Attach d = attach_of d
-command_of catalogue op.Submit d = submit_of catalogue d
-command_of catalogue op.Renew d = renew_of catalogue d
-command_of catalogue op.Cancel d = cancel_of d
-command_of catalogue op.Read d = read_of catalogue d
-command_of catalogue op.Array d = array_of catalogue d
-command_of catalogue op.Status d = status_of d
-command_of catalogue op.Notices d = notices_of d
-command_of catalogue op.Gone d = asks command.Gone
-command_of catalogue op.Tick d = asks command.Tick
+abbrev pub watch_of : Data → Parsed Ask
+watch_of d = do
+  name ← formed (under (codes "process") name d)
+  from ← formed (under_or (codes "from") (number_from 1) 1 d)
+  asks (ask.Watch name from)
+
+abbrev pub ask_of : Catalogue → Op → Data → Parsed Ask
+ask_of catalogue op.Attach d = attach_of d
+ask_of catalogue op.Submit d = submit_of catalogue d
+ask_of catalogue op.Renew d = renew_of catalogue d
+ask_of catalogue op.Cancel d = cancel_of d
+ask_of catalogue op.Read d = read_of catalogue d
+ask_of catalogue op.Array d = array_of catalogue d
+ask_of catalogue op.Status d = status_of d
+ask_of catalogue op.Notices d = notices_of d
+ask_of catalogue op.Gone d = asks (ask.Command command.Gone)
+ask_of catalogue op.Tick d = asks (ask.Command command.Tick)
+ask_of catalogue op.Watch d = watch_of d
 
 -- ---- lines
 
--- what a text under `op` asks for, in a line of this form
-abbrev pub op_named : Form → List ℕ → Option Op
-op_named Script text =
+-- what a text under `op` asks for in a line of each form
+abbrev pub common_op : List ℕ → Option Op
+common_op text =
     if bytes_eq text (codes "attach") then Some op.Attach else
     (if bytes_eq text (codes "submit") then Some op.Submit else
     (if bytes_eq text (codes "renew") then Some op.Renew else
@@ -152,27 +161,31 @@ op_named Script text =
     (if bytes_eq text (codes "read") then Some op.Read else
     (if bytes_eq text (codes "array") then Some op.Array else
     (if bytes_eq text (codes "status") then Some op.Status else
-    (if bytes_eq text (codes "notices") then Some op.Notices else
-    (if bytes_eq text (codes "gone") then Some op.Gone else
-    (if bytes_eq text (codes "tick") then Some op.Tick else None)))))))))
+    (if bytes_eq text (codes "notices") then Some op.Notices else None)))))))
+
+-- what it asks for in a line of this form
+abbrev pub op_named : Form → List ℕ → Option Op
+op_named Script text =
+    if bytes_eq text (codes "gone") then Some op.Gone else
+    (if bytes_eq text (codes "tick") then Some op.Tick else common_op text)
+op_named FirstLine text = if bytes_eq text (codes "watch") then Some op.Watch else common_op text
+op_named LaterLine text = common_op text
 
 abbrev pub known_op : Option Op → Parsed Op
 known_op None = wrong UnknownOp
 known_op (Some op) = asks op
 
--- the session that the line is of
+-- The session that the line is of, and the moment at which it asks. A line of a connection says neither, and 0 stands for
+-- them until the connection's own are put in their places.
 abbrev pub session_of : Form → Data → Option ℕ
 session_of Script d = under_or (codes "on") (number_within 1 last_session) 1 d
+session_of FirstLine d = Some 0
+session_of LaterLine d = Some 0
 
--- the moment at which the line asks
 abbrev pub moment_of : Form → Data → Option ℕ
 moment_of Script d = under_or (codes "at") (number_within 0 last_moment) 0 d
-
--- a command of a session at a moment
-pub record Request : Type 0 where
-  pub on : ℕ
-  pub at : ℕ
-  pub command : Command
+moment_of FirstLine d = Some 0
+moment_of LaterLine d = Some 0
 
 -- what a value asks, as a line of this form
 abbrev pub request_of : Catalogue → Form → Data → Parsed Request
@@ -181,8 +194,8 @@ request_of catalogue form d = do
   op ← known_op (op_named form text)
   on ← formed (session_of form d)
   at ← formed (moment_of form d)
-  command ← command_of catalogue op d
-  asks (record { on = on; at = at; command = command })
+  ask ← ask_of catalogue op d
+  asks (record { on = on; at = at; ask = ask })
 
 -- the JSON value that a line writes
 abbrev pub value_in : List ℕ → Option Data

@@ -14,7 +14,10 @@ use Rattle.boss_model.specs.Effects.{event_of, step_effect}
 use Rattle.boss_model.specs.Limits.{longest_line}
 use Rattle.boss_model.specs.Lines.{is_blank}
 use Rattle.boss_model.specs.Machine.{step}
-use Rattle.boss_wire.specs.Requests.{Parsed, asks, wrong, Request, parsed}
+use Rattle.boss_wire.specs.declared.request.Ask.{Ask}
+use Rattle.boss_wire.specs.declared.request.Ask.TheVariants as ask
+use Rattle.boss_wire.specs.declared.request.Request.{Request}
+use Rattle.boss_wire.specs.Requests.{Parsed, asks, wrong, parsed}
 use Rattle.boss_model.specs.State.{State}
 use Rattle.boss_wire.specs.Texts.{answer_text, refusal_text, device_text, line_of, stopped_text, too_long_text}
 
@@ -114,14 +117,19 @@ abbrev pub is_too_long : List ℕ → Bool
 is_too_long line = nat_lt longest_line (length line)
 
 -- the answer to a command, and then the wants that it leaves; a step that is not made is told so
-abbrev pub answered : Catalogue → Request → Run → Run
-answered catalogue request run = stepping catalogue request.on request.command request.at
-    (λ given after. drain catalogue request.at after.results (say (answer_text catalogue given) after)) (say stopped_text) run
+abbrev pub answered : Catalogue → ℕ → Command → ℕ → Run → Run
+answered catalogue session command moment run = stepping catalogue session command moment
+    (λ given after. drain catalogue moment after.results (say (answer_text catalogue given) after)) (say stopped_text) run
+
+-- what is asked; no line of a script asks to watch
+abbrev pub taken_up : Catalogue → ℕ → Ask → ℕ → Run → Run
+taken_up catalogue session (ask.Command command) moment run = answered catalogue session command moment run
+taken_up catalogue session (ask.Watch name from) moment run = run
 
 -- a line that asks nothing makes no step
 abbrev pub replied : Catalogue → Parsed Request → Run → Run
 replied catalogue (wrong why) run = say (refusal_text why) run
-replied catalogue (asks request) run = answered catalogue request run
+replied catalogue (asks request) run = taken_up catalogue request.on request.ask request.at run
 
 -- A line that is too long is told so, and nothing more is read; a blank one is passed over. Once the script has stopped, any
 -- other line is told that, and nothing more.

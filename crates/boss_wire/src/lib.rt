@@ -5,5 +5,7 @@
 #![tactic(auto)]
 
 mod form;
+mod request;
 
 pub use form::{Form, Op};
+pub use request::{Ask, Request};

@@ -1,5 +1,5 @@
 use Rattle.boss_model.specs.Catalogue.{actuators}
-use Rattle.boss_requests.proofs.commands.command_in.Goals as goal
+use Rattle.boss_requests.proofs.commands.ask_in.Goals as goal
 
 pub returns-in-Notices-clause-allowed : goal.returns-in-Notices-clause-allowed
 returns-in-Notices-clause-allowed c = c.notices_in.ensures.allowed (actuators c.args.catalogue.now)
