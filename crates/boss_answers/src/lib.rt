@@ -15,4 +15,6 @@ pub use answer::write_answer;
 pub use catalogue::refusal_line;
 pub use device::write_device;
 pub use notice::write_notice;
-pub use telling::{tell_answer, tell_too_long, tell_usage, tell_write};
+pub use telling::{
+    tell_answer, tell_memory, tell_refusal, tell_stopped, tell_too_long, tell_usage, tell_write,
+};

@@ -1,14 +1,15 @@
-//! Lines that are told to a sink: of an answer, of a write to a device, and of what was refused before either.
+//! Lines that are told to a sink: of an answer, of a write to a device, and of what came to neither.
 
 ghost use Rattle.std.specs.Prelude.{◌≡◌, ◌≤◌, ◌<◌, length};
 ghost use Rattle.boss_model.specs.Tellable.{IsTellable};
-ghost use Rattle.boss_wire.specs.Texts.{answer_text, device_text, line_of, too_long_text};
+ghost use Rattle.boss_wire.specs.Texts.{answer_text, device_text, line_of, memory_text, refusal_text, stopped_text, too_long_text};
 ghost use Rattle.boss_outside.specs.Counts.{HasCause};
 ghost use Rattle.boss_outside.specs.Streams.{Writes};
 ghost use Rattle.boss_answers.specs.Refused.{usage_line};
 
+use crate::refusal::write_refusal;
 use crate::{write_answer, write_device};
-use boss_model::{Answer, Buffer, PointId};
+use boss_model::{Answer, Buffer, PointId, Refusal};
 use boss_outside::{Failed, Sink};
 use boss_points::Catalogue;
 
@@ -27,6 +28,22 @@ pub fn tell_answer<K: Sink>(
 {
     text.clear();
     write_answer(text, catalogue, answer);
+    tell_line(text, sink)
+}
+
+/// Tells what was refused, as a line.
+pub fn tell_refusal<K: Sink>(
+    refusal: &Refusal,
+    text: &mut Buffer,
+    sink: &mut K,
+) -> Result<(), Failed>
+    requires { 32768 ≤ text.old.capacity }
+    ensures room { text.new.capacity ≡ text.old.capacity }
+    ensures bytes { K.tells → Writes (K.taken sink.old) (K.taken sink.new) (line_of (refusal_text refusal.now)) result }
+    ensures cause { HasCause (K.faults sink.old) (K.faults sink.new) result }
+{
+    text.clear();
+    write_refusal(text, refusal);
     tell_line(text, sink)
 }
 
@@ -56,6 +73,22 @@ pub fn tell_too_long<K: Sink>(sink: &mut K) -> Result<(), Failed>
     ensures cause { HasCause (K.faults sink.old) (K.faults sink.new) result }
 {
     sink.write(b"{\"error\":\"too-long\"}\n")
+}
+
+/// Tells that there was no memory for what was asked.
+pub fn tell_memory<K: Sink>(sink: &mut K) -> Result<(), Failed>
+    ensures bytes { K.tells → Writes (K.taken sink.old) (K.taken sink.new) (line_of memory_text) result }
+    ensures cause { HasCause (K.faults sink.old) (K.faults sink.new) result }
+{
+    sink.write(b"{\"error\":\"memory\"}\n")
+}
+
+/// Tells that the disk has failed.
+pub fn tell_stopped<K: Sink>(sink: &mut K) -> Result<(), Failed>
+    ensures bytes { K.tells → Writes (K.taken sink.old) (K.taken sink.new) (line_of stopped_text) result }
+    ensures cause { HasCause (K.faults sink.old) (K.faults sink.new) result }
+{
+    sink.write(b"{\"error\":\"stopped\"}\n")
 }
 
 /// Tells how the program is used.

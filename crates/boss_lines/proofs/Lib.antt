@@ -1,3 +1,4 @@
+pub mod AtHand
 pub mod LineEndLemmas
 pub mod LinesLemmas
 pub mod TakenLemmas

@@ -19,7 +19,7 @@ lines-begin : (b : ℕ) (bytes : List ℕ) → b ≢ 10 → lines (b ∷ bytes) 
 lines-begin b bytes is_not = ap (λ (t : Bool). if t then [] ∷ lines bytes else onto_first b (lines bytes)) (ne_eqb b 10 is_not)
 
 -- what holds of the places of a list holds of those behind its first byte
-NoLineEnd-tail : (count b : ℕ) (bytes : List ℕ) → NoLineEnd (suc count) (b ∷ bytes) → NoLineEnd count bytes
+pub NoLineEnd-tail : (count b : ℕ) (bytes : List ℕ) → NoLineEnd (suc count) (b ∷ bytes) → NoLineEnd count bytes
 NoLineEnd-tail count b bytes before k low is = before (suc k) (omega arith) is
 
 -- the bytes up to the first line end are the first line

@@ -1,4 +1,5 @@
-use Rattle.std.specs.Prelude.{◌≡◌, ◌⊎◌, ℕ, ◌<◌, ◌≤◌, List, [], ◌∷◌, ◌++◌, length, Option, Some, None}
+use Rattle.std.specs.Prelude.{◌≡◌, ◌⊎◌, ℕ, ◌+◌, ◌<◌, ◌≤◌, ◌==◌, Bool, false, List, [], ◌∷◌, ◌++◌, length, take, Option, Some, None}
+use Rattle.std.specs.List.{list_any}
 use Rattle.boss_model.specs.Lines.{lines}
 use Rattle.boss_outside.specs.Counts.{Rose}
 use Rattle.boss_lines.specs.declared.reader.Next.{Next}
@@ -11,6 +12,15 @@ pub record Progress : Type 0 where
   pub line : List ℕ
   pub ahead : List ℕ
   pub stopped : Option Next
+
+-- a line end stands among these bytes, behind no more of them than a line may have
+abbrev pub ends_line : List ℕ → Bool
+ends_line bytes = list_any (λ byte. byte == 10) (take (longest_line + 1) bytes)
+
+-- so it is ahead of a reader that has not stopped
+abbrev pub is_at_hand : Option Next → List ℕ → Bool
+is_at_hand None ahead = ends_line ahead
+is_at_hand (Some answer) ahead = false
 
 -- the first line of these bytes is longer than a line may be
 abbrev pub BeginsTooLong : List (List ℕ) → Type 0

@@ -27,6 +27,10 @@ Shows bytes SourceEnd = NoLineEnd (length bytes) bytes × (length bytes ≤ long
 Shows bytes TooFar = IsTooLong bytes
 Shows bytes Fault = NoLineEnd (length bytes) bytes
 
+-- a line end was found
+abbrev pub IsFound : Found → Type 0
+IsFound found = (place : ℕ) × (found ≡ LineEnd place)
+
 -- nothing is left of the source where its end was found
 abbrev pub IsAtEnd : List ℕ → Found → Type 0
 IsAtEnd left (LineEnd place) = Unit {0}

@@ -1,6 +1,6 @@
-ghost use Rattle.std.specs.Prelude.{◌≡◌, ◌≢◌, ◌≤◌, ℕ, [], ◌++◌, length, Some, None, IfOk, IfSome};
+ghost use Rattle.std.specs.Prelude.{◌≡◌, ◌≢◌, ◌≤◌, ℕ, true, [], ◌++◌, length, Some, None, IfOk, IfSome};
 ghost use Rattle.boss_model.specs.Limits.{longest_line};
-ghost use Rattle.boss_lines.specs.Lines.{Answers, EndsLine, Leaves, NextCause, StopsAt};
+ghost use Rattle.boss_lines.specs.Lines.{Answers, EndsLine, is_at_hand, Leaves, NextCause, StopsAt};
 
 use crate::window::{Found, Window};
 use boss_model::NoMemory;
@@ -67,6 +67,13 @@ impl Lines {
         &self.window.bytes()[..self.line]
     }
 
+    /// Whether the next call of `next` gives a line without reading: all of it was read ahead, with its end.
+    pub fn whole(&self) -> bool
+        ensures { result ≡ is_at_hand self.now.stopped self.now.ahead }
+    {
+        self.stopped.is_none() && self.window.ends_line_behind(self.used)
+    }
+
     /// Goes on to the next line. It takes no memory. Once it came to the end of the source, to a line that is too long or to
     /// a read that failed, it stays there and reads no more.
     pub fn next<S: Source>(&mut self, source: &mut S) -> Next
@@ -81,6 +88,7 @@ impl Lines {
         // Of every source.
         ensures leaves { Leaves self.new.line self.new.ahead result }
         ensures cause { self.old.stopped ≢ Some Next.ReadFault → NextCause (S.faults source.old) (S.faults source.new) result }
+        ensures at_hand { is_at_hand self.old.stopped self.old.ahead ≡ true → (result ≡ Next.Line) × (source.new ≡ source.old) }
         ensures stops { StopsAt result self.new.stopped }
         ensures stays { IfSome self.old.stopped (λ answer. (result ≡ answer) × (source.new ≡ source.old)
             × (self.new ≡ record { line = []; ahead = self.old.ahead; stopped = self.old.stopped })) }

@@ -1,7 +1,8 @@
-ghost use Rattle.std.specs.Prelude.{◌≡◌, ℕ, ◌+◌, ◌-◌, ◌<◌, ◌≤◌, List, [], ◌++◌, length, take, drop, slice_index, IfOk, IfSome, IfNone};
+ghost use Rattle.std.specs.Prelude.{◌≡◌, ℕ, ◌+◌, ◌-◌, ◌<◌, ◌≤◌, true, List, [], ◌++◌, length, take, drop, slice_index, IfOk, IfSome, IfNone};
 ghost use Rattle.boss_model.specs.Limits.{longest_line};
 ghost use Rattle.boss_outside.specs.Streams.{FitsRoom, Reads, ReadCause};
-ghost use Rattle.boss_lines.specs.Window.{Adds, NoLineEnd, Shows, IsAtEnd, FoundCause};
+ghost use Rattle.boss_lines.specs.Lines.{ends_line};
+ghost use Rattle.boss_lines.specs.Window.{Adds, NoLineEnd, Shows, IsAtEnd, FoundCause, IsFound};
 
 use boss_model::{LONGEST_LINE, NoMemory};
 use boss_outside::{Got, Source};
@@ -76,6 +77,17 @@ impl Window {
         self.count -= count;
     }
 
+    /// Whether a line ends among the bytes behind the first ones, this many.
+    pub fn ends_line_behind(&self, count: usize) -> bool
+        requires { count ≤ length self.now }
+        ensures { result ≡ ends_line (drop count self.now) }
+    {
+        match line_end_from(&self.bytes()[count..], 0) {
+            Some(place) => place <= LONGEST_LINE,
+            None => false,
+        }
+    }
+
     /// Reads some bytes behind those that are held.
     fn fill<S: Source>(&mut self, source: &mut S) -> Got
         requires { length self.old ≤ longest_line }
@@ -98,6 +110,7 @@ impl Window {
         ensures bytes { S.tells → self.new ++ S.left source.new ≡ self.old ++ S.left source.old }
         ensures finish { S.tells → IsAtEnd (S.left source.new) result }
         ensures stays { S.tells → S.held source.new ≡ S.held source.old }
+        ensures at_hand { ends_line self.old ≡ true → IsFound result × (source.new ≡ source.old) }
         ensures cause { FoundCause (S.faults source.old) (S.faults source.new) result }
     {
         let mut sought = 0;

@@ -1,0 +1,3 @@
+pub mod GatheredLemmas
+pub mod PlaceLemmas
+pub mod RequestLemmas

@@ -1,0 +1,4 @@
+pub mod Gathered
+pub mod Places
+pub mod Requests
+pub mod Speaking

@@ -1,0 +1,207 @@
+-- Replies one behind another: their texts and entries, and the attach among them.
+use Rattle.std.proofs.Common.{◌≡◌, ℕ, zero, suc, ◌+◌, ◌<◌, ◌≤◌, Bool, true, false, ◌||◌, List, [], ◌∷◌, ◌++◌, length, map, drop, get_or, take, Option, Some, None, refl, ap, sym, ◌∙◌, append_assoc, append-nil, arith}
+use Rattle.std.specs.List.{flat_map}
+use Rattle.std.proofs.lemmas.List.{drop_all}
+use Rattle.boss_model.specs.declared.answer.Answer.{Answer}
+use Rattle.boss_model.specs.declared.command.Command.{Command}
+use Rattle.boss_model.specs.declared.command.Command.TheVariants as command
+use Rattle.boss_model.specs.Catalogue.{Catalogue}
+use Rattle.boss_wire.specs.Texts.{answer_text, line_of, memory_text, stopped_text}
+use Rattle.boss_history.specs.declared.entry.Entry.TheVariants.{Did}
+use Rattle.boss_history.specs.declared.outcome.Outcome.{Outcome}
+use Rattle.boss_history.specs.declared.outcome.Outcome.TheVariants.{Done, Stopped, DiskFault, NoMemory}
+use Rattle.boss_history.specs.Made.{done_by}
+use Rattle.boss_outside.specs.Streams.{TakesFront}
+use Rattle.boss_hearing.specs.Speaking.{speech_of}
+use Rattle.boss_talks.specs.Batches.{deeds_by, texts_by}
+use Rattle.boss_talks.specs.Speech.{Reply, of_answer, of_memory, of_stop, Speech, attaches_by, entry_of}
+use Rattle.boss_sessions.specs.Turns.{last_reply, replies_of, rest_of, attached_by, AreGoing, StopsOnce}
+
+-- ---- texts
+
+pub texts-append : (speech : Speech) (xs ys : List Reply) → texts_by speech (xs ++ ys) ≡ texts_by speech xs ++ texts_by speech ys
+texts-append speech [] ys = refl
+texts-append speech (x ∷ xs) ys = ap (λ rest. speech.reply_text x ++ rest) (texts-append speech xs ys) ∙ sym (append_assoc (speech.reply_text x) (texts_by speech xs) (texts_by speech ys))
+
+pub texts-answers : (catalogue : Catalogue) (answers : List Answer) →
+    texts_by (speech_of catalogue) (map of_answer answers) ≡ flat_map (λ answer. line_of (answer_text catalogue answer)) answers
+texts-answers catalogue [] = refl
+texts-answers catalogue (answer ∷ answers) = ap (λ rest. line_of (answer_text catalogue answer) ++ rest) (texts-answers catalogue answers)
+
+pub texts-rest : (catalogue : Catalogue) (rest : Option Outcome) → texts_by (speech_of catalogue) (last_reply rest) ≡ rest_of rest
+texts-rest catalogue None = refl
+texts-rest catalogue (Some (Done answer)) = refl
+texts-rest catalogue (Some Stopped) = append-nil (line_of stopped_text)
+texts-rest catalogue (Some DiskFault) = append-nil (line_of stopped_text)
+texts-rest catalogue (Some NoMemory) = append-nil (line_of memory_text)
+
+pub texts-replies : (catalogue : Catalogue) (answers : List Answer) (rest : Option Outcome) →
+    texts_by (speech_of catalogue) (replies_of answers rest) ≡ flat_map (λ answer. line_of (answer_text catalogue answer)) answers ++ rest_of rest
+texts-replies catalogue answers rest = texts-append (speech_of catalogue) (map of_answer answers) (last_reply rest)
+    ∙ (λ i. texts-answers catalogue answers i ++ texts-rest catalogue rest i)
+
+-- ---- entries
+
+-- a last reply that is no answer has none
+behind-none : (session : ℕ) (calls : List (Command × ℕ)) (answers : List Answer) (reply : Reply) → ((asked : Command) (moment : ℕ) → entry_of session asked moment reply ≡ []) →
+    deeds_by session calls (map of_answer answers ++ reply ∷ []) ≡ done_by session calls answers
+behind-none session [] [] reply none = refl
+behind-none session [] (answer ∷ answers) reply none = refl
+behind-none session (call ∷ []) [] reply none = append-nil (entry_of session call.0 call.1 reply) ∙ none call.0 call.1
+behind-none session (call ∷ next ∷ calls) [] reply none = append-nil (entry_of session call.0 call.1 reply) ∙ none call.0 call.1
+behind-none session (call ∷ calls) (answer ∷ answers) reply none = ap (λ rest. Did session call.0 call.1 answer ∷ rest) (behind-none session calls answers reply none)
+
+answered-alone : (session : ℕ) (calls : List (Command × ℕ)) (answers : List Answer) → deeds_by session calls (map of_answer answers ++ []) ≡ done_by session calls answers
+answered-alone session [] [] = refl
+answered-alone session [] (answer ∷ answers) = refl
+answered-alone session (call ∷ calls) [] = refl
+answered-alone session (call ∷ calls) (answer ∷ answers) = ap (λ rest. Did session call.0 call.1 answer ∷ rest) (answered-alone session calls answers)
+
+pub deeds-replies : (session : ℕ) (calls : List (Command × ℕ)) (answers : List Answer) (rest : Option Outcome) → deeds_by session calls (replies_of answers rest) ≡ done_by session calls answers
+deeds-replies session calls answers None = answered-alone session calls answers
+deeds-replies session calls answers (Some (Done answer)) = answered-alone session calls answers
+deeds-replies session calls answers (Some Stopped) = behind-none session calls answers of_stop (λ asked moment. refl)
+deeds-replies session calls answers (Some DiskFault) = behind-none session calls answers of_stop (λ asked moment. refl)
+deeds-replies session calls answers (Some NoMemory) = behind-none session calls answers of_memory (λ asked moment. refl)
+
+pub none-done : (session : ℕ) (calls : List (Command × ℕ)) → deeds_by session calls [] ≡ []
+none-done session [] = refl
+none-done session (call ∷ calls) = refl
+
+pub deeds-append : (session : ℕ) (calls : List (Command × ℕ)) (xs ys : List Reply) →
+    deeds_by session calls (xs ++ ys) ≡ deeds_by session calls xs ++ deeds_by session (drop (length xs) calls) ys
+deeds-append session calls [] ys = ap (λ front. front ++ deeds_by session calls ys) (sym (none-done session calls))
+deeds-append session [] (x ∷ xs) [] = refl
+deeds-append session [] (x ∷ xs) (y ∷ ys) = refl
+deeds-append session (call ∷ calls) (x ∷ xs) ys = ap (λ rest. entry_of session call.0 call.1 x ++ rest) (deeds-append session calls xs ys)
+    ∙ sym (append_assoc (entry_of session call.0 call.1 x) (deeds_by session calls xs) (deeds_by session (drop (length xs) calls) ys))
+
+-- ---- an attach
+
+memory-attaches : (asked : Command) → attaches_by asked of_memory ≡ false
+memory-attaches (command.Attach name) = refl
+memory-attaches (command.Submit writes policy seq) = refl
+memory-attaches (command.Renew txn length points seq) = refl
+memory-attaches (command.Cancel txn seq) = refl
+memory-attaches command.Gone = refl
+memory-attaches command.Tick = refl
+memory-attaches (command.Next driver) = refl
+memory-attaches (command.Report point version ok) = refl
+memory-attaches (command.Read point) = refl
+memory-attaches (command.Array point) = refl
+memory-attaches (command.Status txn) = refl
+memory-attaches (command.Notices name from most) = refl
+
+stop-attaches : (asked : Command) → attaches_by asked of_stop ≡ false
+stop-attaches (command.Attach name) = refl
+stop-attaches (command.Submit writes policy seq) = refl
+stop-attaches (command.Renew txn length points seq) = refl
+stop-attaches (command.Cancel txn seq) = refl
+stop-attaches command.Gone = refl
+stop-attaches command.Tick = refl
+stop-attaches (command.Next driver) = refl
+stop-attaches (command.Report point version ok) = refl
+stop-attaches (command.Read point) = refl
+stop-attaches (command.Array point) = refl
+stop-attaches (command.Status txn) = refl
+stop-attaches (command.Notices name from most) = refl
+
+or-false : (b : Bool) → (b || false) ≡ b
+or-false true = refl
+or-false false = refl
+
+or-assoc : (a b c : Bool) → (a || (b || c)) ≡ ((a || b) || c)
+or-assoc true b c = refl
+or-assoc false b c = refl
+
+attached-behind : (calls : List (Command × ℕ)) (answers : List Answer) (reply : Reply) → ((asked : Command) → attaches_by asked reply ≡ false) →
+    attached_by calls (map of_answer answers ++ reply ∷ []) ≡ attached_by calls (map of_answer answers)
+attached-behind [] [] reply none = refl
+attached-behind [] (answer ∷ answers) reply none = refl
+attached-behind (call ∷ []) [] reply none = ap (λ b. b || false) (none call.0)
+attached-behind (call ∷ next ∷ calls) [] reply none = ap (λ b. b || false) (none call.0)
+attached-behind (call ∷ calls) (answer ∷ answers) reply none = ap (λ rest. attaches_by call.0 (of_answer answer) || rest) (attached-behind calls answers reply none)
+
+pub attached-replies : (calls : List (Command × ℕ)) (answers : List Answer) (rest : Option Outcome) → attached_by calls (replies_of answers rest) ≡ attached_by calls (map of_answer answers)
+attached-replies calls answers None = ap (attached_by calls) (append-nil (map of_answer answers))
+attached-replies calls answers (Some (Done answer)) = ap (attached_by calls) (append-nil (map of_answer answers))
+attached-replies calls answers (Some Stopped) = attached-behind calls answers of_stop stop-attaches
+attached-replies calls answers (Some DiskFault) = attached-behind calls answers of_stop stop-attaches
+attached-replies calls answers (Some NoMemory) = attached-behind calls answers of_memory memory-attaches
+
+pub attached-append : (calls : List (Command × ℕ)) (xs ys : List Reply) → attached_by calls (xs ++ ys) ≡ (attached_by calls xs || attached_by (drop (length xs) calls) ys)
+attached-append [] [] ys = refl
+attached-append (call ∷ calls) [] ys = refl
+attached-append [] (x ∷ xs) [] = refl
+attached-append [] (x ∷ xs) (y ∷ ys) = refl
+attached-append (call ∷ calls) (x ∷ xs) ys = ap (λ rest. attaches_by call.0 x || rest) (attached-append calls xs ys)
+    ∙ or-assoc (attaches_by call.0 x) (attached_by calls xs) (attached_by (drop (length xs) calls) ys)
+
+pub attached-then : (before : Bool) (calls : List (Command × ℕ)) (xs ys : List Reply) →
+    ((before || attached_by calls xs) || attached_by (drop (length xs) calls) ys) ≡ (before || attached_by calls (xs ++ ys))
+attached-then before calls xs ys = sym (or-assoc before (attached_by calls xs) (attached_by (drop (length xs) calls) ys)) ∙ ap (λ rest. before || rest) (sym (attached-append calls xs ys))
+
+pub none-attached : (calls : List (Command × ℕ)) → attached_by calls [] ≡ false
+none-attached [] = refl
+none-attached (call ∷ calls) = refl
+
+-- behind the last answer there is none
+pub attached-end : (calls : List (Command × ℕ)) (answers : List Answer) (place : ℕ) → length answers ≤ place → attached_by (drop place calls) (map of_answer (drop place answers)) ≡ false
+attached-end calls answers place all = ap (λ list. attached_by (drop place calls) (map of_answer list)) (drop_all place answers all) ∙ none-attached (drop place calls)
+
+-- ---- stops
+
+pub answers-go : (answers : List Answer) → AreGoing (map of_answer answers)
+answers-go [] = tt
+answers-go (answer ∷ answers) = (refl, answers-go answers)
+
+pub going-append : (xs ys : List Reply) → AreGoing xs → AreGoing ys → AreGoing (xs ++ ys)
+going-append [] ys first then = then
+going-append (x ∷ xs) ys first then = (first.0, going-append xs ys first.1 then)
+
+pub once-append : (xs ys : List Reply) → AreGoing xs → StopsOnce ys → StopsOnce (xs ++ ys)
+once-append [] ys first then = then
+once-append (x ∷ xs) ys first then = ((λ is. absurd (let no : true ≡ false = sym is ∙ first.0 in cc)), once-append xs ys first.1 then)
+
+pub once-last : (rest : Option Outcome) → StopsOnce (last_reply rest)
+once-last None = tt
+once-last (Some (Done answer)) = tt
+once-last (Some Stopped) = ((λ is. refl), tt)
+once-last (Some DiskFault) = ((λ is. refl), tt)
+once-last (Some NoMemory) = ((λ is. refl), tt)
+
+pub replies-once : (answers : List Answer) (rest : Option Outcome) → StopsOnce (replies_of answers rest)
+replies-once answers rest = once-append (map of_answer answers) (last_reply rest) (answers-go answers) (once-last rest)
+
+pub length-answers : (answers : List Answer) (last : List Reply) → length (map of_answer answers ++ last) ≡ length answers + length last
+length-answers [] last = omega arith
+length-answers (answer ∷ answers) last = omega (arith, length-answers answers last)
+
+-- ---- answers that are told one after another
+
+flat-split : {X : Type 0} (f : X → List ℕ) (xs : List X) (place : ℕ) (x : X) → place < length xs → x ≡ get_or xs place x →
+    flat_map f xs ≡ flat_map f (take place xs) ++ (f x ++ flat_map f (drop (suc place) xs))
+flat-split f [] place x low is = absurd (omega arith)
+flat-split f (y ∷ ys) zero x low is = ap (λ z. f z ++ flat_map f ys) (sym is)
+flat-split f (y ∷ ys) (suc place) x low is = ap (λ rest. f y ++ rest) (flat-split f ys place x (omega arith) is)
+    ∙ sym (append_assoc (f y) (flat_map f (take place ys)) (f x ++ flat_map f (drop (suc place) ys)))
+
+-- where a write fails, a front of all was taken
+pub told-part : {X : Type 0} (f : X → List ℕ) (xs : List X) (place : ℕ) (x : X) (old mid new : List ℕ) → place < length xs → x ≡ get_or xs place x →
+    mid ≡ old ++ flat_map f (take place xs) → TakesFront mid new (f x) → TakesFront old new (flat_map f xs)
+told-part f xs place x old mid new low is first front = (
+  flat_map f (take place xs) ++ front.0,
+  front.1 ++ flat_map f (drop (suc place) xs),
+  flat-split f xs place x low is ∙ ap (λ rest. flat_map f (take place xs) ++ rest)
+      (ap (λ piece. piece ++ flat_map f (drop (suc place) xs)) front.2 ∙ append_assoc front.0 front.1 (flat_map f (drop (suc place) xs)))
+      ∙ sym (append_assoc (flat_map f (take place xs)) front.0 (front.1 ++ flat_map f (drop (suc place) xs))),
+  front.3 ∙ ap (λ list. list ++ front.0) first ∙ append_assoc old (flat_map f (take place xs)) front.0,
+)
+
+-- ---- attaches of two parts
+
+pub or-then : (a r b : Bool) → a ≡ true → r ≡ true → r ≡ (a || b)
+or-then a r b is same = same ∙ ap (λ t. t || b) (sym is)
+
+pub or-else : (a r b : Bool) → a ≡ false → r ≡ b → r ≡ (a || b)
+or-else a r b is same = same ∙ ap (λ t. t || b) (sym is)

@@ -1,0 +1,162 @@
+-- Commands that were called together, and several such calls.
+use Rattle.std.proofs.Common.{◌≡◌, ℕ, ◌+◌, ◌≤◌, Bool, true, false, ◌||◌, List, [], ◌∷◌, ◌++◌, length, map, drop, Option, Some, None, Result, Ok, Err, refl, ap, sym, ◌∙◌, subst, append_assoc, append-nil, arith}
+use Rattle.std.proofs.lemmas.List.{length-append, length-drop}
+use Rattle.boss_model.specs.declared.answer.Answer.{Answer}
+use Rattle.boss_model.specs.declared.command.Command.{Command}
+use Rattle.boss_history.specs.declared.outcome.Outcome.{Outcome}
+use Rattle.boss_history.specs.declared.outcome.Outcome.TheVariants.{Done, Stopped, DiskFault, NoMemory}
+use Rattle.boss_history.specs.History.{deeds, is_broken}
+use Rattle.boss_history.specs.Made.{done_by}
+use Rattle.boss_outside.specs.Counts.{Rose, HasCause}
+use Rattle.boss_outside.specs.Streams.{TakesFront, Writes}
+use Rattle.boss_shared.specs.Calls.{has_failed_rest, RestFits}
+use Rattle.boss_talks.specs.Batches.{deeds_by, texts_by}
+use Rattle.boss_talks.specs.Speech.{Reply, of_answer, of_memory, of_stop, Speech}
+use Rattle.boss_talks.specs.Talks.{Told}
+use Rattle.boss_talks.proofs.Telling.{went-on, told-whole, told-behind}
+use Rattle.boss_sessions.specs.declared.halt.Halt.{Halt}
+use Rattle.boss_sessions.specs.declared.halt.Halt.TheVariants as halt
+use Rattle.boss_sessions.specs.Turns.{IsRest, replies_of, turned, attached_by, Voice, Goes, Comes, Replied}
+use Rattle.boss_sessions.proofs.ReplyLemmas.{texts-append, deeds-replies, deeds-append, attached-replies, attached-then, answers-go, going-append, once-append, replies-once, length-answers, none-done, none-attached}
+
+-- ---- writes
+
+pub writes-then : {T E : Type 0} (a b c s t : List ℕ) (r : Result T E) → b ≡ a ++ s → Writes b c t r → Writes a c (s ++ t) r
+writes-then a b c s t (Ok done) first then = went-on a b c s t first then
+writes-then a b c s t (Err failed) first then =
+    (s ++ then.0, then.1, ap (λ rest. s ++ rest) then.2 ∙ sym (append_assoc s then.0 then.1), went-on a b c s then.0 first then.3)
+
+pub writes-short : (a b s t : List ℕ) → TakesFront a b s → TakesFront a b (s ++ t)
+writes-short a b s t front = (front.0, front.1 ++ t, ap (λ rest. rest ++ t) front.2 ∙ append_assoc front.0 front.1 t, front.3)
+
+pub told-writes : {T E : Type 0} (a b text : List ℕ) (before now : ℕ) (r : Result T E) → Writes a b text r → HasCause before now r → Told a b before now text
+told-writes a b text before now (Ok done) writes cause = told-whole a b before now text writes
+told-writes a b text before now (Err failed) writes cause = record { front = writes; whole = λ calm. absurd (calm cause.failed) }
+
+-- ---- one call
+
+few-replies : (calls : List (Command × ℕ)) (answers : List Answer) (done : ℕ) (rest : Option Outcome) → length answers ≡ done → RestFits calls done rest →
+    length (replies_of answers rest) ≤ length calls
+few-replies calls answers done None many fits = omega (arith, length-answers answers [], many, fits)
+few-replies calls answers done (Some (Done answer)) many fits = absurd fits
+few-replies calls answers done (Some Stopped) many fits = omega (arith, length-answers answers (of_stop ∷ []), many, fits)
+few-replies calls answers done (Some DiskFault) many fits = omega (arith, length-answers answers (of_stop ∷ []), many, fits)
+few-replies calls answers done (Some NoMemory) many fits = omega (arith, length-answers answers (of_memory ∷ []), many, fits.0)
+
+pub few-done : (calls : List (Command × ℕ)) (done : ℕ) (rest : Option Outcome) → RestFits calls done rest → done ≤ length calls
+few-done calls done None fits = omega arith
+few-done calls done (Some (Done answer)) fits = absurd fits
+few-done calls done (Some Stopped) fits = omega arith
+few-done calls done (Some DiskFault) fits = omega arith
+few-done calls done (Some NoMemory) fits = let less = fits.0 in omega arith
+
+pub is-rest : (calls : List (Command × ℕ)) (done : ℕ) (rest : Option Outcome) → RestFits calls done rest → IsRest rest
+is-rest calls done None fits = tt
+is-rest calls done (Some (Done answer)) fits = absurd fits
+is-rest calls done (Some Stopped) fits = tt
+is-rest calls done (Some DiskFault) fits = tt
+is-rest calls done (Some NoMemory) fits = tt
+
+-- where the turn goes on, some were replied to
+pub some-replied : {T E : Type 0} (calls : List (Command × ℕ)) (done count : ℕ) (rest : Option Outcome) (told : Result T E) → 1 ≤ length calls → RestFits calls done rest →
+    turned rest done told ≡ Ok count → (1 ≤ count) × (count ≤ length calls)
+some-replied calls done count None (Ok fine) some fits is = let same : done ≡ count = cc in (omega arith, omega arith)
+some-replied calls done count None (Err failed) some fits is = cc
+some-replied calls done count (Some (Done answer)) told some fits is = absurd fits
+some-replied calls done count (Some Stopped) told some fits is = cc
+some-replied calls done count (Some DiskFault) told some fits is = cc
+some-replied calls done count (Some NoMemory) (Ok fine) some fits is = let same : done + 1 ≡ count = cc in let less = fits.0 in (omega arith, omega arith)
+some-replied calls done count (Some NoMemory) (Err failed) some fits is = cc
+
+module _ (speech : Speech) (session : ℕ) (tells : Type 0) (calls : List (Command × ℕ)) where
+  comes-of : {T E : Type 0} (answers : List Answer) (rest : Option Outcome) (told : Result T E) (done : ℕ) (old new : Voice) → IsRest rest → length answers ≡ done →
+      is_broken new.seen ≡ has_failed_rest rest → (tells → Writes old.taken new.taken (texts_by speech (replies_of answers rest)) told) → HasCause old.faults new.faults told →
+      Comes speech session tells calls (replies_of answers rest) old new (turned rest done told)
+  comes-of answers None (Ok fine) done old new is many failed writes cause = record {
+    counts = omega (arith, many, length-answers answers []);
+    all_told = writes;
+    calm = cause.fine;
+    going = going-append (map of_answer answers) [] (answers-go answers) tt;
+    whole = λ broken. absurd (let no : true ≡ false = sym broken ∙ failed in cc);
+  }
+  comes-of answers None (Err why) done old new is many failed writes cause =
+      (replies-once answers None, (cause.failed, λ broken. absurd (let no : true ≡ false = sym broken ∙ failed in cc)))
+  comes-of answers (Some (Done answer)) told done old new is many failed writes cause = absurd is
+  comes-of answers (Some Stopped) told done old new is many failed writes cause = (replies-once answers (Some Stopped), failed)
+  comes-of answers (Some DiskFault) told done old new is many failed writes cause = (replies-once answers (Some DiskFault), failed)
+  comes-of answers (Some NoMemory) (Ok fine) done old new is many failed writes cause = record {
+    counts = omega (arith, many, length-answers answers (of_memory ∷ []));
+    all_told = writes;
+    calm = cause.fine;
+    going = going-append (map of_answer answers) (of_memory ∷ []) (answers-go answers) (refl, tt);
+    whole = λ broken. absurd (let no : true ≡ false = sym broken ∙ failed in cc);
+  }
+  comes-of answers (Some NoMemory) (Err why) done old new is many failed writes cause =
+      (replies-once answers (Some NoMemory), (cause.failed, λ broken. absurd (let no : true ≡ false = sym broken ∙ failed in cc)))
+
+  pub turn-replied : {T E : Type 0} (answers : List Answer) (rest : Option Outcome) (told : Result T E) (done : ℕ) (old new : Voice) → IsRest rest → RestFits calls done rest →
+      length answers ≡ done → deeds new.own ≡ deeds old.own ++ done_by session calls answers → is_broken new.seen ≡ has_failed_rest rest →
+      (tells → Writes old.taken new.taken (texts_by speech (replies_of answers rest)) told) → HasCause old.faults new.faults told →
+      new.attached ≡ (old.attached || attached_by calls (map of_answer answers)) → Replied speech session tells calls old new (turned rest done told)
+  turn-replied answers rest told done old new is fits many grew failed writes cause attached = record {
+    replies = replies_of answers rest;
+    few = few-replies calls answers done rest many fits;
+    grew = grew ∙ ap (λ list. deeds old.own ++ list) (sym (deeds-replies session calls answers rest));
+    told = λ told-now. told-writes old.taken new.taken (texts_by speech (replies_of answers rest)) old.faults new.faults told (writes told-now) cause;
+    attached_is = attached ∙ ap (λ b. old.attached || b) (sym (attached-replies calls answers rest));
+    comes = comes-of answers rest told done old new is many failed writes cause;
+  }
+
+-- ---- several calls
+
+abbrev pub plus : ℕ → Result ℕ Halt → Result ℕ Halt
+plus n (Ok m) = Ok (n + m)
+plus n (Err why) = Err why
+
+or-false : (b : Bool) → b ≡ (b || false)
+or-false true = refl
+or-false false = refl
+
+module _ (speech : Speech) (session : ℕ) (tells : Type 0) where
+  pub replied-nothing : (calls : List (Command × ℕ)) (v : Voice) → Replied speech session tells calls v v (Ok 0)
+  replied-nothing calls v = record {
+    replies = [];
+    few = omega arith;
+    grew = sym (append-nil (deeds v.own)) ∙ ap (λ list. deeds v.own ++ list) (sym (none-done session calls));
+    told = λ told-now. told-whole v.taken v.taken v.faults v.faults [] (sym (append-nil v.taken));
+    attached_is = or-false v.attached ∙ ap (λ b. v.attached || b) (sym (none-attached calls));
+    comes = record { counts = refl; all_told = λ told-now. sym (append-nil v.taken); calm = refl; going = tt; whole = λ broken. broken };
+  }
+
+  comes-then : (calls : List (Command × ℕ)) (a b c : Voice) (xs ys : List Reply) (n : ℕ) (r : Result ℕ Halt) → Goes speech session tells calls xs a b n →
+      Comes speech session tells (drop n calls) ys b c r → Comes speech session tells calls (xs ++ ys) a c (plus n r)
+  comes-then calls a b c xs ys n (Ok m) one other = record {
+    counts = omega (arith, one.counts, other.counts, length-append xs ys);
+    all_told = λ told-now. went-on a.taken b.taken c.taken (texts_by speech xs) (texts_by speech ys) (one.all_told told-now) (other.all_told told-now)
+        ∙ ap (λ list. a.taken ++ list) (sym (texts-append speech xs ys));
+    calm = other.calm ∙ one.calm;
+    going = going-append xs ys one.going other.going;
+    whole = λ broken. one.whole (other.whole broken);
+  }
+  comes-then calls a b c xs ys n (Err halt.Stopped) one other = (once-append xs ys one.going other.0, other.1)
+  comes-then calls a b c xs ys n (Err halt.DiskFault) one other = (once-append xs ys one.going other.0, other.1)
+  comes-then calls a b c xs ys n (Err halt.WriteFault) one other =
+      (once-append xs ys one.going other.0, (subst (λ f. Rose f c.faults) one.calm other.1.0, λ broken. one.whole (other.1.1 broken)))
+
+  pub replied-then : (calls : List (Command × ℕ)) (a b c : Voice) (n : ℕ) (r : Result ℕ Halt) → n ≤ length calls → Replied speech session tells calls a b (Ok n) →
+      Replied speech session tells (drop n calls) b c r → Replied speech session tells calls a c (plus n r)
+  replied-then calls a b c n r low one other =
+      let count : n ≡ length one.replies = one.comes.counts in
+      let here : drop n calls ≡ drop (length one.replies) calls = ap (λ k. drop k calls) count in
+      record {
+        replies = one.replies ++ other.replies;
+        few = omega (arith, count, other.few, length-append one.replies other.replies, length-drop n calls, low);
+        grew = went-on (deeds a.own) (deeds b.own) (deeds c.own) (deeds_by session calls one.replies) (deeds_by session (drop n calls) other.replies) one.grew other.grew
+            ∙ ap (λ list. deeds a.own ++ list) (ap (λ rest. deeds_by session calls one.replies ++ deeds_by session rest other.replies) here
+            ∙ sym (deeds-append session calls one.replies other.replies));
+        told = λ told-now. subst (Told a.taken c.taken a.faults c.faults) (sym (texts-append speech one.replies other.replies))
+            (told-behind a.taken b.taken c.taken a.faults b.faults c.faults (texts_by speech one.replies) (texts_by speech other.replies) (one.comes.all_told told-now) one.comes.calm (other.told told-now));
+        attached_is = other.attached_is ∙ ap (λ b. b || attached_by (drop n calls) other.replies) one.attached_is
+            ∙ ap (λ rest. (a.attached || attached_by calls one.replies) || attached_by rest other.replies) here ∙ attached-then a.attached calls one.replies other.replies;
+        comes = comes-then calls a b c one.replies other.replies n r one.comes other.comes;
+      }

@@ -1,0 +1,85 @@
+use Rattle.std.proofs.Common.{◌≡◌, [], map, ap, sym, ◌∙◌, subst, arith}
+use Rattle.boss_model.specs.Catalogue.{actuators}
+use Rattle.boss_hearing.specs.Gathered.{Gathered}
+use Rattle.boss_hearing.specs.Places.{place_of}
+use Rattle.boss_hearing.specs.Speaking.{speech_of}
+use Rattle.boss_lock.specs.Places.{entries_at}
+use Rattle.boss_talks.specs.Speech.{last_or}
+use Rattle.boss_talks.specs.Talks.{standing}
+use Rattle.boss_sessions.specs.Rounds.{Ended, Rounded}
+use Rattle.boss_sessions.proofs.AnsweredLemmas.{last-soon}
+use Rattle.boss_sessions.proofs.RoundLemmas.{batch-goes, round-ends, round-halted}
+use Rattle.boss_sessions.proofs.rounds.round.Goals as goal
+
+pub returns-in-Err-clause-room : goal.returns-in-Err-clause-room
+returns-in-Err-clause-room g c =
+    let calls = c.gather-heard.new.commands.items in
+    let last : c.last_moment-session.result ≡ last_or c.args.session.now.last (map (λ call. call.1) calls) =
+    c.last_moment-session.ensures ∙ ap (λ list. last_or c.args.session.now.last (map (λ call. call.1) list)) c.as_slice.ensures.value in
+    record {
+      answers = omega (arith, c.answer_all-answered.ensures.room, c.requires.room.answers);
+      text = omega (arith, c.answer_all-answered.ensures.text, c.requires.room.text);
+      soon = omega (arith, last, last-soon (actuators c.args.catalogue.now) calls c.args.session.now.last c.gather-heard.ensures.may c.requires.room.soon);
+    }
+
+pub returns-in-Ok-clause-room : goal.returns-in-Ok-clause-room
+returns-in-Ok-clause-room g c =
+    let calls = c.gather-heard.new.commands.items in
+    let last : c.last_moment-session.result ≡ last_or c.args.session.now.last (map (λ call. call.1) calls) =
+    c.last_moment-session.ensures ∙ ap (λ list. last_or c.args.session.now.last (map (λ call. call.1) list)) c.as_slice.ensures.value in
+    record {
+      answers = omega (arith, c.answer_all-answered.ensures.room, c.requires.room.answers);
+      text = omega (arith, c.tell_behind-told.ensures.room, c.answer_all-answered.ensures.text, c.requires.room.text);
+      soon = omega (arith, last, last-soon (actuators c.args.catalogue.now) calls c.args.session.now.last c.gather-heard.ensures.may c.requires.room.soon);
+    }
+
+pub returns-in-Err-clause-rounded : goal.returns-in-Err-clause-rounded
+returns-in-Err-clause-rounded g c =
+    let speech = speech_of c.args.catalogue.now in
+    let calls = c.gather-heard.new.commands.items in
+    let given = g.C.Clock.given c.args.clock.now in
+    let given' = g.C.Clock.given c.gather-heard.new.clock in
+    let place = place_of c.args.session.now.hearing (g.S.Source.left c.args.source.now) in
+    let place' = place_of c.gather-heard.new.hearing (g.S.Source.left c.gather-heard.new.source) in
+    let later = c.args.session.now.hearing.later in
+    let later' = c.gather-heard.new.hearing.later in
+    let heard = c.gather-heard.result in
+    let a = standing (entries_at (g.G.Desk.seen c.args.pass.now) (g.G.Desk.mine c.args.pass.now)) (g.K.Sink.taken c.args.sink.now) (g.K.Sink.faults c.args.sink.now) given
+    c.args.session.now.attached c.args.session.now.last in
+    let b = standing (entries_at (g.G.Desk.seen c.answer_all-answered.new.pass) (g.G.Desk.mine c.answer_all-answered.new.pass)) (g.K.Sink.taken c.answer_all-answered.new.sink)
+    (g.K.Sink.faults c.answer_all-answered.new.sink) given' c.answer_all-answered.new.attached c.last_moment-session.result in
+    let last : c.last_moment-session.result ≡ last_or c.args.session.now.last (map (λ call. call.1) calls) =
+    c.last_moment-session.ensures ∙ ap (λ list. last_or c.args.session.now.last (map (λ call. call.1) list)) c.as_slice.ensures.value in
+    let gathered : Gathered speech.reading g.S.Source.tells g.C.Clock.tells later later' [] calls given given' place place' heard =
+    subst (λ cs. Gathered speech.reading g.S.Source.tells g.C.Clock.tells later later' cs calls given given' place place' heard) c.new-commands.ensures.items c.gather-heard.ensures.gathered in
+    subst (λ e. Ended speech c.args.number g.S.Source.tells g.K.Sink.tells g.C.Clock.tells later place place' a b e) (sym c.end_at.ensures)
+    (round-halted speech c.args.number g.S.Source.tells g.K.Sink.tells g.C.Clock.tells later later' place place' heard c.in-Err.halt calls a b _ _ gathered last c.in-Err.ensures.replied)
+
+pub returns-in-Ok-clause-rounded : goal.returns-in-Ok-clause-rounded
+returns-in-Ok-clause-rounded g c =
+    let speech = speech_of c.args.catalogue.now in
+    let calls = c.gather-heard.new.commands.items in
+    let given = g.C.Clock.given c.args.clock.now in
+    let given' = g.C.Clock.given c.gather-heard.new.clock in
+    let place = place_of c.args.session.now.hearing (g.S.Source.left c.args.source.now) in
+    let place' = place_of c.gather-heard.new.hearing (g.S.Source.left c.gather-heard.new.source) in
+    let later = c.args.session.now.hearing.later in
+    let later' = c.gather-heard.new.hearing.later in
+    let heard = c.gather-heard.result in
+    let own' = entries_at (g.G.Desk.seen c.answer_all-answered.new.pass) (g.G.Desk.mine c.answer_all-answered.new.pass) in
+    let taken = g.K.Sink.taken c.tell_behind-told.new.sink in
+    let faults = g.K.Sink.faults c.tell_behind-told.new.sink in
+    let a = standing (entries_at (g.G.Desk.seen c.args.pass.now) (g.G.Desk.mine c.args.pass.now)) (g.K.Sink.taken c.args.sink.now) (g.K.Sink.faults c.args.sink.now) given
+    c.args.session.now.attached c.args.session.now.last in
+    let m = standing own' (g.K.Sink.taken c.answer_all-answered.new.sink) (g.K.Sink.faults c.answer_all-answered.new.sink) given' c.answer_all-answered.new.attached c.last_moment-session.result in
+    let b = standing own' taken faults given' c.answer_all-answered.new.attached c.last_moment-session.result in
+    let last : c.last_moment-session.result ≡ last_or c.args.session.now.last (map (λ call. call.1) calls) =
+    c.last_moment-session.ensures ∙ ap (λ list. last_or c.args.session.now.last (map (λ call. call.1) list)) c.as_slice.ensures.value in
+    let gathered : Gathered speech.reading g.S.Source.tells g.C.Clock.tells later later' [] calls given given' place place' heard =
+    subst (λ cs. Gathered speech.reading g.S.Source.tells g.C.Clock.tells later later' cs calls given given' place place' heard) c.new-commands.ensures.items c.gather-heard.ensures.gathered in
+    subst (λ r. Rounded speech c.args.number g.S.Source.tells g.K.Sink.tells g.C.Clock.tells later later' place place' a b r) (sym c.end_behind.ensures)
+    (round-ends speech c.args.number g.S.Source.tells g.K.Sink.tells g.C.Clock.tells later later' place place' gathered.waiting gathered.behind gathered.all a m taken faults
+    gathered.spoken gathered.advances gathered.later_is
+    (batch-goes speech c.args.number g.S.Source.tells g.K.Sink.tells g.C.Clock.tells later later' place place' heard calls a m _ _ gathered last c.in-Ok.ensures.replied)
+    heard c.tell_behind-told.result gathered.behind_is c.gather-heard.ensures.end
+    (λ told. c.tell_behind-told.ensures.bytes c.args.catalogue.now told) c.tell_behind-told.ensures.cause)

@@ -1,0 +1,28 @@
+use Rattle.std.proofs.Common.{◌≡◌, true}
+use Rattle.boss_history.specs.History.{is_broken}
+use Rattle.boss_hearing.specs.Places.{place_of, IsOpen}
+use Rattle.boss_hearing.specs.Speaking.{speech_of}
+use Rattle.boss_lock.specs.Places.{entries_at}
+use Rattle.boss_talks.specs.Talks.{standing}
+use Rattle.boss_sessions.specs.Rounds.{GoesOn, HasRoom}
+use Rattle.boss_sessions.proofs.serving.talk.Given as goal
+
+-- each round so far went on
+abbrev pub invariant-loop-end : goal.invariant-loop-end
+invariant-loop-end g l = record {
+  own : g.G.Desk.owns l.desk l.pass;
+  parts : g.G.Desk.parts l.pass ≡ g.G.Desk.parts l.fn.pass;
+  ready : IsOpen g.S.Source.tells (place_of l.session.hearing (g.S.Source.left l.source));
+  room : HasRoom l.session;
+  rounds : GoesOn (speech_of l.catalogue) l.number g.S.Source.tells g.K.Sink.tells g.C.Clock.tells l.fn.session.hearing.later l.session.hearing.later
+      (place_of l.fn.session.hearing (g.S.Source.left l.fn.source)) (place_of l.session.hearing (g.S.Source.left l.source))
+      (standing (entries_at (g.G.Desk.seen l.fn.pass) (g.G.Desk.mine l.fn.pass)) (g.K.Sink.taken l.fn.sink) (g.K.Sink.faults l.fn.sink) (g.C.Clock.given l.fn.clock) l.fn.session.attached l.fn.session.last)
+      (standing (entries_at (g.G.Desk.seen l.pass) (g.G.Desk.mine l.pass)) (g.K.Sink.taken l.sink) (g.K.Sink.faults l.sink) (g.C.Clock.given l.clock) l.session.attached l.session.last);
+  read : g.S.Source.faults l.source ≡ g.S.Source.faults l.fn.source;
+  written : g.K.Sink.faults l.sink ≡ g.K.Sink.faults l.fn.sink;
+  clocked : g.C.Clock.faults l.clock ≡ g.C.Clock.faults l.fn.clock;
+  whole : is_broken (g.G.Desk.seen l.pass) ≡ true → is_broken (g.G.Desk.seen l.fn.pass) ≡ true;
+}
+
+abbrev pub decreases-loop-end : goal.decreases-loop-end
+decreases-loop-end g l = l.session.hearing.lines

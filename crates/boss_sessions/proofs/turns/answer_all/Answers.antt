@@ -1,0 +1,39 @@
+use Rattle.std.proofs.Common.{length, refl, ap, sym, ◌∙◌, subst, arith}
+use Rattle.std.specs.List.{AllByRecursion}
+use Rattle.std.proofs.lemmas.List.{length-drop}
+use Rattle.boss_model.specs.Catalogue.{actuators}
+use Rattle.boss_history.specs.History.{MayCall}
+use Rattle.boss_hearing.specs.Speaking.{speech_of}
+use Rattle.boss_sessions.proofs.AnsweredLemmas.{all-drop, answered-halted, answered-more, answered-nothing}
+use Rattle.boss_sessions.proofs.turns.answer_all.Goals as goal
+
+pub loop-session-init : goal.loop-session-init
+loop-session-init g c = record {
+  own = c.requires.own;
+  parts = refl;
+  room = refl;
+  text = refl;
+  few = omega (arith, c.requires.few, ap length c.from_vec-held.ensures);
+  may = subst (AllByRecursion (MayCall (actuators c.args.catalogue.now))) (sym c.from_vec-held.ensures) c.requires.may;
+  answered = answered-nothing (speech_of c.args.catalogue.now) c.args.session g.K.Sink.tells c.args.commands.items c.from_vec-held.result _ c.from_vec-held.ensures;
+}
+
+pub returns-in-Err-clause-replied : goal.returns-in-Err-clause-replied
+returns-in-Err-clause-replied g c =
+    answered-halted (speech_of c.args.catalogue.now) c.args.session g.K.Sink.tells c.args.commands.items c.loop-session.held _ _ _ c.in-Err.halt
+    c.loop-session.invariant.answered c.in-Err.ensures.replied
+
+pub loop-session-preserved : goal.loop-session-preserved
+loop-session-preserved g c =
+    let inv = c.loop-session.invariant in
+    record {
+      own = c.one_turn.ensures.own;
+      parts = c.one_turn.ensures.parts ∙ inv.parts;
+      room = c.one_turn.ensures.room ∙ inv.room;
+      text = c.one_turn.ensures.text ∙ inv.text;
+      few = omega (arith, inv.few, ap length c.without_front-held.ensures, length-drop c.in-Ok.count c.loop-session.held);
+      may = subst (AllByRecursion (MayCall (actuators c.args.catalogue.now))) (sym c.without_front-held.ensures)
+          (all-drop (MayCall (actuators c.args.catalogue.now)) c.loop-session.held c.in-Ok.count inv.may);
+      answered = answered-more (speech_of c.args.catalogue.now) c.args.session g.K.Sink.tells c.args.commands.items c.loop-session.held c.without_front-held.result _ _ _ c.in-Ok.count
+          inv.answered c.in-Ok.ensures.replied c.in-Ok.ensures.some.1 c.without_front-held.ensures;
+    }

@@ -1,0 +1,5 @@
+pub mod Connected
+pub mod Ends
+pub mod Parting
+pub mod Rounds
+pub mod Turns

@@ -1,0 +1,71 @@
+ghost use Rattle.std.specs.Prelude.{◌≡◌, ◌≤◌};
+ghost use Rattle.boss_outside.specs.Counts.{HasCause};
+ghost use Rattle.boss_outside.specs.Streams.{Writes};
+ghost use Rattle.boss_model.specs.Catalogue.{Catalogue};
+ghost use Rattle.boss_hearing.specs.Speaking.{speech_of};
+ghost use Rattle.boss_sessions.specs.Ends.{end_at, end_behind, end_of, text_behind};
+
+use crate::SessionEnd;
+use crate::halt::Halt;
+use boss_answers::{tell_memory, tell_refusal, tell_too_long};
+use boss_hearing::Heard;
+use boss_model::Buffer;
+use boss_outside::{Failed, Sink};
+
+/// Tells the reply to what came behind the requests, if it has one.
+pub(crate) fn tell_behind<K: Sink>(
+    heard: &Heard,
+    text: &mut Buffer,
+    sink: &mut K,
+) -> Result<(), Failed>
+    requires room { 32768 ≤ text.old.capacity }
+    ensures room { text.new.capacity ≡ text.old.capacity }
+    ensures bytes { (catalogue : Catalogue) → K.tells → Writes (K.taken sink.old) (K.taken sink.new) (text_behind (speech_of catalogue) heard.now) result }
+    ensures cause { HasCause (K.faults sink.old) (K.faults sink.new) result }
+{
+    match heard {
+        Heard::Refused(why) => tell_refusal(why, text, sink),
+        Heard::Unread => tell_memory(sink),
+        Heard::TooLong => tell_too_long(sink),
+        _ => Ok(()),
+    }
+}
+
+/// Why the session ends after what was heard and its reply, if it does. A clock that failed goes before a write that did.
+pub(crate) fn end_behind(heard: Heard, told: Result<(), Failed>) -> Option<SessionEnd>
+    ensures { result ≡ end_behind heard told }
+{
+    match told {
+        Ok(()) => end_of(heard),
+        Err(Failed) => Some(end_at(Halt::WriteFault, &heard)),
+    }
+}
+
+/// Why the session ends where requests were halted.
+pub(crate) fn end_at(halt: Halt, heard: &Heard) -> SessionEnd
+    ensures { result ≡ end_at halt heard.now }
+{
+    match halt {
+        Halt::Stopped => SessionEnd::Stopped,
+        Halt::DiskFault => SessionEnd::DiskFault,
+        Halt::WriteFault => match heard {
+            Heard::Untimed => SessionEnd::ClockFault,
+            _ => SessionEnd::WriteFault,
+        },
+    }
+}
+
+/// Why the session ends where nothing failed but what was heard, if it does.
+fn end_of(heard: Heard) -> Option<SessionEnd>
+    ensures { result ≡ end_of heard }
+{
+    match heard {
+        Heard::Requests | Heard::Refused(_) | Heard::Unread => None,
+        Heard::Watch { name, from } => Some(SessionEnd::Watch { name, from }),
+        Heard::Untimed => Some(SessionEnd::ClockFault),
+        Heard::Limit => Some(SessionEnd::Limit),
+        Heard::Finish => Some(SessionEnd::End),
+        Heard::TooLong => Some(SessionEnd::TooLong),
+        Heard::ReadFault => Some(SessionEnd::ReadFault),
+    }
+}

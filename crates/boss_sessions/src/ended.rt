@@ -1,0 +1,15 @@
+ghost use Rattle.std.specs.Prelude.{◌≡◌, ℕ, Bool, false, List, Some};
+ghost use Rattle.boss_talks.specs.Talks.{IsEnded};
+ghost use Rattle.boss_workers.specs.Hosts.{Served};
+ghost use Rattle.boss_sessions.specs.declared.end.SessionEnd.{SessionEnd};
+ghost use Rattle.boss_sessions.specs.Connected.{Lost};
+ghost use Rattle.boss_sessions.specs.Ends.{is_cut, is_stop_end, is_watch, ReadCause, WriteCause};
+
+/// A connection that was handed out untouched, and was served up to an end other than its asking to watch, has ended as a
+/// connection does: it was cut off where the clock or the disk failed or there was no memory to begin, and else it is whole
+/// unless one of its reads or writes failed.
+pub fn a_served_connection_has_ended()
+    ensures { (served : Served) (heard rest : List (List ℕ)) (long : Bool) (end : SessionEnd) → (found : Lost served.held served.left heard rest long end) →
+        ReadCause 0 served.read_faults (Some end) → WriteCause 0 served.write_faults (Some end) → is_watch end ≡ false →
+        IsEnded served found.lost rest long (is_stop_end end) (is_cut end) }
+{}

@@ -1,0 +1,93 @@
+ghost use Rattle.std.specs.Prelude.{◌≡◌, ◌<◌, map, IfNone};
+ghost use Rattle.boss_model.specs.Catalogue.{actuators};
+ghost use Rattle.boss_history.specs.History.{is_broken};
+ghost use Rattle.boss_hearing.specs.Places.{place_of, IsOpen};
+ghost use Rattle.boss_hearing.specs.Speaking.{speech_of};
+ghost use Rattle.boss_lock.specs.Places.{entries_at};
+ghost use Rattle.boss_talks.specs.Speech.{last_or};
+ghost use Rattle.boss_talks.specs.Talks.{standing};
+ghost use Rattle.boss_sessions.specs.Ends.{ReadCause, WriteCause, ClockCause, DiskCause};
+ghost use Rattle.boss_sessions.specs.Rounds.{HasRoom, Rounded};
+
+use crate::SessionEnd;
+use crate::behind::{end_at, end_behind, tell_behind};
+use crate::session::Session;
+use crate::turns::answer_all;
+use boss_hearing::gather;
+use boss_model::{Command, SessionId};
+use boss_outside::{Sink, Source};
+use boss_points::Catalogue;
+use boss_shared::Desk;
+use boss_workers::Clock;
+use std::alloc::Global;
+
+/// Takes what has come of the requests, has them done and answers them, and answers what came behind them. Gives why the session
+/// ends, if it does.
+pub(crate) fn round<G: Desk, S: Source, K: Sink, C: Clock>(
+    alloc: Global,
+    catalogue: &Catalogue,
+    desk: &G,
+    pass: &mut G::Pass,
+    number: SessionId,
+    session: &mut Session,
+    source: &mut S,
+    sink: &mut K,
+    clock: &mut C,
+) -> Option<SessionEnd>
+    requires own { G.owns desk.now pass.old }
+    requires plant { actuators catalogue.now ≡ G.plant desk.now }
+    requires ready { IsOpen S.tells (place_of session.old.hearing (S.left source.old)) }
+    requires room { HasRoom session.old }
+    ensures own { G.owns desk.now pass.new }
+    ensures parts { G.parts pass.new ≡ G.parts pass.old }
+    ensures room { HasRoom session.new }
+    ensures rounded { Rounded (speech_of catalogue.now) number S.tells K.tells C.tells session.old.hearing.later session.new.hearing.later
+        (place_of session.old.hearing (S.left source.old)) (place_of session.new.hearing (S.left source.new))
+        (standing (entries_at (G.seen pass.old) (G.mine pass.old)) (K.taken sink.old) (K.faults sink.old) (C.given clock.old) session.old.attached session.old.last)
+        (standing (entries_at (G.seen pass.new) (G.mine pass.new)) (K.taken sink.new) (K.faults sink.new) (C.given clock.new) session.new.attached session.new.last)
+        result }
+    ensures goes_on { IfNone result (session.new.hearing.lines < session.old.hearing.lines) }
+    ensures read { ReadCause (S.faults source.old) (S.faults source.new) result }
+    ensures written { WriteCause (K.faults sink.old) (K.faults sink.new) result }
+    ensures clocked { ClockCause (C.faults clock.old) (C.faults clock.new) result }
+    ensures kept { DiskCause (is_broken (G.seen pass.old)) (is_broken (G.seen pass.new)) result }
+{
+    let mut commands = Vec::new(alloc);
+    let heard = gather(
+        alloc,
+        catalogue,
+        &mut session.hearing,
+        source,
+        clock,
+        &mut commands,
+    );
+    session.last = last_moment(commands.as_slice(), session.last);
+    let answered = answer_all(
+        catalogue,
+        desk,
+        pass,
+        number,
+        commands,
+        &mut session.answers,
+        &mut session.attached,
+        &mut session.text,
+        sink,
+    );
+    match answered {
+        Err(halt) => Some(end_at(halt, &heard)),
+        Ok(()) => {
+            let told = tell_behind(&heard, &mut session.text, sink);
+            end_behind(heard, told)
+        }
+    }
+}
+
+/// The moment of the last command, or this one where there is none.
+fn last_moment(commands: &[(Command, u64)], last: u64) -> u64
+    ensures { result ≡ last_or last (map (λ call. call.1) commands.now) }
+{
+    match commands.last() {
+        Some(call) => call.1,
+        None => last,
+    }
+}

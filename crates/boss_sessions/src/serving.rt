@@ -1,0 +1,108 @@
+ghost use Rattle.std.specs.Prelude.{◌≡◌, false, Some};
+ghost use Rattle.boss_model.specs.Catalogue.{actuators};
+ghost use Rattle.boss_history.specs.History.{is_broken};
+ghost use Rattle.boss_hearing.specs.Places.{place_of, IsOpen};
+ghost use Rattle.boss_hearing.specs.Speaking.{speech_of};
+ghost use Rattle.boss_lock.specs.Places.{entries_at};
+ghost use Rattle.boss_talks.specs.Talks.{standing};
+ghost use Rattle.boss_sessions.specs.Connected.{Connected};
+ghost use Rattle.boss_sessions.specs.Ends.{is_stop_end, ReadCause, WriteCause, ClockCause, DiskCause};
+ghost use Rattle.boss_sessions.specs.Rounds.{Ended, HasRoom};
+
+use crate::SessionEnd;
+use crate::parting::part;
+use crate::rounds::round;
+use crate::session::Session;
+use boss_model::SessionId;
+use boss_outside::{Sink, Source};
+use boss_points::Catalogue;
+use boss_shared::Desk;
+use boss_workers::Clock;
+use std::alloc::Global;
+
+/// Serves a connection, up to its end, its first line that asks to watch, or whatever else ends it.
+///
+/// Each line that is not blank has one reply, in order: a request that of its command, which is done once, at the moment that the
+/// clock gave for it; another line why it is refused; and one for which there was no memory is told so, and changes nothing.
+/// Requests that have come together are done in one call. Where an attach was accepted, the last call tells that the process is
+/// lost, at the last moment that the clock gave, unless the disk has failed; where it fails in this call, that is the end.
+pub fn serve_connection<G: Desk, S: Source, K: Sink, C: Clock>(
+    alloc: Global,
+    desk: &G,
+    pass: &mut G::Pass,
+    catalogue: &Catalogue,
+    session: SessionId,
+    source: &mut S,
+    sink: &mut K,
+    clock: &mut C,
+) -> SessionEnd
+    requires own { G.owns desk.now pass.old }
+    requires plant { actuators catalogue.now ≡ G.plant desk.now }
+    ensures own { G.owns desk.now pass.new }
+    ensures parts { G.parts pass.new ≡ G.parts pass.old }
+    ensures connected { Connected (speech_of catalogue.now) session S.tells K.tells C.tells (S.left source.old) (S.left source.new)
+        (standing (entries_at (G.seen pass.old) (G.mine pass.old)) (K.taken sink.old) (K.faults sink.old) (C.given clock.old) false 0)
+        (standing (entries_at (G.seen pass.new) (G.mine pass.new)) (K.taken sink.new) (K.faults sink.new) (C.given clock.new) false 0)
+        result }
+    ensures read { ReadCause (S.faults source.old) (S.faults source.new) (Some result) }
+    ensures written { WriteCause (K.faults sink.old) (K.faults sink.new) (Some result) }
+    ensures clocked { ClockCause (C.faults clock.old) (C.faults clock.new) (Some result) }
+    ensures kept { DiskCause (is_broken (G.seen pass.old)) (is_broken (G.seen pass.new)) (Some result) }
+{
+    let Ok(mut state) = Session::new(alloc) else {
+        return SessionEnd::NoMemory;
+    };
+    let end = talk(
+        alloc, catalogue, desk, pass, session, &mut state, source, sink, clock,
+    );
+    if !state.attached || is_stop(&end) {
+        return end;
+    }
+    part(desk, pass, session, state.last, end)
+}
+
+/// Takes and answers lines until something ends the session.
+fn talk<G: Desk, S: Source, K: Sink, C: Clock>(
+    alloc: Global,
+    catalogue: &Catalogue,
+    desk: &G,
+    pass: &mut G::Pass,
+    number: SessionId,
+    session: &mut Session,
+    source: &mut S,
+    sink: &mut K,
+    clock: &mut C,
+) -> SessionEnd
+    requires own { G.owns desk.now pass.old }
+    requires plant { actuators catalogue.now ≡ G.plant desk.now }
+    requires ready { IsOpen S.tells (place_of session.old.hearing (S.left source.old)) }
+    requires first { session.old.hearing.later ≡ false }
+    requires room { HasRoom session.old }
+    ensures own { G.owns desk.now pass.new }
+    ensures parts { G.parts pass.new ≡ G.parts pass.old }
+    ensures room { HasRoom session.new }
+    ensures ended { Ended (speech_of catalogue.now) number S.tells K.tells C.tells false
+        (place_of session.old.hearing (S.left source.old)) (place_of session.new.hearing (S.left source.new))
+        (standing (entries_at (G.seen pass.old) (G.mine pass.old)) (K.taken sink.old) (K.faults sink.old) (C.given clock.old) session.old.attached session.old.last)
+        (standing (entries_at (G.seen pass.new) (G.mine pass.new)) (K.taken sink.new) (K.faults sink.new) (C.given clock.new) session.new.attached session.new.last)
+        result }
+    ensures read { ReadCause (S.faults source.old) (S.faults source.new) (Some result) }
+    ensures written { WriteCause (K.faults sink.old) (K.faults sink.new) (Some result) }
+    ensures clocked { ClockCause (C.faults clock.old) (C.faults clock.new) (Some result) }
+    ensures kept { DiskCause (is_broken (G.seen pass.old)) (is_broken (G.seen pass.new)) (Some result) }
+{
+    loop {
+        if let Some(end) = round(
+            alloc, catalogue, desk, pass, number, session, source, sink, clock,
+        ) {
+            return end;
+        }
+    }
+}
+
+/// Whether the disk has failed.
+fn is_stop(end: &SessionEnd) -> bool
+    ensures { result ≡ is_stop_end end.now }
+{
+    matches!(end, SessionEnd::Stopped | SessionEnd::DiskFault)
+}

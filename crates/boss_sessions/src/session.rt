@@ -1,0 +1,44 @@
+ghost use Rattle.std.specs.Prelude.{◌≡◌, ◌≤◌, false, [], None, IfOk, vec_capacity};
+ghost use Rattle.boss_model.specs.Limits.{most_lines};
+
+use boss_hearing::{Hearing, MOST_HELD};
+use boss_model::{Answer, Buffer, NoMemory};
+use std::alloc::Global;
+
+/// How many bytes there is room for where a line is written.
+const ROOM: u32 = 65_536;
+
+/// A session, as far as it has come.
+#[derive(Debug, Drop)]
+pub(crate) struct Session {
+    pub(crate) hearing: Hearing,
+    /// Whether an attach was accepted.
+    pub(crate) attached: bool,
+    /// The last moment that the clock gave, in milliseconds, and 0 before the first.
+    pub(crate) last: u64,
+    /// Room for the answers to the requests that are held.
+    pub(crate) answers: Vec<Answer>,
+    /// Room for the text of a reply.
+    pub(crate) text: Buffer,
+}
+
+impl Session {
+    /// A session before its first line. It takes all the memory that it keeps.
+    pub(crate) fn new(alloc: Global) -> Result<Session, NoMemory>
+        ensures reader { IfOk result (λ session. session.hearing.reader ≡ record { line = []; ahead = []; stopped = None }) }
+        ensures lines { IfOk result (λ session. session.hearing.lines ≡ most_lines) }
+        ensures later { IfOk result (λ session. session.hearing.later ≡ false) }
+        ensures attached { IfOk result (λ session. session.attached ≡ false) }
+        ensures last { IfOk result (λ session. session.last ≡ 0) }
+        ensures answers { IfOk result (λ session. 16 ≤ vec_capacity session.answers) }
+        ensures text { IfOk result (λ session. 32768 ≤ session.text.capacity) }
+    {
+        Ok(Session {
+            hearing: Hearing::new(alloc)?,
+            attached: false,
+            last: 0,
+            answers: Vec::with_capacity(alloc, MOST_HELD)?,
+            text: Buffer::new(alloc, ROOM)?,
+        })
+    }
+}
