@@ -1,0 +1,7 @@
+pub mod CallLemmas
+pub mod Ending
+pub mod Growing
+pub mod Lines
+pub mod Pages
+pub mod Sent
+pub mod Turning

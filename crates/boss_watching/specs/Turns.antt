@@ -1,0 +1,50 @@
+-- Turns in a row without a notice, each of which pauses.
+use Rattle.std.specs.Prelude.{◌≡◌, ◌⊎◌, ℕ, ◌+◌, ◌<◌, Bool, true, false, if◌then◌else◌, List, [], ◌∷◌, ◌++◌}
+use Rattle.boss_history.specs.declared.entry.Entry.{Entry}
+use Rattle.boss_history.specs.declared.entry.Entry.TheVariants.{Did, Broke}
+use Rattle.boss_history.specs.History.{deeds}
+use Rattle.boss_lanes.specs.Waits.{paused}
+use Rattle.boss_watching.specs.Notes.{has_notices}
+
+-- the turn of this entry had a notice
+abbrev pub has_told : Entry → Bool
+has_told (Did session command moment answer) = has_notices answer
+has_told (Broke session commands) = false
+
+-- how many turns in a row had none, after one more and after several
+abbrev pub quiet_after : ℕ → Entry → ℕ
+quiet_after quiet entry = if has_told entry then 0 else quiet + 1
+
+abbrev pub quiet_in : ℕ → List Entry → ℕ
+quiet_in quiet [] = quiet
+quiet_in quiet (entry ∷ entries) = quiet_in (quiet_after quiet entry) entries
+
+-- before each turn fewer than `idle` in a row had none
+abbrev pub IsAwake : ℕ → ℕ → List Entry → Type 0
+IsAwake idle quiet [] = Unit {0}
+IsAwake idle quiet (entry ∷ entries) = (quiet < idle) × IsAwake idle (quiet_after quiet entry) entries
+
+-- the pauses: one behind each turn that had none
+abbrev pub pauses_of : Entry → ℕ
+pauses_of entry = if has_told entry then 0 else 1
+
+abbrev pub pauses_in : List Entry → ℕ
+pauses_in [] = 0
+pauses_in (entry ∷ entries) = pauses_of entry + pauses_in entries
+
+-- Turns that leave so many in a row without a notice
+pub record Lasts (idle quiet quiet' : ℕ) (old new : List Entry) (pausing : Type 0) (pauses pauses' : ℕ) : Type 0 where
+  pub more : List Entry
+  pub grew : deeds new ≡ deeds old ++ more
+  pub awake : IsAwake idle quiet more
+  pub counted : quiet' ≡ quiet_in quiet more
+  pub waited : pausing → pauses' ≡ paused (pauses_in more) pauses
+
+-- one turn more; and at most one, which had a notice
+pub record AddsTurn (told : Bool) (old new : List Entry) : Type 0 where
+  pub entry : Entry
+  pub grew : deeds new ≡ deeds old ++ entry ∷ []
+  pub is_told : has_told entry ≡ told
+
+abbrev pub AddsTold : List Entry → List Entry → Type 0
+AddsTold old new = (deeds new ≡ deeds old) ⊎ AddsTurn true old new

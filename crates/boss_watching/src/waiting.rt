@@ -1,0 +1,83 @@
+ghost use Rattle.std.specs.Prelude.{◌≡◌, ◌≤◌, true, false, IfOk, IfErr};
+ghost use Rattle.boss_model.specs.Catalogue.{actuators};
+ghost use Rattle.boss_lock.specs.Places.{entries_at};
+ghost use Rattle.boss_history.specs.History.{run};
+ghost use Rattle.boss_talks.specs.Talks.{standing};
+ghost use Rattle.boss_talks.specs.Watching.{Watched, Watches};
+ghost use Rattle.boss_watching.specs.Ends.{ClockCause, CloseCause, DiskCause, Lasted, WriteCause};
+ghost use Rattle.boss_watching.specs.Notes.{GoesOn, notes, sent};
+ghost use Rattle.boss_watching.specs.Turns.{Lasts};
+
+use crate::WatchEnd;
+use crate::turn::take_turn;
+use boss_model::{Buffer, Name, SessionId};
+use boss_outside::Sink;
+use boss_points::Catalogue;
+use boss_shared::Desk;
+use boss_workers::{Clock, Waiter, Woke};
+
+/// How long a pause behind a turn without a notice is, in milliseconds.
+const PAUSE: u64 = 100;
+
+/// Takes turns until one has a notice, and gives the number to ask from next; or tells how it ended: at the latest after so many
+/// turns, none of which had a notice.
+pub fn await_notices<G: Desk, K: Sink, C: Clock, W: Waiter>(
+    desk: &G,
+    pass: &mut G::Pass,
+    catalogue: &Catalogue,
+    session: SessionId,
+    name: &Name,
+    from: u64,
+    text: &mut Buffer,
+    sink: &mut K,
+    clock: &mut C,
+    waiter: &mut W,
+    idle: u32,
+) -> Result<u64, WatchEnd>
+    requires own { G.owns desk.now pass.old }
+    requires plant { actuators catalogue.now ≡ G.plant desk.now }
+    requires from { 1 ≤ from }
+    requires room { 32768 ≤ text.old.capacity }
+    ensures own { G.owns desk.now pass.new }
+    ensures parts { G.parts pass.new ≡ G.parts pass.old }
+    ensures room { text.new.capacity ≡ text.old.capacity }
+    ensures watches { IfOk result (λ next. Watches (notes catalogue.now) session name.now K.tells C.tells from next
+        (standing (entries_at (G.seen pass.old) (G.mine pass.old)) (K.taken sink.old) (K.faults sink.old) (C.given clock.old) false 0)
+        (standing (entries_at (G.seen pass.new) (G.mine pass.new)) (K.taken sink.new) (K.faults sink.new) (C.given clock.new) false 0)) }
+    ensures lasts { IfOk result (λ next. Lasts idle 0 0 (entries_at (G.seen pass.old) (G.mine pass.old)) (entries_at (G.seen pass.new) (G.mine pass.new))
+        W.tells (W.pauses waiter.old) (W.pauses waiter.new)) }
+    ensures goes_on { IfOk result (λ next. GoesOn from next true
+        (sent name.now (run (G.plant desk.now) (G.seen pass.old) (G.opening desk.now)))
+        (sent name.now (run (G.plant desk.now) (G.seen pass.new) (G.opening desk.now)))) }
+    ensures calm { IfOk result (λ next. C.faults clock.new ≡ C.faults clock.old) }
+    ensures open { IfOk result (λ next. W.closes waiter.new ≡ W.closes waiter.old) }
+    ensures watched { IfErr result (λ end. Watched (notes catalogue.now) session name.now K.tells C.tells from
+        (standing (entries_at (G.seen pass.old) (G.mine pass.old)) (K.taken sink.old) (K.faults sink.old) (C.given clock.old) false 0)
+        (standing (entries_at (G.seen pass.new) (G.mine pass.new)) (K.taken sink.new) (K.faults sink.new) (C.given clock.new) false 0)) }
+    ensures lasted { IfErr result (Lasted idle (entries_at (G.seen pass.old) (G.mine pass.old)) (entries_at (G.seen pass.new) (G.mine pass.new))
+        W.tells (W.pauses waiter.old) (W.pauses waiter.new)) }
+    ensures clock_cause { IfErr result (ClockCause (C.faults clock.old) (C.faults clock.new)) }
+    ensures write_cause { IfErr result (WriteCause (K.faults sink.old) (K.faults sink.new)) }
+    ensures disk_cause { IfErr result (DiskCause (G.seen pass.new)) }
+    ensures close_cause { IfErr result (CloseCause W.tells (W.closed waiter.new) (W.closes waiter.old) (W.closes waiter.new)) }
+{
+    let mut next = from;
+    for quiet in 0..idle {
+        let turn = match take_turn(
+            desk, pass, catalogue, session, name, next, text, sink, clock,
+        ) {
+            Err(end) => return Err(end),
+            Ok(turn) => turn,
+        };
+        next = turn.next;
+        if turn.told {
+            return Ok(next);
+        }
+        if let Woke::Close = waiter.pause(PAUSE) {
+            if quiet + 1 < idle {
+                return Err(WatchEnd::Closed);
+            }
+        }
+    }
+    Err(WatchEnd::Idle)
+}

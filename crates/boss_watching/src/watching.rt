@@ -1,0 +1,65 @@
+ghost use Rattle.std.specs.Prelude.{◌≡◌, ◌≤◌, false};
+ghost use Rattle.boss_model.specs.Catalogue.{actuators};
+ghost use Rattle.boss_lock.specs.Places.{entries_at};
+ghost use Rattle.boss_talks.specs.Talks.{standing};
+ghost use Rattle.boss_talks.specs.Watching.{Watched};
+ghost use Rattle.boss_watching.specs.Ends.{ClockCause, CloseCause, DiskCause, Lasted, WriteCause};
+ghost use Rattle.boss_watching.specs.Notes.{notes};
+
+use crate::WatchEnd;
+use crate::waiting::await_notices;
+use boss_model::{Buffer, Name, SessionId};
+use boss_outside::Sink;
+use boss_points::Catalogue;
+use boss_shared::Desk;
+use boss_workers::{Clock, Waiter};
+use std::alloc::Global;
+
+/// How many bytes there is room for where a notice is written.
+const ROOM: u32 = 32_768;
+
+/// Sends the notices of a process as they come, those from the number `from` on, which is at least 1. In each turn the clock is
+/// read and at most 64 notices are asked for, as a command of the session; each is written as a line, and where there was none
+/// there is a pause of 100 ms. It goes on until `idle` turns in a row had none, or a pause says that the worker is to end, or
+/// something fails.
+pub fn watch_connection<G: Desk, K: Sink, C: Clock, W: Waiter>(
+    alloc: Global,
+    desk: &G,
+    pass: &mut G::Pass,
+    catalogue: &Catalogue,
+    session: SessionId,
+    name: &Name,
+    from: u64,
+    sink: &mut K,
+    clock: &mut C,
+    waiter: &mut W,
+    idle: u32,
+) -> WatchEnd
+    requires own { G.owns desk.now pass.old }
+    requires plant { actuators catalogue.now ≡ G.plant desk.now }
+    requires from { 1 ≤ from }
+    ensures own { G.owns desk.now pass.new }
+    ensures parts { G.parts pass.new ≡ G.parts pass.old }
+    ensures watched { Watched (notes catalogue.now) session name.now K.tells C.tells from
+        (standing (entries_at (G.seen pass.old) (G.mine pass.old)) (K.taken sink.old) (K.faults sink.old) (C.given clock.old) false 0)
+        (standing (entries_at (G.seen pass.new) (G.mine pass.new)) (K.taken sink.new) (K.faults sink.new) (C.given clock.new) false 0) }
+    ensures lasted { Lasted idle (entries_at (G.seen pass.old) (G.mine pass.old)) (entries_at (G.seen pass.new) (G.mine pass.new))
+        W.tells (W.pauses waiter.old) (W.pauses waiter.new) result }
+    ensures clock { ClockCause (C.faults clock.old) (C.faults clock.new) result }
+    ensures write { WriteCause (K.faults sink.old) (K.faults sink.new) result }
+    ensures disk { DiskCause (G.seen pass.new) result }
+    ensures close { CloseCause W.tells (W.closed waiter.new) (W.closes waiter.old) (W.closes waiter.new) result }
+{
+    let Ok(mut text) = Buffer::new(alloc, ROOM) else {
+        return WatchEnd::NoMemory;
+    };
+    let mut next = from;
+    loop {
+        match await_notices(
+            desk, pass, catalogue, session, name, next, &mut text, sink, clock, waiter, idle,
+        ) {
+            Ok(later) => next = later,
+            Err(end) => return end,
+        }
+    }
+}
