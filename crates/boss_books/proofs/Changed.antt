@@ -16,7 +16,7 @@ use Rattle.boss_time.proofs.GroupSound.{IsChange}
 use Rattle.boss_time.proofs.Orders.{each-map, each-filter}
 use Rattle.boss_soundness.proofs.RenewSound.{positive}
 use Rattle.boss_books.specs.Gathered.{has_steps}
-use Rattle.boss_books.proofs.Keys.{PointsOnce}
+use Rattle.boss_dues.proofs.Keys.{PointsOnce}
 use Rattle.boss_books.proofs.Overs.{IsOpen, IsLived, leases-lived}
 use Rattle.boss_books.proofs.Points.{map-map, map-alike}
 

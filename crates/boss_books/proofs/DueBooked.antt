@@ -28,13 +28,13 @@ use Rattle.boss_time.proofs.TickSound.{map-same, tick-change}
 use Rattle.boss_time.proofs.Coming.{now_after}
 use Rattle.boss_books.specs.Bookable.{ComesTo}
 use Rattle.boss_books.specs.Books.{Telling, StandsFor, reverts_on}
-use Rattle.boss_books.specs.Due.{reverted_by, lease_told, is_done_by, due_told}
+use Rattle.boss_dues.specs.Due.{reverted_by, lease_told, is_done_by, due_told}
 use Rattle.boss_books.specs.Gathered.{plain, ended_with, lease_tellings, pending_tellings, due_tellings, told_rank, has_steps}
 use Rattle.boss_books.proofs.Changed.{change-opened, change-lived, any-filter, or-turn}
-use Rattle.boss_books.proofs.DueLemmas.{tell-told, finish-told, left-courses, due-told}
+use Rattle.boss_dues.proofs.DueLemmas.{tell-told, finish-told, left-courses, due-told}
 use Rattle.boss_books.proofs.EndsBooked.{is_way, own-on, map-append, map-plain}
 use Rattle.boss_books.proofs.Gathering.{IsOfLease, IsOfPending, Outcome, IsGathered, gathered, over_last, over-dead, dead, group, comes}
-use Rattle.boss_books.proofs.Keys.{lease_key, pending_key}
+use Rattle.boss_dues.proofs.Keys.{lease_key, pending_key}
 use Rattle.boss_books.proofs.Tellings.{ends, awaits}
 use Rattle.boss_books.proofs.Weaving.{AreTimely, none-awaited}
 

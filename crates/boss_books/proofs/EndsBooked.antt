@@ -28,9 +28,9 @@ use Rattle.boss_books.specs.Gathered.{plain, ended_with, end_tellings, told_rank
 use Rattle.boss_books.specs.Passed.{IsFirstTold, IsPassed, faulted, nothing}
 use Rattle.boss_books.proofs.Changed.{change-opened, change-lived, any-filter, any-alike, or-turn, steps-last}
 use Rattle.boss_books.proofs.Gathering.{IsAside, IsOfLease, IsOfPending, Outcome, IsGathered, gathered, over_last, dead, group, comes}
-use Rattle.boss_books.proofs.Keys.{lease_key, pending_key}
+use Rattle.boss_dues.proofs.Keys.{lease_key, pending_key}
 use Rattle.boss_books.proofs.Points.{map-map}
-use Rattle.boss_books.proofs.Owners.{in-force-known}
+use Rattle.boss_dues.proofs.Owners.{in-force-known}
 use Rattle.boss_books.proofs.Weaving.{AreTimely, at-once}
 
 first-aside : (why : Cause) (n : ℕ) (d : Persistent) (first : List Happening) → IsFirstTold why n d first → AllByRecursion IsAside (map plain first)

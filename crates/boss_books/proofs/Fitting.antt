@@ -17,7 +17,7 @@ use Rattle.boss_time.proofs.Filters.{each-mapped}
 use Rattle.boss_time.proofs.Orders.{each-map}
 use Rattle.boss_books.specs.Books.{Telling, after_what, is_end, booked}
 use Rattle.boss_books.specs.Gathered.{CanTell, CanBook}
-use Rattle.boss_books.proofs.Keys.{PointsOnce, found-any, found-has}
+use Rattle.boss_dues.proofs.Keys.{PointsOnce, found-any, found-has}
 use Rattle.boss_books.proofs.Points.{none-over, point_in, is_on, may, Fits, FitsAll, live_on, pends_on, is_live_on, with_end_of, end_by_one, fits-next, fits-over, parts-played}
 use Rattle.boss_books.proofs.Staging.{IsStaged, stays, staged-end, kept_as-filter, nothing-ends}
 use Rattle.boss_books.proofs.Tellings.{played, numbers-played, after-other}

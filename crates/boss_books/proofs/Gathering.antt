@@ -27,10 +27,10 @@ use Rattle.boss_books.specs.Gathered.{told_rank, booked_all, CanBookAll, with_be
 use Rattle.boss_books.proofs.Begun.{IsOther, begun-first, can-begun}
 use Rattle.boss_books.proofs.Changed.{by-records}
 use Rattle.boss_books.proofs.Fitting.{IsReady, can-book}
-use Rattle.boss_books.proofs.Keys.{some_items, some_test, found_part, part_at, lease_key, pending_key, PointsOnce, found-any, found-has, one-filtered, one-tested, own-parts, own-points, lease-once, pending-once, lease-found, not-both, found-alike}
-use Rattle.boss_books.specs.Telling.{AreApart}
+use Rattle.boss_dues.proofs.Keys.{some_items, some_test, found_part, part_at, lease_key, pending_key, PointsOnce, found-any, found-has, one-filtered, one-tested, own-parts, own-points, lease-once, pending-once, lease-found, not-both, found-alike}
+use Rattle.boss_dues.specs.Telling.{AreApart}
 use Rattle.boss_books.proofs.Overs.{IsOpen, IsLived, passed-any, leases-lived, over-lives, over-numbers}
-use Rattle.boss_books.proofs.Owners.{owner_of, leases-owned, pending-owned, txns-owned, leases-known, pending-known}
+use Rattle.boss_dues.proofs.Owners.{owner_of, leases-owned, pending-owned, txns-owned, leases-known, pending-known}
 use Rattle.boss_books.proofs.Points.{map-map, map-alike, point_in, is_on, end_last, pends_last, Fits, FitsAll, live_on, pends_on, is_live_on, part_last, played_all, fitting, all_played-each, transaction-played, pends-all, number-all}
 use Rattle.boss_books.proofs.Staging.{IsStaged, IsBooked, stays, weave, books-fold}
 use Rattle.boss_books.proofs.Tellings.{awaits, all_played, over_in, AreFitting, over-fitting}

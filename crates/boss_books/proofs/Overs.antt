@@ -14,7 +14,7 @@ use Rattle.boss_stages.specs.Stages.{Tracked, number, kept_as, is_over, is_live,
 use Rattle.boss_time.proofs.Orders.{each-map}
 use Rattle.boss_time.proofs.Slots.{lives-courses}
 use Rattle.boss_books.specs.Books.{reverts_on}
-use Rattle.boss_books.proofs.Keys.{PointsOnce, part_at, found_part, part-found, own-parts}
+use Rattle.boss_dues.proofs.Keys.{PointsOnce, part_at, found_part, part-found, own-parts}
 use Rattle.boss_books.proofs.Tellings.{over_in}
 
 -- a test that one item passes, and the item

@@ -4,7 +4,7 @@ use Rattle.boss_model.specs.State.{Process, Persistent}
 use Rattle.boss_stages.specs.Stages.{Stages}
 use Rattle.boss_books.specs.Books.{Telling}
 use Rattle.boss_books.specs.Gathered.{told_rank, booked_all, AreBooksOf, CanBookAll}
-use Rattle.boss_books.specs.Telling.{AreApart}
+use Rattle.boss_dues.specs.Telling.{AreApart}
 
 -- it is told to one of so many processes
 abbrev pub IsInformed : ℕ → Telling → Type 0

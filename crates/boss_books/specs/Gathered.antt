@@ -15,7 +15,7 @@ use Rattle.boss_model.specs.Submit.{superseded, cut}
 use Rattle.boss_stages.specs.declared.part.PartEnd.TheVariants.{Live}
 use Rattle.boss_stages.specs.Stages.{Tracked, Stages, end_on, is_reverting}
 use Rattle.boss_books.specs.Books.{Telling, Books, StandsFor, booked}
-use Rattle.boss_books.specs.Due.{reverted_by}
+use Rattle.boss_dues.specs.Due.{reverted_by}
 
 -- What is told, with whether a reversion begins with it, in the order in which it is found.
 

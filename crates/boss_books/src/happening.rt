@@ -3,7 +3,7 @@ ghost use Rattle.std.specs.Ordering.{is_lt};
 ghost use Rattle.boss_model.specs.Happenings.{rank, sort_number, point_of};
 ghost use Rattle.boss_model.specs.Order.{comes_before, in_order};
 ghost use Rattle.boss_books.specs.Gathered.{told_rank};
-ghost use Rattle.boss_books.specs.Telling.{AreApart};
+ghost use Rattle.boss_dues.specs.Telling.{AreApart};
 
 use boss_model::{PointId, ProcId, Txn, What};
 use std::cmp::Ordering;
@@ -22,7 +22,7 @@ pub struct Happening {
 impl Model for Happening {
     ghost use Rattle.std.specs.Prelude.{Some};
     ghost use Rattle.boss_model.specs.Happenings.{Happening as Told};
-    ghost use Rattle.boss_books.specs.Telling.{what_told};
+    ghost use Rattle.boss_dues.specs.Telling.{what_told};
 
     ghost Value = { Told };
 

@@ -1,6 +1,4 @@
-ghost use Rattle.std.specs.Prelude.{◌≡◌, ℕ, ◌≤◌, ◌++◌, Bool, false, List, [], length, map};
-ghost use Rattle.boss_model.specs.declared.command.Policy.{Policy};
-ghost use Rattle.boss_model.specs.declared.command.Setting.{Setting};
+ghost use Rattle.std.specs.Prelude.{◌≡◌, ℕ, ◌≤◌, ◌++◌, Bool, false, List, map};
 ghost use Rattle.boss_model.specs.declared.notice.Cause.{Cause};
 ghost use Rattle.boss_model.specs.declared.state.Actuator.{Actuator};
 ghost use Rattle.boss_model.specs.declared.state.Lease.{Lease};
@@ -9,25 +7,19 @@ ghost use Rattle.boss_model.specs.Happenings.{Happening};
 ghost use Rattle.boss_model.specs.Limits.{last_moment};
 ghost use Rattle.boss_model.specs.Sound.{is_superseded, IsSoundPersistent};
 ghost use Rattle.boss_model.specs.State.{Persistent};
-ghost use Rattle.boss_model.specs.Submit.{begun, granted, is_taken, submitted};
 ghost use Rattle.boss_model.specs.Time.{tick_to};
-ghost use Rattle.boss_stages.specs.Stages.{Stages, Tracked};
+ghost use Rattle.boss_stages.specs.Stages.{Stages};
 ghost use Rattle.boss_books.specs.Bookable.{ComesTo};
 ghost use Rattle.boss_books.specs.Books.{StandsFor};
-ghost use Rattle.boss_books.specs.Due.{last_due};
-ghost use Rattle.boss_books.specs.Gathered.{due_tellings, end_tellings, plain, replaced_tellings, with_begun};
+ghost use Rattle.boss_books.specs.Gathered.{due_tellings, end_tellings, plain};
 ghost use Rattle.boss_books.specs.Passed.{IsFirstTold, IsPassed};
 
 /// As time passes, leases and reversions end at their moments. Each end that is due is booked by itself, in the order in
-/// which it is told, and this comes to the whole tick. The last of the moments at which something is due is that of the last
-/// change; where there is none, nothing changes.
+/// which it is told, and this comes to the whole tick.
 pub fn time_passes_one_end_after_another()
-    ensures tick { (plant : List Actuator) (d : Persistent) (stages : Stages) (n : ℕ) →
+    ensures { (plant : List Actuator) (d : Persistent) (stages : Stages) (n : ℕ) →
         IsSoundPersistent plant d → StandsFor stages d → d.now ≤ n → n ≤ last_moment →
         ComesTo (tick_to n d) stages d.processes (due_tellings n d) }
-    ensures last { (plant : List Actuator) (d : Persistent) (n : ℕ) → IsSoundPersistent plant d → d.now ≤ n → last_due n d ≡ (tick_to n d).now }
-    ensures nothing { (plant : List Actuator) (d : Persistent) (n : ℕ) → IsSoundPersistent plant d → d.now ≤ n → last_due n d ≡ d.now →
-        tick_to n d ≡ d }
 {}
 
 /// Leases that end before their time, as after a cancel, with their session, or after a fault: each end is booked by itself,
@@ -36,14 +28,4 @@ pub fn leases_end_one_after_another()
     ensures { (plant : List Actuator) (d : Persistent) (stages : Stages) (which : Lease → Bool) (why : Cause) (n : ℕ) (first : List Happening) →
         IsSoundPersistent plant d → StandsFor stages d → IsPassed n d → n ≤ last_moment → is_superseded why ≡ false → IsFirstTold why n d first →
         ComesTo (end_leases which why n first d) stages d.processes (map plain first ++ end_tellings which why n d.leases) }
-{}
-
-/// A new transaction takes slots: each lease and each reversion that stood in one of them ends by itself, once the record of
-/// the new transaction is begun, and this comes to the whole submit.
-pub fn slots_are_taken_one_after_another()
-    ensures { (plant : List Actuator) (d : Persistent) (stages : Stages) (owner : ℕ) (policy : Policy) (writes : List Setting) (n : ℕ) (new : Tracked) →
-        IsSoundPersistent plant d → StandsFor stages d → 1 ≤ length writes → new.transaction ≡ begun owner policy d.next writes → new.reverting ≡ [] →
-        ComesTo (submitted owner policy writes n d) (with_begun new stages) d.processes
-        (replaced_tellings (λ lease. is_taken (granted owner policy d.next n writes) lease.point lease.priority)
-        (λ reversion. is_taken (granted owner policy d.next n writes) reversion.point reversion.priority) d.next n d) }
 {}

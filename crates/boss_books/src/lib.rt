@@ -6,7 +6,4 @@ mod happening;
 mod laws;
 
 pub use happening::{Happening, Telling, put_in_order};
-pub use laws::{
-    leases_end_one_after_another, slots_are_taken_one_after_another,
-    time_passes_one_end_after_another,
-};
+pub use laws::{leases_end_one_after_another, time_passes_one_end_after_another};

@@ -6,7 +6,7 @@ use Rattle.boss_time.proofs.Filters.{filter-append}
 use Rattle.boss_slots.specs.Slots.{gather}
 
 module _ {Y : Type 0} where
-  gather-next : (h : ℕ → List Y) (k n : ℕ) → gather h k (suc n) ≡ gather h k n ++ h (k + n)
+  pub gather-next : (h : ℕ → List Y) (k n : ℕ) → gather h k (suc n) ≡ gather h k n ++ h (k + n)
   unfolding gather
   gather-next h k zero = let here : k + zero ≡ k = omega arith in append-nil (h k) ∙ ap h (sym here)
   gather-next h k (suc n) =

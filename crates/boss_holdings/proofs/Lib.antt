@@ -1,9 +1,8 @@
-pub mod Turns
-pub mod Ended
-pub mod Passed
-pub mod Ticked
-pub mod Orderly
-pub mod Taken
-pub mod Shown
 pub mod Counted
+pub mod Listed
+pub mod Orderly
+pub mod Passed
 pub mod Placed
+pub mod Shown
+pub mod Taken
+pub mod Ticked

@@ -15,15 +15,15 @@ use Rattle.boss_model.specs.Reversions.{courses, end_of, reversion_of}
 use Rattle.boss_model.specs.Time.{live, under_way}
 use Rattle.boss_books.specs.Books.{Telling}
 use Rattle.boss_books.specs.Gathered.{end_tellings, ended_with}
-use Rattle.boss_books.specs.Playing.{IsEndable}
+use Rattle.boss_dues.specs.Playing.{IsEndable}
 use Rattle.boss_slots.specs.Slots.{all, keep}
 use Rattle.boss_slots.specs.Tables.{IsKept, IsMoved, IsTimed, lease_at, pending_at}
-use Rattle.boss_holdings.specs.Ending.{IsOrderly, dues, left_by, outstays, silent, told_by}
+use Rattle.boss_slots.specs.Ending.{IsOrderly, dues, left_by, outstays, silent, told_by}
 use Rattle.boss_slots.specs.declared.tables.Tables.{Tables}
 use Rattle.boss_slots.proofs.Gathers.{flat_map-append}
 use Rattle.boss_slots.proofs.BySlot.{IsPlaced, all-same, all-swapped, each-all, each-unall, filter-all_slots, keep-all, map-all}
 use Rattle.boss_slots.proofs.Kept.{lease-of_key, lease-placed, lease-within, not-both, one-or-other, pending-placed, pending-within}
-use Rattle.boss_holdings.proofs.Ended.{dues-moved, ending-begins, ending-more, of_slot}
+use Rattle.boss_slots.proofs.Ended.{dues-moved, ending-begins, ending-more, of_slot}
 use Rattle.boss_holdings.proofs.Passed.{twice}
 use Rattle.boss_holdings.proofs.Ticked.{under_way-slots}
 

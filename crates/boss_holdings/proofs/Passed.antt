@@ -12,18 +12,18 @@ use Rattle.boss_model.specs.declared.state.Pending.{Pending}
 use Rattle.boss_model.specs.Happenings.{reverted}
 use Rattle.boss_model.specs.Reversions.{end_of, reversion_of}
 use Rattle.boss_books.specs.Books.{Telling}
-use Rattle.boss_books.specs.Due.{last_of_lease}
+use Rattle.boss_dues.specs.Due.{last_of_lease}
 use Rattle.boss_books.specs.Gathered.{lease_tellings, pending_tellings, plain}
-use Rattle.boss_books.specs.Playing.{IsEndable, IsPlayable, last_turn}
+use Rattle.boss_dues.specs.Playing.{IsEndable, IsPlayable, last_turn}
 use Rattle.boss_slots.specs.Slots.{all, keep}
 use Rattle.boss_slots.specs.Tables.{IsAwaited, IsBy, IsKept, IsMoved, IsTimed, lease_at, number, pending_at}
-use Rattle.boss_holdings.specs.Ending.{AreBy, IsAllBy, IsLeaseBy, IsPassable, IsPassing, IsPendingBy, dues, is_due, left_at, outlives}
+use Rattle.boss_slots.specs.Ending.{AreBy, IsAllBy, IsLeaseBy, IsPassable, IsPassing, IsPendingBy, dues, is_due, left_at, outlives}
 use Rattle.boss_slots.specs.declared.tables.Tables.{Tables}
 use Rattle.boss_slots.proofs.Gathers.{flat_map-append}
 use Rattle.boss_slots.proofs.BySlot.{all-swapped}
 use Rattle.boss_slots.proofs.Kept.{kept-retimed, lease-of_key, number-key, one-or-other, pending-of_key, pending-within, lease-within}
-use Rattle.boss_holdings.proofs.Ended.{dues-moved, ending-begins, ending-more, moved-moved, of_slot, unset}
-use Rattle.boss_holdings.proofs.Turns.{LeaseBy-later, PendingBy-later, of_lease-by, of_lease-later, of_lease-least, of_lease-reached, last_turn-by, last_turn-later, last_turn-least, last_turn-reached}
+use Rattle.boss_slots.proofs.Ended.{dues-moved, ending-begins, ending-more, moved-moved, of_slot, unset}
+use Rattle.boss_slots.proofs.Turns.{LeaseBy-later, PendingBy-later, of_lease-by, of_lease-later, of_lease-least, of_lease-reached, last_turn-by, last_turn-later, last_turn-least, last_turn-reached}
 
 -- ---- tests of timers
 

@@ -17,7 +17,7 @@ use Rattle.boss_time.proofs.Filters.{each-always, each-unmapped, Apart}
 use Rattle.boss_time.proofs.Orders.{each-map, each-both, in_order-Rising}
 use Rattle.boss_time.proofs.Slots.{any-append}
 use Rattle.boss_time.proofs.TickSound.{Pairs}
-use Rattle.boss_holdings.specs.Ending.{AreBy}
+use Rattle.boss_slots.specs.Ending.{AreBy}
 use Rattle.boss_holdings.specs.Held.{AreApart, is_at}
 use Rattle.boss_holdings.specs.Putting.{ArePlacedApart, in_place}
 use Rattle.boss_slots.specs.declared.tables.Tables.{Tables}

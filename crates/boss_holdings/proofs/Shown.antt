@@ -18,10 +18,10 @@ use Rattle.boss_model.specs.Ends.{shortened}
 use Rattle.boss_slots.specs.Slots.{all}
 use Rattle.boss_holdings.specs.Held.{is_at}
 use Rattle.boss_slots.specs.Tables.{IsKept, IsTimed, lease_at, pending_at}
-use Rattle.boss_holdings.specs.Ending.{IsClearing, dues, left_untaken, told_cut, told_taken, untaken}
+use Rattle.boss_slots.specs.Ending.{IsClearing, dues, left_untaken, told_cut, told_taken, untaken}
 use Rattle.boss_slots.specs.declared.tables.Tables.{Tables}
 use Rattle.boss_slots.proofs.BySlot.{each-unall, few-both, filter-point_same, map-all}
-use Rattle.boss_holdings.proofs.Ended.{ending-begins}
+use Rattle.boss_slots.proofs.Ended.{ending-begins}
 use Rattle.boss_slots.proofs.Kept.{lease-placed, lease-within, not-both, pending-placed, pending-within}
 
 pub shown-same : (first now : Tables) (default : ℤ) (p m : ℕ) → IsKept first → IsKept now → length now.arrays.items ≡ length first.arrays.items → ((q : ℕ) → (lease_at now p q ≡ lease_at first p q) × (pending_at now p q ≡ pending_at first p q)) →

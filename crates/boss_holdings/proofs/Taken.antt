@@ -20,12 +20,12 @@ use Rattle.boss_books.specs.Gathered.{plain}
 use Rattle.boss_slots.specs.Slots.{all, keep}
 use Rattle.boss_holdings.specs.Held.{AreApart, is_at}
 use Rattle.boss_slots.specs.Tables.{IsKept, IsMoved, IsTimed, lease_at, pending_at}
-use Rattle.boss_holdings.specs.Ending.{IsClearing, dues, left_untaken, replaced_at, told_cut, told_taken, untaken}
+use Rattle.boss_slots.specs.Ending.{IsClearing, dues, left_untaken, replaced_at, told_cut, told_taken, untaken}
 use Rattle.boss_slots.specs.declared.tables.Tables.{Tables}
 use Rattle.boss_slots.proofs.BySlot.{all-both, all-swapped, all-in_order, all-same, each-all, filter-all_slots, found-new, keep-all}
 use Rattle.boss_slots.proofs.Kept.{lease-placed, one-or-other, pending-placed}
 use Rattle.boss_slots.proofs.Gathers.{flat_map-append}
-use Rattle.boss_holdings.proofs.Ended.{dues-moved, ending-more, of_slot}
+use Rattle.boss_slots.proofs.Ended.{dues-moved, ending-more, of_slot}
 
 -- ---- new leases, each of another slot
 

@@ -19,17 +19,17 @@ use Rattle.boss_model.specs.declared.notice.Cause.TheVariants as cause
 use Rattle.std.proofs.lemmas.List.Sorted.{IsPermutation-sym}
 use Rattle.boss_time.proofs.Orders.{each-filter, each-map, each-passed, least-of}
 use Rattle.boss_books.specs.Books.{Telling}
-use Rattle.boss_books.specs.Due.{last_of_lease, last_of_pending}
+use Rattle.boss_dues.specs.Due.{last_of_lease, last_of_pending}
 use Rattle.boss_books.specs.Gathered.{ended_with, lease_tellings, pending_tellings, plain}
-use Rattle.boss_books.specs.Playing.{IsEndable, IsPlayable}
+use Rattle.boss_dues.specs.Playing.{IsEndable, IsPlayable}
 use Rattle.boss_slots.specs.Slots.{all, keep}
 use Rattle.boss_slots.specs.Tables.{IsAwaited, IsBy, IsKept, IsTimed, lease_at, number, pending_at}
-use Rattle.boss_holdings.specs.Ending.{IsAllBy, IsLeaseBy, IsPassable, IsPassing, IsPendingBy, dues, is_due, left_at, outlives}
+use Rattle.boss_slots.specs.Ending.{IsAllBy, IsLeaseBy, IsPassable, IsPassing, IsPendingBy, dues, is_due, left_at, outlives}
 use Rattle.boss_slots.specs.declared.tables.Tables.{Tables}
 use Rattle.boss_slots.proofs.BySlot.{IsPlaced, all-both, all-in_order, all-same, each-all, each-unall, filter-all_slots, filter-point_same, keep-all, map-all}
 use Rattle.boss_slots.proofs.Kept.{lease-key, lease-placed, lease-within, not-both, number-key, pending-placed, pending-within}
 use Rattle.boss_holdings.proofs.Passed.{pending-silent}
-use Rattle.boss_holdings.proofs.Turns.{LeaseBy-later, leases-least, leases-reach, pending-least, pending-reach, value-stays}
+use Rattle.boss_slots.proofs.Turns.{LeaseBy-later, leases-least, leases-reach, pending-least, pending-reach, value-stays}
 
 -- ---- lists of reversions, slot by slot
 

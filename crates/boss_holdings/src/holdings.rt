@@ -12,15 +12,16 @@ ghost use Rattle.boss_model.specs.State.{lease_slot, pending_slot};
 ghost use Rattle.boss_model.specs.Submit.{cut, is_taken, superseded};
 ghost use Rattle.boss_model.specs.Target.{in_force, playing};
 ghost use Rattle.boss_model.specs.Time.{live, under_way};
-ghost use Rattle.boss_books.specs.Due.{last_of_lease, last_of_pending};
+ghost use Rattle.boss_dues.specs.Due.{last_of_lease, last_of_pending};
 ghost use Rattle.boss_books.specs.Gathered.{end_tellings, lease_tellings, pending_tellings, plain};
-ghost use Rattle.boss_books.specs.Playing.{IsEndable, IsPlayable};
+ghost use Rattle.boss_dues.specs.Playing.{IsEndable, IsPlayable};
 ghost use Rattle.boss_slots.specs.Flags.{IsNext};
 ghost use Rattle.boss_holdings.specs.Held.{AreApart, in_slots, is_touched, shown};
 ghost use Rattle.boss_holdings.specs.Putting.{IsUnderWay};
 
 use crate::counting::count_owned;
 use crate::ending::{end_owned, end_slots};
+use crate::listing::{all_leases, all_pending};
 use crate::passing::pass_to;
 use crate::putting::put_reversions;
 use crate::taking::{clear_slots, put_leases};
@@ -260,6 +261,16 @@ impl Holdings {
         ensures { result ≡ self.now.now }
     {
         self.moment
+    }
+
+    /// Both lists, copied: all leases and all reversions, in the order of their slots.
+    pub fn lists(&self, alloc: Global) -> Result<(Vec<Lease>, Vec<Pending>), NoMemory>
+        ensures leases { IfOk result (λ lists. lists.0.items ≡ self.now.leases) }
+        ensures pending { IfOk result (λ lists. lists.1.items ≡ self.now.pending) }
+    {
+        let leases = all_leases(alloc, &self.tables)?;
+        let pending = all_pending(alloc, &self.tables)?;
+        Ok((leases, pending))
     }
 
     /// How many leases are live.

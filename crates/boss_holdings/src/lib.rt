@@ -4,6 +4,7 @@
 mod counting;
 mod ending;
 mod holdings;
+mod listing;
 mod passing;
 mod putting;
 mod taking;
@@ -11,3 +12,4 @@ mod telling;
 
 pub use boss_slots::Place;
 pub use holdings::Holdings;
+pub use listing::{copied_lease, copied_reversion};

@@ -4,7 +4,7 @@ ghost use Rattle.std.specs.Prelude.{◌≡◌, ℕ, ◌≤◌, ◌<◌, ◌+◌,
 ghost use Rattle.std.specs.List.{AllByRecursion};
 ghost use Rattle.std.specs.Option.{option_or};
 ghost use Rattle.boss_model.specs.declared.state.Lease.{Lease};
-ghost use Rattle.boss_holdings.specs.Ending.{IsClearing, replaced_at};
+ghost use Rattle.boss_slots.specs.Ending.{IsClearing, replaced_at};
 ghost use Rattle.boss_holdings.specs.Held.{AreApart, is_at};
 ghost use Rattle.boss_slots.specs.Tables.{IsKept, IsMoved, IsTimed, entry_in, lease_at, pending_at};
 

@@ -4,9 +4,9 @@ ghost use Rattle.std.specs.Prelude.{◌≡◌, ◌≤◌, ◌+◌, ◌++◌, len
 ghost use Rattle.boss_model.specs.Ends.{shortened};
 ghost use Rattle.boss_model.specs.Reversions.{reversion_of};
 ghost use Rattle.boss_model.specs.Submit.{cut, superseded};
-ghost use Rattle.boss_books.specs.Due.{last_of_lease};
+ghost use Rattle.boss_dues.specs.Due.{last_of_lease};
 ghost use Rattle.boss_books.specs.Gathered.{ended_with, lease_tellings, pending_tellings, plain};
-ghost use Rattle.boss_books.specs.Playing.{IsEndable, IsPlayable};
+ghost use Rattle.boss_dues.specs.Playing.{IsEndable, IsPlayable};
 
 use boss_books::{Happening, Telling};
 use boss_model::{Cause, Lease, Pending, PointId, ProcId, Txn, What};

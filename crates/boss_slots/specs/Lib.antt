@@ -1,3 +1,4 @@
+pub mod Ending
 pub mod Flags
 pub mod Slots
 pub mod Tables

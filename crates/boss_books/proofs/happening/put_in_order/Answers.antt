@@ -1,7 +1,7 @@
 use Rattle.std.proofs.Common.{rules}
 use Rattle.std.proofs.lemmas.List.Sorted.{answers_always}
 use Rattle.boss_books.specs.Gathered.{told_rank}
-use Rattle.boss_books.proofs.Ordering.{is_before, is_before-orders, sorted-in_order}
+use Rattle.boss_dues.proofs.Ordering.{is_before, is_before-orders, sorted-in_order}
 use Rattle.boss_books.proofs.happening.put_in_order.Goals as goal
 
 -- what the sort gives is in order, and has the items that there were

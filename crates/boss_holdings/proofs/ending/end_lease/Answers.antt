@@ -1,7 +1,7 @@
 use Rattle.std.proofs.Common.{◌≡◌, Some, None, get_or, arith}
 use Rattle.boss_array.specs.declared.array.Entry.TheVariants as entry
 use Rattle.boss_slots.proofs.Kept.{empty-slot}
-use Rattle.boss_holdings.proofs.Turns.{by-start}
+use Rattle.boss_slots.proofs.Turns.{by-start}
 use Rattle.boss_holdings.proofs.ending.end_lease.Goals as goal
 
 pub set-requires : goal.set-requires

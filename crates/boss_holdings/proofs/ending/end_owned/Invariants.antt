@@ -1,7 +1,7 @@
 use Rattle.std.proofs.Common.{◌≡◌, ℕ, ◌<◌, Some, None, false, get_or, length, vec_capacity}
 use Rattle.boss_model.specs.Ends.{is_owned_by}
 use Rattle.boss_model.specs.declared.state.Lease.{Lease}
-use Rattle.boss_holdings.specs.Ending.{IsOrderly}
+use Rattle.boss_slots.specs.Ending.{IsOrderly}
 use Rattle.boss_holdings.proofs.ending.end_owned.Given as goal
 
 -- no lease of the keys seen so far is the process's

@@ -1,5 +1,5 @@
 use Rattle.std.proofs.Common.{◌≡◌, ℕ, ◌<◌, None, get_or, vec_capacity}
-use Rattle.boss_holdings.specs.Ending.{IsOrderly}
+use Rattle.boss_slots.specs.Ending.{IsOrderly}
 use Rattle.boss_holdings.specs.Held.{first_place, in_slots}
 use Rattle.boss_slots.specs.Tables.{lease_at}
 use Rattle.boss_holdings.proofs.ending.end_slots.Given as goal

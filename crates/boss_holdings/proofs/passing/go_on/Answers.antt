@@ -4,11 +4,11 @@ use Rattle.std.proofs.lemmas.List.{get_or-set_other, length-set}
 use Rattle.boss_array.specs.declared.array.Entry.TheVariants as entry
 use Rattle.boss_model.specs.declared.state.Pending.{Pending}
 use Rattle.boss_model.specs.Reversions.{end_of}
-use Rattle.boss_holdings.specs.Ending.{AreBy, is_due}
+use Rattle.boss_slots.specs.Ending.{AreBy, is_due}
 use Rattle.boss_slots.specs.Tables.{IsAwaited, IsBy, IsMoved, IsTimed, number}
 use Rattle.std.specs.Option.{option_copied}
 use Rattle.boss_slots.proofs.Kept.{kept-retimed, moved-retimed, pending-of_key, timed-pending_timer, within-of}
-use Rattle.boss_holdings.proofs.Turns.{awaits-next, next-least, next-none}
+use Rattle.boss_slots.proofs.Turns.{awaits-next, next-least, next-none}
 use Rattle.boss_holdings.proofs.Passed.{fewer-due}
 use Rattle.boss_holdings.proofs.passing.go_on.Goals as goal
 

@@ -1,5 +1,5 @@
 use Rattle.std.proofs.Common.{◌≡◌, count_by, vec_capacity}
-use Rattle.boss_holdings.specs.Ending.{IsPassable, IsPassing, is_due}
+use Rattle.boss_slots.specs.Ending.{IsPassable, IsPassing, is_due}
 use Rattle.boss_holdings.proofs.passing.pass_to.Given as goal
 
 -- what was taken up so far

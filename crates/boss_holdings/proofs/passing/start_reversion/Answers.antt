@@ -2,10 +2,10 @@ use Rattle.std.proofs.Common.{◌≡◌, ◌∙◌, ◌+◌, ◌*◌, nat_lt, tr
 use Rattle.std.proofs.lemmas.Bool.Decides.{nat_tests}
 use Rattle.std.proofs.lemmas.List.{get_or-set_other}
 use Rattle.boss_model.specs.Reversions.{end_of}
-use Rattle.boss_holdings.specs.Ending.{is_due}
+use Rattle.boss_slots.specs.Ending.{is_due}
 use Rattle.boss_slots.specs.Tables.{number}
 use Rattle.boss_slots.proofs.Kept.{moved-not, number-within}
-use Rattle.boss_holdings.proofs.Turns.{awaits-next, next-least, next-none}
+use Rattle.boss_slots.proofs.Turns.{awaits-next, next-least, next-none}
 use Rattle.boss_holdings.proofs.Passed.{no-more-due}
 use Rattle.boss_holdings.proofs.passing.start_reversion.Goals as goal
 

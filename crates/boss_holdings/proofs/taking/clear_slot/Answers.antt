@@ -2,7 +2,7 @@ use Rattle.std.proofs.Common.{◌≡◌, ◌∙◌, [], ◌∷◌, ◌++◌, Som
 use Rattle.std.specs.Option.{option_copied}
 use Rattle.boss_model.specs.Submit.{cut, superseded}
 use Rattle.boss_books.specs.Gathered.{plain}
-use Rattle.boss_holdings.specs.Ending.{replaced_at}
+use Rattle.boss_slots.specs.Ending.{replaced_at}
 use Rattle.boss_slots.specs.Tables.{entry_in, lease_at, pending_at}
 use Rattle.boss_slots.proofs.Kept.{lease-there, moved-not, no-lease-there, no-pending-there, nothing-there, pending-there}
 use Rattle.boss_holdings.proofs.taking.clear_slot.Goals as goal

@@ -1,6 +1,6 @@
 use Rattle.std.proofs.Common.{◌≡◌, None, false, true, get_or, take, vec_capacity}
 use Rattle.std.specs.List.{AllByRecursion}
-use Rattle.boss_holdings.specs.Ending.{IsClearing}
+use Rattle.boss_slots.specs.Ending.{IsClearing}
 use Rattle.boss_slots.specs.Tables.{lease_at, pending_at}
 use Rattle.boss_holdings.proofs.taking.clear_slots.Given as goal
 

@@ -1,7 +1,7 @@
 use Rattle.std.proofs.Common.{◌≡◌, ◌∙◌, ◌≤◌, false, true, [], None, get_or, vec_capacity, ap, subst}
 use Rattle.std.specs.Option.{option_or}
 use Rattle.std.specs.List.{AllByRecursion}
-use Rattle.boss_holdings.specs.Ending.{IsClearing}
+use Rattle.boss_slots.specs.Ending.{IsClearing}
 use Rattle.boss_slots.specs.Tables.{lease_at, pending_at}
 use Rattle.boss_slots.proofs.Kept.{timed-later}
 use Rattle.boss_holdings.proofs.Shown.{clearing-first, none-new, shown-same}

@@ -1,5 +1,5 @@
 use Rattle.std.proofs.Common.{◌≤◌, [], vec_capacity, subst}
-use Rattle.boss_holdings.specs.Ending.{IsPassing, dues}
+use Rattle.boss_slots.specs.Ending.{IsPassing, dues}
 use Rattle.boss_holdings.proofs.Ticked.{passable-first, started-first, ticked-last, ticked-leases, ticked-pending, ticked-told, ticked-untouched}
 use Rattle.boss_holdings.proofs.holdings.Holdings.tick.Goals as goal
 

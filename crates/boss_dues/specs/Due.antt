@@ -7,7 +7,7 @@ use Rattle.boss_model.specs.Reversions.{end_of, reversion_of, courses}
 use Rattle.boss_model.specs.declared.state.Lease.{Lease}
 use Rattle.boss_model.specs.declared.state.Pending.{Pending}
 use Rattle.boss_model.specs.State.{Persistent}
-use Rattle.boss_books.specs.Playing.{last_turn}
+use Rattle.boss_dues.specs.Playing.{last_turn}
 
 -- What is told as time passes to n, in the order in which it is found: the leases that end and the reversions of these that
 -- are over too, the reversions under way that are over, and the transactions that become done.

@@ -29,11 +29,11 @@ use Rattle.boss_books.specs.Gathered.{plain, replaced_tellings, told_rank, booke
 use Rattle.boss_books.proofs.Changed.{any-filter}
 use Rattle.boss_books.proofs.EndsBooked.{own-on, one_if, one-each, map-append, map-plain, done-kept}
 use Rattle.boss_books.proofs.Gathering.{IsOfLease, IsOfPending, Outcome, IsGathered, gathered, over_last, dead, all-informed, group, told, finished, records, reverting, told-apart, begun-before, may-book-begun}
-use Rattle.boss_books.proofs.Keys.{PointsOnce, lease_key, pending_key}
-use Rattle.boss_books.specs.Telling.{AreApart}
+use Rattle.boss_dues.proofs.Keys.{PointsOnce, lease_key, pending_key}
+use Rattle.boss_dues.specs.Telling.{AreApart}
 use Rattle.boss_books.proofs.Overs.{IsOpen, IsLived, leases-lived}
 use Rattle.boss_books.proofs.Points.{map-map}
-use Rattle.boss_books.proofs.Owners.{next-lives-not}
+use Rattle.boss_dues.proofs.Owners.{next-lives-not}
 use Rattle.boss_books.proofs.Weaving.{AreTimely, at-once}
 
 -- ---- parts that stay open

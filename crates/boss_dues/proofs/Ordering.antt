@@ -9,7 +9,7 @@ use Rattle.std.proofs.lemmas.List.Sorted.{IsPermutation-keeps, IsPermutation-app
 use Rattle.boss_model.specs.Order.{comes_before, put, in_order}
 use Rattle.boss_time.proofs.Filters.{put-put}
 use Rattle.boss_time.proofs.Orders.{before-total, before-self, before-trans, before-both, each-map, each-in_order, Ordered, in_order-Ordered}
-use Rattle.boss_books.specs.Telling.{AreApart}
+use Rattle.boss_dues.specs.Telling.{AreApart}
 
 -- ---- members
 

@@ -17,7 +17,7 @@ use Rattle.boss_model.specs.Target.{in_force}
 use Rattle.boss_time.proofs.NothingDue.{of-pending, of-leases}
 use Rattle.boss_time.proofs.Orders.{each-map, each-both}
 use Rattle.boss_time.proofs.Slots.{to-courses}
-use Rattle.boss_books.proofs.Found.{each-least}
+use Rattle.boss_dues.proofs.Found.{each-least}
 
 -- ---- the owner of a transaction, by its record
 

@@ -9,10 +9,10 @@ use Rattle.boss_model.specs.declared.state.Pending.{Pending}
 use Rattle.boss_model.specs.Reversions.{hold, over, turns, value_from}
 use Rattle.boss_time.proofs.Orders.{each-map}
 use Rattle.boss_time.proofs.Courses.{over-later}
-use Rattle.boss_books.specs.Due.{last_of_lease, last_of_pending}
-use Rattle.boss_books.specs.Playing.{last_turn}
+use Rattle.boss_dues.specs.Due.{last_of_lease, last_of_pending}
+use Rattle.boss_dues.specs.Playing.{last_turn}
 use Rattle.boss_reversion.specs.Playing.{next_boundary}
-use Rattle.boss_holdings.specs.Ending.{AreBy, IsLeaseBy, IsPendingBy}
+use Rattle.boss_slots.specs.Ending.{AreBy, IsLeaseBy, IsPendingBy}
 use Rattle.boss_slots.specs.Tables.{IsAwaited}
 
 -- ---- the next turn

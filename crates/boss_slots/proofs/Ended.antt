@@ -11,7 +11,7 @@ use Rattle.boss_model.specs.declared.state.Pending.{Pending}
 use Rattle.boss_books.specs.Books.{Telling}
 use Rattle.boss_slots.specs.Slots.{all, keep}
 use Rattle.boss_slots.specs.Tables.{IsMoved, lease_at, pending_at}
-use Rattle.boss_holdings.specs.Ending.{IsEnding, dues}
+use Rattle.boss_slots.specs.Ending.{IsEnding, dues}
 use Rattle.boss_slots.specs.declared.tables.Tables.{Tables}
 use Rattle.boss_slots.proofs.Gathers.{flat_map-append, permutation-crossed}
 use Rattle.boss_slots.proofs.BySlot.{all-swapped}

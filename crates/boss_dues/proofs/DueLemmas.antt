@@ -26,11 +26,11 @@ use Rattle.boss_time.proofs.NothingDue.{of-pending, of-leases, nothing-due}
 use Rattle.boss_time.proofs.Orders.{each-append, each-map, each-filter, each-in_order, each-front, each-back, filter-in_order}
 use Rattle.boss_time.proofs.Slots.{to-courses}
 use Rattle.boss_time.proofs.TickSound.{to-due}
-use Rattle.boss_books.specs.Due.{reverted_by, lease_told, is_done_by, done_told, due_told, is_told, is_some_told, last_of_lease, last_of_pending, last_due}
-use Rattle.boss_books.specs.Playing.{last_turn}
-use Rattle.boss_books.proofs.Ordering.{in_order-front, flat_map-moved, all-apart, in_order-append}
-use Rattle.boss_books.proofs.Owners.{owner_of, pending-owned, leases-owned, txns-owned}
-use Rattle.boss_books.proofs.ToldApart.{IsToldOf, told-apart}
+use Rattle.boss_dues.specs.Due.{reverted_by, lease_told, is_done_by, done_told, due_told, is_told, is_some_told, last_of_lease, last_of_pending, last_due}
+use Rattle.boss_dues.specs.Playing.{last_turn}
+use Rattle.boss_dues.proofs.Ordering.{in_order-front, flat_map-moved, all-apart, in_order-append}
+use Rattle.boss_dues.proofs.Owners.{owner_of, pending-owned, leases-owned, txns-owned}
+use Rattle.boss_dues.proofs.ToldApart.{IsToldOf, told-apart}
 
 -- ---- what nobody is told changes nobody
 

@@ -19,7 +19,7 @@ use Rattle.boss_time.proofs.Filters.{few-filter}
 use Rattle.boss_books.specs.Books.{Telling, Books, StandsFor, after_what, booked}
 use Rattle.boss_books.specs.Gathered.{AreBooksOf, plain}
 use Rattle.boss_books.specs.Passed.{IsFirstTold, faulted, nothing}
-use Rattle.boss_books.proofs.DueLemmas.{length-in_order}
+use Rattle.boss_dues.proofs.DueLemmas.{length-in_order}
 use Rattle.boss_books.proofs.EndsBooked.{map-plain}
 
 abbrev pub put_together : ℕ → ℕ → List Lease → List Pending → Books → Persistent

@@ -1,0 +1,2 @@
+pub mod SubmitBooked
+pub mod Together

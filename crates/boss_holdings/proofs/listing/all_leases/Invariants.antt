@@ -1,0 +1,8 @@
+use Rattle.std.proofs.Common.{◌≡◌}
+use Rattle.boss_slots.specs.Slots.{all}
+use Rattle.boss_slots.specs.Tables.{lease_at}
+use Rattle.boss_holdings.proofs.listing.all_leases.Given as goal
+
+-- the points seen so far are listed
+abbrev pub invariant-loop-point : goal.invariant-loop-point
+invariant-loop-point l = l.leases.items ≡ all (lease_at l.tables) l.point
