@@ -33,12 +33,12 @@ use Rattle.boss_effects.proofs.Redone.{replay-done, replay-same, replay-sound}
 use Rattle.boss_time.proofs.TickSound.{tick-sound}
 use Rattle.boss_engine.specs.Again.{IsReadyAgain}
 use Rattle.boss_engine.specs.Ready.{MustBeThere}
-use Rattle.boss_engine.specs.Replying.{decided, renewed_until, with_reply}
+use Rattle.boss_lasting.specs.Replying.{decided, renewed_until, with_reply}
 use Rattle.boss_engine.specs.declared.ready.Ready.{Ready}
 use Rattle.boss_engine.specs.declared.ready.Ready.TheVariants as ready
-use Rattle.boss_engine.proofs.Flagged.{undecided-new}
-use Rattle.boss_engine.proofs.Names.{told-named}
-use Rattle.boss_engine.proofs.Replied.{once-did}
+use Rattle.boss_lasting.proofs.Flagged.{undecided-new}
+use Rattle.boss_lasting.proofs.Names.{told-named}
+use Rattle.boss_lasting.proofs.Replied.{once-did}
 
 -- ---- an event, by its moment n
 

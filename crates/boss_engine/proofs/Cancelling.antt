@@ -9,8 +9,8 @@ use Rattle.boss_model.specs.Ends.{cancel_refused, end_leases, is_of}
 use Rattle.boss_model.specs.Machine.{act, after}
 use Rattle.boss_model.specs.Processes.{process_of}
 use Rattle.boss_model.specs.State.{State}
-use Rattle.boss_engine.specs.Replying.{decided, with_reply}
-use Rattle.boss_engine.proofs.Replied.{once-did}
+use Rattle.boss_lasting.specs.Replying.{decided, with_reply}
+use Rattle.boss_lasting.proofs.Replied.{once-did}
 
 pub cancel-leaves : (plant : List Actuator) (session owner txn seq n : ℕ) (s : State) → process_of s.attached session ≡ Some owner →
     decided s.persistent.processes owner seq ≡ None → cancel_refused owner txn s.persistent ≡ None →

@@ -1,11 +1,16 @@
 -- The parts of a step, one after another, are the machine's step.
-use Rattle.std.proofs.Common.{◌≡◌, ℕ, ◌≤◌, ◌==◌, ◌^◌, max, length, List, [], Bool, not, cond, refl, ap, sym, subst, ◌∙◌, arith}
+use Rattle.std.proofs.Common.{◌≡◌, ℕ, ◌≤◌, ◌<◌, ◌==◌, ◌^◌, ℤ, max, length, List, [], Bool, true, false, not, cond, refl, ap, sym, subst, ◌∙◌, arith}
 use Rattle.std.specs.List.{AllByRecursion}
+use Rattle.std.proofs.lemmas.Bool.{cond_both}
 use Rattle.boss_model.specs.declared.answer.Answer.{Answer}
 use Rattle.boss_model.specs.declared.command.Command.{Command}
 use Rattle.boss_model.specs.declared.command.Command.TheVariants as command
 use Rattle.boss_model.specs.declared.event.Effect.TheVariants as effect
 use Rattle.boss_model.specs.Effects.{concerned, step_effect}
+use Rattle.boss_model.specs.Catalogue.{default_of}
+use Rattle.boss_model.specs.Devices.{proxy_of}
+use Rattle.boss_model.specs.Same.{same_persistent}
+use Rattle.boss_model.specs.Target.{in_force, playing, target, target_at, value_of}
 use Rattle.boss_model.specs.Time.{tick_to}
 use Rattle.boss_effects.specs.Changes.{changes}
 use Rattle.boss_effects.proofs.Flags.{step-flags}
@@ -14,11 +19,15 @@ use Rattle.boss_model.specs.Machine.{act, pass_time, step}
 use Rattle.boss_model.specs.Settle.{settle}
 use Rattle.boss_model.specs.Sound.{IsAllowed, IsSound}
 use Rattle.boss_model.specs.State.{State}
+use Rattle.boss_laws.proofs.Replay.{act-acts}
+use Rattle.boss_laws.proofs.SameDecides.{persistent-equal}
+use Rattle.boss_laws.proofs.Targets.{target-ticked}
 use Rattle.boss_marks.specs.Marks.{Marks}
 use Rattle.boss_soundness.proofs.EndSound.{IsAt, at-tick}
 use Rattle.boss_soundness.proofs.StepSound.{passed-sound, step-sound}
-use Rattle.boss_books.specs.Playing.{IsPlayable}
-use Rattle.boss_engine.proofs.Playable.{all-playable}
+use Rattle.boss_dues.specs.Playing.{IsPlayable}
+use Rattle.boss_lasting.proofs.Current.{all-current, commanded-acted}
+use Rattle.boss_lasting.proofs.Playable.{all-playable}
 use Rattle.boss_engine.proofs.Waiting.{length-settled}
 
 -- a command concerns the same process whatever the devices were told
@@ -68,6 +77,24 @@ module _ (plant : List Actuator) (session : ℕ) (c : Command) (m n : ℕ) (s : 
   pub acted-number : (a : State) → a ≡ (act plant session n c p).state → (marks : Marks) → a.proxies ≡ marks.proxies → length marks.proxies ≡ length plant
   acted-number a is marks same =
       sym (ap length same) ∙ sym (length-settled plant a.persistent (record { drivers = []; proxies = a.proxies; wants = a.wants })) ∙ (settled-well a is).proxies
+
+  -- nothing is due between the passed moment and the command's, so the targets before it are those of either
+  same-targets : (k : ℕ) → target_at plant (act plant session n c p).state.persistent.now p.persistent k ≡ target plant p.persistent k
+  same-targets k =
+      let a = (act plant session n c p).state in
+      let ticked : target_at plant n p.persistent k ≡ target plant p.persistent k =
+      subst (λ t. target_at plant n t.persistent k ≡ target plant t.persistent k) (sym passed) (target-ticked plant s.persistent n k sound.persistent bounded.0 bounded.1) in
+      cond_both (same_persistent p.persistent a.persistent) true false (λ _. target_at plant a.persistent.now p.persistent k ≡ target plant p.persistent k)
+      (λ same. ap (λ d. target_at plant d.now p.persistent k) (sym (persistent-equal p.persistent a.persistent same)))
+      (λ differs. ap (λ m. target_at plant m p.persistent k) (act-acts plant n session p passed-well.attached c allowed differs).0 ∙ ticked)
+
+  -- a point that is to have what it was to have before the command was last told what it is to have
+  pub acted-current : (a : State) → a ≡ (act plant session n c p).state → (k : ℕ) → k < length plant →
+      ((default : ℤ) (moment : ℕ) → value_of default moment (in_force a.persistent.leases k) (playing a.persistent.pending k) ≡ value_of default moment (in_force p.persistent.leases k) (playing p.persistent.pending k)) →
+      (proxy_of a.proxies k).commanded ≡ target plant a.persistent k
+  acted-current a is k within shows =
+      ap (λ (t : State). (proxy_of t.proxies k).commanded) is ∙ commanded-acted p plant session n c k ∙ all-current plant p passed-well k within
+      ∙ sym (same-targets k) ∙ ap (λ (t : State). target_at plant t.persistent.now p.persistent k) (sym is) ∙ sym (shows (default_of plant k) a.persistent.now)
 
   -- what two flags and the process that the command concerns tell is the effect
   pub told-by : (changed : Bool) (owner before end : ℕ) → changed ≡ changes plant session n c p → owner ≡ concerned c session p → before ≡ s.persistent.now → end ≡ p.persistent.now →

@@ -1,14 +1,7 @@
 pub mod Again
-pub mod Asking
 pub mod Inside
-pub mod Lasting
-pub mod Meant
-pub mod Processes
 pub mod Ready
-pub mod Refusals
-pub mod Replying
 pub mod Running
 pub mod Settling
-pub mod Slots
 pub mod Waiting
 pub mod Writing

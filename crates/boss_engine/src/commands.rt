@@ -18,22 +18,22 @@ ghost use Rattle.boss_model.specs.Submit.{first_until, submitted};
 ghost use Rattle.boss_model.specs.Target.{in_force};
 ghost use Rattle.boss_holdings.specs.Held.{AreApart};
 ghost use Rattle.boss_engine.specs.Inside.{CanAct, CanRun, HasPlaces, state_of};
-ghost use Rattle.boss_engine.specs.Lasting.{IsSomeSubmit, IsSubmit, persistent_of};
+ghost use Rattle.boss_lasting.specs.Lasting.{IsSomeSubmit, IsSubmit, persistent_of};
 ghost use Rattle.boss_effects.specs.Changes.{changes, failure_changes, may_be_told, renewal_changes};
 ghost use Rattle.boss_books.specs.Passed.{IsPassed};
-ghost use Rattle.boss_books.specs.Playing.{IsPlayable};
+ghost use Rattle.boss_dues.specs.Playing.{IsPlayable};
 ghost use Rattle.boss_engine.specs.Ready.{CanTakeOn, HasRoomFor, IsReadyToAttach, IsReadyToList, IsReadyToSubmit};
-ghost use Rattle.boss_engine.specs.Replying.{renewed_until, with_reply};
+ghost use Rattle.boss_lasting.specs.Replying.{renewed_until, with_reply};
+ghost use Rattle.boss_lasting.specs.Showing.{ShowsAsBefore};
 
-use crate::attached::{attach, detach, process_of};
 use crate::done::Done;
-use crate::lasting::Which;
 use crate::machine::Machine;
-use crate::queries::{first_until, notices};
 use crate::ready::Ready;
-use crate::refusals::{cancel_refused, renew_refused};
-use crate::target::{basis_of, slots_of, target_of};
 use boss_books::{Happening, Telling};
+use boss_lasting::{
+    Which, attach, basis_of, cancel_refused, detach, first_until, notices, process_of,
+    renew_refused, slots_of, target_of,
+};
 use boss_marks::Reported;
 use boss_model::{
     Acceptance, Actuator, Answer, Cause, DriverId, Lease, Name, PointId, ProcId, Refusal,
@@ -60,6 +60,7 @@ impl Machine {
         ensures state { (plant : List Actuator) → state_of self.new ≡ (act plant session n (command.Attach name.now) (state_of self.old)).state }
         ensures changed { (plant : List Actuator) → result.changed ≡ changes plant session n (command.Attach name.now) (state_of self.old) }
         ensures places { (plant : List Actuator) → HasPlaces plant self.old → HasPlaces plant self.new }
+        ensures untouched { ShowsAsBefore self.old.lasting.holdings self.new.lasting.holdings }
     {
         if let Ready::Refused(why) = ready {
             return Done::refused(why);
@@ -118,6 +119,7 @@ impl Machine {
             IsReadyToSubmit plant (process_of self.old.attached.items session) writes policy seq n ready (state_of self.old) →
             result.changed ≡ changes plant session n (command.Submit writes policy seq) (state_of self.old) }
         ensures places { (plant : List Actuator) → HasPlaces plant self.old → HasPlaces plant self.new }
+        ensures untouched { ShowsAsBefore self.old.lasting.holdings self.new.lasting.holdings }
     {
         match ready {
             Ready::Submit {
@@ -154,6 +156,7 @@ impl Machine {
             persistent_of self.new.lasting ≡ with_reply owner seq (acceptance.Accepted self.old.lasting.next_txn (first_until leases.items)) (submitted owner policy writes n (persistent_of self.old.lasting)) }
         ensures others { (self.new.marks ≡ self.old.marks) × (self.new.attached ≡ self.old.attached) }
         ensures places { (plant : List Actuator) → HasPlaces plant self.old → HasPlaces plant self.new }
+        ensures untouched { ShowsAsBefore self.old.lasting.holdings self.new.lasting.holdings }
     {
         let owner = transaction.owner();
         let acceptance = Acceptance::Accepted {
@@ -181,6 +184,7 @@ impl Machine {
         ensures state { (plant : List Actuator) → state_of self.new ≡ (act plant session n (command.Renew txn duration points.now seq) (state_of self.old)).state }
         ensures changed { (plant : List Actuator) → result.changed ≡ changes plant session n (command.Renew txn duration points.now seq) (state_of self.old) }
         ensures places { (plant : List Actuator) → HasPlaces plant self.old → HasPlaces plant self.new }
+        ensures untouched { ShowsAsBefore self.old.lasting.holdings self.new.lasting.holdings }
     {
         let Some(owner) = process_of(&self.attached, session) else {
             return Done::refused(Refusal::NotAttached);
@@ -215,6 +219,7 @@ impl Machine {
             (renewed txn duration points.now n (persistent_of self.old.lasting)) }
         ensures others { (self.new.marks ≡ self.old.marks) × (self.new.attached ≡ self.old.attached) }
         ensures places { (plant : List Actuator) → HasPlaces plant self.old → HasPlaces plant self.new }
+        ensures untouched { ShowsAsBefore self.old.lasting.holdings self.new.lasting.holdings }
     {
         let until = n + duration.unsigned_abs();
         let later = self.lasting.holdings.now() != n;
@@ -239,6 +244,7 @@ impl Machine {
         ensures state { (plant : List Actuator) → state_of self.new ≡ (act plant session n (command.Cancel txn seq) (state_of self.old)).state }
         ensures changed { (plant : List Actuator) → result.changed ≡ changes plant session n (command.Cancel txn seq) (state_of self.old) }
         ensures places { (plant : List Actuator) → HasPlaces plant self.old → HasPlaces plant self.new }
+        ensures untouched { ShowsAsBefore self.old.lasting.holdings self.new.lasting.holdings }
     {
         let Some(owner) = process_of(&self.attached, session) else {
             return Done::refused(Refusal::NotAttached);
@@ -266,6 +272,7 @@ impl Machine {
             (end_leases (is_of txn) cause.Cancelled n [] (persistent_of self.old.lasting)) }
         ensures others { (self.new.marks ≡ self.old.marks) × (self.new.attached ≡ self.old.attached) }
         ensures places { (plant : List Actuator) → HasPlaces plant self.old → HasPlaces plant self.new }
+        ensures untouched { ShowsAsBefore self.old.lasting.holdings self.new.lasting.holdings }
     {
         self.told.clear();
         self.lasting.end_leases(
@@ -287,6 +294,7 @@ impl Machine {
         ensures state { (plant : List Actuator) → state_of self.new ≡ (act plant session n (command.Gone) (state_of self.old)).state }
         ensures changed { (plant : List Actuator) → result.changed ≡ changes plant session n (command.Gone) (state_of self.old) }
         ensures places { (plant : List Actuator) → HasPlaces plant self.old → HasPlaces plant self.new }
+        ensures untouched { ShowsAsBefore self.old.lasting.holdings self.new.lasting.holdings }
     {
         let Some(owner) = process_of(&self.attached, session) else {
             return Done::refused(Refusal::NotAttached);
@@ -308,6 +316,7 @@ impl Machine {
         ensures after { persistent_of self.new.lasting ≡ lost owner n (persistent_of self.old.lasting) }
         ensures others { (self.new.marks ≡ self.old.marks) × (self.new.attached ≡ self.old.attached) }
         ensures places { (plant : List Actuator) → HasPlaces plant self.old → HasPlaces plant self.new }
+        ensures untouched { ShowsAsBefore self.old.lasting.holdings self.new.lasting.holdings }
     {
         let ended = self.lasting.holdings.owned(owner) as u64;
         if ended == 0 {
@@ -324,6 +333,7 @@ impl Machine {
         ensures answer { (plant : List Actuator) (session n : ℕ) → HasPlaces plant self.old → result ≡ (act plant session n (command.Next driver) (state_of self.old)).answer }
         ensures state { (plant : List Actuator) (session n : ℕ) → HasPlaces plant self.old → state_of self.new ≡ (act plant session n (command.Next driver) (state_of self.old)).state }
         ensures places { (plant : List Actuator) → HasPlaces plant self.old → HasPlaces plant self.new }
+        ensures untouched { ShowsAsBefore self.old.lasting.holdings self.new.lasting.holdings }
     {
         match self.marks.next(driver) {
             Some(want) => Answer::Want {
@@ -344,6 +354,7 @@ impl Machine {
         ensures state { (plant : List Actuator) (session : ℕ) → HasPlaces plant self.old → state_of self.new ≡ (act plant session n (command.Report point version ok) (state_of self.old)).state }
         ensures changed { (plant : List Actuator) (session : ℕ) → HasPlaces plant self.old → result.changed ≡ changes plant session n (command.Report point version ok) (state_of self.old) }
         ensures places { (plant : List Actuator) → HasPlaces plant self.old → HasPlaces plant self.new }
+        ensures untouched { ShowsAsBefore self.old.lasting.holdings self.new.lasting.holdings }
     {
         let reported = self.marks.report(point, version, ok, n);
         if reported == Reported::Old {
@@ -366,6 +377,7 @@ impl Machine {
         ensures after { persistent_of self.new.lasting ≡ (if first then faulted (in_force (persistent_of self.old.lasting).leases point) n (persistent_of self.old.lasting) else persistent_of self.old.lasting) }
         ensures others { (self.new.marks ≡ self.old.marks) × (self.new.attached ≡ self.old.attached) }
         ensures places { (plant : List Actuator) → HasPlaces plant self.old → HasPlaces plant self.new }
+        ensures untouched { ShowsAsBefore self.old.lasting.holdings self.new.lasting.holdings }
     {
         let Some(lease) = self.lasting.in_force(point) else {
             return false;
@@ -390,6 +402,7 @@ impl Machine {
         ensures after { persistent_of self.new.lasting ≡ end_leases (is_of happened.txn) cause.Fault n (happened ∷ []) (persistent_of self.old.lasting) }
         ensures others { (self.new.marks ≡ self.old.marks) × (self.new.attached ≡ self.old.attached) }
         ensures places { (plant : List Actuator) → HasPlaces plant self.old → HasPlaces plant self.new }
+        ensures untouched { ShowsAsBefore self.old.lasting.holdings self.new.lasting.holdings }
     {
         self.told.clear();
         self.told.push_reserved(Telling {
@@ -412,6 +425,7 @@ impl Machine {
         ensures after { persistent_of self.new.lasting ≡ record (persistent_of self.old.lasting) { now = n; processes = tell self.old.lasting.processes happened } }
         ensures others { (self.new.marks ≡ self.old.marks) × (self.new.attached ≡ self.old.attached) }
         ensures places { (plant : List Actuator) → HasPlaces plant self.old → HasPlaces plant self.new }
+        ensures untouched { ShowsAsBefore self.old.lasting.holdings self.new.lasting.holdings }
     {
         let changed = self.lasting.holdings.now() != n
             || self.lasting.processes.may_be_told(happened.owner);

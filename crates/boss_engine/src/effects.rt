@@ -9,10 +9,10 @@ ghost use Rattle.boss_model.specs.Processes.{process_of};
 ghost use Rattle.boss_model.specs.Sound.{IsAllowed, IsSoundPersistent};
 ghost use Rattle.boss_model.specs.Target.{in_force};
 ghost use Rattle.boss_engine.specs.Inside.{state_of};
-ghost use Rattle.boss_engine.specs.Lasting.{persistent_of};
+ghost use Rattle.boss_lasting.specs.Lasting.{persistent_of};
 
-use crate::attached::process_of;
 use crate::machine::Machine;
+use boss_lasting::process_of;
 use boss_model::{Command, Effect, PointId, ProcId, SessionId};
 
 impl Machine {

@@ -1,4 +1,4 @@
-ghost use Rattle.std.specs.Prelude.{◌≡◌, ◌≤◌, ◌&&◌, not, length, map, min, is_some, IfOk, OnOk, OnErr};
+ghost use Rattle.std.specs.Prelude.{◌≡◌, ◌≤◌, ◌&&◌, not, length, map, min, is_some, IfErr, IfOk, OnOk, OnErr};
 ghost use Rattle.std.specs.Option.{option_map_or};
 ghost use Rattle.boss_model.specs.Acts.{replay};
 ghost use Rattle.boss_model.specs.Catalogue.{actuators};
@@ -8,18 +8,22 @@ ghost use Rattle.boss_model.specs.Limits.{last_moment, most_points};
 ghost use Rattle.boss_model.specs.Machine.{step};
 ghost use Rattle.boss_model.specs.Order.{least};
 ghost use Rattle.boss_model.specs.Processes.{process_named};
+ghost use Rattle.boss_model.specs.Seen.{seen};
 ghost use Rattle.boss_model.specs.Settle.{first_state, opened};
-ghost use Rattle.boss_model.specs.Sound.{IsAllowed, IsSound};
-ghost use Rattle.boss_points.specs.Seen.{seen};
+ghost use Rattle.boss_model.specs.Sound.{IsAllowed, IsSound, IsSoundPersistent};
+ghost use Rattle.boss_points.specs.Seen.{seen as seen_point};
 ghost use Rattle.boss_spelled.specs.Ranges.{IsSpelled};
 ghost use Rattle.boss_engine.specs.Again.{TakesOn};
 ghost use Rattle.boss_engine.specs.Ready.{MayNeedMemory};
+ghost use Rattle.boss_engine.specs.declared.restoring.RestoreRefusal.TheVariants as refusal;
 
 use crate::machine::Machine;
+use crate::restoring::RestoreRefusal;
 use boss_model::{
-    Actuator, Answer, Command, DriverId, Effect, Event, Name, NoMemory, PointId, SessionId,
+    Actuator, Answer, Command, DriverId, Effect, Event, Kept, Name, NoMemory, PointId, SessionId,
 };
 use boss_points::{Catalogue, Point};
+use boss_sound::is_sound;
 use std::alloc::Global;
 use std::marker::Model;
 
@@ -71,6 +75,50 @@ impl Engine {
             machine,
             is_open: true,
         })
+    }
+
+    /// The engine of a catalogue's points with what outlasted a stop: nobody is attached, and every point wants its target.
+    /// Room is taken as by `new`.
+    ///
+    /// `NotSound` comes exactly where what was kept is not sound over the catalogue's points, unless there was no memory to
+    /// find that out.
+    pub fn restore(
+        alloc: Global,
+        catalogue: &Catalogue,
+        kept: &Kept,
+    ) -> Result<Engine, RestoreRefusal>
+        ensures plant { IfOk result (λ engine. engine.plant ≡ actuators catalogue.now) }
+        ensures state { IfOk result (λ engine. engine.state ≡ opened (actuators catalogue.now) (seen kept.entry.now)) }
+        ensures sound { IfOk result (λ engine. IsSound engine.plant engine.state) }
+        ensures right { OnOk result (IsSoundPersistent (actuators catalogue.now) (seen kept.entry.now)) }
+        ensures wrong { IfErr result (λ why. why ≡ refusal.NotSound → ¬ IsSoundPersistent (actuators catalogue.now) (seen kept.entry.now)) }
+    {
+        let plant = plant_of(alloc, catalogue)?;
+        if !is_sound(&plant, kept) {
+            return Err(RestoreRefusal::NotSound);
+        }
+        Ok(Engine::for_kept(alloc, plant, kept)?)
+    }
+
+    /// The engine of a plant with what outlasted a stop, whose points are not open yet.
+    fn for_kept(alloc: Global, plant: Vec<Actuator>, kept: &Kept) -> Result<Engine, NoMemory>
+        requires few { length plant.items ≤ most_points }
+        requires sound { IsSoundPersistent plant.items (seen kept.now) }
+        ensures { IfOk result (λ engine. engine ≡ record { plant = plant.items; state = opened plant.items (seen kept.entry.now) }) }
+    {
+        let machine = Machine::put_back(alloc, &plant, kept)?;
+        Ok(Engine {
+            plant,
+            machine,
+            is_open: false,
+        })
+    }
+
+    /// All that outlasts a stop, as plain lists.
+    pub fn keep(&self, alloc: Global) -> Result<Kept, NoMemory>
+        ensures { IfOk result (λ kept. seen kept ≡ self.now.state.persistent) }
+    {
+        self.machine.lasting.keep(alloc)
     }
 
     /// The least driver that has a want.
@@ -214,7 +262,7 @@ fn plant_of(alloc: Global, catalogue: &Catalogue) -> Result<Vec<Actuator>, NoMem
 }
 
 fn actuator_of(point: &Point) -> Actuator
-    ensures { result ≡ (seen point.now).actuator }
+    ensures { result ≡ (seen_point point.now).actuator }
 {
     Actuator {
         kind: point.kind,

@@ -2,26 +2,17 @@
 //! are told, and what the devices have to be told.
 #![tactic(auto)]
 
-mod attached;
-mod booking;
 mod commands;
 mod done;
-mod early;
 mod effects;
 mod engine;
-mod lasting;
 mod machine;
-mod meaning;
 mod preparing;
-mod processes;
-mod queries;
 mod ready;
-mod refusals;
-mod renewing;
 mod reopening;
 mod replaying;
-mod replies;
+mod restoring;
 mod settling;
-mod target;
 
 pub use engine::Engine;
+pub use restoring::RestoreRefusal;

@@ -7,18 +7,17 @@ ghost use Rattle.boss_model.specs.Settle.{first_state};
 ghost use Rattle.boss_effects.specs.Changes.{changes};
 ghost use Rattle.boss_engine.specs.declared.ready.Ready.{Ready};
 ghost use Rattle.boss_engine.specs.Inside.{CanRun, HasPlaces, state_of};
-ghost use Rattle.boss_engine.specs.Lasting.{persistent_of};
+ghost use Rattle.boss_lasting.specs.Lasting.{persistent_of};
 ghost use Rattle.boss_books.specs.Passed.{IsPassed};
 ghost use Rattle.boss_engine.specs.Ready.{HasRoomFor, IsReadyFor, MayNeedMemory};
+ghost use Rattle.boss_lasting.specs.Showing.{ShowsAsBefore};
 
-use crate::attached::Attachment;
 use crate::done::Done;
 use crate::effects::effect_of;
-use crate::lasting::Lasting;
-use crate::queries::status;
 use crate::ready::Ready;
 use crate::settling::settle;
 use boss_books::Telling;
+use boss_lasting::{Attachment, Lasting, status};
 use boss_marks::Marks;
 use boss_model::{
     Actuator, Answer, Command, DriverId, Effect, Items, MOST_PROCESSES, NoMemory, SessionId,
@@ -26,7 +25,7 @@ use boss_model::{
 use std::alloc::Global;
 
 /// The most that one step tells of a point's slots: of each that a lease ended, and that its reversion did.
-const TOLD_OF_A_POINT: usize = 32;
+pub const TOLD_OF_A_POINT: usize = 32;
 
 /// What the machine keeps.
 #[derive(Drop)]
@@ -81,7 +80,7 @@ impl Machine {
         let passed = self.lasting.holdings.now();
         let owner = self.concerned(session, command);
         let done = self.act(plant, session, command, n, ready);
-        settle(plant, &self.lasting, &mut self.marks);
+        settle(plant, &mut self.lasting, &mut self.marks);
         Ok((
             done.answer,
             effect_of(done.changed, n, owner, before, passed),
@@ -98,7 +97,7 @@ impl Machine {
     {
         self.lasting.tick(n, &mut self.told);
         self.marks.retry_due(n);
-        settle(plant, &self.lasting, &mut self.marks);
+        settle(plant, &mut self.lasting, &mut self.marks);
     }
 
     /// Lets a command act at moment `n`.
@@ -120,6 +119,7 @@ impl Machine {
         ensures changed { result.changed ≡ changes plant.now session n command.now (state_of self.old) }
         ensures state { state_of self.new ≡ (act plant.now session n command.now (state_of self.old)).state }
         ensures places { HasPlaces plant.now self.new }
+        ensures untouched { ShowsAsBefore self.old.lasting.holdings self.new.lasting.holdings }
     {
         match command {
             Command::Attach { name } => self.attach(session, name, n, ready),
@@ -164,7 +164,7 @@ impl Machine {
 }
 
 /// The driver and the default of each point.
-fn devices_of(alloc: Global, plant: &[Actuator]) -> Result<Items<(DriverId, i64)>, NoMemory>
+pub fn devices_of(alloc: Global, plant: &[Actuator]) -> Result<Items<(DriverId, i64)>, NoMemory>
     ensures { IfOk result (λ devices. devices ≡ map (λ actuator. (actuator.driver, actuator.default)) plant.now) }
 {
     let devices = plant

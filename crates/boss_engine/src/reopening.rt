@@ -3,14 +3,13 @@
 ghost use Rattle.std.specs.Prelude.{◌≡◌, length};
 ghost use Rattle.std.specs.List.{AllByRecursion};
 ghost use Rattle.boss_model.specs.Settle.{opened};
-ghost use Rattle.boss_books.specs.Playing.{IsPlayable};
+ghost use Rattle.boss_dues.specs.Playing.{IsPlayable};
 ghost use Rattle.boss_engine.specs.Inside.{CanAct, HasPlaces, seen_state, state_of};
-ghost use Rattle.boss_engine.specs.Lasting.{persistent_of};
+ghost use Rattle.boss_lasting.specs.Lasting.{persistent_of};
 ghost use Rattle.boss_engine.specs.Settling.{opened_by};
 
-use crate::lasting::Lasting;
 use crate::machine::Machine;
-use crate::target::target_of;
+use boss_lasting::{Lasting, target_of};
 use boss_marks::Marks;
 use boss_model::{Actuator, PointId};
 

@@ -14,12 +14,12 @@ ghost use Rattle.boss_effects.specs.Early.{early};
 ghost use Rattle.boss_spelled.specs.Ranges.{IsAct, IsSpelled};
 ghost use Rattle.boss_engine.specs.Again.{IsReadyAgain, IsReadyToBegin, TakesOn, begun_with};
 ghost use Rattle.boss_engine.specs.Inside.{CanAct, HasPlaces};
-ghost use Rattle.boss_engine.specs.Lasting.{persistent_of};
+ghost use Rattle.boss_lasting.specs.Lasting.{persistent_of};
 ghost use Rattle.boss_engine.specs.Ready.{HasRoomFor};
 
-use crate::early::is_allowed;
 use crate::machine::Machine;
 use crate::ready::Ready;
+use boss_lasting::is_allowed;
 use boss_model::{Act, Actuator, Event, NoMemory};
 
 impl Machine {

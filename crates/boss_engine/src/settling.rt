@@ -1,23 +1,32 @@
-ghost use Rattle.std.specs.Prelude.{◌≡◌, length};
+ghost use Rattle.std.specs.Prelude.{◌≡◌, ℕ, ◌≤◌, false, length};
 ghost use Rattle.std.specs.List.{AllByRecursion};
-ghost use Rattle.boss_books.specs.Playing.{IsPlayable};
-ghost use Rattle.boss_engine.specs.Lasting.{persistent_of};
-ghost use Rattle.boss_engine.specs.Settling.{settled_by};
+ghost use Rattle.boss_model.specs.Limits.{most_points};
+ghost use Rattle.boss_dues.specs.Playing.{IsPlayable};
+ghost use Rattle.boss_holdings.specs.Held.{is_touched};
+ghost use Rattle.boss_lasting.specs.Lasting.{persistent_of};
+ghost use Rattle.boss_engine.specs.Settling.{AreCurrent, settled_by};
 
-use crate::lasting::Lasting;
-use crate::target::target_of;
+use boss_lasting::{Lasting, target_of};
 use boss_marks::Marks;
 use boss_model::{Actuator, PointId};
 
-/// Compares every point's target with its commanded value, and lets those that differ want their devices to be written.
-pub fn settle(plant: &[Actuator], lasting: &Lasting, marks: &mut Marks)
+/// Compares the touched points' targets with their commanded values, and lets those that differ want their devices to be written.
+/// The other points have their targets already. Then no point is touched.
+pub fn settle(plant: &[Actuator], lasting: &mut Lasting, marks: &mut Marks)
     requires number { length marks.old.proxies ≡ length plant.now }
-    requires points { length plant.now ≡ lasting.now.holdings.points }
-    requires pending { AllByRecursion IsPlayable (persistent_of lasting.now).pending }
-    ensures { marks.new ≡ settled_by plant.now (persistent_of lasting.now) marks.old }
+    requires drivers { length marks.old.drivers ≡ length plant.now }
+    requires points { length plant.now ≡ lasting.old.holdings.points }
+    requires few { length plant.now ≤ most_points }
+    requires pending { AllByRecursion IsPlayable (persistent_of lasting.old).pending }
+    requires current { AreCurrent plant.now lasting.old.holdings marks.old.proxies }
+    ensures marks { marks.new ≡ settled_by plant.now (persistent_of lasting.old) marks.old }
+    ensures others { lasting.new ≡ record lasting.old { holdings = record lasting.old.holdings { touched = lasting.new.holdings.touched } } }
+    ensures untouched { (point : ℕ) → is_touched lasting.new.holdings point ≡ false }
 {
-    for place in 0..marks.count() {
-        let point = PointId(place as u32);
+    let mut from = PointId(0);
+    while let Some(point) = lasting.holdings.next_touched(from) {
         marks.settle(point, target_of(plant, &lasting.holdings, point));
+        lasting.holdings.untouch(point);
+        from = PointId(point.0 + 1);
     }
 }

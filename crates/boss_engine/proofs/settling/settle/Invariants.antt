@@ -1,9 +1,19 @@
-use Rattle.std.proofs.Common.{◌≡◌}
+use Rattle.std.proofs.Common.{◌≡◌, ℕ, ◌<◌, ◌≤◌, ◌-◌, false, length}
 use Rattle.boss_model.specs.Settle.{is_moved, recommanded}
+use Rattle.boss_holdings.specs.Held.{is_touched}
 use Rattle.boss_marks.proofs.Rounds.{turned_below}
-use Rattle.boss_engine.specs.Lasting.{persistent_of}
+use Rattle.boss_lasting.specs.Lasting.{persistent_of}
 use Rattle.boss_engine.proofs.settling.settle.Given as goal
 
--- the points below `place` are settled
-abbrev pub invariant-loop-place : goal.invariant-loop-place
-invariant-loop-place l = l.marks ≡ turned_below (is_moved l.plant (persistent_of l.fn.lasting)) (recommanded l.plant (persistent_of l.fn.lasting)) l.place l.fn.marks
+-- the points below `from` are settled, and the flags from there on are as they were
+abbrev pub invariant-loop-point : goal.invariant-loop-point
+invariant-loop-point l = record {
+  turned : l.marks ≡ turned_below (is_moved l.plant (persistent_of l.initial.lasting)) (recommanded l.plant (persistent_of l.initial.lasting)) l.from l.initial.marks;
+  others : l.lasting ≡ record l.initial.lasting { holdings = record l.initial.lasting.holdings { touched = l.lasting.holdings.touched } };
+  within : l.from ≤ length l.plant;
+  settled : (k : ℕ) → k < l.from → is_touched l.lasting.holdings k ≡ false;
+  later : (k : ℕ) → l.from ≤ k → is_touched l.lasting.holdings k ≡ is_touched l.initial.lasting.holdings k;
+}
+
+abbrev pub decreases-loop-point : goal.decreases-loop-point
+decreases-loop-point l = length l.plant - l.from

@@ -7,7 +7,7 @@ use Rattle.boss_model.specs.Settle.{opened}
 use Rattle.boss_model.specs.Sound.{IsSound}
 use Rattle.boss_model.specs.State.{Persistent, State}
 use Rattle.boss_engine.specs.Inside.{CanAct, HasPlaces, seen_state, state_of}
-use Rattle.boss_engine.specs.Lasting.{persistent_of}
+use Rattle.boss_lasting.specs.Lasting.{persistent_of}
 use Rattle.boss_engine.proofs.Seen.{seen-act, seen-again, seen-persistent, seen-same, seen-still}
 use Rattle.boss_engine.proofs.engine.Engine.replay.Goals as goal
 

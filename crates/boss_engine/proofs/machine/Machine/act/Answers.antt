@@ -1,6 +1,6 @@
 use Rattle.std.proofs.Common.{FitsSigned, w64, rules}
 use Rattle.std.proofs.lemmas.Int.{to_z-of_z}
-use Rattle.boss_engine.proofs.Playable.{all-playable}
+use Rattle.boss_lasting.proofs.Playable.{all-playable}
 use Rattle.boss_engine.proofs.machine.Machine.act.Goals as goal
 
 pub array-requires-clause-pending : goal.array-requires-clause-pending

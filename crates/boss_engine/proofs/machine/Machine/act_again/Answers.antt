@@ -8,9 +8,9 @@ use Rattle.boss_spelled.specs.Ranges.{IsAct}
 use Rattle.boss_engine.specs.declared.machine.Machine.{Machine}
 use Rattle.boss_engine.specs.declared.ready.Ready.{Ready}
 use Rattle.boss_engine.specs.Again.{IsReadyAgain}
-use Rattle.boss_engine.specs.Lasting.{IsKept, persistent_of}
+use Rattle.boss_lasting.specs.Lasting.{IsKept, persistent_of}
 use Rattle.boss_engine.proofs.Again.{cancel-made, renew-made, submit-passed}
-use Rattle.boss_engine.proofs.Counted.{any-counted}
+use Rattle.boss_lasting.proofs.Counted.{any-counted}
 use Rattle.boss_engine.proofs.Keeping.{keeps-places, kept-aside}
 use Rattle.boss_engine.proofs.machine.Machine.act_again.Goals as goal
 

@@ -1,9 +1,10 @@
 use Rattle.std.proofs.Common.{◌≡◌, ◌<◌, ◌≤◌, length, ◌&&◌, is_none, vec_capacity, subst, sym, ap, ◌∙◌, arith}
 use Rattle.boss_model.specs.declared.answer.Answer.TheVariants as answer
 use Rattle.boss_model.specs.Processes.{attached_too, next_notice, number_of, process_named}
+use Rattle.boss_holdings.specs.Held.{shown}
 use Rattle.boss_engine.specs.declared.machine.Machine.{Machine}
 use Rattle.boss_engine.specs.Inside.{state_of}
-use Rattle.boss_engine.specs.Lasting.{IsKept}
+use Rattle.boss_lasting.specs.Lasting.{IsKept}
 use Rattle.boss_engine.proofs.Attaching.{few-attached, ready-attach}
 use Rattle.boss_engine.proofs.Doing.{attach-leaves, next-enrolled}
 use Rattle.boss_engine.proofs.Keeping.{keeps-places, kept-aside}
@@ -57,3 +58,6 @@ returns-clause-changed c = λ any.
     let s = state_of c.args.self.now in
     let passed = ready-attach c.args.session c.args.name.now c.args.ready s c.requires.ready c.in_default.not-Refused in
     c.process_for-entrant.ensures.is_new ∙ sym (ap (λ why. is_none why && is_none (process_named s.persistent.processes c.args.name.now)) passed)
+
+pub returns-clause-untouched : goal.returns-clause-untouched
+returns-clause-untouched c = λ default point moment left. ap (λ (m : Machine). shown default moment m.lasting.holdings point) c.process_for-entrant.ensures.others

@@ -6,8 +6,8 @@ use Rattle.boss_model.specs.Submit.{first_until, submitted}
 use Rattle.boss_holdings.specs.Held.{AreApart}
 use Rattle.boss_engine.specs.declared.ready.Ready.{Ready}
 use Rattle.boss_engine.specs.Again.{IsReadyToBegin}
-use Rattle.boss_engine.specs.Lasting.{IsSubmit, persistent_of}
-use Rattle.boss_engine.specs.Replying.{with_reply}
+use Rattle.boss_lasting.specs.Lasting.{IsSubmit, persistent_of}
+use Rattle.boss_lasting.specs.Replying.{with_reply}
 use Rattle.boss_engine.proofs.Granted.{granted-apart, granted-slots}
 use Rattle.boss_engine.proofs.machine.Machine.begin_ready.Goals as goal
 

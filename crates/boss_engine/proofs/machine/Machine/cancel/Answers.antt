@@ -2,8 +2,8 @@ use Rattle.std.proofs.Common.{◌≡◌, Some, None, sym, ap, ◌∙◌}
 use Rattle.boss_model.specs.Ends.{cancel_refused}
 use Rattle.boss_model.specs.Processes.{process_of}
 use Rattle.boss_engine.specs.Inside.{state_of}
-use Rattle.boss_engine.specs.Lasting.{persistent_of}
-use Rattle.boss_engine.specs.Replying.{decided}
+use Rattle.boss_lasting.specs.Lasting.{persistent_of}
+use Rattle.boss_lasting.specs.Replying.{decided}
 use Rattle.boss_engine.proofs.Cancelling.{cancel-leaves}
 use Rattle.boss_engine.proofs.machine.Machine.cancel.Goals as goal
 

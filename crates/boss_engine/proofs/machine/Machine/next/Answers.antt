@@ -1,6 +1,6 @@
 use Rattle.std.proofs.Common.{FitsSigned, w64, rules, Some, None, sym, ap, ◌∙◌}
 use Rattle.std.proofs.lemmas.Int.{to_z-of_z}
-use Rattle.boss_engine.specs.Lasting.{persistent_of}
+use Rattle.boss_lasting.specs.Lasting.{persistent_of}
 use Rattle.boss_engine.proofs.Waiting.{next-is}
 use Rattle.boss_engine.proofs.machine.Machine.next.Goals as goal
 

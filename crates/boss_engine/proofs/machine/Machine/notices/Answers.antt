@@ -4,7 +4,7 @@ use Rattle.std.specs.Option.{IfSome}
 use Rattle.boss_model.specs.Processes.{process_named, process_of}
 use Rattle.boss_model.specs.State.{Process}
 use Rattle.boss_time.proofs.Filters.{position-within}
-use Rattle.boss_engine.proofs.Holders.{held-below}
+use Rattle.boss_lasting.proofs.Holders.{held-below}
 use Rattle.boss_engine.proofs.machine.Machine.notices.Goals as goal
 use Rattle.boss_engine.proofs.machine.Machine.notices.Goals.{in-Some, in-None}
 

@@ -1,8 +1,8 @@
 use Rattle.std.proofs.Common.{◌≡◌, length, map, sym, ap, ◌∙◌, arith}
 use Rattle.std.proofs.lemmas.List.{length-map}
-use Rattle.boss_engine.specs.Lasting.{persistent_of}
+use Rattle.boss_lasting.specs.Lasting.{persistent_of}
 use Rattle.boss_engine.proofs.Keeping.{keeps-places}
-use Rattle.boss_engine.proofs.Playable.{all-playable}
+use Rattle.boss_lasting.proofs.Playable.{all-playable}
 use Rattle.boss_engine.proofs.machine.Machine.open_points.Goals as goal
 
 pub start_all-requires-clause-number : goal.start_all-requires-clause-number

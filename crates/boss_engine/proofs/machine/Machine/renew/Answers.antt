@@ -3,8 +3,8 @@ use Rattle.std.proofs.lemmas.Int.{to_z-of_z}
 use Rattle.boss_model.specs.Processes.{process_of}
 use Rattle.boss_model.specs.Renew.{renew_refused}
 use Rattle.boss_engine.specs.Inside.{state_of}
-use Rattle.boss_engine.specs.Lasting.{persistent_of}
-use Rattle.boss_engine.specs.Replying.{decided}
+use Rattle.boss_lasting.specs.Lasting.{persistent_of}
+use Rattle.boss_lasting.specs.Replying.{decided}
 use Rattle.boss_engine.proofs.Doing.{renew-leaves}
 use Rattle.boss_engine.proofs.machine.Machine.renew.Goals as goal
 

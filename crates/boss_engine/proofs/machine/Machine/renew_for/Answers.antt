@@ -6,10 +6,10 @@ use Rattle.boss_model.specs.declared.state.Lease.{Lease}
 use Rattle.boss_model.specs.Renew.{is_meant, extended_if, renewed}
 use Rattle.boss_model.specs.State.{Persistent}
 use Rattle.boss_model.specs.Submit.{first_until}
-use Rattle.boss_engine.specs.Lasting.{persistent_of}
-use Rattle.boss_engine.specs.Replying.{accepted, renewed_until, with_reply}
-use Rattle.boss_engine.proofs.Concluded.{renewed-plain}
-use Rattle.boss_engine.proofs.Keeping.{keeps-places, kept-aside}
+use Rattle.boss_holdings.specs.Held.{Held, is_touched, shown}
+use Rattle.boss_lasting.specs.Lasting.{persistent_of}
+use Rattle.boss_lasting.specs.Replying.{accepted, renewed_until, with_reply}
+use Rattle.boss_lasting.proofs.Concluded.{renewed-plain}
 use Rattle.boss_engine.proofs.machine.Machine.renew_for.Goals as goal
 
 pub returns-clause-answer : goal.returns-clause-answer
@@ -56,3 +56,8 @@ returns-clause-after c =
     ∙ ap (made c.extend-extended.result.first_until) later
     ∙ ap (λ (u : ℕ). made u (record d { leases = longer })) first
     ∙ sym (ap (with_reply c.args.owner c.args.seq (acceptance.Renewed c.args.txn (renewed_until c.args.txn c.args.duration c.args.points.now n d))) plain)
+
+pub returns-clause-untouched : goal.returns-clause-untouched
+returns-clause-untouched c = λ default point moment left.
+    ap (λ (h : Held). shown default moment h point) c.reach.ensures
+    ∙ c.extend-extended.ensures.untouched default point moment (sym (ap (λ (h : Held). is_touched h point) c.reach.ensures) ∙ left)

@@ -6,7 +6,7 @@ use Rattle.boss_model.specs.Time.{tick_to}
 use Rattle.boss_effects.specs.Early.{early}
 use Rattle.boss_engine.specs.Again.{IsReadyAgain}
 use Rattle.boss_engine.specs.Inside.{CanAct}
-use Rattle.boss_engine.specs.Lasting.{persistent_of}
+use Rattle.boss_lasting.specs.Lasting.{persistent_of}
 use Rattle.boss_engine.proofs.Again.{again-none, again-moment, again-sound, again-at, again-allowed, again-effective, again-after, again-still, readied-again}
 use Rattle.boss_engine.proofs.machine.Machine.replay.Goals as goal
 

@@ -1,12 +1,17 @@
-use Rattle.std.proofs.Common.{◌≡◌, max, ap, refl, sym, subst, ◌∙◌}
+use Rattle.std.proofs.Common.{◌≡◌, max, length, ap, refl, sym, subst, ◌∙◌}
+use Rattle.std.proofs.lemmas.List.{length-map}
+use Rattle.boss_model.specs.declared.state.Actuator.{Actuator}
 use Rattle.boss_model.specs.Machine.{pass_time, step}
 use Rattle.boss_model.specs.Sound.{IsSound}
 use Rattle.boss_soundness.proofs.StepSound.{step-sound}
 use Rattle.boss_engine.specs.Inside.{state_of}
-use Rattle.boss_engine.specs.Lasting.{persistent_of}
+use Rattle.boss_lasting.specs.declared.lasting.Lasting.{Lasting}
+use Rattle.boss_lasting.specs.Lasting.{IsKept, persistent_of}
 use Rattle.boss_engine.specs.Ready.{IsReadyFor}
+use Rattle.boss_engine.specs.Waiting as waiting
+use Rattle.boss_engine.proofs.Keeping.{kept-flags}
 use Rattle.boss_engine.proofs.Readied.{readied}
-use Rattle.boss_engine.proofs.Stepping.{told-by, passed-at, passed-moment, passed-well, answered, stepped, acted-playable, acted-number}
+use Rattle.boss_engine.proofs.Stepping.{told-by, passed-at, passed-moment, passed-well, answered, stepped, acted-current, acted-playable, acted-number}
 use Rattle.boss_engine.proofs.machine.Machine.step.Goals as goal
 
 passes : (c : goal.After-act-arg-1) → state_of c.pass_time.new.self ≡ pass_time c.args.plant.now c.max-n.result (state_of c.args.self.now)
@@ -55,16 +60,28 @@ settle-requires-clause-pending c =
     c.requires.allowed c.requires.moment c.requires.ready.sound (state_of c.pass_time.new.self) (c.pass_time.ensures.state ∙ ap (pass_time c.args.plant.now c.max-n.result) c.in_ok-ready.ensures.state)
     (state_of c.act-done.new.self) c.act-done.ensures.state
 
+pub settle-requires-clause-drivers : goal.settle-requires-clause-drivers
+settle-requires-clause-drivers c = ap length c.act-done.ensures.places.drivers ∙ length-map c.args.plant.now (λ (actuator : Actuator). actuator.driver)
+
+pub settle-requires-clause-few : goal.settle-requires-clause-few
+settle-requires-clause-few c = c.act-done.ensures.places.small
+
+pub settle-requires-clause-current : goal.settle-requires-clause-current
+settle-requires-clause-current c = λ k within left.
+    acted-current c.args.plant.now c.args.session c.args.command.now c.args.moment c.max-n.result (state_of c.args.self.now) (c.max-n.ensures ∙ ap (λ k. max k c.args.moment) c.now-before.ensures)
+    c.requires.allowed c.requires.moment c.requires.ready.sound (state_of c.pass_time.new.self) (c.pass_time.ensures.state ∙ ap (pass_time c.args.plant.now c.max-n.result) c.in_ok-ready.ensures.state)
+    (state_of c.act-done.new.self) c.act-done.ensures.state k within (λ default moment. c.act-done.ensures.untouched default k moment left)
+
 pub returns-clause-answer : goal.returns-clause-answer
 returns-clause-answer c =
     answered c.args.plant.now c.args.session c.args.command.now c.args.moment c.max-n.result (state_of c.args.self.now) (c.max-n.ensures ∙ ap (λ k. max k c.args.moment) c.now-before.ensures)
     c.requires.allowed c.requires.moment c.requires.ready.sound (state_of c.pass_time.new.self) (c.pass_time.ensures.state ∙ ap (pass_time c.args.plant.now c.max-n.result) c.in_ok-ready.ensures.state)
     c.act-done.result.answer c.act-done.ensures.answer
 
-over : (c : goal.After-effect_of) → record { persistent = persistent_of c.act-done.new.self.lasting; attached = c.act-done.new.self.attached.items; proxies = c.settle.new.marks.proxies; wants = c.settle.new.marks.wants }
+over : (c : goal.After-effect_of) → record { persistent = persistent_of c.settle.new.lasting; attached = c.act-done.new.self.attached.items; proxies = c.settle.new.marks.proxies; wants = c.settle.new.marks.wants }
     ≡ (step c.args.plant.now c.args.session c.args.command.now c.args.moment (state_of c.args.self.now)).state
 over c =
-    ap (λ marks. record { persistent = persistent_of c.act-done.new.self.lasting; attached = c.act-done.new.self.attached.items; proxies = marks.proxies; wants = marks.wants }) c.settle.ensures
+    (λ i. waiting.state_of (persistent_of (c.settle.ensures.others i)) c.act-done.new.self.attached.items (c.settle.ensures.marks i))
     ∙ stepped c.args.plant.now c.args.session c.args.command.now c.args.moment c.max-n.result (state_of c.args.self.now) (c.max-n.ensures ∙ ap (λ k. max k c.args.moment) c.now-before.ensures)
     c.requires.allowed c.requires.moment c.requires.ready.sound (state_of c.pass_time.new.self) (c.pass_time.ensures.state ∙ ap (pass_time c.args.plant.now c.max-n.result) c.in_ok-ready.ensures.state)
     (state_of c.act-done.new.self) c.act-done.ensures.state
@@ -78,9 +95,9 @@ returns-clause-ready c = record {
       (step-sound c.args.plant.now c.args.session c.args.command.now c.args.moment (state_of c.args.self.now) c.requires.allowed c.requires.moment c.requires.ready.sound);
   places = record {
     small = c.act-done.ensures.places.small;
-    drivers = ap (λ marks. marks.drivers) c.settle.ensures ∙ c.act-done.ensures.places.drivers;
-    points = c.act-done.ensures.places.points;
-    rows = c.act-done.ensures.places.rows;
+    drivers = ap (λ marks. marks.drivers) c.settle.ensures.marks ∙ c.act-done.ensures.places.drivers;
+    points = c.act-done.ensures.places.points ∙ sym (ap (λ (l : Lasting). l.holdings.points) c.settle.ensures.others);
+    rows = subst IsKept (sym c.settle.ensures.others) (kept-flags c.act-done.new.self.lasting c.settle.new.lasting.holdings.touched c.act-done.ensures.places.rows);
     attached = c.act-done.ensures.places.attached;
     told = c.act-done.ensures.places.told;
   };

@@ -7,9 +7,9 @@ use Rattle.boss_model.specs.Submit.{first_until, submitted}
 use Rattle.boss_engine.specs.declared.ready.Ready.{Ready}
 use Rattle.boss_holdings.specs.Held.{AreApart}
 use Rattle.boss_engine.specs.Inside.{state_of}
-use Rattle.boss_engine.specs.Lasting.{persistent_of}
+use Rattle.boss_lasting.specs.Lasting.{persistent_of}
 use Rattle.boss_engine.specs.Ready.{IsReadyToSubmit}
-use Rattle.boss_engine.specs.Replying.{with_reply}
+use Rattle.boss_lasting.specs.Replying.{with_reply}
 use Rattle.boss_engine.proofs.Granted.{granted-apart, granted-slots}
 use Rattle.boss_engine.proofs.Submitting.{IsBegun, decided-leaves, decided-unchanged, ready-submit, refused-leaves, refused-unchanged, submit-leaves}
 use Rattle.boss_engine.proofs.machine.Machine.submit.Goals as goal
