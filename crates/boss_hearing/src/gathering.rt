@@ -13,7 +13,7 @@ use crate::{Heard, Hearing};
 use boss_model::Command;
 use boss_outside::Source;
 use boss_points::Catalogue;
-use boss_requests::is_blank;
+use boss_requests::{RequestReader, is_blank};
 use boss_workers::Clock;
 use std::alloc::Global;
 
@@ -26,6 +26,7 @@ pub fn gather<S: Source, C: Clock>(
     alloc: Global,
     catalogue: &Catalogue,
     hearing: &mut Hearing,
+    requests: &mut RequestReader,
     source: &mut S,
     clock: &mut C,
     commands: &mut Vec<(Command, u64)>,
@@ -39,11 +40,12 @@ pub fn gather<S: Source, C: Clock>(
     ensures may { AllByRecursion (MayCall (actuators catalogue.now)) commands.new.items }
     ensures few { length commands.new.items ≤ 16 }
     ensures goes_on { GoesOn hearing.old.lines hearing.new.lines result }
+    ensures held { S.tells → S.held source.new ≡ S.held source.old }
     ensures read { SourceCause (S.faults source.old) (S.faults source.new) result }
     ensures clocked { ClockCause (C.faults clock.old) (C.faults clock.new) result }
 {
     while commands.len() < MOST_HELD && (commands.is_empty() || hearing.reader.whole()) {
-        match take_line(alloc, catalogue, hearing, source, clock, commands) {
+        match take_line(alloc, catalogue, hearing, requests, source, clock, commands) {
             Heard::Requests => {}
             heard => return heard,
         }
@@ -56,6 +58,7 @@ fn take_line<S: Source, C: Clock>(
     alloc: Global,
     catalogue: &Catalogue,
     hearing: &mut Hearing,
+    requests: &mut RequestReader,
     source: &mut S,
     clock: &mut C,
     commands: &mut Vec<(Command, u64)>,
@@ -69,6 +72,7 @@ fn take_line<S: Source, C: Clock>(
     ensures may { AllByRecursion (MayCall (actuators catalogue.now)) commands.new.items }
     ensures one { length commands.new.items ≤ length commands.old.items + 1 }
     ensures goes_on { GoesOn hearing.old.lines hearing.new.lines result }
+    ensures held { S.tells → S.held source.new ≡ S.held source.old }
     ensures read { SourceCause (S.faults source.old) (S.faults source.new) result }
     ensures clocked { ClockCause (C.faults clock.old) (C.faults clock.new) result }
 {
@@ -85,6 +89,7 @@ fn take_line<S: Source, C: Clock>(
         catalogue,
         hearing.reader.line(),
         later,
+        requests,
         clock,
         commands,
     )

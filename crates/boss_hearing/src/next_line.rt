@@ -12,6 +12,7 @@ pub(crate) fn next_line<S: Source>(hearing: &mut Hearing, source: &mut S) -> Opt
         (place_of hearing.new (S.left source.new)) }
     ensures stops { StopsFor S.tells (place_of hearing.new (S.left source.new)) result }
     ensures later { hearing.new.later ≡ hearing.old.later }
+    ensures held { S.tells → S.held source.new ≡ S.held source.old }
     ensures cause { SourceStops (S.faults source.old) (S.faults source.new) result }
 {
     if hearing.lines == 0 {

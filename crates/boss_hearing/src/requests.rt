@@ -9,7 +9,7 @@ ghost use Rattle.boss_hearing.specs.Speaking.{form_of, reading_in};
 use crate::Heard;
 use boss_model::Command;
 use boss_points::Catalogue;
-use boss_requests::{Ask, Form, ReadRefusal, read_request};
+use boss_requests::{Ask, Form, ReadRefusal, RequestReader, read_by};
 use boss_workers::Clock;
 use std::alloc::Global;
 
@@ -19,6 +19,7 @@ pub(crate) fn take_request<C: Clock>(
     catalogue: &Catalogue,
     line: &[u8],
     later: bool,
+    requests: &mut RequestReader,
     clock: &mut C,
     commands: &mut Vec<(Command, u64)>,
 ) -> Heard
@@ -28,7 +29,7 @@ pub(crate) fn take_request<C: Clock>(
     ensures may { AllByRecursion (MayCall (actuators catalogue.now)) commands.new.items }
     ensures cause { ClockCause (C.faults clock.old) (C.faults clock.new) result }
 {
-    match read_request(alloc, catalogue, line, form_of(later)) {
+    match read_by(alloc, catalogue, line, form_of(later), requests) {
         Ok(request) => match request.ask {
             Ask::Command(command) => hold(command, clock, commands),
             Ask::Watch { name, from } => Heard::Watch { name, from },

@@ -1,5 +1,5 @@
 -- Only a line of the form that may asks to watch.
-use Rattle.std.proofs.Common.{◌≡◌, subst}
+use Rattle.std.proofs.Common.{subst}
 use Rattle.boss_wire.specs.declared.form.Form.{Form}
 use Rattle.boss_wire.specs.declared.form.Op.{Op}
 use Rattle.boss_wire.specs.declared.request.Ask.{Ask}

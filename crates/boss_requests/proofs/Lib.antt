@@ -2,4 +2,3 @@ pub mod Each
 pub mod Formed
 pub mod Forms
 pub mod Values
-pub mod Views

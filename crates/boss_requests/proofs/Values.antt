@@ -1,18 +1,14 @@
--- The value that bytes write, where they are text and where they are not.
-use Rattle.std.proofs.Common.{◌≡◌, ℕ, List, Some, None, inl, inr}
-use Rattle.std.proofs.lemmas.Bool.{cases_Bool}
-use Rattle.std.proofs.lemmas.Str.{IsUtf8-from_is_utf8, is_utf8-from_IsUtf8}
-use Rattle.std.specs.Prelude.{IsUtf8}
-use Rattle.std.specs.Str.{is_utf8}
-use Rattle.serde_json.specs.Data.{Data}
-use Rattle.serde_json.specs.Read.{read}
-use Rattle.boss_wire.specs.Requests.{value_in}
+-- A line that writes no value is malformed.
+use Rattle.std.proofs.Common.{ℕ, List, refl}
+use Rattle.boss_model.specs.Catalogue.{Catalogue}
+use Rattle.boss_wire.specs.declared.form.Form.{Form}
+use Rattle.boss_wire.specs.Requests.{parsed}
+use Rattle.boss_json.specs.declared.unread.Unread.{Unread}
+use Rattle.boss_json.specs.declared.unread.Unread.TheVariants.{Malformed, NoMemory}
+use Rattle.boss_json.specs.Read.{IsUnread}
+use Rattle.boss_requests.specs.Given.{IsTold, refusal_of}
 
-pub value_in-text : (line : List ℕ) (d : Data) → IsUtf8 line → read line ≡ Some d → value_in line ≡ Some d
-value_in-text line d text is = rw (is_utf8-from_IsUtf8 line text, is)
-
-pub value_in-refused : (line : List ℕ) → (IsUtf8 line → read line ≡ None) → value_in line ≡ None
-value_in-refused line refused = elim (cases_Bool (is_utf8 line)) [
-  | inl text ↦ rw (text, refused (IsUtf8-from_is_utf8 line text))
-  | inr other ↦ rw other
-]
+pub told : (catalogue : Catalogue) (form : Form) (line : List ℕ) (why : Unread) → IsUnread why line → IsTold (refusal_of why) (parsed catalogue form line)
+unfolding parsed
+told catalogue form line Malformed none = rw none refl
+told catalogue form line NoMemory none = tt

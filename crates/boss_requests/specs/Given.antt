@@ -1,4 +1,5 @@
 use Rattle.std.specs.Prelude.{◌≡◌, ◌≤◌, ℕ, true, List, Result, Ok, Err}
+use Rattle.boss_model.specs.declared.answer.Refusal.TheVariants as refusal
 use Rattle.boss_model.specs.declared.state.Actuator.{Actuator}
 use Rattle.boss_model.specs.Limits.{last_session}
 use Rattle.boss_model.specs.Names.{is_name}
@@ -10,8 +11,15 @@ use Rattle.boss_wire.specs.declared.form.Op.TheVariants as op
 use Rattle.boss_wire.specs.declared.request.Ask.{Ask}
 use Rattle.boss_wire.specs.declared.request.Ask.TheVariants.{Command, Watch}
 use Rattle.boss_wire.specs.Requests.{Parsed, asks, wrong}
+use Rattle.boss_json.specs.declared.unread.Unread.{Unread}
+use Rattle.boss_json.specs.declared.unread.Unread.TheVariants as unread
 use Rattle.boss_requests.specs.declared.refusal.ReadRefusal.{ReadRefusal}
 use Rattle.boss_requests.specs.declared.refusal.ReadRefusal.TheVariants.{Refused, NoMemory}
+
+-- a line that is no value asks for nothing
+abbrev pub refusal_of : Unread → ReadRefusal
+refusal_of unread.Malformed = Refused refusal.Malformed
+refusal_of unread.NoMemory = NoMemory
 
 -- the refusal is the one that reading gives. Want of memory says nothing.
 abbrev pub IsTold : {A : Type 0} → ReadRefusal → Parsed A → Type 0

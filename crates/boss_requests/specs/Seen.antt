@@ -1,16 +1,11 @@
--- What contracts see of values.
-use Rattle.std.specs.Prelude.{ℕ, List, map}
+-- The parts of a request that contracts speak of.
+use Rattle.std.specs.Prelude.{ℕ}
 use Rattle.serde_json.specs.Data.{Data}
 use Rattle.serde_json.specs.Find.{as_str}
-use Rattle.serde_json.specs.View.{view}
-use Rattle.serde_json.specs.declared.value.Value.{Value}
 use Rattle.boss_model.specs.declared.command.Setting.{Setting}
 use Rattle.boss_model.specs.Catalogue.{Catalogue}
 use Rattle.boss_wire.specs.Keys.{write}
 use Rattle.boss_wire.specs.Requests.{Parsed, formed, point_at, setting_at, ◌>>=◌}
-
-abbrev pub views : List Value → List Data
-views values = map view values
 
 -- the point of the text at this place, which has to be a text and to name a point
 abbrev pub point_in : Catalogue → ℕ → Data → Parsed ℕ

@@ -1,5 +1,4 @@
 ghost use Rattle.std.specs.Prelude.{◌≡◌, ◌<◌, codes, length, List, IfOk, IfSome};
-ghost use Rattle.serde_json.specs.View.{view};
 ghost use Rattle.boss_wire.specs.declared.form.Form.{Form};
 ghost use Rattle.boss_wire.specs.declared.form.Form.TheVariants.{Script, FirstLine};
 ghost use Rattle.boss_wire.specs.declared.form.Op.TheVariants.{Attach, Submit, Renew, Cancel, Read, Array, Status, Notices};
@@ -17,10 +16,10 @@ use crate::keys::{
 use crate::points::{point_at, points_named};
 use crate::refusal::MALFORMED;
 use crate::writes::settings_in;
+use boss_json::JsonValue;
 use boss_model::{Command, MOST_TOLD, PointId, Txn};
 use boss_points::Catalogue;
 use boss_wire::{Ask, Form, Op};
-use serde_json::Value;
 use std::alloc::Global;
 
 /// What the text under `op` asks for.
@@ -74,13 +73,13 @@ fn common_op(text: &str) -> Option<Op>
 }
 
 /// What an object asks.
-pub(crate) fn ask_in(
+pub(crate) fn ask_in<V: JsonValue>(
     alloc: Global,
     catalogue: &Catalogue,
     op: Op,
-    value: &Value,
+    value: &V,
 ) -> Result<Ask, ReadRefusal>
-    ensures ask { Gives (λ ask. ask) result (ask_of catalogue.now op (view value.now)) }
+    ensures ask { Gives (λ ask. ask) result (ask_of catalogue.now op (V.meaning value.now)) }
     ensures allowed { IfOk result (MayAsk (actuators catalogue.now)) }
     ensures op { IfOk result (IsAskOf op) }
 {
@@ -99,8 +98,8 @@ pub(crate) fn ask_in(
     }
 }
 
-fn attach_in(value: &Value) -> Result<Ask, ReadRefusal>
-    ensures ask { Gives (λ ask. ask) result (attach_of (view value.now)) }
+fn attach_in<V: JsonValue>(value: &V) -> Result<Ask, ReadRefusal>
+    ensures ask { Gives (λ ask. ask) result (attach_of (V.meaning value.now)) }
     ensures allowed { (plant : List Actuator) → IfOk result (MayAsk plant) }
     ensures op { IfOk result (IsAskOf Attach) }
 {
@@ -108,8 +107,12 @@ fn attach_in(value: &Value) -> Result<Ask, ReadRefusal>
     Ok(Ask::Command(Command::Attach { name }))
 }
 
-fn submit_in(alloc: Global, catalogue: &Catalogue, value: &Value) -> Result<Ask, ReadRefusal>
-    ensures ask { Gives (λ ask. ask) result (submit_of catalogue.now (view value.now)) }
+fn submit_in<V: JsonValue>(
+    alloc: Global,
+    catalogue: &Catalogue,
+    value: &V,
+) -> Result<Ask, ReadRefusal>
+    ensures ask { Gives (λ ask. ask) result (submit_of catalogue.now (V.meaning value.now)) }
     ensures allowed { IfOk result (MayAsk (actuators catalogue.now)) }
     ensures op { IfOk result (IsAskOf Submit) }
 {
@@ -124,8 +127,12 @@ fn submit_in(alloc: Global, catalogue: &Catalogue, value: &Value) -> Result<Ask,
     }))
 }
 
-fn renew_in(alloc: Global, catalogue: &Catalogue, value: &Value) -> Result<Ask, ReadRefusal>
-    ensures ask { Gives (λ ask. ask) result (renew_of catalogue.now (view value.now)) }
+fn renew_in<V: JsonValue>(
+    alloc: Global,
+    catalogue: &Catalogue,
+    value: &V,
+) -> Result<Ask, ReadRefusal>
+    ensures ask { Gives (λ ask. ask) result (renew_of catalogue.now (V.meaning value.now)) }
     ensures allowed { IfOk result (MayAsk (actuators catalogue.now)) }
     ensures op { IfOk result (IsAskOf Renew) }
 {
@@ -142,8 +149,8 @@ fn renew_in(alloc: Global, catalogue: &Catalogue, value: &Value) -> Result<Ask, 
     }))
 }
 
-fn cancel_in(value: &Value) -> Result<Ask, ReadRefusal>
-    ensures ask { Gives (λ ask. ask) result (cancel_of (view value.now)) }
+fn cancel_in<V: JsonValue>(value: &V) -> Result<Ask, ReadRefusal>
+    ensures ask { Gives (λ ask. ask) result (cancel_of (V.meaning value.now)) }
     ensures allowed { (plant : List Actuator) → IfOk result (MayAsk plant) }
     ensures op { IfOk result (IsAskOf Cancel) }
 {
@@ -152,8 +159,8 @@ fn cancel_in(value: &Value) -> Result<Ask, ReadRefusal>
     Ok(Ask::Command(Command::Cancel { txn, seq }))
 }
 
-fn read_in(catalogue: &Catalogue, value: &Value) -> Result<Ask, ReadRefusal>
-    ensures ask { Gives (λ ask. ask) result (read_of catalogue.now (view value.now)) }
+fn read_in<V: JsonValue>(catalogue: &Catalogue, value: &V) -> Result<Ask, ReadRefusal>
+    ensures ask { Gives (λ ask. ask) result (read_of catalogue.now (V.meaning value.now)) }
     ensures allowed { IfOk result (MayAsk (actuators catalogue.now)) }
     ensures op { IfOk result (IsAskOf Read) }
 {
@@ -161,8 +168,8 @@ fn read_in(catalogue: &Catalogue, value: &Value) -> Result<Ask, ReadRefusal>
     Ok(Ask::Command(Command::Read { point }))
 }
 
-fn array_in(catalogue: &Catalogue, value: &Value) -> Result<Ask, ReadRefusal>
-    ensures ask { Gives (λ ask. ask) result (array_of catalogue.now (view value.now)) }
+fn array_in<V: JsonValue>(catalogue: &Catalogue, value: &V) -> Result<Ask, ReadRefusal>
+    ensures ask { Gives (λ ask. ask) result (array_of catalogue.now (V.meaning value.now)) }
     ensures allowed { IfOk result (MayAsk (actuators catalogue.now)) }
     ensures op { IfOk result (IsAskOf Array) }
 {
@@ -170,8 +177,8 @@ fn array_in(catalogue: &Catalogue, value: &Value) -> Result<Ask, ReadRefusal>
     Ok(Ask::Command(Command::Array { point }))
 }
 
-fn status_in(value: &Value) -> Result<Ask, ReadRefusal>
-    ensures ask { Gives (λ ask. ask) result (status_of (view value.now)) }
+fn status_in<V: JsonValue>(value: &V) -> Result<Ask, ReadRefusal>
+    ensures ask { Gives (λ ask. ask) result (status_of (V.meaning value.now)) }
     ensures allowed { (plant : List Actuator) → IfOk result (MayAsk plant) }
     ensures op { IfOk result (IsAskOf Status) }
 {
@@ -179,8 +186,8 @@ fn status_in(value: &Value) -> Result<Ask, ReadRefusal>
     Ok(Ask::Command(Command::Status { txn }))
 }
 
-fn notices_in(value: &Value) -> Result<Ask, ReadRefusal>
-    ensures ask { Gives (λ ask. ask) result (notices_of (view value.now)) }
+fn notices_in<V: JsonValue>(value: &V) -> Result<Ask, ReadRefusal>
+    ensures ask { Gives (λ ask. ask) result (notices_of (V.meaning value.now)) }
     ensures allowed { (plant : List Actuator) → IfOk result (MayAsk plant) }
     ensures op { IfOk result (IsAskOf Notices) }
 {
@@ -190,8 +197,8 @@ fn notices_in(value: &Value) -> Result<Ask, ReadRefusal>
     Ok(Ask::Command(Command::Notices { name, from, max }))
 }
 
-fn watch_in(value: &Value) -> Result<Ask, ReadRefusal>
-    ensures ask { Gives (λ ask. ask) result (watch_of (view value.now)) }
+fn watch_in<V: JsonValue>(value: &V) -> Result<Ask, ReadRefusal>
+    ensures ask { Gives (λ ask. ask) result (watch_of (V.meaning value.now)) }
     ensures allowed { (plant : List Actuator) → IfOk result (MayAsk plant) }
 {
     let name = process_of(value).ok_or(MALFORMED)?;
@@ -200,16 +207,16 @@ fn watch_in(value: &Value) -> Result<Ask, ReadRefusal>
 }
 
 /// The number of the transaction that a line is about.
-fn txn_of(value: &Value) -> Result<Txn, ReadRefusal>
-    ensures { Gives (λ txn. txn) result (formed (under (codes "txn") (number_from 0) (view value.now))) }
+fn txn_of<V: JsonValue>(value: &V) -> Result<Txn, ReadRefusal>
+    ensures { Gives (λ txn. txn) result (formed (under (codes "txn") (number_from 0) (V.meaning value.now))) }
 {
     let number = number_under(value, "txn").ok_or(MALFORMED)?;
     Ok(Txn(number))
 }
 
 /// The point that a line is about.
-fn point_of(catalogue: &Catalogue, value: &Value) -> Result<PointId, ReadRefusal>
-    ensures point { Gives (λ point. point) result (point_of catalogue.now (view value.now)) }
+fn point_of<V: JsonValue>(catalogue: &Catalogue, value: &V) -> Result<PointId, ReadRefusal>
+    ensures point { Gives (λ point. point) result (point_of catalogue.now (V.meaning value.now)) }
     ensures known { IfOk result (λ point. point < length catalogue.now.points) }
 {
     let name = text_under(value, "point").ok_or(MALFORMED)?;

@@ -6,11 +6,13 @@ mod blank;
 mod commands;
 mod keys;
 mod points;
+mod reader;
 mod refusal;
 mod request;
 mod writes;
 
 pub use blank::is_blank;
 pub use boss_wire::{Ask, Form, Request};
+pub use reader::{RequestReader, read_by};
 pub use refusal::ReadRefusal;
 pub use request::read_request;

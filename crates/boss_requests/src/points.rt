@@ -1,17 +1,16 @@
-ghost use Rattle.std.specs.Prelude.{◌≡◌, ◌≤◌, ◌<◌, is_some, length, All, IfOk};
+ghost use Rattle.std.specs.Prelude.{◌≡◌, ◌≤◌, ◌<◌, is_some, length, map, All, IfOk};
 ghost use Rattle.std.specs.List.{list_all};
 ghost use Rattle.serde_json.specs.Find.{as_str};
-ghost use Rattle.serde_json.specs.View.{view};
 ghost use Rattle.boss_model.specs.Limits.{most_writes};
 ghost use Rattle.boss_wire.specs.Requests.{each_from, point_at, points_of};
 ghost use Rattle.boss_requests.specs.Given.{Gives};
-ghost use Rattle.boss_requests.specs.Seen.{point_in, views};
+ghost use Rattle.boss_requests.specs.Seen.{point_in};
 
 use crate::ReadRefusal;
 use crate::refusal::MALFORMED;
+use boss_json::JsonValue;
 use boss_model::{Items, PointId, Refusal};
 use boss_points::Catalogue;
-use serde_json::Value;
 use std::alloc::Global;
 
 /// The point of this name, the one at this place among the names of the request, from 0.
@@ -30,13 +29,13 @@ pub(crate) fn point_at(
 }
 
 /// The points that texts name.
-pub(crate) fn points_named(
+pub(crate) fn points_named<V: JsonValue>(
     alloc: Global,
     catalogue: &Catalogue,
-    values: &[Value],
+    values: &[V],
 ) -> Result<Items<PointId>, ReadRefusal>
     requires { length values.now ≤ most_writes }
-    ensures points { Gives (λ points. points) result (points_of catalogue.now (views values.now)) }
+    ensures points { Gives (λ points. points) result (points_of catalogue.now (map V.meaning values.now)) }
     ensures known { IfOk result (λ points. All (λ point. point < length catalogue.now.points) points) }
     ensures few { IfOk result (λ points. length points ≤ most_writes) }
 {
@@ -47,13 +46,13 @@ pub(crate) fn points_named(
 }
 
 /// The points that values name, once each of them is known to be a text.
-fn known_points(
+fn known_points<V: JsonValue>(
     alloc: Global,
     catalogue: &Catalogue,
-    values: &[Value],
+    values: &[V],
 ) -> Result<Items<PointId>, ReadRefusal>
     requires { length values.now ≤ most_writes }
-    ensures points { Gives (λ points. points) result (each_from (point_in catalogue.now) 0 (views values.now)) }
+    ensures points { Gives (λ points. points) result (each_from (point_in catalogue.now) 0 (map V.meaning values.now)) }
     ensures known { IfOk result (λ points. All (λ point. point < length catalogue.now.points) points) }
     ensures few { IfOk result (λ points. length points ≤ most_writes) }
 {
@@ -66,17 +65,21 @@ fn known_points(
 }
 
 /// The point that a value names, the one at this place among the names of the request, from 0.
-fn point_in(catalogue: &Catalogue, index: u32, value: &Value) -> Result<PointId, ReadRefusal>
-    ensures point { Gives (λ point. point) result (point_in catalogue.now index (view value.now)) }
+fn point_in<V: JsonValue>(
+    catalogue: &Catalogue,
+    index: u32,
+    value: &V,
+) -> Result<PointId, ReadRefusal>
+    ensures point { Gives (λ point. point) result (point_in catalogue.now index (V.meaning value.now)) }
     ensures known { IfOk result (λ point. point < length catalogue.now.points) }
 {
-    let name = value.as_str().ok_or(MALFORMED)?;
+    let name = value.text().ok_or(MALFORMED)?;
     point_at(catalogue, index, name)
 }
 
 /// Whether each of the values is a text.
-fn are_texts(values: &[Value]) -> bool
-    ensures { result ≡ list_all (λ value. is_some (as_str (view value))) values.now }
+fn are_texts<V: JsonValue>(values: &[V]) -> bool
+    ensures { result ≡ list_all (λ value. is_some (as_str (V.meaning value))) values.now }
 {
-    values.iter().all(Value::is_string)
+    values.iter().all(|value| value.text().is_some())
 }

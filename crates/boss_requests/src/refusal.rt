@@ -1,6 +1,8 @@
 ghost use Rattle.std.specs.Prelude.{◌≡◌};
 ghost use Rattle.boss_requests.specs.declared.refusal.ReadRefusal.TheVariants.{NoMemory as Memory};
+ghost use Rattle.boss_requests.specs.Given.{refusal_of};
 
+use boss_json::Unread;
 use boss_model::{NoMemory, Refusal};
 use std::alloc::{AllocError, AllocFailed};
 use std::error::Error;
@@ -28,6 +30,17 @@ impl fmt::Display for ReadRefusal {
 }
 
 impl Error for ReadRefusal {}
+
+impl From<Unread> for ReadRefusal {
+    ghost from_gives = { λ why refusal. refusal ≡ refusal_of why };
+
+    fn from(why: Unread) -> Self {
+        match why {
+            Unread::Malformed => MALFORMED,
+            Unread::NoMemory => ReadRefusal::NoMemory,
+        }
+    }
+}
 
 impl From<NoMemory> for ReadRefusal {
     ghost from_gives = { λ _ refusal. refusal ≡ Memory };

@@ -1,26 +1,26 @@
 ghost use Rattle.std.specs.Prelude.{◌≡◌, ◌≤◌, IfOk, IfSome};
-ghost use Rattle.serde_json.specs.View.{view};
 ghost use Rattle.boss_model.specs.Catalogue.{actuators};
 ghost use Rattle.boss_model.specs.Limits.{last_moment};
-ghost use Rattle.boss_wire.specs.Requests.{formed, moment_of, parsed, request_of, session_of, value_in};
+ghost use Rattle.boss_wire.specs.Requests.{moment_of, parsed, request_of, session_of};
 ghost use Rattle.boss_requests.specs.Given.{Gives, IsOfForm, IsSession, MayAsk};
 
 use crate::ReadRefusal;
 use crate::commands::{ask_in, op_named};
 use crate::keys::{number_within, text_under};
 use crate::refusal::MALFORMED;
+use boss_json::{JsonValue, read_value};
 use boss_model::{LAST_MOMENT, LAST_SESSION, Refusal, SessionId};
 use boss_points::Catalogue;
 use boss_wire::{Form, Request};
-use serde_json::Value;
 use std::alloc::Global;
 
-/// What a line asks, as a line of this form, or why it is refused. Only the first line of a connection may ask to watch.
+/// What a line asks, as a line of this form, or why it is refused. Only the first line of a connection may ask to watch. The line
+/// is read by serde_json; `read_by` says the same, and is faster where there are many lines.
 ///
 /// # Errors
 ///
 /// `Refused` with `Malformed`, `UnknownOp` or `UnknownPoint`, which is the answer to the line, or `NoMemory`.
-#[tactic(auto, unfolding(boss_wire::specs::Requests::parsed))]
+#[tactic(auto, using(crate::proofs::Values::told), unfolding(boss_wire::specs::Requests::parsed))]
 pub fn read_request(
     alloc: Global,
     catalogue: &Catalogue,
@@ -33,29 +33,18 @@ pub fn read_request(
     ensures allowed { IfOk result (λ request. MayAsk (actuators catalogue.now) request.ask) }
     ensures watch { IfOk result (λ request. IsOfForm form request.ask) }
 {
-    let value = value_in(alloc, line)?;
+    let value = read_value(alloc, line)?;
     request_in(alloc, catalogue, form, &value)
 }
 
-/// The JSON value that a line writes.
-fn value_in(alloc: Global, line: &[u8]) -> Result<Value, ReadRefusal>
-    ensures { Gives view result (formed (value_in line.now)) }
-{
-    match Value::from_slice(alloc, line) {
-        Ok(value) => Ok(value),
-        Err(error) if error.is_memory() => Err(ReadRefusal::NoMemory),
-        Err(_) => Err(MALFORMED),
-    }
-}
-
 /// What a value asks.
-fn request_in(
+pub(crate) fn request_in<V: JsonValue>(
     alloc: Global,
     catalogue: &Catalogue,
     form: Form,
-    value: &Value,
+    value: &V,
 ) -> Result<Request, ReadRefusal>
-    ensures request { Gives (λ request. request) result (request_of catalogue.now form (view value.now)) }
+    ensures request { Gives (λ request. request) result (request_of catalogue.now form (V.meaning value.now)) }
     ensures on { IfOk result (λ request. IsSession form request.on) }
     ensures at { IfOk result (λ request. request.at ≤ last_moment) }
     ensures allowed { IfOk result (λ request. MayAsk (actuators catalogue.now) request.ask) }
@@ -70,8 +59,8 @@ fn request_in(
 }
 
 /// The session that a line is of.
-fn session_of(form: Form, value: &Value) -> Option<SessionId>
-    ensures session { result ≡ session_of form (view value.now) }
+fn session_of<V: JsonValue>(form: Form, value: &V) -> Option<SessionId>
+    ensures session { result ≡ session_of form (V.meaning value.now) }
     ensures within { IfSome result (IsSession form) }
 {
     match form {
@@ -84,8 +73,8 @@ fn session_of(form: Form, value: &Value) -> Option<SessionId>
 }
 
 /// The moment at which a line asks.
-fn moment_of(form: Form, value: &Value) -> Option<u64>
-    ensures moment { result ≡ moment_of form (view value.now) }
+fn moment_of<V: JsonValue>(form: Form, value: &V) -> Option<u64>
+    ensures moment { result ≡ moment_of form (V.meaning value.now) }
     ensures within { IfSome result (λ at. at ≤ last_moment) }
 {
     match form {

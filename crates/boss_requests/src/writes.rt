@@ -1,29 +1,28 @@
-ghost use Rattle.std.specs.Prelude.{◌≡◌, ◌≤◌, ◌<◌, [], codes, is_some, length, All, IfOk};
+ghost use Rattle.std.specs.Prelude.{◌≡◌, ◌≤◌, ◌<◌, [], codes, is_some, length, map, All, IfOk};
 ghost use Rattle.std.specs.List.{list_all};
-ghost use Rattle.serde_json.specs.View.{view};
 ghost use Rattle.boss_model.specs.Limits.{most_writes};
 ghost use Rattle.boss_wire.specs.Keys.{all_of, step, steps, under_or, write};
 ghost use Rattle.boss_wire.specs.Requests.{each_from, formed, settings_of};
 ghost use Rattle.boss_requests.specs.Given.{Gives};
-ghost use Rattle.boss_requests.specs.Seen.{setting_in, views};
+ghost use Rattle.boss_requests.specs.Seen.{setting_in};
 
 use crate::ReadRefusal;
-use crate::keys::{list_in, priority_of, step_in, text_under, whole_under};
+use crate::keys::{priority_of, step_in, text_under, whole_under};
 use crate::points::point_at;
 use crate::refusal::MALFORMED;
+use boss_json::JsonValue;
 use boss_model::{Items, Setting, Step};
 use boss_points::Catalogue;
-use serde_json::Value;
 use std::alloc::Global;
 
 /// The writes that values spell.
-pub(crate) fn settings_in(
+pub(crate) fn settings_in<V: JsonValue>(
     alloc: Global,
     catalogue: &Catalogue,
-    values: &[Value],
+    values: &[V],
 ) -> Result<Items<Setting>, ReadRefusal>
     requires { length values.now ≤ most_writes }
-    ensures settings { Gives (λ settings. settings) result (settings_of catalogue.now (views values.now)) }
+    ensures settings { Gives (λ settings. settings) result (settings_of catalogue.now (map V.meaning values.now)) }
     ensures known { IfOk result (λ settings. All (λ setting. setting.point < length catalogue.now.points) settings) }
     ensures count { IfOk result (λ settings. length settings ≡ length values.now) }
 {
@@ -34,13 +33,13 @@ pub(crate) fn settings_in(
 }
 
 /// The writes that values spell, once each is known to spell one.
-fn known_settings(
+fn known_settings<V: JsonValue>(
     alloc: Global,
     catalogue: &Catalogue,
-    values: &[Value],
+    values: &[V],
 ) -> Result<Items<Setting>, ReadRefusal>
     requires { length values.now ≤ most_writes }
-    ensures settings { Gives (λ settings. settings) result (each_from (setting_in catalogue.now) 0 (views values.now)) }
+    ensures settings { Gives (λ settings. settings) result (each_from (setting_in catalogue.now) 0 (map V.meaning values.now)) }
     ensures known { IfOk result (λ settings. All (λ setting. setting.point < length catalogue.now.points) settings) }
     ensures count { IfOk result (λ settings. length settings ≡ length values.now) }
 {
@@ -53,13 +52,13 @@ fn known_settings(
 }
 
 /// The write that a value spells, the one at this place among the writes of the request, from 0.
-fn setting_in(
+fn setting_in<V: JsonValue>(
     alloc: Global,
     catalogue: &Catalogue,
     index: u32,
-    value: &Value,
+    value: &V,
 ) -> Result<Setting, ReadRefusal>
-    ensures setting { Gives (λ setting. setting) result (setting_in catalogue.now index (view value.now)) }
+    ensures setting { Gives (λ setting. setting) result (setting_in catalogue.now index (V.meaning value.now)) }
     ensures known { IfOk result (λ setting. setting.point < length catalogue.now.points) }
 {
     let name = text_under(value, "point").ok_or(MALFORMED)?;
@@ -78,15 +77,15 @@ fn setting_in(
 }
 
 /// Whether each of the values spells a write, whatever its point.
-fn are_writes(values: &[Value]) -> bool
-    ensures { result ≡ list_all (λ value. is_some (write (view value))) values.now }
+fn are_writes<V: JsonValue>(values: &[V]) -> bool
+    ensures { result ≡ list_all (λ value. is_some (write (V.meaning value))) values.now }
 {
     values.iter().all(is_write)
 }
 
 /// Whether a value spells a write, whatever its point.
-fn is_write(value: &Value) -> bool
-    ensures { result ≡ is_some (write (view value.now)) }
+fn is_write<V: JsonValue>(value: &V) -> bool
+    ensures { result ≡ is_some (write (V.meaning value.now)) }
 {
     text_under(value, "point").is_some()
         && whole_under(value, "value").is_some()
@@ -96,45 +95,45 @@ fn is_write(value: &Value) -> bool
 }
 
 /// Whether a write has a well spelled reversion, or none.
-fn is_reversion(value: &Value) -> bool
-    ensures { result ≡ is_some (under_or (codes "revert") steps [] (view value.now)) }
+fn is_reversion<V: JsonValue>(value: &V) -> bool
+    ensures { result ≡ is_some (under_or (codes "revert") steps [] (V.meaning value.now)) }
 {
-    match value.get("revert") {
+    match value.under("revert") {
         Some(found) => are_steps(found),
         None => true,
     }
 }
 
 /// Whether a value is an array of steps.
-fn are_steps(value: &Value) -> bool
-    ensures { result ≡ is_some (steps (view value.now)) }
+fn are_steps<V: JsonValue>(value: &V) -> bool
+    ensures { result ≡ is_some (steps (V.meaning value.now)) }
 {
-    match list_in(value) {
+    match value.list() {
         Some(items) => all_steps(items),
         None => false,
     }
 }
 
 /// Whether each of the values is a step.
-fn all_steps(values: &[Value]) -> bool
-    ensures { result ≡ list_all (λ value. is_some (step (view value))) values.now }
+fn all_steps<V: JsonValue>(values: &[V]) -> bool
+    ensures { result ≡ list_all (λ value. is_some (step (V.meaning value))) values.now }
 {
     values.iter().all(|value| step_in(value).is_some())
 }
 
 /// The reversion of a write.
-fn reversion_of(alloc: Global, value: &Value) -> Result<Items<Step>, ReadRefusal>
-    ensures { Gives (λ steps. steps) result (formed (under_or (codes "revert") steps [] (view value.now))) }
+fn reversion_of<V: JsonValue>(alloc: Global, value: &V) -> Result<Items<Step>, ReadRefusal>
+    ensures { Gives (λ steps. steps) result (formed (under_or (codes "revert") steps [] (V.meaning value.now))) }
 {
-    match value.get("revert") {
-        Some(found) => steps_in(alloc, list_in(found).ok_or(MALFORMED)?),
+    match value.under("revert") {
+        Some(found) => steps_in(alloc, found.list().ok_or(MALFORMED)?),
         None => Ok(Items::new(alloc)),
     }
 }
 
 /// The steps that values spell.
-fn steps_in(alloc: Global, values: &[Value]) -> Result<Items<Step>, ReadRefusal>
-    ensures { Gives (λ steps. steps) result (formed (all_of step (views values.now))) }
+fn steps_in<V: JsonValue>(alloc: Global, values: &[V]) -> Result<Items<Step>, ReadRefusal>
+    ensures { Gives (λ steps. steps) result (formed (all_of step (map V.meaning values.now))) }
 {
     let mut steps = Items::new(alloc);
     for value in values {

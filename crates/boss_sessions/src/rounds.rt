@@ -47,6 +47,7 @@ pub(crate) fn round<G: Desk, S: Source, K: Sink, C: Clock>(
         (standing (entries_at (G.seen pass.new) (G.mine pass.new)) (K.taken sink.new) (K.faults sink.new) (C.given clock.new) session.new.attached session.new.last)
         result }
     ensures goes_on { IfNone result (session.new.hearing.lines < session.old.hearing.lines) }
+    ensures held { S.tells → S.held source.new ≡ S.held source.old }
     ensures read { ReadCause (S.faults source.old) (S.faults source.new) result }
     ensures written { WriteCause (K.faults sink.old) (K.faults sink.new) result }
     ensures clocked { ClockCause (C.faults clock.old) (C.faults clock.new) result }
@@ -57,6 +58,7 @@ pub(crate) fn round<G: Desk, S: Source, K: Sink, C: Clock>(
         alloc,
         catalogue,
         &mut session.hearing,
+        &mut session.requests,
         source,
         clock,
         &mut commands,

@@ -44,6 +44,7 @@ pub fn serve_connection<G: Desk, S: Source, K: Sink, C: Clock>(
         (standing (entries_at (G.seen pass.old) (G.mine pass.old)) (K.taken sink.old) (K.faults sink.old) (C.given clock.old) false 0)
         (standing (entries_at (G.seen pass.new) (G.mine pass.new)) (K.taken sink.new) (K.faults sink.new) (C.given clock.new) false 0)
         result }
+    ensures held { S.tells → S.held source.new ≡ S.held source.old }
     ensures read { ReadCause (S.faults source.old) (S.faults source.new) (Some result) }
     ensures written { WriteCause (K.faults sink.old) (K.faults sink.new) (Some result) }
     ensures clocked { ClockCause (C.faults clock.old) (C.faults clock.new) (Some result) }
@@ -86,6 +87,7 @@ fn talk<G: Desk, S: Source, K: Sink, C: Clock>(
         (standing (entries_at (G.seen pass.old) (G.mine pass.old)) (K.taken sink.old) (K.faults sink.old) (C.given clock.old) session.old.attached session.old.last)
         (standing (entries_at (G.seen pass.new) (G.mine pass.new)) (K.taken sink.new) (K.faults sink.new) (C.given clock.new) session.new.attached session.new.last)
         result }
+    ensures held { S.tells → S.held source.new ≡ S.held source.old }
     ensures read { ReadCause (S.faults source.old) (S.faults source.new) (Some result) }
     ensures written { WriteCause (K.faults sink.old) (K.faults sink.new) (Some result) }
     ensures clocked { ClockCause (C.faults clock.old) (C.faults clock.new) (Some result) }

@@ -3,6 +3,7 @@ ghost use Rattle.boss_model.specs.Limits.{most_lines};
 
 use boss_hearing::{Hearing, MOST_HELD};
 use boss_model::{Answer, Buffer, NoMemory};
+use boss_requests::RequestReader;
 use std::alloc::Global;
 
 /// How many bytes there is room for where a line is written.
@@ -12,6 +13,8 @@ const ROOM: u32 = 65_536;
 #[derive(Debug, Drop)]
 pub(crate) struct Session {
     pub(crate) hearing: Hearing,
+    /// Room for reading its requests.
+    pub(crate) requests: RequestReader,
     /// Whether an attach was accepted.
     pub(crate) attached: bool,
     /// The last moment that the clock gave, in milliseconds, and 0 before the first.
@@ -23,7 +26,8 @@ pub(crate) struct Session {
 }
 
 impl Session {
-    /// A session before its first line. It takes all the memory that it keeps.
+    /// A session before its first line. It takes all the memory that it keeps, but for the room for reading requests,
+    /// which grows up to the longest line.
     pub(crate) fn new(alloc: Global) -> Result<Session, NoMemory>
         ensures reader { IfOk result (λ session. session.hearing.reader ≡ record { line = []; ahead = []; stopped = None }) }
         ensures lines { IfOk result (λ session. session.hearing.lines ≡ most_lines) }
@@ -35,6 +39,7 @@ impl Session {
     {
         Ok(Session {
             hearing: Hearing::new(alloc)?,
+            requests: RequestReader::new(alloc),
             attached: false,
             last: 0,
             answers: Vec::with_capacity(alloc, MOST_HELD)?,

@@ -1,12 +1,31 @@
 use crate::THREE_POINTS;
 use boss_points::Catalogue;
-use boss_requests::{Ask, Form, ReadRefusal, Request, is_blank, read_request};
+use boss_requests::{
+    Ask, Form, ReadRefusal, Request, RequestReader, is_blank, read_by, read_request,
+};
 use std::alloc::{AllocError, Global};
 use std::test::Fail;
 
-/// What a line is read as: its session, its moment and what it asks, or why it is refused.
-fn reading(alloc: Global, catalogue: &Catalogue, form: Form, line: &[u8]) -> Result<String, Fail> {
-    match read_request(alloc, catalogue, line, form) {
+/// What a line is read as, by itself and by a reader that has read others.
+fn reading(
+    alloc: Global,
+    catalogue: &Catalogue,
+    form: Form,
+    line: &[u8],
+    reader: &mut RequestReader,
+) -> Result<String, Fail> {
+    let alone = told(alloc, read_request(alloc, catalogue, line, form))?;
+    let along = told(alloc, read_by(alloc, catalogue, line, form, reader))?;
+    if along.as_str() == alone.as_str() {
+        Ok(along)
+    } else {
+        Ok(format!(in alloc; "{alone} alone, and {along} along others")?)
+    }
+}
+
+/// The session, the moment and what is asked, or why a line is refused.
+fn told(alloc: Global, read: Result<Request, ReadRefusal>) -> Result<String, Fail> {
+    match read {
         Ok(request) => asked(alloc, &request),
         Err(ReadRefusal::Refused(refusal)) => Ok(format!(in alloc; "{refusal:?}")?),
         Err(ReadRefusal::NoMemory) => Err("no memory".into()),
@@ -79,6 +98,9 @@ const LINES: &str = r#"
 = 1 0 Tick
 {"op":"tick","process":7,"from":[1.5e300,null,{}],"op ":-0}
 {"\u006fp":"ti\u0063k"}
+# A long line with escapes before a short one.
+{"x":"\\\"\/\b\f\n\r\t\u00e9\ud83d\ude00, and then some more of it, up to two blocks","op":"tick"}
+{"op":"t\u0069ck"}
 # Of two equal keys the last counts.
 = 3 8 Tick
 {"op":"dance","on":0,"at":"soon","op":"tick","on":3,"at":8}
@@ -158,6 +180,8 @@ null
 {"op":"cancel","txn":1e3}
 {"op":"cancel","txn":-0}
 {"op":"tick","at":-0}
+{"op":"tick","at":1.0}
+{"op":"tick","at":18446744073709551616}
 {"op":"cancel","txn":9223372036854775808}
 {"op":"cancel","txn":18446744073709551616}
 {"op":"submit","writes":[{"point":"lamp","value":-9223372036854775809,"lease":1}]}
@@ -291,19 +315,20 @@ const ENDS: &[(&[u8], &str)] = &[
 fn a_line_is_read_as_its_request(rt: HostRuntime) -> Result<(), Fail> {
     let alloc = rt.alloc();
     let catalogue = Catalogue::read(alloc, THREE_POINTS.as_bytes())?;
+    let mut reader = RequestReader::new(alloc);
     for (form, table) in TABLES {
         for group in table.split("\n= ").skip(1) {
             let (wanted, lines) = group.split_once('\n').ok_or("a group")?;
             for line in lines.split('\n') {
                 if !line.is_empty() && !line.starts_with('#') {
-                    let read = reading(alloc, &catalogue, *form, line.as_bytes())?;
+                    let read = reading(alloc, &catalogue, *form, line.as_bytes(), &mut reader)?;
                     assert_eq!(rt; read.as_str(), wanted, "{line}");
                 }
             }
         }
     }
     for (line, wanted) in ENDS {
-        let read = reading(alloc, &catalogue, Form::Script, line)?;
+        let read = reading(alloc, &catalogue, Form::Script, line, &mut reader)?;
         assert_eq!(rt; read.as_str(), *wanted, "{line:?}");
     }
     Ok(())
@@ -356,12 +381,25 @@ fn line_of(
 fn a_line_has_its_bounds(rt: HostRuntime) -> Result<(), Fail> {
     let alloc = rt.alloc();
     let catalogue = Catalogue::read(alloc, THREE_POINTS.as_bytes())?;
+    let mut reader = RequestReader::new(alloc);
     for (front, part, other, back, most) in LONGEST {
         let longest = line_of(alloc, front, part, other, back, *most)?;
-        let read = reading(alloc, &catalogue, Form::Script, longest.as_bytes())?;
+        let read = reading(
+            alloc,
+            &catalogue,
+            Form::Script,
+            longest.as_bytes(),
+            &mut reader,
+        )?;
         assert!(rt; read.starts_with("1 0 "), "{longest}");
         let longer = line_of(alloc, front, part, other, back, most.saturating_add(1))?;
-        let read = reading(alloc, &catalogue, Form::Script, longer.as_bytes())?;
+        let read = reading(
+            alloc,
+            &catalogue,
+            Form::Script,
+            longer.as_bytes(),
+            &mut reader,
+        )?;
         assert_eq!(rt; read.as_str(), "Malformed", "{longer}");
     }
     Ok(())

@@ -19,6 +19,7 @@ loop-commands-init g c = record {
   few = grind (arith, common_steps, c.requires.none);
   fewer = omega arith;
   some = λ some. absurd (omega (arith, some, ap length c.requires.none));
+  held = λ told. refl;
   read = refl;
   clocked = refl;
 }
@@ -33,6 +34,7 @@ loop-commands-preserved g c =
       few = let one = c.take_line.ensures.one in let low = c.loop-commands-test.true in grind (arith, common_steps);
       fewer = omega (arith, c.in-Requests.ensures.goes_on, inv.fewer);
       some = λ some. omega (arith, c.in-Requests.ensures.goes_on, inv.fewer);
+      held = λ told. c.in-Requests.ensures.held told ∙ inv.held told;
       read = c.in-Requests.ensures.read ∙ inv.read;
       clocked = c.in-Requests.ensures.clocked ∙ inv.clocked;
     }
@@ -46,6 +48,7 @@ returns-in_default g c =
       may = c.take_line.ensures.may;
       few = let one = c.take_line.ensures.one in let low = c.loop-commands-test.true in grind (arith, common_steps);
       goes_on = on-then c.args.hearing.now.lines c.loop-commands.hearing.lines c.take_line.new.hearing.lines c.take_line.result inv.fewer c.take_line.ensures.goes_on;
+      held = λ told. c.take_line.ensures.held told ∙ inv.held told;
       read = subst (λ n. SourceCause n (g.S.Source.faults c.take_line.new.source) c.take_line.result) inv.read c.take_line.ensures.read;
       clocked = subst (λ n. ClockCause n (g.C.Clock.faults c.take_line.new.clock) c.take_line.result) inv.clocked c.take_line.ensures.clocked;
     }

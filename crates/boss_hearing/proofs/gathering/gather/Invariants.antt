@@ -19,6 +19,7 @@ invariant-loop-commands g l = record {
   few : length l.commands.items ≤ 16;
   fewer : l.hearing.lines ≤ l.initial.hearing.lines;
   some : 0 < length l.commands.items → l.hearing.lines < l.initial.hearing.lines;
+  held : g.S.Source.tells → g.S.Source.held l.source ≡ g.S.Source.held l.initial.source;
   read : g.S.Source.faults l.source ≡ g.S.Source.faults l.initial.source;
   clocked : g.C.Clock.faults l.clock ≡ g.C.Clock.faults l.initial.clock;
 }

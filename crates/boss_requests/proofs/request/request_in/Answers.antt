@@ -4,4 +4,4 @@ use Rattle.boss_requests.proofs.Forms.{of_form}
 use Rattle.boss_requests.proofs.request.request_in.Goals as goal
 
 pub returns-clause-watch : goal.returns-clause-watch
-returns-clause-watch c = let fits : IsOpOf c.args.form c.in_ok-op.op = search rules in of_form c.args.form c.in_ok-op.op c.in_ok-ask.ask fits c.in_ok-ask.ensures.op
+returns-clause-watch g c = let fits : IsOpOf c.args.form c.in_ok-op.op = search rules in of_form c.args.form c.in_ok-op.op c.in_ok-ask.ask fits c.in_ok-ask.ensures.op

@@ -1,13 +1,13 @@
-use Rattle.std.proofs.Common.{◌≡◌, ◌<◌, length, drop, All}
+use Rattle.std.proofs.Common.{◌≡◌, ◌<◌, length, drop, map, All}
 use Rattle.boss_wire.specs.Requests.{each_from}
-use Rattle.boss_requests.specs.Seen.{setting_in, views}
+use Rattle.boss_requests.specs.Seen.{setting_in}
 use Rattle.boss_requests.proofs.Each.{onto}
 use Rattle.boss_requests.proofs.writes.known_settings.Given as goal
 
 -- the writes so far and those to come are all; there are as many as were read
 abbrev pub invariant-loop-at : goal.invariant-loop-at
-invariant-loop-at l = record {
-  told : onto l.settings (each_from (setting_in l.catalogue) l.at (views (drop l.at l.values))) ≡ each_from (setting_in l.catalogue) 0 (views l.values);
+invariant-loop-at g l = record {
+  told : onto l.settings (each_from (setting_in l.catalogue) l.at (map g.V.JsonValue.meaning (drop l.at l.values))) ≡ each_from (setting_in l.catalogue) 0 (map g.V.JsonValue.meaning l.values);
   known : All (λ setting. setting.point < length l.catalogue.points) l.settings;
   count : length l.settings ≡ l.at;
 }

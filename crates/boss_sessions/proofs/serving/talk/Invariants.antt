@@ -18,6 +18,7 @@ invariant-loop-end g l = record {
       (place_of l.fn.session.hearing (g.S.Source.left l.fn.source)) (place_of l.session.hearing (g.S.Source.left l.source))
       (standing (entries_at (g.G.Desk.seen l.fn.pass) (g.G.Desk.mine l.fn.pass)) (g.K.Sink.taken l.fn.sink) (g.K.Sink.faults l.fn.sink) (g.C.Clock.given l.fn.clock) l.fn.session.attached l.fn.session.last)
       (standing (entries_at (g.G.Desk.seen l.pass) (g.G.Desk.mine l.pass)) (g.K.Sink.taken l.sink) (g.K.Sink.faults l.sink) (g.C.Clock.given l.clock) l.session.attached l.session.last);
+  held : g.S.Source.tells → g.S.Source.held l.source ≡ g.S.Source.held l.fn.source;
   read : g.S.Source.faults l.source ≡ g.S.Source.faults l.fn.source;
   written : g.K.Sink.faults l.sink ≡ g.K.Sink.faults l.fn.sink;
   clocked : g.C.Clock.faults l.clock ≡ g.C.Clock.faults l.fn.clock;

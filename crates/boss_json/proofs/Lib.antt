@@ -1,0 +1,4 @@
+pub mod Datas
+pub mod Found
+pub mod Lines
+pub mod Views

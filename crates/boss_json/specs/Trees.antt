@@ -1,0 +1,52 @@
+-- What a tree of `json` stands for: the data that serde_json reads of the same text, where each number is in range. (One that is
+-- too large for a float is null here; a line that has one is no value.)
+use Rattle.std.specs.Prelude.{Bool, true, ◌&&◌, Option, Some, None, is_some}
+use Rattle.json.specs.Json as json
+use Rattle.json.specs.Value.{value_view}
+use Rattle.json.specs.declared.value.Value.{Value}
+use Rattle.serde_json.specs.Data.{Num, Data, null, boolean, number, string, array, object, Items, no_items, item, Members, no_members, put}
+use Rattle.serde_json.specs.Read.{number_of}
+
+abbrev pub number_data : Option Num → Data
+number_data None = null
+number_data (Some n) = number n
+
+-- of equal keys the last stays
+abbrev mutual
+  pub data_of : json.Json → Data
+  data_of json.null = null
+  data_of (json.boolean b) = boolean b
+  data_of (json.number s) = number_data (number_of s)
+  data_of (json.string s) = string s
+  data_of (json.array js) = array (items_data js)
+  data_of (json.object ms) = object (members_data ms no_members)
+
+  pub items_data : json.Items → Items
+  items_data json.no_items = no_items
+  items_data (json.item j js) = item (data_of j) (items_data js)
+
+  -- the members, put to those that are there
+  pub members_data : json.Members → Members → Members
+  members_data json.no_members there = there
+  members_data (json.member k j ms) there = members_data ms (put k (data_of j) there)
+
+-- each number is in range
+abbrev mutual
+  pub in_range : json.Json → Bool
+  in_range json.null = true
+  in_range (json.boolean b) = true
+  in_range (json.number s) = is_some (number_of s)
+  in_range (json.string s) = true
+  in_range (json.array js) = items_in_range js
+  in_range (json.object ms) = members_in_range ms
+
+  pub items_in_range : json.Items → Bool
+  items_in_range json.no_items = true
+  items_in_range (json.item j js) = in_range j && items_in_range js
+
+  pub members_in_range : json.Members → Bool
+  members_in_range json.no_members = true
+  members_in_range (json.member k j ms) = in_range j && members_in_range ms
+
+abbrev pub view : {A : Type 0} → Value A → Data
+view value = data_of (value_view value)

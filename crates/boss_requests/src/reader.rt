@@ -1,0 +1,50 @@
+ghost use Rattle.std.specs.Prelude.{◌≤◌, IfOk};
+ghost use Rattle.boss_model.specs.Catalogue.{actuators};
+ghost use Rattle.boss_model.specs.Limits.{last_moment};
+ghost use Rattle.boss_wire.specs.Requests.{parsed};
+ghost use Rattle.boss_requests.specs.Given.{Gives, IsOfForm, IsSession, MayAsk};
+
+use crate::ReadRefusal;
+use crate::request::request_in;
+use boss_json::ValueReader;
+use boss_points::Catalogue;
+use boss_wire::{Form, Request};
+use std::alloc::Global;
+
+/// The room that reading requests takes, kept from line to line. It grows up to the longest line.
+#[derive(Debug, Drop)]
+pub struct RequestReader {
+    values: ValueReader,
+}
+
+impl RequestReader {
+    /// The room before the first line, which takes no memory.
+    pub fn new(alloc: Global) -> RequestReader {
+        RequestReader {
+            values: ValueReader::new(alloc),
+        }
+    }
+}
+
+/// What a line asks, as `read_request` says. What the reader read before does not matter.
+///
+/// # Errors
+///
+/// Those of `read_request`.
+#[tactic(auto, using(crate::proofs::Values::told), unfolding(boss_wire::specs::Requests::parsed))]
+pub fn read_by(
+    alloc: Global,
+    catalogue: &Catalogue,
+    line: &[u8],
+    form: Form,
+    reader: &mut RequestReader,
+) -> Result<Request, ReadRefusal>
+    ensures request { Gives (λ request. request) result (parsed catalogue.now form line.now) }
+    ensures on { IfOk result (λ request. IsSession form request.on) }
+    ensures at { IfOk result (λ request. request.at ≤ last_moment) }
+    ensures allowed { IfOk result (λ request. MayAsk (actuators catalogue.now) request.ask) }
+    ensures watch { IfOk result (λ request. IsOfForm form request.ask) }
+{
+    let value = reader.values.read(alloc, line)?;
+    request_in(alloc, catalogue, form, &value)
+}
