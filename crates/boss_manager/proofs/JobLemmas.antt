@@ -8,9 +8,9 @@ use Rattle.boss_outside.specs.declared.source.Source as source
 use Rattle.boss_points.specs.declared.CatalogueRefusal.{CatalogueRefusal}
 use Rattle.boss_lines.specs.declared.reader.Next.{Next}
 use Rattle.boss_lines.specs.declared.reader.Next.TheVariants.{Line, Finish, TooLong, ReadFault}
-use Rattle.boss_manager.specs.declared.broken.Broken.{Broken}
-use Rattle.boss_manager.specs.declared.broken.Broken.TheVariants.{WriteFault, NoMemory}
-use Rattle.boss_manager.specs.Causes.{status_of}
+use Rattle.boss_scripts.specs.declared.broken.Broken.{Broken}
+use Rattle.boss_scripts.specs.declared.broken.Broken.TheVariants.{WriteFault, NoMemory}
+use Rattle.boss_manager.specs.Ends.{status_of}
 use Rattle.boss_manager.specs.Jobs.{DoesScript, HadNoCatalogue, RanCatalogue, RefusedCatalogue, World}
 use Rattle.boss_manager.specs.Programs.{usable}
 

@@ -1,11 +1,4 @@
-pub mod Answering
-pub mod Fronts
-pub mod InputLemmas
 pub mod JobLemmas
-pub mod LineLemmas
 pub mod Places
-pub mod Results
-pub mod RunLemmas
-pub mod ScriptLemmas
-pub mod ServeLemmas
 pub mod StatusLemmas
+pub mod UnkeptLemmas

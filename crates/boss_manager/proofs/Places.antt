@@ -6,7 +6,7 @@ use Rattle.boss_model.specs.Catalogue.{Point}
 use Rattle.boss_manager.specs.Programs.{lacks_device, usable}
 use Rattle.boss_points.specs.Reading.{catalogue_of}
 use Rattle.boss_points.specs.declared.CatalogueRefusal.TheVariants.{TooLong}
-use Rattle.boss_manager.specs.Devices.{HasDevices}
+use Rattle.boss_scripts.specs.Devices.{HasDevices}
 
 drop-get : {X : Type 0} (xs : List X) (i : ℕ) (x : X) → slice_get xs i ≡ Some x → drop i xs ≡ x ∷ drop (i + 1) xs
 drop-get [] i x is = cc

@@ -12,8 +12,8 @@ use Rattle.boss_outside.specs.declared.source.Source as source
 use Rattle.boss_points.specs.declared.CatalogueRefusal.{CatalogueRefusal}
 use Rattle.boss_answers.specs.Refused.{refusal_line, usage_line}
 use Rattle.boss_manager.specs.Ends.{EndsScript}
-use Rattle.boss_manager.specs.Inputs.{has_too_long}
-use Rattle.boss_manager.specs.Outside.{outside}
+use Rattle.boss_scripts.specs.Ends.{has_too_long}
+use Rattle.boss_scripts.specs.Outside.{outside}
 use Rattle.boss_manager.specs.Programs.{usable}
 
 -- all that the program is given, at one moment

@@ -1,10 +1,5 @@
-pub mod Causes
-pub mod Devices
 pub mod Ends
-pub mod Inputs
 pub mod Jobs
 pub mod Loads
-pub mod Outside
 pub mod Programs
-pub mod Runs
 pub mod Scripts

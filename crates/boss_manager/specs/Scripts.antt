@@ -4,8 +4,8 @@ use Rattle.boss_model.specs.DeviceCall.{DeviceCall}
 use Rattle.boss_model.specs.Catalogue.{Catalogue, actuators}
 use Rattle.boss_wire.specs.Script.{Run, script}
 use Rattle.boss_model.specs.Settle.{first_state}
-use Rattle.boss_manager.specs.Outside.{Answered, Trace}
-use Rattle.boss_manager.specs.Runs.{dealt, IsFrontOf}
+use Rattle.boss_scripts.specs.Outside.{Answered, Trace}
+use Rattle.boss_scripts.specs.Runs.{dealt, IsFrontOf}
 
 -- the script over these lines, from the first state, where the devices answer this and the journal does not fail
 abbrev pub whole_script : Catalogue → List (List ℕ) → List Bool → Run

@@ -2,7 +2,7 @@ ghost use Rattle.std.specs.Prelude.{◌≡◌, ◌<◌, IfOk};
 ghost use Rattle.std.specs.List.{position_from};
 ghost use Rattle.boss_model.specs.Catalogue.{actuators};
 ghost use Rattle.boss_points.specs.Seen.{seen};
-ghost use Rattle.boss_manager.specs.Devices.{HasDevices};
+ghost use Rattle.boss_scripts.specs.Devices.{HasDevices};
 ghost use Rattle.boss_manager.specs.Loads.{AsksFor, FaultOnly, Loads};
 ghost use Rattle.boss_manager.specs.Programs.{lacks_device, usable};
 

@@ -1,10 +1,7 @@
 //! The program: from the words of the command line to the bytes that it writes.
 #![tactic(auto)]
 
-mod broken;
 mod catalogue;
-mod devices;
-mod draining;
 mod script;
 mod status;
 mod top_call;

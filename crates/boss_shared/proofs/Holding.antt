@@ -1,14 +1,27 @@
 -- A value that stands for a history stands for a longer one after a call.
-use Rattle.std.proofs.Common.{◌≡◌, Bool, true, false, ◌||◌, ℕ, List, [], ◌++◌, refl, sym, ap, ◌∙◌, subst, append_assoc, append-nil}
+use Rattle.std.proofs.Common.{◌≡◌, Bool, true, false, ◌||◌, ℕ, List, [], ◌∷◌, ◌++◌, refl, sym, ap, ◌∙◌, subst, append_assoc, append-nil}
 use Rattle.boss_model.specs.declared.event.Event.{Event}
 use Rattle.boss_model.specs.declared.state.Actuator.{Actuator}
 use Rattle.boss_model.specs.Sound.{IsSound}
 use Rattle.boss_model.specs.State.{Persistent, State}
 use Rattle.boss_outside.specs.Counts.{Rose}
 use Rattle.boss_history.specs.declared.entry.Entry.{Entry}
+use Rattle.boss_history.specs.declared.entry.Entry.TheVariants.{Did, Broke}
 use Rattle.boss_history.specs.History.{events, is_broken, IsLegal, run, run_tried}
 use Rattle.boss_history.proofs.Going.{run_append, events_append, broken_append, tried_append, tried_whole, legal_append}
-use Rattle.boss_shared.specs.Keeping.{Keeps, IsHeld}
+use Rattle.boss_shared.specs.Keeping.{shortened, Keeps, IsHeld}
+
+-- a history without a mark stays as it is
+pub whole_shortened : (tried : ℕ) (log : List Entry) → is_broken log ≡ false → shortened tried log ≡ log
+whole_shortened tried [] whole = refl
+whole_shortened tried (Did session command moment answer ∷ log) whole = ap (λ es. Did session command moment answer ∷ es) (whole_shortened tried log whole)
+whole_shortened tried (Broke session commands ∷ log) whole = absurd cc
+
+pub shortened_append : (tried : ℕ) (log made : List Entry) → is_broken log ≡ false → shortened tried (log ++ made) ≡ log ++ shortened tried made
+shortened_append tried [] made whole = refl
+shortened_append tried (Did session command moment answer ∷ log) made whole =
+    ap (λ es. Did session command moment answer ∷ es) (shortened_append tried log made whole)
+shortened_append tried (Broke session commands ∷ log) made whole = absurd cc
 
 module _ {V : Type 0} (plant : V → List Actuator) (state : V → State) (stopped : V → Bool) (faults : V → ℕ)
     (leaves : V → Persistent → Persistent → Type 0) (keeps : V → List Event → Type 0) where
@@ -24,7 +37,7 @@ module _ {V : Type 0} (plant : V → List Actuator) (state : V → State) (stopp
     state_is = λ _. refl;
     rose = λ on. let clash : true ≡ false = sym on ∙ off in absurd cc;
     stood = λ _. refl;
-    images = images;
+    images = (0, images);
     gained = λ _ before has. subst (keeps v) (sym (append-nil before)) has;
   }
 
@@ -43,7 +56,7 @@ module _ {V : Type 0} (plant : V → List Actuator) (state : V → State) (stopp
         state_is = λ off. absurd (never off);
         rose = λ _. subst (λ n. Rose (faults start) n) (sym (k.stood (on ∙ sym s))) (h.rose s);
         stood = λ off. absurd (never off);
-        images = k.images_stay s _ _ h.images;
+        images = (h.images.0, k.images_stay s _ _ h.images.1);
         gained = λ off. absurd (never off);
       })
 
@@ -57,11 +70,13 @@ module _ {V : Type 0} (plant : V → List Actuator) (state : V → State) (stopp
       subst (λ (q : List Actuator × State). IsLegal q.0 made q.1) (λ i. (p i, d i)) k.legal in
       let ran : run (plant old) made (state old) ≡ run (plant start) (log ++ made) (state start) =
       (λ i. run (p i) made (d i)) ∙ sym (run_append (plant start) log made (state start)) in
-      let tried : run_tried (plant old) made (state old) ≡ run_tried (plant start) (log ++ made) (state start) =
-      (λ i. run_tried (p i) made (d i)) ∙ sym (tried_append (plant start) log made (state start) whole) in
+      let tried : (n : ℕ) → run_tried (plant old) (shortened n made) (state old) ≡ run_tried (plant start) (shortened n (log ++ made)) (state start) =
+      λ n. (λ i. run_tried (p i) (shortened n made) (d i)) ∙ sym (tried_append (plant start) log (shortened n made) (state start) whole)
+      ∙ ap (λ es. run_tried (plant start) es (state start)) (sym (shortened_append n log made whole)) in
       let here : leaves old (state old).persistent (state old).persistent =
       subst (λ (q : State × State). leaves old q.0.persistent q.1.persistent)
-      (λ i. (sym d i, (tried_whole (plant start) log (state start) whole ∙ sym d) i)) h.images in
+      (λ i. (sym d i, (ap (λ es. run_tried (plant start) es (state start)) (whole_shortened h.images.0 log whole) ∙ tried_whole (plant start) log (state start) whole ∙ sym d) i)) h.images.1 in
+      let left = k.images s here (h.known.0 ++ events (plant start) log (state start)) (h.gained s h.known.0 h.known.1) in
       record {
         sound = h.sound;
         known = h.known;
@@ -71,8 +86,7 @@ module _ {V : Type 0} (plant : V → List Actuator) (state : V → State) (stopp
         state_is = λ off. k.state_is off ∙ ran;
         rose = λ on. subst (λ n. Rose n (faults new)) (h.stood s) (k.rose s on);
         stood = λ off. k.stood (off ∙ sym s) ∙ h.stood s;
-        images = subst (λ (q : State × State). leaves new q.0.persistent q.1.persistent) (λ i. (ran i, tried i))
-            (k.images s here (h.known.0 ++ events (plant start) log (state start)) (h.gained s h.known.0 h.known.1));
+        images = (left.0, subst (λ (q : State × State). leaves new q.0.persistent q.1.persistent) (λ i. (ran i, tried left.0 i)) left.1);
         gained = λ off before has.
             let all : (before ++ events (plant start) log (state start)) ++ events (plant old) made (state old) ≡ before ++ events (plant start) (log ++ made) (state start) =
             append_assoc before (events (plant start) log (state start)) (events (plant old) made (state old))

@@ -1,12 +1,19 @@
 -- A value that keeps a machine: what one call makes of it, and for which history it stands.
-use Rattle.std.specs.Prelude.{◌≡◌, Bool, true, false, ◌||◌, ℕ, List, [], ◌++◌}
+use Rattle.std.specs.Prelude.{◌≡◌, Bool, true, false, ◌||◌, ℕ, List, [], ◌∷◌, ◌++◌, take}
 use Rattle.boss_model.specs.declared.event.Event.{Event}
 use Rattle.boss_model.specs.declared.state.Actuator.{Actuator}
 use Rattle.boss_model.specs.Sound.{IsSound}
 use Rattle.boss_model.specs.State.{Persistent, State}
 use Rattle.boss_outside.specs.Counts.{Rose}
 use Rattle.boss_history.specs.declared.entry.Entry.{Entry}
+use Rattle.boss_history.specs.declared.entry.Entry.TheVariants.{Did, Broke}
 use Rattle.boss_history.specs.History.{events, is_broken, IsLegal, run, run_tried}
+
+-- the same entries, where of the commands that were under way as the disk failed only so many were tried
+abbrev pub shortened : ℕ → List Entry → List Entry
+shortened tried [] = []
+shortened tried (Did session command moment answer ∷ entries) = Did session command moment answer ∷ shortened tried entries
+shortened tried (Broke session commands ∷ entries) = Broke session (take tried commands) ∷ shortened tried entries
 
 -- What the value tells: its plant, its state, whether its disk has failed, how often, between which two parts that
 -- outlast a stop each image of the disk lies, and which events the disk has
@@ -23,9 +30,10 @@ module _ {V : Type 0} (plant : V → List Actuator) (state : V → State) (stopp
     -- the count rises where the disk fails, and nowhere else
     pub rose : stopped old ≡ false → stopped new ≡ true → Rose (faults old) (faults new)
     pub stood : stopped new ≡ stopped old → faults new ≡ faults old
-    -- what a crash would leave has all of the call's changes, or where the disk failed in it all or none
+    -- what a crash would leave has all of the call's changes, or where the disk failed in it those of all commands that were tried,
+    -- or none
     pub images : stopped old ≡ false → leaves old (state old).persistent (state old).persistent → (before : List Event) → keeps old before →
-        leaves new (run (plant old) made (state old)).persistent (run_tried (plant old) made (state old)).persistent
+        (tried : ℕ) × leaves new (run (plant old) made (state old)).persistent (run_tried (plant old) (shortened tried made) (state old)).persistent
     pub images_stay : stopped old ≡ true → (first second : Persistent) → leaves old first second → leaves new first second
     pub gained : stopped new ≡ false → (before : List Event) → keeps old before → keeps new (before ++ events (plant old) made (state old))
 
@@ -40,5 +48,5 @@ module _ {V : Type 0} (plant : V → List Actuator) (state : V → State) (stopp
     pub state_is : stopped now ≡ false → state now ≡ run (plant start) log (state start)
     pub rose : stopped now ≡ true → Rose (faults start) (faults now)
     pub stood : stopped now ≡ false → faults now ≡ faults start
-    pub images : leaves now (run (plant start) log (state start)).persistent (run_tried (plant start) log (state start)).persistent
+    pub images : (tried : ℕ) × leaves now (run (plant start) log (state start)).persistent (run_tried (plant start) (shortened tried log) (state start)).persistent
     pub gained : stopped now ≡ false → (before : List Event) → keeps start before → keeps now (before ++ events (plant start) log (state start))

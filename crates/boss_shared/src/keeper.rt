@@ -2,6 +2,7 @@ ghost use Rattle.std.specs.Prelude.{◌≡◌, ◌≤◌, ℕ, Bool, List, lengt
 ghost use Rattle.std.specs.List.{AllByRecursion};
 ghost use Rattle.boss_model.specs.declared.event.Event.{Event};
 ghost use Rattle.boss_model.specs.declared.state.Actuator.{Actuator};
+ghost use Rattle.boss_model.specs.Devices.{wanting};
 ghost use Rattle.boss_model.specs.State.{Persistent, State};
 ghost use Rattle.boss_history.specs.History.{MayCall};
 ghost use Rattle.boss_history.specs.Made.{made_by, made_by_all};
@@ -9,7 +10,7 @@ ghost use Rattle.boss_shared.specs.Calls.{is_stopped, is_stopped_rest, MayWant, 
 ghost use Rattle.boss_shared.specs.Keeping.{Keeps};
 
 use boss_history::{Outcome, Outcomes};
-use boss_model::{Answer, Command, Items, SessionId};
+use boss_model::{Answer, Command, DriverId, Items, SessionId};
 
 /// A machine that keeps what it does, as on a disk. Once its disk has failed it does no more.
 pub trait Keeper {
@@ -31,6 +32,14 @@ pub trait Keeper {
 
     /// The disk has as many events as there are in this list. Where the disk doesn't tell, this says nothing.
     ghost keeps: { Self → List Event → Type 0 };
+
+    /// The least driver that has a want.
+    fn wanting(&self) -> Option<DriverId>
+        ensures { result ≡ wanting (plant self.now) (state self.now) };
+
+    /// Whether the disk has failed in an earlier call.
+    fn has_stopped(&self) -> bool
+        ensures { result ≡ stopped self.now };
 
     /// Does a command of a session at a moment, in milliseconds. Stopped exactly where the disk failed in an earlier call;
     /// memory is wanted for a submit, an attach and notices alone.

@@ -2,8 +2,6 @@
 #![tactic(auto)]
 
 #[cfg(test)]
-mod keeper;
-#[cfg(test)]
 mod threads;
 #[cfg(test)]
 mod trials;

@@ -4,14 +4,14 @@ ghost use Rattle.boss_model.specs.declared.state.Actuator.{Actuator};
 ghost use Rattle.boss_model.specs.Sound.{IsAllowed, IsSound};
 ghost use Rattle.boss_history.specs.History.{MayCall};
 
-use crate::keeper::FailingKeeper;
 use crate::threads::{DAMPER, read_and_renew, renewal};
 use boss_history::Outcome;
 use boss_model::{
     Answer, Cause, Command, Items, Name, Policy, Refusal, SessionId, Setting, Slot, Txn,
 };
 use boss_points::Catalogue;
-use boss_shared::{Desk, Manager};
+use boss_shared::{Desk, Keeper, Manager};
+use boss_shared_keeper::FailingKeeper;
 use boss_trials::THREE_POINTS;
 use std::alloc::Global;
 use std::process::Abort;
@@ -211,8 +211,8 @@ fn tell_of_a_failing_disk<R: Abort, G: Desk>(rt: &R, alloc: Global, desk: &G, pa
 
 /// An engine of three points whose disk fails in the call after so many good ones.
 fn three_points(alloc: Global, good_calls: u64) -> Result<FailingKeeper, Fail>
-    ensures points { IfOk result (λ keeper. 0 < length keeper.engine.plant) }
-    ensures sound { IfOk result (λ keeper. IsSound keeper.engine.plant keeper.engine.state) }
+    ensures points { IfOk result (λ keeper. 0 < length keeper.unkept.engine.plant) }
+    ensures sound { IfOk result (λ keeper. IsSound keeper.unkept.engine.plant keeper.unkept.engine.state) }
     ensures running { IfOk result (λ keeper. keeper.stopped ≡ false) }
 {
     let catalogue = Catalogue::read(alloc, THREE_POINTS.as_bytes())?;

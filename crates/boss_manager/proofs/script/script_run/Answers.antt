@@ -1,6 +1,6 @@
 use Rattle.std.proofs.Common.{◌≡◌, ◌⊎◌, sym, subst}
 use Rattle.boss_manager.proofs.StatusLemmas.{completes}
-use Rattle.boss_manager.specs.Outside.{outside}
+use Rattle.boss_scripts.specs.Outside.{outside}
 use Rattle.boss_manager.proofs.script.script_run.Goals as goal
 
 pub returns : goal.returns

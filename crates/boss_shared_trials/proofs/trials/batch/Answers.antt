@@ -2,7 +2,7 @@ use Rattle.std.proofs.Common.{◌≡◌, [], ◌∷◌, ◌++◌, sym, ap, ◌�
 use Rattle.std.specs.List.{AllByRecursion}
 use Rattle.boss_model.specs.declared.command.Command.TheVariants.{Array}
 use Rattle.boss_history.specs.History.{MayCall}
-use Rattle.boss_shared_trials.proofs.Keepers.{on_ok}
+use Rattle.boss_shared_keeper.proofs.Keepers.{on_ok}
 use Rattle.boss_shared_trials.proofs.trials.batch.Goals as goal
 
 pub returns-clause-may : goal.returns-clause-may

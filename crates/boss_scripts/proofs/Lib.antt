@@ -1,0 +1,14 @@
+pub mod Answering
+pub mod CallLemmas
+pub mod CarryLemmas
+pub mod EndLemmas
+pub mod Fronts
+pub mod Going
+pub mod InputLemmas
+pub mod Keeping
+pub mod LineLemmas
+pub mod Results
+pub mod RunLemmas
+pub mod ScriptLemmas
+pub mod ServeLemmas
+pub mod StepLemmas

@@ -1,0 +1,132 @@
+use Rattle.std.proofs.Common.{◌≡◌, ◌++◌, ◌+◌, [], ◌∷◌, inl, sym, ap, subst, ◌∙◌, refl, arith}
+use Rattle.std.proofs.lemmas.List.{length-append}
+use Rattle.boss_lines.specs.Lines.{NextCause}
+use Rattle.boss_lines.proofs.LinesLemmas.{no-fault, none-left}
+use Rattle.boss_lines.proofs.TakenLemmas.{gives-lines, still-going, taken-line, taken-nothing}
+use Rattle.boss_model.specs.Catalogue.{actuators}
+use Rattle.boss_model.specs.Lines.{lines}
+use Rattle.boss_scripts.specs.Outside.{trace}
+use Rattle.boss_scripts.specs.Runs.{lines_taken, stop}
+use Rattle.boss_scripts.specs.Keepers.{Breaks}
+use Rattle.boss_scripts.proofs.InputLemmas.{none-long}
+use Rattle.boss_scripts.proofs.Keeping.{kept-nothing, kept-sound, kept-then}
+use Rattle.boss_scripts.proofs.LineLemmas.{breaks-next, through-one-more}
+use Rattle.boss_scripts.proofs.Results.{on-err}
+use Rattle.boss_scripts.proofs.RunLemmas.{did-nothing}
+use Rattle.boss_scripts.proofs.script.take_lines.Goals as goal
+
+pub loop-init : goal.loop-init
+loop-init g c = record {
+  going = inl c.requires.fresh;
+  over = λ left is. let none = c.requires.fresh in absurd cc;
+  room = refl;
+  len = refl;
+  write = refl;
+  read = refl;
+  taken = (
+    [],
+    kept-nothing g.V.Keeper c.args.keeper.now,
+    λ left. (
+      [],
+      taken-nothing (c.args.reader.now.ahead ++ g.S.Source.left c.args.source.now) c.args.reader.now.stopped,
+      refl,
+      refl,
+      λ tells start _. did-nothing stop start (trace g.K.Sink g.A.Actuators c.args.sink.now c.args.devices.now.items),
+    ),
+  );
+}
+
+pub take_line-requires-clause-plant : goal.take_line-requires-clause-plant
+take_line-requires-clause-plant g c = c.loop.invariant.taken.1.same_plant ∙ c.requires.plant
+
+pub take_line-requires-clause-sound : goal.take_line-requires-clause-sound
+take_line-requires-clause-sound g c = kept-sound g.V.Keeper _ _ _ c.loop.invariant.taken.1 c.requires.sound
+
+pub loop-preserved : goal.loop-preserved
+loop-preserved g c =
+    let inv = c.loop.invariant in
+    let did = c.in_ok-take_line-in-Line.ensures.did in
+    let line : c.next.new.self.line ≡ c.line.result.now = sym c.line.ensures.value in
+    record {
+      going = c.in-Line.ensures.stops;
+      over = λ left is.
+          none-left (c.loop.reader.ahead ++ g.S.Source.left c.loop.source) c.next.new.self.ahead (g.S.Source.left c.next.new.source) c.next.new.self.line c.next.new.self.stopped
+          (c.next.ensures.ends left c.in-Line.is) is;
+      room = c.take_line.ensures.room ∙ inv.room;
+      len = c.take_line.ensures.len ∙ inv.len;
+      write = c.in_ok-take_line-in-Line.ensures.write ∙ inv.write;
+      read = c.in-Line.ensures.cause (no-fault c.loop.reader.stopped inv.going) ∙ inv.read;
+      taken = (
+        inv.taken.0 ++ did.entries,
+        kept-then g.V.Keeper _ _ _ _ _ inv.taken.1 did.kept,
+        λ left.
+            let so = inv.taken.2 left in (
+              so.0 ++ c.next.new.self.line ∷ [],
+              taken-line _ _ _ _ _ _ _ so.1
+                  (still-going _ _ c.loop.reader.stopped c.next.result inv.going c.next.ensures.stays (λ over. let is = c.in-Line.is in absurd cc))
+                  (c.in-Line.ensures.bytes left (inv.over left)).0 (c.next.ensures.ends left c.in-Line.is),
+              length-append so.0 (c.next.new.self.line ∷ []) ∙ ap (λ n. n + 1) so.2,
+              none-long so.0 c.next.new.self.line so.3 c.line.ensures.within,
+              λ tells. through-one-more g.V.Keeper c.args.catalogue.now so.0 c.requires.plant inv.taken.1 (so.4 tells) c.next.new.self.line did.kept (rw line (did.did tells)),
+            ),
+      );
+    }
+
+pub returns-in_err-take_line-in-Line-clause-broke : goal.returns-in_err-take_line-in-Line-clause-broke
+returns-in_err-take_line-in-Line-clause-broke g c =
+    let inv = c.loop.invariant in
+    let broke = c.in_err-take_line-in-Line.ensures.broke in
+    let line : c.next.new.self.line ≡ c.line.result.now = sym c.line.ensures.value in
+    on-err c.from_residual.result _ (record {
+      entries = inv.taken.0 ++ broke.entries;
+      kept = kept-then g.V.Keeper _ _ _ _ _ inv.taken.1 broke.kept;
+      broke = λ both.
+          let so = inv.taken.2 both.0 in
+          let next = (c.in-Line.ensures.bytes both.0 (inv.over both.0)).0 in
+          subst (λ all. Breaks g.V.Keeper (actuators c.args.catalogue.now) (lines_taken c.args.catalogue.now all) c.args.keeper.now (inv.taken.0 ++ broke.entries)
+          (trace g.K.Sink g.A.Actuators c.args.sink.now c.args.devices.now.items) (trace g.K.Sink g.A.Actuators c.take_line.new.sink c.take_line.new.devices.items)) (sym (so.1.all ∙ ap (λ ls. so.0 ++ ls) next))
+          (breaks-next g.V.Keeper c.args.catalogue.now so.0 c.requires.plant inv.taken.1 (so.4 both.1) c.next.new.self.line broke.kept (lines (c.next.new.self.ahead ++ g.S.Source.left c.next.new.source)) (rw line (broke.broke both.1)));
+    })
+
+pub returns-in_default : goal.returns-in_default
+returns-in_default g c =
+    let inv = c.loop.invariant in
+    record {
+      took = record {
+        entries = inv.taken.0;
+        kept = inv.taken.1;
+        taken = λ left.
+            let so = inv.taken.2 left in (
+              so.0,
+              gives-lines _ _ _ _ _ _ _ _ c.next.result so.1 (still-going _ _ c.loop.reader.stopped c.next.result inv.going c.next.ensures.stays)
+                  (c.next.ensures.bytes left (inv.over left)) c.next.ensures.leaves (λ is. absurd (c.in_default.not-Line is)),
+              so.3,
+              so.4,
+            );
+      };
+      broke = tt;
+      write = inv.write;
+      read = subst (λ before. NextCause before (g.S.Source.faults c.next.new.source) c.next.result) inv.read (c.next.ensures.cause (no-fault c.loop.reader.stopped inv.going));
+    }
+
+pub returns-clause-took : goal.returns-clause-took
+returns-clause-took g c =
+    let inv = c.loop.invariant in
+    record {
+      entries = inv.taken.0;
+      kept = inv.taken.1;
+      taken = λ left.
+          let so = inv.taken.2 left in (
+            so.0,
+            gives-lines _ _ _ _ _ _ _ _ c.next-2.result so.1 (still-going _ _ c.loop.reader.stopped c.next-2.result inv.going c.next-2.ensures.stays)
+                (c.next-2.ensures.bytes left (inv.over left)) c.next-2.ensures.leaves
+                (λ is. (omega (arith, so.2, c.loop.auto.counter-end, c.loop-test.false), (c.next-2.new.self.stopped, c.next-2.ensures.ends left is))),
+            so.3,
+            so.4,
+          );
+    }
+
+pub returns-clause-read : goal.returns-clause-read
+returns-clause-read g c =
+    let inv = c.loop.invariant in
+    subst (λ before. NextCause before (g.S.Source.faults c.next-2.new.source) c.next-2.result) inv.read (c.next-2.ensures.cause (no-fault c.loop.reader.stopped inv.going))

@@ -1,0 +1,7 @@
+pub mod Causes
+pub mod Devices
+pub mod Ends
+pub mod Keepers
+pub mod Outside
+pub mod Runs
+pub mod Scripts

@@ -1,0 +1,70 @@
+ghost use Rattle.std.specs.Prelude.{◌≡◌, false, IfOk};
+ghost use Rattle.boss_model.specs.Catalogue.{actuators};
+ghost use Rattle.boss_model.specs.Settle.{first_state};
+ghost use Rattle.boss_model.specs.Sound.{IsSound};
+
+use crate::stepping::step_all;
+use boss_engine::Engine;
+use boss_history::{Outcome, Outcomes};
+use boss_model::{Answer, Command, DriverId, Items, NoMemory, SessionId};
+use boss_points::Catalogue;
+use boss_shared::Keeper;
+use std::alloc::Global;
+
+/// An engine that keeps nothing. It has no disk, so it never stops.
+#[derive(Drop)]
+pub struct Unkept {
+    engine: Engine,
+}
+
+impl Unkept {
+    /// The engine of a catalogue before anything was done.
+    pub fn new(alloc: Global, catalogue: &Catalogue) -> Result<Unkept, NoMemory>
+        ensures new { IfOk result (λ keeper. keeper.engine
+            ≡ record { plant = actuators catalogue.now; state = first_state (actuators catalogue.now) }) }
+        ensures sound { IfOk result (λ keeper. IsSound keeper.engine.plant keeper.engine.state) }
+    {
+        Ok(Unkept {
+            engine: Engine::new(alloc, catalogue)?,
+        })
+    }
+}
+
+impl Keeper for Unkept {
+    ghost plant = { λ keeper. keeper.engine.plant };
+
+    ghost state = { λ keeper. keeper.engine.state };
+
+    ghost stopped = { λ keeper. false };
+
+    ghost faults = { λ keeper. 0 };
+
+    ghost leaves = { λ keeper first second. Unit {0} };
+
+    ghost keeps = { λ keeper events. Unit {0} };
+
+    fn wanting(&self) -> Option<DriverId> {
+        self.engine.wanting()
+    }
+
+    fn has_stopped(&self) -> bool {
+        false
+    }
+
+    fn apply(&mut self, session: SessionId, command: &Command, moment: u64) -> Outcome {
+        match self.engine.step(session, command, moment) {
+            Ok((answer, _)) => Outcome::Done { answer },
+            Err(NoMemory) => Outcome::NoMemory,
+        }
+    }
+
+    fn apply_all(
+        &mut self,
+        session: SessionId,
+        commands: &Items<(Command, u64)>,
+        answers: &mut Vec<Answer>,
+    ) -> Outcomes {
+        answers.clear();
+        step_all(&mut self.engine, session, commands.slice(), answers)
+    }
+}
