@@ -1,0 +1,5 @@
+pub mod Holds
+pub mod Refusals
+pub mod Two
+pub mod Finds
+pub mod Makes
