@@ -1,0 +1,230 @@
+-- What a call owes for what it did: where it was stopped before, where nothing was done, where commands were done, and where a disk
+-- failed.
+use Rattle.std.proofs.Common.{◌≡◌, inl, inr, Bool, true, false, ◌||◌, ℕ, ◌+◌, List, [], ◌∷◌, ◌++◌, length, take, refl, sym, ap, ◌∙◌, subst, arith, append-nil, length-append}
+use Rattle.std.specs.List.{AllByRecursion}
+use Rattle.boss_disk.specs.declared.disk.Disk as disk
+use Rattle.boss_history.specs.declared.entry.Entry.{Entry}
+use Rattle.boss_history.specs.declared.entry.Entry.TheVariants.{Broke}
+use Rattle.boss_history.specs.History.{events, is_broken, run, run_tried, stepped, IsLegal, MayCall}
+use Rattle.boss_history.proofs.Going.{tried_whole}
+use Rattle.boss_model.specs.declared.command.Command.{Command}
+use Rattle.boss_model.specs.declared.event.Event.{Event}
+use Rattle.boss_model.specs.declared.state.Actuator.{Actuator}
+use Rattle.boss_model.specs.State.{Persistent, State}
+use Rattle.boss_outside.specs.Counts.{Rose}
+use Rattle.boss_shared.specs.Keeping.{shortened}
+use Rattle.boss_shared.proofs.Holding.{whole_shortened}
+use Rattle.boss_two_disks.specs.Causes.{Counts, counts_of, OneRose}
+use Rattle.boss_two_disks.specs.declared.two_disks.TwoDisks.{TwoDisks}
+use Rattle.boss_two_disks.specs.Rests as pair
+use Rattle.boss_two_disks.proofs.Words as words
+use Rattle.boss_durable.specs.declared.batch.Batch.{Batch}
+use Rattle.boss_durable.specs.declared.durable.Durable.{Durable}
+use Rattle.boss_durable.specs.Taken.{Taken}
+use Rattle.boss_engine.specs.Running.{Running}
+use Rattle.boss_durable.specs.Words.{lasting, keeps, leaves, passes, faults, Does, RunsThrough}
+
+never : (b : Bool) → b ≡ true → b ≡ false → ⊥
+never b on off = let clash : true ≡ false = sym on ∙ off in cc
+
+pub rose_sum : (before now : Counts) → OneRose before now → Rose (before.first + before.second) (now.first + now.second)
+rose_sum before now (inl rose) = omega (arith, rose.0, rose.1)
+rose_sum before now (inr rose) = omega (arith, rose.0, rose.1)
+
+-- where no disk failed, all that was tried was done
+tried_same : (plant : List Actuator) (made : List Entry) (s : State) → is_broken made ≡ false → run_tried plant (shortened 0 made) s ≡ run plant made s
+tried_same plant made s whole = ap (λ es. run_tried plant es s) (whole_shortened 0 made whole) ∙ tried_whole plant made s whole
+
+module _ {D : Type 0} {g : disk.Ghosts D} where
+  -- ---- words
+
+  pub keeps_leaves : (durable : Durable D g) (before : List Event) → keeps durable before → leaves durable (lasting durable) (lasting durable)
+  unfolding keeps leaves
+  keeps_leaves durable before held = words.rests_leaves durable.disks durable.engine.plant (lasting durable) (length before) held
+
+  pub keeps_passes : (durable : Durable D g) (before : List Event) → keeps durable before → passes durable durable (lasting durable) (lasting durable)
+  unfolding keeps passes
+  keeps_passes durable before held = words.rests_passes durable.disks durable.engine.plant (lasting durable) (length before) held
+
+  -- ---- calls
+
+  pub idle_does : (durable : Durable D g) (made : List Entry) → durable.disks.stopped ≡ true → made ≡ [] → Does durable durable made
+  idle_does durable made on nil = subst (Does durable durable) (sym nil) (record {
+    legal = tt;
+    same_plant = refl;
+    marked = on ∙ sym (ap (λ b. b || false) on);
+    none = λ _. refl;
+    state_is = λ off. absurd (never durable.disks.stopped on off);
+    rose = λ off _. absurd (never durable.disks.stopped on off);
+    stood = λ _. refl;
+    images = λ off. absurd (never durable.disks.stopped on off);
+    images_stay = λ _ first second there. there;
+    gained = λ off. absurd (never durable.disks.stopped on off);
+  })
+
+  gained_there : (old new : Durable D g) (more : List Event) → new.engine.plant ≡ old.engine.plant →
+      ((count : ℕ) → pair.rests old.disks old.engine.plant (lasting old) count → pair.rests new.disks old.engine.plant (lasting new) (count + length more)) →
+      (before : List Event) → keeps old before → keeps new (before ++ more)
+  unfolding keeps
+  gained_there old new more same rests before held =
+      subst (λ (q : List Actuator × ℕ). pair.rests new.disks q.0 (lasting new) q.1) (λ i. (sym same i, sym (length-append before more) i)) (rests (length before) held)
+
+  -- commands were done, and the disks rest at what they made
+  pub done_does : (old new : Durable D g) (made : List Entry) (batch : Batch) → old.disks.stopped ≡ false → new.disks.stopped ≡ false →
+      new.engine.plant ≡ old.engine.plant → counts_of new.disks ≡ counts_of old.disks → Taken old.engine.plant made old.engine.state new.engine.state batch →
+      ((count : ℕ) → pair.rests old.disks old.engine.plant (lasting old) count →
+      pair.rests new.disks old.engine.plant (lasting new) (count + length (events old.engine.plant made old.engine.state))) →
+      Does old new made
+  done_does old new made batch off on same stood taken rests =
+      let gains : (before : List Event) → keeps old before → keeps new (before ++ events old.engine.plant made old.engine.state) =
+      gained_there old new (events old.engine.plant made old.engine.state) same rests in
+      record {
+        legal = taken.legal;
+        same_plant = same;
+        marked = on ∙ sym (λ i. off i || taken.whole i);
+        none = λ was. absurd (never old.disks.stopped was off);
+        state_is = λ _. taken.state_is;
+        rose = λ _ stops. absurd (never new.disks.stopped stops on);
+        stood = λ _. ap (λ counts. counts.first + counts.second) stood;
+        images = λ _ _ before held. (
+          0,
+          subst (λ (q : State × State). leaves new q.0.persistent q.1.persistent)
+              (λ i. (taken.state_is i, (taken.state_is ∙ sym (tried_same old.engine.plant made old.engine.state taken.whole)) i))
+              (keeps_leaves new _ (gains before held)),
+        );
+        images_stay = λ was. absurd (never old.disks.stopped was off);
+        gained = λ _ before held. gains before held;
+      }
+
+  -- a disk failed while these commands were tried
+  fault_does : (old new : Durable D g) (session tried : ℕ) (calls : List (Command × ℕ)) → old.disks.stopped ≡ false → new.disks.stopped ≡ true →
+      new.engine.plant ≡ old.engine.plant → OneRose (counts_of old.disks) (counts_of new.disks) → AllByRecursion (MayCall old.engine.plant) calls →
+      ((before : List Event) → keeps old before → leaves new (lasting old) (stepped old.engine.plant session (take tried calls) old.engine.state).persistent) →
+      Does old new (Broke session calls ∷ [])
+  fault_does old new session tried calls off on same rose may there = record {
+    legal = (may, refl, tt);
+    same_plant = same;
+    marked = on ∙ sym (ap (λ b. b || true) off);
+    none = λ was. absurd (never old.disks.stopped was off);
+    state_is = λ not. absurd (never new.disks.stopped on not);
+    rose = λ _ _. rose_sum (counts_of old.disks) (counts_of new.disks) rose;
+    stood = λ equal. absurd (never new.disks.stopped on (equal ∙ off));
+    images = λ _ _ before held. (tried, there before held);
+    images_stay = λ was. absurd (never old.disks.stopped was off);
+    gained = λ not. absurd (never new.disks.stopped on not);
+  }
+
+  -- after a beginning that left all as it was
+  pub begun_does : (old mid new : Durable D g) (made : List Entry) → old.disks.stopped ≡ false → mid.disks.stopped ≡ false → mid.engine ≡ old.engine →
+      counts_of mid.disks ≡ counts_of old.disks → ((before : List Event) → keeps old before → keeps mid before) → Does mid new made → Does old new made
+  begun_does old mid new made off begun same stood still k = record {
+    legal = subst (λ (e : Running). IsLegal e.plant made e.state) same k.legal;
+    same_plant = k.same_plant ∙ ap (λ e. e.plant) same;
+    marked = k.marked ∙ ap (λ b. b || is_broken made) (begun ∙ sym off);
+    none = λ was. absurd (never old.disks.stopped was off);
+    state_is = λ on. subst (λ (e : Running). new.engine.state ≡ run e.plant made e.state) same (k.state_is on);
+    rose = λ _ stops. subst (λ (n : ℕ). Rose n (faults new)) (ap (λ counts. counts.first + counts.second) stood) (k.rose begun stops);
+    stood = λ equal. k.stood (equal ∙ off ∙ sym begun) ∙ ap (λ counts. counts.first + counts.second) stood;
+    images = λ _ _ before held.
+        let left = k.images begun (keeps_leaves mid before (still before held)) before (still before held) in
+        (left.0, subst (λ (e : Running). leaves new (run e.plant made e.state).persistent (run_tried e.plant (shortened left.0 made) e.state).persistent) same left.1);
+    images_stay = λ was. absurd (never old.disks.stopped was off);
+    gained = λ on before held. subst (λ (e : Running). keeps new (before ++ events e.plant made e.state)) same (k.gained on before (still before held));
+  }
+
+  pub begun_runs : (old mid new : Durable D g) (made : List Entry) → mid.engine ≡ old.engine → ((before : List Event) → keeps old before → keeps mid before) →
+      ((before : List Event) → keeps old before → passes old mid (lasting old) (lasting old)) → RunsThrough mid new made → RunsThrough old new made
+  unfolding passes
+  begun_runs old mid new made same still first then before held =
+      let ran = then before (still before held) in (
+        ran.0,
+        words.passes_before old.disks mid.disks new.disks old.engine.plant (lasting old) _ (first before held)
+            (subst (λ (e : Running). pair.passes mid.disks new.disks e.plant e.state.persistent (run_tried e.plant (shortened ran.0 made) e.state).persistent) same ran.1),
+      )
+
+  -- ---- nothing done
+
+  same_does : (durable : Durable D g) → durable.disks.stopped ≡ false → Does durable durable []
+  same_does durable off = record {
+    legal = tt;
+    same_plant = refl;
+    marked = off ∙ sym (ap (λ b. b || false) off);
+    none = λ _. refl;
+    state_is = λ _. refl;
+    rose = λ _ stops. absurd (never durable.disks.stopped stops off);
+    stood = λ _. refl;
+    images = λ _ left before held. (0, left);
+    images_stay = λ _ first second there. there;
+    gained = λ _ before held. subst (keeps durable) (sym (append-nil before)) held;
+  }
+
+  pub unmoved_does : (old new : Durable D g) → old.disks.stopped ≡ false → new.disks.stopped ≡ false → new.engine ≡ old.engine → counts_of new.disks ≡ counts_of old.disks →
+      ((before : List Event) → keeps old before → keeps new before) → Does old new []
+  unmoved_does old new off on same stood still = begun_does old new new [] off on same stood still (same_does new on)
+
+  pub unmoved_keeps : (old new : Durable D g) → new.engine ≡ old.engine → new.disks ≡ old.disks → (before : List Event) → keeps old before → keeps new before
+  unfolding keeps
+  unmoved_keeps old new same disks before held =
+      subst (λ (q : TwoDisks D g × Running). pair.rests q.0 q.1.plant q.1.state.persistent (length before)) (λ i. (sym disks i, sym same i)) held
+
+  pub unmoved_runs : (old new : Durable D g) → new.disks ≡ old.disks → RunsThrough old new []
+  unfolding keeps passes
+  unmoved_runs old new disks before held = (
+    0,
+    subst (λ (x : TwoDisks D g). pair.passes old.disks x old.engine.plant (lasting old) (lasting old)) (sym disks)
+        (words.rests_passes old.disks old.engine.plant (lasting old) (length before) held),
+  )
+
+  pub idle_runs : (durable : Durable D g) → RunsThrough durable durable []
+  idle_runs durable before held = (0, keeps_passes durable before held)
+
+  -- ---- while commands were done, or tried
+
+  pub done_runs : (old new : Durable D g) (made : List Entry) (batch : Batch) → Taken old.engine.plant made old.engine.state new.engine.state batch →
+      ((count : ℕ) → pair.rests old.disks old.engine.plant (lasting old) count → pair.passes old.disks new.disks old.engine.plant (lasting old) (lasting new)) →
+      RunsThrough old new made
+  unfolding keeps passes
+  done_runs old new made batch taken runs before held = (
+    0,
+    subst (λ (s : State). pair.passes old.disks new.disks old.engine.plant (lasting old) s.persistent)
+        (taken.state_is ∙ sym (tried_same old.engine.plant made old.engine.state taken.whole)) (runs (length before) held),
+  )
+
+  pub failed_runs : (old new : Durable D g) (session tried : ℕ) (calls : List (Command × ℕ)) →
+      new.engine.state ≡ stepped old.engine.plant session (take tried calls) old.engine.state →
+      ((count : ℕ) → pair.rests old.disks old.engine.plant (lasting old) count → pair.passes old.disks new.disks old.engine.plant (lasting old) (lasting new)) →
+      RunsThrough old new (Broke session calls ∷ [])
+  unfolding keeps passes
+  failed_runs old new session tried calls came runs before held = (
+    tried,
+    subst (λ (s : State). pair.passes old.disks new.disks old.engine.plant (lasting old) s.persistent) came (runs (length before) held),
+  )
+
+  failed_leaves : (old new : Durable D g) (session : ℕ) (calls : List (Command × ℕ)) → new.engine.plant ≡ old.engine.plant →
+      new.engine.state ≡ stepped old.engine.plant session calls old.engine.state →
+      ((count : ℕ) → pair.rests old.disks old.engine.plant (lasting old) count → pair.passes old.disks new.disks old.engine.plant (lasting old) (lasting new)) →
+      (before : List Event) → keeps old before → leaves new (lasting old) (stepped old.engine.plant session calls old.engine.state).persistent
+  unfolding keeps leaves
+  failed_leaves old new session calls same came runs before held =
+      subst (λ (q : List Actuator × State). pair.leaves new.disks q.0 (lasting old) q.1.persistent) (λ i. (sym same i, came i))
+      (words.passes_leaves old.disks new.disks old.engine.plant (lasting old) (lasting new) (runs (length before) held))
+
+  -- a disk failed behind the steps of so many of these commands
+  pub failed_does : (old new : Durable D g) (session tried : ℕ) (calls : List (Command × ℕ)) → old.disks.stopped ≡ false → new.disks.stopped ≡ true →
+      new.engine.plant ≡ old.engine.plant → OneRose (counts_of old.disks) (counts_of new.disks) → AllByRecursion (MayCall old.engine.plant) calls →
+      new.engine.state ≡ stepped old.engine.plant session (take tried calls) old.engine.state →
+      ((count : ℕ) → pair.rests old.disks old.engine.plant (lasting old) count → pair.passes old.disks new.disks old.engine.plant (lasting old) (lasting new)) →
+      Does old new (Broke session calls ∷ [])
+  failed_does old new session tried calls off on same rose may came runs =
+      fault_does old new session tried calls off on same rose may (failed_leaves old new session (take tried calls) same came runs)
+
+  -- a disk failed before any step
+  pub unbegun_does : (old new : Durable D g) (session : ℕ) (calls : List (Command × ℕ)) → old.disks.stopped ≡ false → new.disks.stopped ≡ true →
+      new.engine ≡ old.engine → OneRose (counts_of old.disks) (counts_of new.disks) → AllByRecursion (MayCall old.engine.plant) calls →
+      ((before : List Event) → keeps old before → leaves new (lasting old) (lasting old)) → Does old new (Broke session calls ∷ [])
+  unbegun_does old new session calls off on same rose may left =
+      fault_does old new session 0 calls off on (ap (λ e. e.plant) same) rose may left
+
+  pub unbegun_runs : (old new : Durable D g) (session : ℕ) (calls : List (Command × ℕ)) →
+      ((before : List Event) → keeps old before → passes old new (lasting old) (lasting old)) → RunsThrough old new (Broke session calls ∷ [])
+  unbegun_runs old new session calls runs before held = (0, runs before held)

@@ -1,0 +1,4 @@
+pub mod Doing
+pub mod Events
+pub mod ManyDone
+pub mod Takings

@@ -1,0 +1,4 @@
+pub mod Begun
+pub mod Reached
+pub mod Taken
+pub mod Words

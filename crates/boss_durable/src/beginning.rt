@@ -1,0 +1,45 @@
+ghost use Rattle.std.specs.Prelude.{◌≡◌, ◌≢◌, ◌+◌, ◌≤◌, false, List};
+ghost use Rattle.boss_durable.specs.Begun.{BegunCause, is_fault};
+ghost use Rattle.boss_durable.specs.Words.{keeps, lasting, leaves, log, passes};
+ghost use Rattle.boss_model.specs.declared.event.Event.{Event};
+ghost use Rattle.boss_two_disks.specs.Causes.{counts_of};
+
+use crate::Durable;
+use boss_disk::Disk;
+
+/// How many bytes the log has to have room for as a call begins: more than any record has.
+pub const MOST_ROOM: u64 = 65_536;
+
+/// How a call begins.
+#[derive(Clone, Copy, Debug, PartialEq, Eq)]
+pub enum Begun {
+    /// The log has room for a record.
+    Ready,
+    /// It has not, and no memory was to be had for a kept state to begin a new one with. Nothing has changed.
+    NoMemory,
+    /// A disk failed.
+    DiskFault,
+}
+
+impl<D: Disk> Durable<D> {
+    /// Sees to room in the log for a record. The engine stays as it is, and what the disks stand for too.
+    pub(crate) fn begin(&mut self) -> Begun
+        requires { self.old.disks.stopped ≡ false }
+        ensures keeps { (before : List Event) → keeps self.old before → result ≢ Begun.DiskFault → keeps self.new before }
+        ensures leaves { (before : List Event) → keeps self.old before → leaves self.new (lasting self.old) (lasting self.old) }
+        ensures passes { (before : List Event) → keeps self.old before → passes self.old self.new (lasting self.old) (lasting self.old) }
+        ensures engine { self.new.engine ≡ self.old.engine }
+        ensures limit { self.new.log_limit ≡ self.old.log_limit }
+        ensures cause { BegunCause (counts_of self.old.disks) (counts_of self.new.disks) result }
+        ensures stops { self.new.disks.stopped ≡ is_fault result }
+        ensures memory { result ≡ Begun.NoMemory → self.new ≡ self.old }
+        ensures room { result ≡ Begun.Ready → log self.new + 65536 ≤ self.new.log_limit }
+        ensures still { log self.old + 65536 ≤ self.old.log_limit → (result ≡ Begun.Ready) × (self.new ≡ self.old) }
+    {
+        // The log can't be begun anew: no kept state is made.
+        if self.log_limit - MOST_ROOM < self.disks.log() {
+            return Begun::NoMemory;
+        }
+        Begun::Ready
+    }
+}

@@ -1,0 +1,67 @@
+ghost use Rattle.std.specs.Prelude.{◌≡◌, ◌≤◌, ◌<◌, ℕ, false, List, length};
+ghost use Rattle.boss_durable.specs.Words.{keeps, lasting, leaves};
+ghost use Rattle.boss_model.specs.declared.event.Event.{Event};
+ghost use Rattle.boss_model.specs.Limits.{last_number};
+ghost use Rattle.boss_model.specs.Plants.{IsPlant};
+ghost use Rattle.boss_model.specs.Sound.{IsSound};
+ghost use Rattle.boss_model.specs.State.{Persistent};
+ghost use Rattle.boss_pairs.specs.Pairs.{OpensCleanly};
+ghost use Rattle.boss_two_disks.specs.Causes.{first_disk, second_disk};
+ghost use Rattle.boss_two_disks.specs.Images.{OpensToOne};
+ghost use Rattle.boss_two_disks.specs.Rests.{rests};
+
+use crate::Durable;
+use crate::batch::Batch;
+use crate::machine::Machine;
+use boss_disk::Disk;
+use boss_engine::Engine;
+use boss_model::Buffer;
+use boss_two_disks::TwoDisks;
+use std::alloc::Global;
+
+impl<D: Disk> Durable<D> {
+    /// An engine and disks that stand for what lasts of it, together. Records are put together in the buffer, and a log may
+    /// have `log_limit` bytes.
+    pub fn resting(
+        alloc: Global,
+        engine: Engine,
+        disks: TwoDisks<D>,
+        buffer: Buffer,
+        log_limit: u64,
+    ) -> Durable<D>
+        requires plant { IsPlant engine.plant }
+        requires sound { IsSound engine.plant engine.state }
+        requires version { disks.journal.version ≡ 2 }
+        requires room { buffer.capacity ≡ 65536 }
+        requires limit { 131072 ≤ log_limit }
+        ensures keeps { (events : List Event) → rests disks engine.plant engine.state.persistent (length events) → keeps result events }
+        ensures leaves { (events : List Event) → rests disks engine.plant engine.state.persistent (length events) →
+            leaves result (lasting result) (lasting result) }
+        ensures engine { result.engine ≡ engine }
+        ensures disks { result.disks ≡ disks }
+        ensures limit { result.log_limit ≡ log_limit }
+    {
+        Durable {
+            alloc,
+            engine: Machine::new(engine),
+            disks,
+            batch: Batch {
+                bytes: buffer,
+                events: 0,
+            },
+            log_limit,
+        }
+    }
+
+    /// The disks, the first and the second. Those of a value at rest are clean, and open to what lasts of the engine; any others
+    /// to what they may leave.
+    pub fn close(self) -> (D, D)
+        ensures disks { (result.0 ≡ first_disk self.disks) × (result.1 ≡ second_disk self.disks) }
+        ensures opens { D.tells → (events : List Event) → keeps self events → length events < last_number →
+            OpensCleanly self.engine.plant self.disks.digest (lasting self) (length events) (D.reads result.0) (D.reads result.1) }
+        ensures left { D.tells → (a b : Persistent) → leaves self a b →
+            OpensToOne self.engine.plant self.disks.digest a b (D.reads result.0) (D.reads result.1) }
+    {
+        self.disks.close()
+    }
+}

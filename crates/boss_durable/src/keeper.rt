@@ -1,0 +1,42 @@
+ghost use Rattle.boss_durable.specs.Words.{faults, keeps, leaves};
+
+use crate::Durable;
+use boss_disk::Disk;
+use boss_history::{Outcome, Outcomes};
+use boss_model::{Answer, Command, DriverId, Items, SessionId};
+use boss_shared::Keeper;
+
+impl<D: Disk> Keeper for Durable<D> {
+    ghost plant = { λ durable. durable.engine.plant };
+
+    ghost state = { λ durable. durable.engine.state };
+
+    ghost stopped = { λ durable. durable.disks.stopped };
+
+    ghost faults = { λ durable. faults durable };
+
+    ghost leaves = { λ durable first second. leaves durable first second };
+
+    ghost keeps = { λ durable events. keeps durable events };
+
+    fn apply(&mut self, session: SessionId, command: &Command, moment: u64) -> Outcome {
+        Durable::apply(self, session, command, moment)
+    }
+
+    fn apply_all(
+        &mut self,
+        session: SessionId,
+        commands: &Items<(Command, u64)>,
+        answers: &mut Vec<Answer>,
+    ) -> Outcomes {
+        Durable::apply_all(self, session, commands, answers)
+    }
+
+    fn wanting(&self) -> Option<DriverId> {
+        Durable::wanting(self)
+    }
+
+    fn has_stopped(&self) -> bool {
+        self.stopped()
+    }
+}

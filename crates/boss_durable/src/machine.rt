@@ -1,0 +1,73 @@
+ghost use Rattle.std.specs.Prelude.{◌≡◌, true, Some, IfOk, OnErr};
+ghost use Rattle.boss_bytes.specs.Events.{event};
+ghost use Rattle.boss_durable.specs.Begun.{may_want};
+ghost use Rattle.boss_durable.specs.Reached.{IsReached};
+ghost use Rattle.boss_history.specs.History.{MayCall};
+ghost use Rattle.boss_model.specs.declared.event.Event.{Event};
+ghost use Rattle.boss_model.specs.Effects.{event_of, step_effect};
+ghost use Rattle.boss_model.specs.Machine.{step};
+ghost use Rattle.boss_model.specs.Plants.{IsPlant};
+ghost use Rattle.boss_model.specs.Sound.{IsSound};
+
+use boss_engine::Engine;
+use boss_model::{Answer, Command, Effect, NoMemory, SessionId};
+use std::marker::Model;
+
+/// An engine of a catalogue's points, in a state that can be reached.
+///
+/// A contract sees it as it sees the engine: as the plant and the state of the machine.
+#[derive(Drop)]
+pub struct Machine {
+    engine: Engine,
+}
+
+impl Model for Machine {
+    ghost use Rattle.boss_engine.specs.Running.{Running};
+
+    ghost Value = { Running };
+
+    ghost view = { λ machine. machine.engine };
+
+    ghost use Rattle.boss_durable.specs.Reached.{IsReached};
+
+    ghost invariant = { λ machine. IsReached machine.engine };
+}
+
+impl Machine {
+    pub fn new(engine: Engine) -> Machine
+        requires plant { IsPlant engine.plant }
+        requires sound { IsSound engine.plant engine.state }
+        ensures { result ≡ engine }
+    {
+        Machine { engine }
+    }
+
+    /// The engine, to be asked.
+    pub fn engine(&self) -> &Engine
+        ensures is { result.now ≡ self.now }
+        ensures reached { IsReached self.now }
+    {
+        &self.engine
+    }
+
+    /// Carries a session's command out at a moment. Its event has a spelling. No memory is to be had only for a submit, an attach
+    /// of a new name or notices, and then nothing has changed.
+    pub fn step(
+        &mut self,
+        session: SessionId,
+        command: &Command,
+        moment: u64,
+    ) -> Result<(Answer, Effect), NoMemory>
+        requires { MayCall self.old.plant (command.now, moment) }
+        ensures answer { IfOk result (λ told. told.0 ≡ (step self.old.plant session command.now moment self.old.state).answer) }
+        ensures effect { IfOk result (λ told. told.1 ≡ step_effect self.old.plant session command.now moment self.old.state) }
+        ensures state { IfOk result (λ _. self.new.state ≡ (step self.old.plant session command.now moment self.old.state).state) }
+        ensures reached { IsReached self.old }
+        ensures fits { (e : Event) → event_of command.now (step_effect self.old.plant session command.now moment self.old.state) ≡ Some e → event.fits e ≡ true }
+        ensures plant { self.new.plant ≡ self.old.plant }
+        ensures err { OnErr result (self.new ≡ self.old) }
+        ensures wants { OnErr result (may_want self.old.state command.now ≡ true) }
+    {
+        self.engine.step(session, command, moment)
+    }
+}
