@@ -8,7 +8,8 @@ use Rattle.boss_workers.specs.Waits.{one_pause_more, CloseCause}
 use Rattle.boss_history.specs.declared.entry.Entry.{Entry}
 use Rattle.boss_expiry.specs.declared.end.WorkEnd.{WorkEnd}
 use Rattle.boss_expiry.specs.declared.end.WorkEnd.TheVariants.{Finished, Closed, ClockFault, Stopped, DiskFault}
-use Rattle.boss_expiry.specs.Ends.{paused, ClockCause, EndCause, TookTurns}
+use Rattle.boss_lanes.specs.Waits.{paused}
+use Rattle.boss_expiry.specs.Ends.{ClockCause, EndCause, TookTurns}
 use Rattle.boss_drive.specs.Driving.{Write, Turn, idle, served, nothing, Made, made_in, left_by, both, made_by, Stand, Gained, is_served, IsTurn, IsCutTurn, IsNoDisk, DiskCause, idles, Driven}
 
 abbrev pub none_made : Made

@@ -1,3 +1,4 @@
 pub mod Asking
 pub mod Gains
+pub mod Laning
 pub mod Turns

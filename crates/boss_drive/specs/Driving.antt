@@ -9,7 +9,8 @@ use Rattle.boss_history.specs.declared.entry.Entry.TheVariants.{Did}
 use Rattle.boss_history.specs.History.{is_broken}
 use Rattle.boss_expiry.specs.declared.end.WorkEnd.{WorkEnd}
 use Rattle.boss_expiry.specs.declared.end.WorkEnd.TheVariants.{Finished, Closed, ClockFault, Stopped, DiskFault}
-use Rattle.boss_expiry.specs.Ends.{mark, paused, TookTurns}
+use Rattle.boss_lanes.specs.Waits.{paused}
+use Rattle.boss_expiry.specs.Ends.{mark, TookTurns}
 
 -- a want that was handed out at a moment, and whether its device took it
 pub record Write : Type 0 where

@@ -2,8 +2,10 @@
 //! reports whether the device took it.
 #![tactic(auto)]
 
+mod adding;
 mod driving;
 mod turn;
 mod want;
 
+pub use adding::a_drive_adds_to_its_lane;
 pub use driving::drive;

@@ -1,2 +1,3 @@
+pub mod Beating
 pub mod Ending
 pub mod Turns

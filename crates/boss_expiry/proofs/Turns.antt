@@ -10,7 +10,8 @@ use Rattle.boss_history.specs.declared.entry.Entry.{Entry}
 use Rattle.boss_history.specs.declared.entry.Entry.TheVariants.{Did}
 use Rattle.boss_expiry.specs.declared.end.WorkEnd.{WorkEnd}
 use Rattle.boss_expiry.specs.declared.end.WorkEnd.TheVariants.{Finished, Closed, ClockFault, Stopped, DiskFault}
-use Rattle.boss_expiry.specs.Ends.{mark, paused, unused, ClockCause, EndCause, IsCut, TookTurns}
+use Rattle.boss_lanes.specs.Waits.{paused}
+use Rattle.boss_expiry.specs.Ends.{mark, unused, ClockCause, EndCause, IsCut, TookTurns}
 use Rattle.boss_expiry.specs.Ticking.{ticks, moments, Expired, Ticked}
 
 ticks_append : (xs ys : List (ℕ × Answer)) → ticks (xs ++ ys) ≡ ticks xs ++ ticks ys

@@ -1,8 +1,7 @@
 -- Why a worker ended, and what its last turn left that was cut by the end.
-use Rattle.std.specs.Prelude.{◌≡◌, ℕ, zero, suc, ◌<◌, Bool, true, List, [], ◌∷◌, ◌++◌}
+use Rattle.std.specs.Prelude.{◌≡◌, ℕ, ◌<◌, Bool, true, List, [], ◌∷◌, ◌++◌}
 use Rattle.boss_model.specs.declared.command.Command.{Command}
 use Rattle.boss_outside.specs.Counts.{Rose}
-use Rattle.boss_workers.specs.Waits.{one_pause_more}
 use Rattle.boss_history.specs.declared.entry.Entry.{Entry}
 use Rattle.boss_history.specs.declared.entry.Entry.TheVariants.{Broke}
 use Rattle.boss_history.specs.History.{is_broken}
@@ -32,11 +31,6 @@ TookTurns taken turns Closed = taken < turns
 TookTurns taken turns ClockFault = taken < turns
 TookTurns taken turns Stopped = taken < turns
 TookTurns taken turns DiskFault = taken < turns
-
--- the number of pauses after so many more
-abbrev pub paused : ℕ → ℕ → ℕ
-paused zero pauses = pauses
-paused (suc n) pauses = one_pause_more (paused n pauses)
 
 -- a last reading of the clock that has no entry
 abbrev pub unused : ℕ → WorkEnd → List ℕ

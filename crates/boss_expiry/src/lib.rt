@@ -2,10 +2,12 @@
 //! nobody calls.
 #![tactic(auto)]
 
+mod adding;
 mod calls;
 mod end;
 mod expiry;
 
+pub use adding::passing_time_adds_to_its_lane;
 pub use calls::work;
 pub use end::WorkEnd;
 pub use expiry::expire;

@@ -1,6 +1,6 @@
 -- What a connection adds is all of its session, and at moments that its clock gave.
-use Rattle.std.proofs.Common.{◌≡◌, ℕ, zero, suc, ◌<◌, Bool, true, false, not, List, [], ◌∷◌, ◌++◌, length, map, Option, Some, None, refl, ap, sym, ◌∙◌, subst, arith}
-use Rattle.std.specs.List.{AllByRecursion, filter}
+use Rattle.std.proofs.Common.{◌≡◌, ℕ, zero, suc, ◌<◌, Bool, true, false, List, [], ◌∷◌, ◌++◌, length, map, Option, Some, None, refl, ap, sym, ◌∙◌, subst, arith}
+use Rattle.std.specs.List.{AllByRecursion}
 use Rattle.std.proofs.lemmas.Bool.Decides.{nat_tests}
 use Rattle.std.proofs.lemmas.List.{append-nil, length-append}
 use Rattle.boss_model.specs.declared.answer.Answer.{Answer}
@@ -11,11 +11,10 @@ use Rattle.boss_model.specs.Lists.{member}
 use Rattle.boss_history.specs.declared.entry.Entry.{Entry}
 use Rattle.boss_history.specs.declared.entry.Entry.TheVariants.{Did}
 use Rattle.boss_history.specs.History.{deeds}
-use Rattle.boss_lanes.specs.Lanes.{of_session, lane_of, only}
-use Rattle.boss_lanes.specs.Parts.{is_untimed, AreTimed, Added}
-use Rattle.boss_lanes.proofs.Choices.{only-append}
+use Rattle.boss_lanes.specs.Lanes.{of_session, lane_of}
+use Rattle.boss_lanes.specs.Parts.{AreTimed, Added}
 use Rattle.boss_lanes.proofs.Lists.{each-append}
-use Rattle.boss_lanes.proofs.Moments.{timed-front, timed-behind}
+use Rattle.boss_lanes.proofs.Moments.{both-timed, one-timed, timed-front, timed-behind, timed-next}
 use Rattle.boss_workers.specs.Hosts.{Served}
 use Rattle.boss_talks.specs.Speech.{Reply, of_answer, of_memory, of_stop, Speech, watches, Exchange, unread, refused, called, line_in, text_in, deeds_of, deeds_in, moments_of, moments_in, last_or, attached_in, parting_of, entry_of}
 use Rattle.boss_talks.specs.Talks.{Told, Standing, Talked, Exchanged, IsEnded, IsTalkOf, spoken}
@@ -55,13 +54,6 @@ watch-lane plant session name from (turn ∷ turns) some =
 
 -- ---- moments
 
-both-timed : (given : List ℕ) (xs ys : List Entry) → AreTimed given xs → AreTimed given ys → AreTimed given (xs ++ ys)
-both-timed given xs ys first then = only-append (is_untimed given) xs ys ∙ ap (λ front. front ++ only (is_untimed given) ys) first ∙ then
-
-one-timed : (given : List ℕ) (session moment : ℕ) (asked : Command) (answer : Answer) → member moment given ≡ true → AreTimed given (Did session asked moment answer ∷ [])
-one-timed given session moment asked answer there =
-    ap (λ b. filter (λ entry. b) (Did session asked moment answer ∷ [])) (ap not there)
-
 exchange-timed : (session : ℕ) (exchange : Exchange) → AreTimed (moments_of exchange) (deeds_of session exchange)
 exchange-timed session (unread line) = refl
 exchange-timed session (refused line why) = refl
@@ -95,11 +87,8 @@ parting-timed session talk unused (Some given) false is none = absurd (let no : 
 
 watch-timed : (session : ℕ) (name : List ℕ) (from : ℕ) (turns : List (ℕ × Answer)) → AreTimed (map (λ turn. turn.0) turns) (watched_in session name from turns)
 watch-timed session name from [] = refl
-watch-timed session name from (turn ∷ turns) = both-timed (turn.0 ∷ map (λ other. other.0) turns) (Did session (command.Notices (Some name) from most_watched) turn.0 turn.1 ∷ [])
-    (watched_in session name (next_from from turn.1) turns)
-    (timed-front (turn.0 ∷ []) (map (λ other. other.0) turns) (Did session (command.Notices (Some name) from most_watched) turn.0 turn.1 ∷ [])
-    (one-timed (turn.0 ∷ []) session turn.0 (command.Notices (Some name) from most_watched) turn.1 (grind (arith, nat_tests))))
-    (timed-behind (turn.0 ∷ []) (map (λ other. other.0) turns) (watched_in session name (next_from from turn.1) turns) (watch-timed session name (next_from from turn.1) turns))
+watch-timed session name from (turn ∷ turns) = timed-next session turn.0 (command.Notices (Some name) from most_watched) turn.1 (map (λ other. other.0) turns)
+    (watched_in session name (next_from from turn.1) turns) (watch-timed session name (next_from from turn.1) turns)
 
 -- ---- what a connection adds
 

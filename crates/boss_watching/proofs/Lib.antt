@@ -1,4 +1,5 @@
 pub mod CallLemmas
+pub mod Called
 pub mod Ending
 pub mod Growing
 pub mod Lines

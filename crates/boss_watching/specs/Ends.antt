@@ -1,8 +1,8 @@
 -- Why a connection is watched for no longer.
-use Rattle.std.specs.Prelude.{◌≡◌, ℕ, ◌<◌, Bool, true, List}
+use Rattle.std.specs.Prelude.{◌≡◌, ℕ, ◌<◌, Bool, true, List, length}
 use Rattle.boss_outside.specs.Counts.{Rose}
 use Rattle.boss_history.specs.declared.entry.Entry.{Entry}
-use Rattle.boss_history.specs.History.{is_broken}
+use Rattle.boss_history.specs.History.{deeds, is_broken}
 use Rattle.boss_watching.specs.declared.end.WatchEnd.{WatchEnd}
 use Rattle.boss_watching.specs.declared.end.WatchEnd.TheVariants.{Idle, Closed, WriteFault, ClockFault, Stopped, DiskFault, NoMemory}
 use Rattle.boss_watching.specs.Turns.{Lasts}
@@ -33,6 +33,13 @@ abbrev pub IdleCause : ℕ → ℕ → WatchEnd → Type 0
 IdleCause idle quiet Idle = quiet ≡ idle
 IdleCause idle quiet NoMemory = Unit {0}
 IdleCause idle quiet other = quiet < idle
+
+-- a call at least was answered, unless the clock, the disk or want of memory was the end, or there was to be no turn
+abbrev pub HasCalled : ℕ → List Entry → List Entry → WatchEnd → Type 0
+HasCalled idle old new Idle = 0 < idle → length (deeds old) < length (deeds new)
+HasCalled idle old new Closed = length (deeds old) < length (deeds new)
+HasCalled idle old new WriteFault = length (deeds old) < length (deeds new)
+HasCalled idle old new other = Unit {0}
 
 -- The turns up to the end
 pub record Lasted (idle : ℕ) (old new : List Entry) (pausing : Type 0) (pauses pauses' : ℕ) (end : WatchEnd) : Type 0 where

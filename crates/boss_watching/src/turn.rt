@@ -4,7 +4,7 @@ ghost use Rattle.boss_lock.specs.Places.{entries_at};
 ghost use Rattle.boss_history.specs.History.{run};
 ghost use Rattle.boss_talks.specs.Talks.{standing};
 ghost use Rattle.boss_talks.specs.Watching.{Watched, Watches};
-ghost use Rattle.boss_watching.specs.Ends.{ClockCause, DiskCause, IsCut, WriteCause};
+ghost use Rattle.boss_watching.specs.Ends.{ClockCause, DiskCause, HasCalled, IsCut, WriteCause};
 ghost use Rattle.boss_watching.specs.Notes.{GoesOn, notes, sent};
 ghost use Rattle.boss_watching.specs.Turns.{AddsTold, AddsTurn};
 
@@ -59,6 +59,7 @@ pub fn take_turn<G: Desk, K: Sink, C: Clock>(
         (standing (entries_at (G.seen pass.new) (G.mine pass.new)) (K.taken sink.new) (K.faults sink.new) (C.given clock.new) false 0)) }
     ensures cut { IfErr result IsCut }
     ensures added { IfErr result (λ end. AddsTold (entries_at (G.seen pass.old) (G.mine pass.old)) (entries_at (G.seen pass.new) (G.mine pass.new))) }
+    ensures called { IfErr result (HasCalled 0 (entries_at (G.seen pass.old) (G.mine pass.old)) (entries_at (G.seen pass.new) (G.mine pass.new))) }
     ensures clock_cause { IfErr result (ClockCause (C.faults clock.old) (C.faults clock.new)) }
     ensures write_cause { IfErr result (WriteCause (K.faults sink.old) (K.faults sink.new)) }
     ensures disk_cause { IfErr result (DiskCause (G.seen pass.new)) }

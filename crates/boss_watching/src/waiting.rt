@@ -4,7 +4,7 @@ ghost use Rattle.boss_lock.specs.Places.{entries_at};
 ghost use Rattle.boss_history.specs.History.{run};
 ghost use Rattle.boss_talks.specs.Talks.{standing};
 ghost use Rattle.boss_talks.specs.Watching.{Watched, Watches};
-ghost use Rattle.boss_watching.specs.Ends.{ClockCause, CloseCause, DiskCause, Lasted, WriteCause};
+ghost use Rattle.boss_watching.specs.Ends.{ClockCause, CloseCause, DiskCause, HasCalled, Lasted, WriteCause};
 ghost use Rattle.boss_watching.specs.Notes.{GoesOn, notes, sent};
 ghost use Rattle.boss_watching.specs.Turns.{Lasts};
 
@@ -56,6 +56,7 @@ pub fn await_notices<G: Desk, K: Sink, C: Clock, W: Waiter>(
         (standing (entries_at (G.seen pass.new) (G.mine pass.new)) (K.taken sink.new) (K.faults sink.new) (C.given clock.new) false 0)) }
     ensures lasted { IfErr result (Lasted idle (entries_at (G.seen pass.old) (G.mine pass.old)) (entries_at (G.seen pass.new) (G.mine pass.new))
         W.tells (W.pauses waiter.old) (W.pauses waiter.new)) }
+    ensures called { IfErr result (HasCalled idle (entries_at (G.seen pass.old) (G.mine pass.old)) (entries_at (G.seen pass.new) (G.mine pass.new))) }
     ensures clock_cause { IfErr result (ClockCause (C.faults clock.old) (C.faults clock.new)) }
     ensures write_cause { IfErr result (WriteCause (K.faults sink.old) (K.faults sink.new)) }
     ensures disk_cause { IfErr result (DiskCause (G.seen pass.new)) }

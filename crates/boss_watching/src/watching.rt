@@ -3,7 +3,7 @@ ghost use Rattle.boss_model.specs.Catalogue.{actuators};
 ghost use Rattle.boss_lock.specs.Places.{entries_at};
 ghost use Rattle.boss_talks.specs.Talks.{standing};
 ghost use Rattle.boss_talks.specs.Watching.{Watched};
-ghost use Rattle.boss_watching.specs.Ends.{ClockCause, CloseCause, DiskCause, Lasted, WriteCause};
+ghost use Rattle.boss_watching.specs.Ends.{ClockCause, CloseCause, DiskCause, HasCalled, Lasted, WriteCause};
 ghost use Rattle.boss_watching.specs.Notes.{notes};
 
 use crate::WatchEnd;
@@ -45,6 +45,7 @@ pub fn watch_connection<G: Desk, K: Sink, C: Clock, W: Waiter>(
         (standing (entries_at (G.seen pass.new) (G.mine pass.new)) (K.taken sink.new) (K.faults sink.new) (C.given clock.new) false 0) }
     ensures lasted { Lasted idle (entries_at (G.seen pass.old) (G.mine pass.old)) (entries_at (G.seen pass.new) (G.mine pass.new))
         W.tells (W.pauses waiter.old) (W.pauses waiter.new) result }
+    ensures called { HasCalled idle (entries_at (G.seen pass.old) (G.mine pass.old)) (entries_at (G.seen pass.new) (G.mine pass.new)) result }
     ensures clock { ClockCause (C.faults clock.old) (C.faults clock.new) result }
     ensures write { WriteCause (K.faults sink.old) (K.faults sink.new) result }
     ensures disk { DiskCause (G.seen pass.new) result }

@@ -4,6 +4,7 @@ use Rattle.boss_model.specs.declared.answer.Answer.TheVariants as answer
 use Rattle.boss_lock.specs.Places.{entries_at}
 use Rattle.boss_talks.specs.Talks.{standing, Told}
 use Rattle.boss_watching.specs.Notes.{is_some_list, note_line, notes}
+use Rattle.boss_watching.proofs.Called.{called-call, one-longer}
 use Rattle.boss_watching.proofs.Lines.{err-front, err-rose, err-said, ok-calm, ok-whole}
 use Rattle.boss_watching.proofs.Turning.{adds-turn, told-cut, watched-turn, watched-unused, watches-turn}
 use Rattle.boss_watching.proofs.turn.take_turn.Goals as goal
@@ -57,3 +58,9 @@ returns-clause-watches g c =
     c.tell_notices.result fine (c.tell_notices.ensures.bytes tells)
     ∙ ap (λ ns. g.K.Sink.taken c.args.sink.now ++ flat_map (note_line c.args.catalogue.now) ns) c.slice-notices.ensures)
     (ok-calm (g.K.Sink.faults c.args.sink.now) (g.K.Sink.faults c.tell_notices.new.sink) c.tell_notices.result fine c.tell_notices.ensures.cause)
+
+pub returns-in-Err-clause-called : goal.returns-in-Err-clause-called
+returns-in-Err-clause-called g c = called-call c.in-Err.end (entries_at (g.G.Desk.seen c.args.pass.now) (g.G.Desk.mine c.args.pass.now)) (entries_at (g.G.Desk.seen c.ask.new.pass) (g.G.Desk.mine c.ask.new.pass)) c.in-Err.ensures.call
+
+pub returns-then-is_err-clause-called : goal.returns-then-is_err-clause-called
+returns-then-is_err-clause-called g c = one-longer (entries_at (g.G.Desk.seen c.args.pass.now) (g.G.Desk.mine c.args.pass.now)) (entries_at (g.G.Desk.seen c.ask.new.pass) (g.G.Desk.mine c.ask.new.pass)) _ c.in-Ok-ask.ensures.done.1

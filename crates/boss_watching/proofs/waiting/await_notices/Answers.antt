@@ -5,6 +5,7 @@ use Rattle.boss_talks.specs.Talks.{standing}
 use Rattle.boss_talks.proofs.WatchLemmas.{watches-nothing, watches-then}
 use Rattle.boss_watching.specs.Notes.{GoesOn, notes, sent}
 use Rattle.boss_watching.specs.Turns.{AddsTurn}
+use Rattle.boss_watching.proofs.Called.{called-cut, lasts-called, lasts-longer, one-longer}
 use Rattle.boss_watching.proofs.Ending.{began-more, lasted-cut, not-closed, lasts-nothing, lasts-quiet, lasts-then, lasts-told}
 use Rattle.boss_watching.proofs.Turning.{watched-behind, watched-whole}
 use Rattle.boss_watching.proofs.waiting.await_notices.Goals as goal
@@ -72,3 +73,18 @@ loop-quiet-preserved g c = record {
         ∙ c.loop-quiet.invariant.closes (omega (arith, less))
   ];
 }
+
+-- a call at least was answered
+pub returns-in-Err-clause-called : goal.returns-in-Err-clause-called
+returns-in-Err-clause-called g c = called-cut c.args.idle (entries_at (g.G.Desk.seen c.args.pass.now) (g.G.Desk.mine c.args.pass.now)) (entries_at (g.G.Desk.seen c.loop-quiet.pass) (g.G.Desk.mine c.loop-quiet.pass)) (entries_at (g.G.Desk.seen c.take_turn.new.pass) (g.G.Desk.mine c.take_turn.new.pass)) c.in-Err.end
+    (lasts-longer c.args.idle g.W.Waiter.tells c.loop-quiet.quiet (entries_at (g.G.Desk.seen c.args.pass.now) (g.G.Desk.mine c.args.pass.now)) (entries_at (g.G.Desk.seen c.loop-quiet.pass) (g.G.Desk.mine c.loop-quiet.pass)) (g.W.Waiter.pauses c.args.waiter.now) (g.W.Waiter.pauses c.loop-quiet.waiter) c.loop-quiet.invariant.lasts) c.in-Err.ensures.cut c.in-Err.ensures.called
+
+pub returns-then-quiet-idle-clause-called : goal.returns-then-quiet-idle-clause-called
+returns-then-quiet-idle-clause-called g c =
+    let before = lasts-longer c.args.idle g.W.Waiter.tells c.loop-quiet.quiet (entries_at (g.G.Desk.seen c.args.pass.now) (g.G.Desk.mine c.args.pass.now)) (entries_at (g.G.Desk.seen c.loop-quiet.pass) (g.G.Desk.mine c.loop-quiet.pass)) (g.W.Waiter.pauses c.args.waiter.now) (g.W.Waiter.pauses c.loop-quiet.waiter) c.loop-quiet.invariant.lasts in
+    let one = one-longer (entries_at (g.G.Desk.seen c.loop-quiet.pass) (g.G.Desk.mine c.loop-quiet.pass)) (entries_at (g.G.Desk.seen c.take_turn.new.pass) (g.G.Desk.mine c.take_turn.new.pass)) c.in-Ok.ensures.adds.entry c.in-Ok.ensures.adds.grew in
+    omega (arith, before, one)
+
+pub returns-clause-called : goal.returns-clause-called
+returns-clause-called g c = λ some. lasts-called c.args.idle g.W.Waiter.tells c.loop-quiet.quiet (entries_at (g.G.Desk.seen c.args.pass.now) (g.G.Desk.mine c.args.pass.now)) (entries_at (g.G.Desk.seen c.loop-quiet.pass) (g.G.Desk.mine c.loop-quiet.pass)) (g.W.Waiter.pauses c.args.waiter.now) (g.W.Waiter.pauses c.loop-quiet.waiter) c.loop-quiet.invariant.lasts
+    (omega (arith, some, c.loop-quiet-test.false))

@@ -6,6 +6,7 @@ use Rattle.boss_talks.specs.Talks.{standing}
 use Rattle.boss_talks.proofs.WatchLemmas.{watches-nothing, watches-then}
 use Rattle.boss_watching.specs.Ends.{ClockCause, CloseCause, WriteCause}
 use Rattle.boss_watching.specs.Notes.{notes, sent}
+use Rattle.boss_watching.proofs.Called.{called-behind, lasts-longer}
 use Rattle.boss_watching.proofs.Ending.{comes-less, lasted-behind, lasts-nothing, lasts-then}
 use Rattle.boss_watching.proofs.Turning.{watched-behind, watched-whole}
 use Rattle.boss_watching.proofs.watching.watch_connection.Goals as goal
@@ -61,3 +62,7 @@ loop-later-preserved g c = record {
 
 pub loop-later-smaller : goal.loop-later-smaller
 loop-later-smaller g c = comes-less c.loop-later.next c.in-Ok-await_notices.later (sent c.args.name.now (run (g.G.Desk.plant c.args.desk.now) (g.G.Desk.seen c.loop-later.pass) (g.G.Desk.opening c.args.desk.now))) (sent c.args.name.now (run (g.G.Desk.plant c.args.desk.now) (g.G.Desk.seen c.await_notices.new.pass) (g.G.Desk.opening c.args.desk.now))) c.loop-later.invariant.some (omega arith) c.in-Ok-await_notices.ensures.goes_on
+
+pub returns-in-Err-clause-called : goal.returns-in-Err-clause-called
+returns-in-Err-clause-called g c = called-behind c.args.idle (entries_at (g.G.Desk.seen c.args.pass.now) (g.G.Desk.mine c.args.pass.now)) (entries_at (g.G.Desk.seen c.loop-later.pass) (g.G.Desk.mine c.loop-later.pass)) (entries_at (g.G.Desk.seen c.await_notices.new.pass) (g.G.Desk.mine c.await_notices.new.pass)) c.in-Err.end
+    (lasts-longer c.args.idle g.W.Waiter.tells 0 (entries_at (g.G.Desk.seen c.args.pass.now) (g.G.Desk.mine c.args.pass.now)) (entries_at (g.G.Desk.seen c.loop-later.pass) (g.G.Desk.mine c.loop-later.pass)) (g.W.Waiter.pauses c.args.waiter.now) (g.W.Waiter.pauses c.loop-later.waiter) c.loop-later.invariant.lasts) c.in-Err.ensures.called

@@ -1,0 +1,19 @@
+-- What the worker that drives the devices of a driver has done, as its lane has it.
+use Rattle.std.specs.Prelude.{◌≡◌, ℕ, List}
+use Rattle.boss_model.specs.DeviceCall.{DeviceCall}
+use Rattle.boss_history.specs.declared.entry.Entry.{Entry}
+use Rattle.boss_history.specs.History.{deeds}
+use Rattle.boss_lanes.specs.Waits.{paused}
+use Rattle.boss_expiry.specs.declared.end.WorkEnd.{WorkEnd}
+use Rattle.boss_drive.specs.Driving.{Turn, Cut, Leaves, made_by, left_by, idles}
+
+-- the entries and the calls of the devices are those of turns, of which the last may be cut; there is one pause for each turn
+-- without a want, of a waiter that tells them
+pub record IsDriveOf (driver : ℕ) (calls : List DeviceCall) (pausing : Type 0) (pauses : ℕ) (entries : List Entry) : Type 0 where
+  pub turns : List Turn
+  pub last : Cut
+  pub end : WorkEnd
+  pub fits : Leaves end last
+  pub entries_are : entries ≡ deeds (made_by driver turns (left_by driver end last)).entries
+  pub calls_are : calls ≡ (made_by driver turns (left_by driver end last)).calls
+  pub waited : pausing → pauses ≡ paused (idles turns) 0

@@ -1,0 +1,6 @@
+pub mod CauseLemmas
+pub mod DutyLemmas
+pub mod FlagLemmas
+pub mod LeftLemmas
+pub mod VisitLemmas
+pub mod WorkerLemmas

@@ -1,0 +1,5 @@
+pub mod Desks
+pub mod Saying
+pub mod Troubles
+pub mod Visits
+pub mod Workers

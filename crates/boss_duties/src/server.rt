@@ -1,0 +1,12 @@
+use boss_points::Catalogue;
+
+/// What the workers of a server have in common.
+#[derive(Drop)]
+pub struct Server<'a, G> {
+    /// Where they have their commands done.
+    pub desk: G,
+    /// The points, by which lines are read and answers told.
+    pub catalogue: &'a Catalogue,
+    /// How many of them serve connections: 1 to 32.
+    pub workers: u32,
+}
