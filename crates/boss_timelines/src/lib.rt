@@ -9,6 +9,8 @@ mod endings;
 #[cfg(test)]
 mod limits;
 #[cfg(test)]
+mod load;
+#[cfg(test)]
 mod outside;
 #[cfg(test)]
 mod scripts;
