@@ -46,6 +46,28 @@ module _ {D : Type 0} {g : disk.Ghosts D} where
   unfolding keeps passes
   keeps_passes durable before held = words.rests_passes durable.disks durable.engine.plant (lasting durable) (length before) held
 
+  -- ---- a log begun anew
+
+  pub anew_keeps : (old new : Durable D g) → new.engine ≡ old.engine →
+      ((count : ℕ) → pair.rests old.disks old.engine.plant (lasting old) count → pair.rests new.disks old.engine.plant (lasting old) count) →
+      (before : List Event) → keeps old before → keeps new before
+  unfolding keeps
+  anew_keeps old new same rests before held =
+      subst (λ (e : Running). pair.rests new.disks e.plant e.state.persistent (length before)) (sym same) (rests (length before) held)
+
+  pub anew_leaves : (old new : Durable D g) → new.engine ≡ old.engine →
+      ((count : ℕ) → pair.rests old.disks old.engine.plant (lasting old) count → pair.leaves new.disks old.engine.plant (lasting old) (lasting old)) →
+      (before : List Event) → keeps old before → leaves new (lasting old) (lasting old)
+  unfolding keeps leaves
+  anew_leaves old new same left before held =
+      subst (λ (e : Running). pair.leaves new.disks e.plant (lasting old) (lasting old)) (sym same) (left (length before) held)
+
+  pub anew_passes : (old new : Durable D g) →
+      ((count : ℕ) → pair.rests old.disks old.engine.plant (lasting old) count → pair.passes old.disks new.disks old.engine.plant (lasting old) (lasting old)) →
+      (before : List Event) → keeps old before → passes old new (lasting old) (lasting old)
+  unfolding keeps passes
+  anew_passes old new runs before held = runs (length before) held
+
   -- ---- calls
 
   pub idle_does : (durable : Durable D g) (made : List Entry) → durable.disks.stopped ≡ true → made ≡ [] → Does durable durable made

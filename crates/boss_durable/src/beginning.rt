@@ -1,11 +1,16 @@
-ghost use Rattle.std.specs.Prelude.{◌≡◌, ◌≢◌, ◌+◌, ◌≤◌, false, List};
+ghost use Rattle.std.specs.Prelude.{◌≡◌, ◌≢◌, ◌+◌, ◌≤◌, false, true, List, IfOk};
+ghost use Rattle.boss_bytes.specs.States.{state};
 ghost use Rattle.boss_durable.specs.Begun.{BegunCause, is_fault};
 ghost use Rattle.boss_durable.specs.Words.{keeps, lasting, leaves, log, passes};
 ghost use Rattle.boss_model.specs.declared.event.Event.{Event};
+ghost use Rattle.boss_model.specs.Seen.{seen};
+ghost use Rattle.boss_model.specs.Sound.{IsSoundPersistent};
 ghost use Rattle.boss_two_disks.specs.Causes.{counts_of};
 
 use crate::Durable;
 use boss_disk::Disk;
+use boss_model::{Kept, NoMemory};
+use boss_outside::Failed;
 
 /// How many bytes the log has to have room for as a call begins: more than any record has.
 pub const MOST_ROOM: u64 = 65_536;
@@ -22,7 +27,8 @@ pub enum Begun {
 }
 
 impl<D: Disk> Durable<D> {
-    /// Sees to room in the log for a record. The engine stays as it is, and what the disks stand for too.
+    /// Sees to room in the log for a record. Where there is none a new log begins, behind a kept state of what lasts. The engine
+    /// stays as it is, and what the disks stand for too.
     pub(crate) fn begin(&mut self) -> Begun
         requires { self.old.disks.stopped ≡ false }
         ensures keeps { (before : List Event) → keeps self.old before → result ≢ Begun.DiskFault → keeps self.new before }
@@ -36,10 +42,43 @@ impl<D: Disk> Durable<D> {
         ensures room { result ≡ Begun.Ready → log self.new + 65536 ≤ self.new.log_limit }
         ensures still { log self.old + 65536 ≤ self.old.log_limit → (result ≡ Begun.Ready) × (self.new ≡ self.old) }
     {
-        // The log can't be begun anew: no kept state is made.
-        if self.log_limit - MOST_ROOM < self.disks.log() {
-            return Begun::NoMemory;
+        if self.disks.log() <= self.log_limit - MOST_ROOM {
+            return Begun::Ready;
         }
-        Begun::Ready
+        match self.kept() {
+            Ok(kept) => self.go_on_behind(&kept),
+            Err(NoMemory) => Begun::NoMemory,
+        }
+    }
+
+    /// What lasts of the engine, as plain lists.
+    fn kept(&self) -> Result<Kept, NoMemory>
+        ensures kept { IfOk result (λ kept. seen kept ≡ lasting self.now) }
+        ensures fits { IfOk result (λ kept. (state 2).fits (seen kept) ≡ true) }
+        ensures sound { IsSoundPersistent self.now.engine.plant (lasting self.now) }
+    {
+        self.engine.keep(self.alloc)
+    }
+
+    /// A new log begins, behind this kept state, which is what lasts of the engine.
+    fn go_on_behind(&mut self, kept: &Kept) -> Begun
+        requires going { self.old.disks.stopped ≡ false }
+        requires kept { seen kept.now ≡ lasting self.old }
+        requires fits { (state 2).fits (seen kept.now) ≡ true }
+        requires sound { IsSoundPersistent self.old.engine.plant (lasting self.old) }
+        ensures keeps { (before : List Event) → keeps self.old before → result ≢ Begun.DiskFault → keeps self.new before }
+        ensures leaves { (before : List Event) → keeps self.old before → leaves self.new (lasting self.old) (lasting self.old) }
+        ensures passes { (before : List Event) → keeps self.old before → passes self.old self.new (lasting self.old) (lasting self.old) }
+        ensures engine { self.new.engine ≡ self.old.engine }
+        ensures limit { self.new.log_limit ≡ self.old.log_limit }
+        ensures cause { BegunCause (counts_of self.old.disks) (counts_of self.new.disks) result }
+        ensures stops { self.new.disks.stopped ≡ is_fault result }
+        ensures tried { result ≢ Begun.NoMemory }
+        ensures room { result ≡ Begun.Ready → log self.new + 65536 ≤ self.new.log_limit }
+    {
+        match self.disks.next_generation(kept) {
+            Ok(()) => Begun::Ready,
+            Err(Failed) => Begun::DiskFault,
+        }
     }
 }

@@ -2,8 +2,9 @@
 //! log of the disk in force, before the call answers that it was done. Whatever a crash leaves then opens to what lasts before
 //! the call, or to that after it.
 //!
-//! A command begins only where the log has room for a record. No log is begun anew yet: where it has come to its limit, commands
-//! that may want memory are answered that there is none, and the others go on in it.
+//! A command begins only where the log has room for a record. Where it has come to its limit a new log begins on the other disk,
+//! behind a kept state of what lasts. Without memory for that, commands that may want memory are answered that there is none, and
+//! the others go on in the old log.
 #![tactic(auto)]
 
 mod applying;

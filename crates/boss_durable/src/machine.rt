@@ -1,5 +1,6 @@
 ghost use Rattle.std.specs.Prelude.{◌≡◌, true, Some, IfOk, OnErr};
 ghost use Rattle.boss_bytes.specs.Events.{event};
+ghost use Rattle.boss_bytes.specs.States.{state};
 ghost use Rattle.boss_durable.specs.Begun.{may_want};
 ghost use Rattle.boss_durable.specs.Reached.{IsReached};
 ghost use Rattle.boss_history.specs.History.{MayCall};
@@ -7,10 +8,12 @@ ghost use Rattle.boss_model.specs.declared.event.Event.{Event};
 ghost use Rattle.boss_model.specs.Effects.{event_of, step_effect};
 ghost use Rattle.boss_model.specs.Machine.{step};
 ghost use Rattle.boss_model.specs.Plants.{IsPlant};
-ghost use Rattle.boss_model.specs.Sound.{IsSound};
+ghost use Rattle.boss_model.specs.Seen.{seen};
+ghost use Rattle.boss_model.specs.Sound.{IsSound, IsSoundPersistent};
 
 use boss_engine::Engine;
-use boss_model::{Answer, Command, Effect, NoMemory, SessionId};
+use boss_model::{Answer, Command, Effect, Kept, NoMemory, SessionId};
+use std::alloc::Global;
 use std::marker::Model;
 
 /// An engine of a catalogue's points, in a state that can be reached.
@@ -48,6 +51,15 @@ impl Machine {
         ensures reached { IsReached self.now }
     {
         &self.engine
+    }
+
+    /// All that outlasts a stop, as plain lists. It is sound, and has a spelling.
+    pub fn keep(&self, alloc: Global) -> Result<Kept, NoMemory>
+        ensures kept { IfOk result (λ kept. seen kept ≡ self.now.state.persistent) }
+        ensures fits { IfOk result (λ kept. (state 2).fits (seen kept) ≡ true) }
+        ensures sound { IsSoundPersistent self.now.plant self.now.state.persistent }
+    {
+        self.engine.keep(alloc)
     }
 
     /// Carries a session's command out at a moment. Its event has a spelling. No memory is to be had only for a submit, an attach
