@@ -137,6 +137,7 @@ module _ (catalogue : Catalogue) (s : State) (all : List (List ℕ)) {entries : 
         stopped = ap (λ r. r.stopped) run ∙ or-none (is_broken entries);
         text = did.text ∙ ap (λ r. old.taken ++ r.text) (sym run);
         events = ap (λ r. r.events) run;
+        state = ap (λ r. r.state) run;
         answered = did.answered;
         devices = λ whole. let done = did.devices whole in (done.0, done.1 ∙ ap (λ r. dealt (actuators catalogue) r.calls old.calls) (sym run));
       }
@@ -158,6 +159,7 @@ module _ (catalogue : Catalogue) (s : State) (all : List (List ℕ)) {entries : 
       stopped = ap (λ r. r.stopped) over-run ∙ or-none (is_broken entries);
       text = tells ∙ ap (λ t. t ++ line_of too_long_text) did.text ∙ append_assoc old.taken did.told (line_of too_long_text) ∙ ap (λ r. old.taken ++ r.text) (sym over-run);
       events = ap (λ r. r.events) over-run;
+      state = ap (λ r. r.state) over-run;
       answered = did.answered;
       devices = λ whole. let done = did.devices whole in (done.0, done.1 ∙ ap (λ r. dealt (actuators catalogue) r.calls old.calls) (sym over-run));
     }

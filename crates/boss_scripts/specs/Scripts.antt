@@ -5,7 +5,7 @@ use Rattle.boss_model.specs.Catalogue.{Catalogue, actuators}
 use Rattle.boss_model.specs.State.{State}
 use Rattle.boss_wire.specs.Script.{Run, script}
 use Rattle.boss_history.specs.declared.entry.Entry.{Entry}
-use Rattle.boss_history.specs.History.{deeds, events, is_broken}
+use Rattle.boss_history.specs.History.{deeds, events, is_broken, run}
 use Rattle.boss_scripts.specs.Outside.{Answered, Trace}
 use Rattle.boss_scripts.specs.Runs.{dealt, IsFrontOf}
 
@@ -21,7 +21,7 @@ script_with catalogue s all entries results = script catalogue s all results (st
 -- devices, all of which were used, its text is what the sink took and its events are those of these entries, and it has stopped
 -- exactly where the last of them is the mark. Where no device's count of faults rose these answers are all that the call was
 -- taken. Where the devices tell their calls and none is missing, the script's calls are those that they gained, each behind the
--- driver of its point.
+-- driver of its point. The state that it comes to is that of these entries.
 pub record RanScript (catalogue : Catalogue) (s : State) (all : List (List ℕ)) (is_over : Bool) (entries : List Entry) (old new : Trace) : Type 0 where
   pub results : List Bool
   pub finished : (script_with catalogue s all entries results).short ≡ false
@@ -30,6 +30,7 @@ pub record RanScript (catalogue : Catalogue) (s : State) (all : List (List ℕ))
   pub stopped : (script_with catalogue s all entries results).stopped ≡ is_broken entries
   pub text : new.taken ≡ old.taken ++ (script_with catalogue s all entries results).text
   pub events : (script_with catalogue s all entries results).events ≡ events (actuators catalogue) entries s
+  pub state : (script_with catalogue s all entries results).state ≡ run (actuators catalogue) entries s
   pub answered : Answered results old.faults new.faults
   pub devices : new.whole → old.whole × (new.calls ≡ dealt (actuators catalogue) (script_with catalogue s all entries results).calls old.calls)
 

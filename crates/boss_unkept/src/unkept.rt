@@ -28,6 +28,13 @@ impl Unkept {
             engine: Engine::new(alloc, catalogue)?,
         })
     }
+
+    /// The engine, with what was done so far.
+    pub fn engine(&self) -> &Engine
+        ensures { result.now ≡ self.now.engine }
+    {
+        &self.engine
+    }
 }
 
 impl Keeper for Unkept {
