@@ -1,6 +1,10 @@
 use crate::outside::*;
 use boss_load::{load_catalogue, load_script, value_of};
+use boss_loading::run_load;
 use boss_manager::Status;
+use boss_model::Items;
+use boss_outside::BytesSink;
+use boss_scripts::Broken;
 use std::process::Abort;
 use std::test::Fail;
 
@@ -38,4 +42,45 @@ fn lines_with(text: &[u8], beginning: &[u8]) -> usize {
     text.split(|byte| *byte == b'\n')
         .filter(|line| line.starts_with(beginning))
         .count()
+}
+
+/// Loads, by how many transactions they have and what their values are drawn from, and what is told of each.
+const LOADS: &[(u32, u32, &str)] = &[
+    (
+        1,
+        0,
+        "load accepted 1 renewed 6 refused 0 notices 0 writes 41 now 168000 last 30000\n",
+    ),
+    (
+        500,
+        7,
+        "load accepted 500 renewed 3000 refused 0 notices 1497 writes 1538 now 84000000 last 81733\n",
+    ),
+    (
+        10_000,
+        7,
+        "load accepted 10000 renewed 60000 refused 0 notices 29997 writes 30038 now 1680000000 last 70979\n",
+    ),
+];
+
+#[test]
+fn a_load_is_summed_up(rt: HostRuntime) -> Result<(), Fail> {
+    let alloc = rt.alloc();
+    for (count, seed, line) in LOADS {
+        let mut sink = BytesSink::new(alloc, Items::new(alloc))?;
+        assert_eq!(&rt; run_load(alloc, *count, *seed, &mut sink), Ok(()));
+        assert_eq!(&rt; sink.taken(), line.as_bytes());
+    }
+    Ok(())
+}
+
+#[test]
+fn a_summary_that_cannot_be_written_is_a_fault(rt: HostRuntime) -> Result<(), Fail> {
+    let alloc = rt.alloc();
+    let mut fails = Items::new(alloc);
+    fails.try_push(1)?;
+    let mut sink = BytesSink::new(alloc, fails)?;
+    assert_eq!(&rt; run_load(alloc, 1, 0, &mut sink), Err(Broken::WriteFault));
+    assert_eq!(&rt; sink.taken(), b"".as_slice());
+    Ok(())
 }
