@@ -1,4 +1,6 @@
-use Rattle.std.specs.Prelude.{◌≡◌, ℕ, ◌+◌, ◌*◌, ◌/◌, ◌<◌, ◌≤◌, Bool, true, false, List, length, slice_index_or}
+use Rattle.std.specs.Prelude.{◌≡◌, ℕ, ◌+◌, ◌*◌, ◌==◌, ◌<◌, ◌≤◌, ◌^◌, Bool, true, false, List, length, map, nat_lt, slice_index, slice_index_or}
+use Rattle.std.specs.List.{range_with_len}
+use Rattle.boss_slots.specs.Bits.{bit_of}
 
 -- no flag is set from one place on and before another
 abbrev pub IsClear : List Bool → ℕ → ℕ → Type 0
@@ -10,8 +12,20 @@ pub record IsNext (flags : List Bool) (from place : ℕ) : Type 0 where
   pub later : from ≤ place
   pub first : IsClear flags from place
 
--- where a point's flag is set, its group's is
-pub record IsGrouped (points groups : List Bool) : Type 0 where
-  pub set : (point : ℕ) → slice_index_or points point false ≡ true → slice_index_or groups (point / 64) false ≡ true
-  pub enough : length points < 64 * length groups
-  pub few : 64 * length groups ≤ length points + 64
+-- so many flags, each a bit of the words
+abbrev pub flags_of : ℕ → List ℕ → List Bool
+flags_of count words = map (λ point. bit_of words point == 1) (range_with_len 0 count)
+
+-- a bit for each word, set where any bit of the word is
+abbrev pub AreFilled : List ℕ → List ℕ → Type 0
+AreFilled words filled = (word : ℕ) → (bit_of filled word == 1) ≡ nat_lt 0 (slice_index words word)
+
+-- how so many flags are kept
+pub record AreFlags (count : ℕ) (words filled : List ℕ) : Type 0 where
+  pub known : AreFilled words filled
+  pub within : (place : ℕ) → bit_of words place ≡ 1 → place < count
+  pub few : count < 2 ^ 32
+  pub enough : count ≤ 64 * length words
+  pub most : 64 * length words < count + 64
+  pub enough_filled : length words ≤ 64 * length filled
+  pub most_filled : 64 * length filled < length words + 64

@@ -1,3 +1,4 @@
+pub mod Bits
 pub mod Ending
 pub mod Flags
 pub mod Slots

@@ -1,32 +1,32 @@
 //! Which points were touched.
 
-ghost use Rattle.std.specs.Prelude.{◌≡◌, ℕ, ◌+◌, ◌*◌, ◌<◌, ◌≤◌, ◌^◌, Bool, true, false, IfNone, IfOk, IfSome, length, replicate, slice_index_or, slice_set};
-ghost use Rattle.boss_slots.specs.Flags.{IsClear, IsNext};
+ghost use Rattle.std.specs.Prelude.{◌≡◌, ℕ, ◌*◌, ◌<◌, ◌≤◌, ◌^◌, true, false, IfNone, IfOk, IfSome, length, replicate, slice_index_or, slice_set};
+ghost use Rattle.boss_slots.specs.Bits.{IsFirstBit, bit_of};
+ghost use Rattle.boss_slots.specs.Flags.{AreFilled, IsNext};
 
+use crate::bits::{BITS, clear_bit, first_bit, first_in_word, set_bit};
 use boss_model::{NoMemory, PointId};
 use std::alloc::Global;
 use std::marker::Model;
 
-/// How many points one flag of a group stands for.
-const GROUP: usize = 64;
-
-/// A flag for each point. A contract sees them as a list. A flag for each group of 64 points beside it leads past groups in
-/// which no flag is set.
+/// A flag for each point. A contract sees them as a list. They are bits of words. A bit for each word says whether any of the
+/// word's is set, so the next flag that is set is found by a look at two words, and at one more for each 4,096 points.
 #[derive(Drop)]
 pub struct Flags {
-    points: Vec<bool>,
-    groups: Vec<bool>,
+    count: usize,
+    words: Vec<u64>,
+    filled: Vec<u64>,
 }
 
 impl Model for Flags {
     ghost use Rattle.std.specs.Prelude.{List, Bool};
-    ghost use Rattle.boss_slots.specs.Flags.{IsGrouped};
+    ghost use Rattle.boss_slots.specs.Flags.{AreFlags, flags_of};
 
     ghost Value = { List Bool };
 
-    ghost view = { λ f. f.points.items };
+    ghost view = { λ f. flags_of f.count f.words.items };
 
-    ghost invariant = { λ f. IsGrouped f.points.items f.groups.items };
+    ghost invariant = { λ f. AreFlags f.count f.words.items f.filled.items };
 }
 
 impl Flags {
@@ -35,9 +35,11 @@ impl Flags {
         ensures { IfOk result (λ flags. flags ≡ replicate points false) }
     {
         let count = points as usize;
+        let words = count.div_ceil(BITS);
         Ok(Flags {
-            points: vec![in alloc; false; count]?,
-            groups: vec![in alloc; false; count / GROUP + 1]?,
+            count,
+            words: vec![in alloc; 0; words]?,
+            filled: vec![in alloc; 0; words.div_ceil(BITS)]?,
         })
     }
 
@@ -47,8 +49,8 @@ impl Flags {
         ensures { self.new ≡ slice_set self.old point true }
     {
         let place = point.0 as usize;
-        self.points[place] = true;
-        self.groups[place / GROUP] = true;
+        set_bit(&mut self.words, place);
+        set_bit(&mut self.filled, place / BITS);
     }
 
     /// Clears the flag of a point.
@@ -57,10 +59,9 @@ impl Flags {
         ensures { self.new ≡ slice_set self.old point false }
     {
         let place = point.0 as usize;
-        self.points[place] = false;
-        let group = place / GROUP;
-        if first_set(&self.points, group * GROUP, group * GROUP + GROUP).is_none() {
-            self.groups[group] = false;
+        clear_bit(&mut self.words, place);
+        if self.words[place / BITS] == 0 {
+            clear_bit(&mut self.filled, place / BITS);
         }
     }
 
@@ -70,29 +71,22 @@ impl Flags {
         ensures some { IfSome result (λ point. IsNext self.now from point) }
         ensures none { IfNone result ((point : ℕ) → from ≤ point → slice_index_or self.now point false ≡ false) }
     {
-        let from = from.0 as usize;
-        let first = from / GROUP;
-        for group in first..self.groups.len() {
-            if self.groups[group] {
-                let start = from.max(group * GROUP);
-                if let Some(point) = first_set(&self.points, start, group * GROUP + GROUP) {
-                    return Some(PointId(point as u32));
-                }
-            }
-        }
-        None
+        let place = first_flag(&self.words, &self.filled, from.0 as usize)?;
+        Some(PointId(place as u32))
     }
 }
 
-/// The first flag that is set, from one place on and before another.
-fn first_set(flags: &[bool], from: usize, to: usize) -> Option<usize>
-    ensures some { IfSome result (λ place. IsNext flags.now from place × (place < to)) }
-    ensures none { IfNone result (IsClear flags.now from to) }
+/// The first bit of the words that is set, from one place on, where a bit of `filled` is set for each word that is not zero.
+fn first_flag(words: &[u64], filled: &[u64], from: usize) -> Option<usize>
+    requires filled { AreFilled words.now filled.now }
+    requires few_words { 64 * length words.now < 2 ^ 64 }
+    requires few { 64 * length filled.now < 2 ^ 64 }
+    ensures some { IfSome result (λ place. IsFirstBit words.now from place) }
+    ensures none { IfNone result ((place : ℕ) → from ≤ place → bit_of words.now place ≡ 0) }
 {
-    for place in from..to.min(flags.len()) {
-        if flags[place] {
-            return Some(place);
-        }
+    if let Some(place) = first_in_word(words, from) {
+        return Some(place);
     }
-    None
+    let word = first_bit(filled, from / BITS + 1)?;
+    first_in_word(words, word * BITS)
 }

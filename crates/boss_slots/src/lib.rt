@@ -1,6 +1,7 @@
 //! Leases and reversions by slot: in tables, each with a timer, that are seen slot by slot, and as lists in the order of slots.
 #![tactic(auto)]
 
+mod bits;
 mod entries;
 mod extending;
 mod flags;

@@ -1,0 +1,58 @@
+//! Bits in words of 64.
+
+ghost use Rattle.std.specs.Prelude.{◌≡◌, ◌≢◌, ℕ, ◌*◌, ◌/◌, ◌<◌, ◌≤◌, ◌^◌, length, slice_index, IfNone, IfSome};
+ghost use Rattle.boss_slots.specs.Bits.{IsClearBetween, IsFirstBit, bit_of};
+
+/// The bits of a word.
+pub const BITS: usize = 64;
+
+/// Sets a bit.
+pub fn set_bit(words: &mut Vec<u64>, place: usize)
+    requires { place < 64 * length words.old.items }
+    ensures length { length words.new.items ≡ length words.old.items }
+    ensures here { bit_of words.new.items place ≡ 1 }
+    ensures bits { (other : ℕ) → other ≢ place → bit_of words.new.items other ≡ bit_of words.old.items other }
+    ensures words { (word : ℕ) → word ≢ place / 64 → slice_index words.new.items word ≡ slice_index words.old.items word }
+{
+    words[place / BITS] |= 1 << (place % BITS);
+}
+
+/// Clears a bit.
+pub fn clear_bit(words: &mut Vec<u64>, place: usize)
+    requires { place < 64 * length words.old.items }
+    ensures length { length words.new.items ≡ length words.old.items }
+    ensures here { bit_of words.new.items place ≡ 0 }
+    ensures bits { (other : ℕ) → other ≢ place → bit_of words.new.items other ≡ bit_of words.old.items other }
+    ensures words { (word : ℕ) → word ≢ place / 64 → slice_index words.new.items word ≡ slice_index words.old.items word }
+    ensures less { slice_index words.new.items (place / 64) ≤ slice_index words.old.items (place / 64) }
+{
+    words[place / BITS] &= !(1 << (place % BITS));
+}
+
+/// The first bit that is set from one place on, in the word that this place is in.
+pub fn first_in_word(words: &[u64], from: usize) -> Option<usize>
+    ensures some { IfSome result (λ place. IsFirstBit words.now from place) }
+    ensures here { IfSome result (λ place. place / 64 ≡ from / 64) }
+    ensures none { IfNone result ((place : ℕ) → from ≤ place → place / 64 ≡ from / 64 → bit_of words.now place ≡ 0) }
+{
+    let word = *words.get(from / BITS)?;
+    let rest = word >> (from % BITS);
+    if rest == 0 {
+        return None;
+    }
+    Some(from + rest.trailing_zeros() as usize)
+}
+
+/// The first bit that is set from one place on. It looks at each word from there to that of the bit.
+pub fn first_bit(words: &[u64], from: usize) -> Option<usize>
+    requires { 64 * length words.now < 2 ^ 64 }
+    ensures some { IfSome result (λ place. IsFirstBit words.now from place) }
+    ensures none { IfNone result ((place : ℕ) → from ≤ place → bit_of words.now place ≡ 0) }
+{
+    for word in from / BITS..words.len() {
+        if let Some(place) = first_in_word(words, from.max(word * BITS)) {
+            return Some(place);
+        }
+    }
+    None
+}
