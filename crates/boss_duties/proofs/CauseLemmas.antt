@@ -1,5 +1,5 @@
 -- What an end that concerns the server says of the clock and of the disk.
-use Rattle.std.proofs.Common.{◌≡◌, ℕ, Bool, true, false, List, Some, refl, sym, ◌∙◌, subst}
+use Rattle.std.proofs.Common.{◌≡◌, ℕ, Bool, true, false, List, Some, refl, ◌∙◌, subst}
 use Rattle.boss_history.specs.declared.entry.Entry.{Entry}
 use Rattle.boss_history.specs.History.{is_broken}
 use Rattle.boss_sessions.specs.declared.end.SessionEnd.{SessionEnd}
@@ -11,7 +11,6 @@ use Rattle.boss_watching.specs.Ends.{ClockCause as WatchClock, DiskCause as Watc
 use Rattle.boss_expiry.specs.declared.end.WorkEnd.{WorkEnd}
 use Rattle.boss_expiry.specs.declared.end.WorkEnd.TheVariants as work
 use Rattle.boss_expiry.specs.Ends.{ClockCause as WorkClock, EndCause}
-use Rattle.boss_duties.specs.declared.trouble.Trouble.{Trouble}
 use Rattle.boss_duties.specs.declared.trouble.Trouble.TheVariants.{Nothing, Disk, Clock, Memory}
 use Rattle.boss_duties.specs.Troubles.{trouble_of, trouble_of_watch, trouble_of_work, ClockTrouble}
 

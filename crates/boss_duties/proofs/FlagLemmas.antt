@@ -1,5 +1,5 @@
 -- Flags, as one end after another raises them.
-use Rattle.std.proofs.Common.{◌≡◌, ℕ, ◌<◌, Bool, true, false, refl, sym, subst, arith}
+use Rattle.std.proofs.Common.{◌≡◌, ℕ, true, false, refl, sym, subst, arith}
 use Rattle.boss_duties.specs.declared.flags.Flags.{Flags}
 use Rattle.boss_duties.specs.declared.trouble.Trouble.{Trouble}
 use Rattle.boss_duties.specs.declared.trouble.Trouble.TheVariants.{Nothing, Disk, Clock, Memory}

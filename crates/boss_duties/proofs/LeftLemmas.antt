@@ -1,11 +1,11 @@
 -- One connection more, and where the work ends.
-use Rattle.std.proofs.Common.{◌≡◌, ℕ, suc, ◌+◌, ◌*◌, ◌<◌, ◌≤◌, Bool, true, false, List, [], ◌∷◌, ◌++◌, length, refl, ap, sym, ◌∙◌, subst, arith, length-append}
+use Rattle.std.proofs.Common.{◌≡◌, ℕ, suc, ◌+◌, ◌*◌, ◌<◌, Bool, true, false, List, [], ◌∷◌, ◌++◌, length, refl, ap, sym, ◌∙◌, subst, arith, length-append}
 use Rattle.std.specs.List.{AllByRecursion}
 use Rattle.boss_history.specs.declared.entry.Entry.{Entry}
 use Rattle.boss_history.specs.History.{deeds, is_broken}
 use Rattle.boss_lanes.specs.Lanes.{of_session}
 use Rattle.boss_lanes.specs.Parts.{Terms, Part, Added}
-use Rattle.boss_lanes.specs.Works.{Work, visit, lane_of_work, owner, AreBefore, served_by, served_in}
+use Rattle.boss_lanes.specs.Works.{Work, visit, lane_of_work, owner, served_by, served_in}
 use Rattle.boss_lanes.proofs.Lists.{each-append}
 use Rattle.boss_lanes.proofs.Owners.{before-absent, before-more, owner-session, served_in-append}
 use Rattle.boss_lanes.proofs.PartLemmas.{part-nothing, part-more}
@@ -13,8 +13,8 @@ use Rattle.boss_workers.specs.Hosts.{Served}
 use Rattle.boss_duties.specs.declared.flags.Flags.{Flags}
 use Rattle.boss_duties.specs.declared.trouble.Trouble.{Trouble}
 use Rattle.boss_duties.specs.declared.trouble.Trouble.TheVariants.{Nothing, Disk, Clock, Memory}
-use Rattle.boss_duties.specs.Troubles.{no_flags, flags_after, failed_host, is_trouble, IsQuiet, ClockTrouble, Counts}
-use Rattle.boss_duties.specs.Visits.{IsUncut, AreUncut, SoFar, Left}
+use Rattle.boss_duties.specs.Troubles.{no_flags, flags_after, failed_host, is_trouble, ClockTrouble, Counts}
+use Rattle.boss_duties.specs.Visits.{IsUncut, SoFar, Left}
 use Rattle.boss_duties.proofs.FlagLemmas.{host-after, quiet-after}
 
 module _ (terms : Terms) (number : ℕ) where

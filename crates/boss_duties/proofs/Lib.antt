@@ -1,5 +1,6 @@
 pub mod CauseLemmas
 pub mod DutyLemmas
+pub mod EndedLemmas
 pub mod FlagLemmas
 pub mod LeftLemmas
 pub mod VisitLemmas

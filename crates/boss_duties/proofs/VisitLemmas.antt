@@ -1,5 +1,5 @@
 -- What a connection added, by how it was served, or watched.
-use Rattle.std.proofs.Common.{◌≡◌, ◌⊎◌, inl, inr, ℕ, ◌<◌, Bool, true, false, List, [], ◌∷◌, ◌++◌, length, Some, refl, ap, sym, ◌∙◌, subst, arith}
+use Rattle.std.proofs.Common.{◌≡◌, inl, inr, ℕ, ◌<◌, Bool, true, false, List, [], ◌++◌, length, Some, refl, ap, sym, ◌∙◌, subst, arith}
 use Rattle.std.proofs.lemmas.List.{append-nil}
 use Rattle.boss_model.specs.declared.answer.Answer.{Answer}
 use Rattle.boss_model.specs.Catalogue.{actuators, Catalogue}
@@ -9,7 +9,7 @@ use Rattle.boss_lanes.specs.Lanes.{of_session}
 use Rattle.boss_lanes.specs.Parts.{Added}
 use Rattle.boss_lanes.proofs.Adding.{added-nothing, added-says, added-then}
 use Rattle.boss_workers.specs.Hosts.{Served}
-use Rattle.boss_talks.specs.Speech.{Speech, watches}
+use Rattle.boss_talks.specs.Speech.{Speech}
 use Rattle.boss_talks.specs.Talks.{Told, standing, Exchanged, Talked, IsEnded, IsTalkOf, spoken}
 use Rattle.boss_talks.specs.Watching.{notes_in, Watched, Noticed, IsWatchOf}
 use Rattle.boss_talks.proofs.OfSession.{talk-added, talk-silent, watch-added}

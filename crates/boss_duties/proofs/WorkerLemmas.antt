@@ -1,12 +1,11 @@
 -- What a worker left that was ready, by its duty.
-use Rattle.std.proofs.Common.{◌≡◌, ℕ, ◌+◌, ◌<◌, Bool, true, false, List, [], ◌∷◌, ◌++◌, refl, ap, sym, ◌∙◌, subst, append-nil}
-use Rattle.std.specs.List.{AllByRecursion}
+use Rattle.std.proofs.Common.{◌≡◌, ℕ, ◌≤◌, true, false, [], ◌∷◌, refl, ap, sym, ◌∙◌, subst, append-nil}
 use Rattle.std.specs.declared.snapshot.Snapshot.{Snapshot}
 use Rattle.boss_model.specs.Catalogue.{actuators as points_of, Catalogue}
+use Rattle.boss_model.specs.Limits.{last_number}
 use Rattle.boss_model.specs.State.{State}
 use Rattle.boss_history.specs.History.{deeds, IsLegal}
-use Rattle.boss_lanes.specs.Works.{Work, beat, drive}
-use Rattle.boss_lock.specs.Places.{entries_at}
+use Rattle.boss_lanes.specs.Works.{beat, drive}
 use Rattle.boss_outside.specs.declared.actuators.Actuators as actuators
 use Rattle.boss_shared.specs.declared.desk.Desk as desk
 use Rattle.boss_workers.specs.declared.clock.Clock as clock
@@ -22,8 +21,9 @@ use Rattle.boss_duties.specs.declared.flags.Flags.{Flags}
 use Rattle.boss_duties.specs.Desks.{own_of}
 use Rattle.boss_duties.specs.Saying.{terms_of}
 use Rattle.boss_duties.specs.Troubles.{flags_after, trouble_of_work}
-use Rattle.boss_duties.specs.Workers.{served_at, share_at, handed_at, faults_at, IsFreshDuty, HasCalls, IsReady, HasLeft}
-use Rattle.boss_duties.proofs.DutyLemmas.{calls-driven, left-driven, left-time}
+use Rattle.boss_duties.specs.Workers.{served_at, share_at, handed_at, faults_at, IsFreshDuty, IsPlaced, HasCalls, IsReady, HasLeft}
+use Rattle.boss_duties.proofs.DutyLemmas.{calls-driven, driven-ended, left-driven, left-time, time-ended}
+use Rattle.boss_duties.proofs.EndedLemmas.{worked-one}
 use Rattle.boss_duties.proofs.LeftLemmas.{left-nothing}
 
 module _ {H In Out A : Type 0} (h : host.Ghosts H In Out) (workers number : ℕ) where
@@ -42,6 +42,11 @@ module _ {H In Out A : Type 0} (h : host.Ghosts H In Out) (workers number : ℕ)
   fresh-served Time fresh told = refl
   fresh-served (Devices driver devices was) fresh told = refl
 
+  fresh-placed : (duty : Duty H A) → IsFreshDuty h workers number duty → IsPlaced workers number duty
+  fresh-placed (Connections part) fresh = fresh.0
+  fresh-placed Time fresh = fresh
+  fresh-placed (Devices driver devices was) fresh = fresh.0
+
   fresh-calls : (a : actuators.Ghosts A) (duty : Duty H A) → IsFreshDuty h workers number duty → HasCalls a [] duty
   fresh-calls a (Connections part) fresh = tt
   fresh-calls a Time fresh = tt
@@ -59,9 +64,12 @@ module _ {G Pass H In Out C W A : Type 0} (g : desk.Ghosts G Pass) (h : host.Gho
         (fresh-handed h workers number duty ready.fresh) (fresh-faults h workers number duty ready.fresh) ready.clock_faults ready.unmarked;
     called = fresh-calls h workers number a duty ready.fresh;
     paired = tt;
+    placed = fresh-placed h workers number duty ready.fresh;
+    worked = λ ran. absurd (let no : false ≡ true = ran in cc);
+    ended = λ quiet. tt;
   }
 
-  module _ (pass' : Pass) (tick' : C) (wait' : W) (most : ℕ) (end : WorkEnd) (own : g.owns it pass') (parts : g.parts pass' ≡ g.parts pass) (clock : ClockCause (k.faults tick) (k.faults tick') end)
+  module _ (pass' : Pass) (tick' : C) (wait' : W) (most : ℕ) (enough : last_number ≤ most) (end : WorkEnd) (own : g.owns it pass') (parts : g.parts pass' ≡ g.parts pass) (clock : ClockCause (k.faults tick) (k.faults tick') end)
       (cause : EndCause (g.seen pass') w.tells (w.closed wait') (w.closes wait) (w.closes wait') end) where
     pub has-left-time : duty ≡ Time → Expired (own_of g pass) (own_of g pass') k.tells (k.given tick) (k.given tick') w.tells (w.pauses wait) (w.pauses wait') most end →
         HasLeft g h k w a true (terms_of catalogue workers heeds tells h.tells k.tells w.tells) it number pass' duty tick' wait' (flags_after (trouble_of_work end) flags)
@@ -75,6 +83,13 @@ module _ {G Pass H In Out C W A : Type 0} (g : desk.Ghosts G Pass) (h : host.Gho
               (subst (IsFreshDuty h workers number) is ready.fresh) expired;
           called = tt;
           paired = (refl, tt);
+          placed = subst (IsFreshDuty h workers number) is ready.fresh;
+          worked = λ ran low. worked-one workers number (beat (w.pauses wait') (w.closed wait')) (subst (IsFreshDuty h workers number) is ready.fresh);
+          ended = λ quiet. (
+            (λ told few. time-ended (points_of catalogue) k.tells w.tells (own_of g pass) (own_of g pass') (g.seen pass') (k.given tick) (k.given tick')
+                (w.pauses wait) (w.pauses wait') most (w.closes wait) (w.closes wait') (w.closed wait') end flags ready.empty ready.paused cause enough quiet told expired few),
+            tt,
+          );
         })
 
     pub has-left-devices : (driver : ℕ) (devices devices' : A) (was : Snapshot A) → duty ≡ Devices driver devices was → (opening : State) → IsLegal (points_of catalogue) (g.seen pass') opening →
@@ -93,4 +108,12 @@ module _ {G Pass H In Out C W A : Type 0} (g : desk.Ghosts G Pass) (h : host.Gho
           called = λ told whole. calls-driven driver (w.pauses wait') (w.closed wait') (a.calls was.value) (a.calls devices) (a.calls devices')
               (made_by driver driven.turns (left_by driver end driven.last)).calls (ap a.calls fresh.1) (driven.made.wrote told whole).1;
           paired = (refl, tt);
+          placed = fresh.0;
+          worked = λ ran low. worked-one workers number (drive driver (made_by driver driven.turns (left_by driver end driven.last)).calls (w.pauses wait') (w.closed wait')) fresh.0;
+          ended = λ quiet. (
+            (λ told few. driven-ended (points_of catalogue) k.tells w.tells (own_of g pass) (own_of g pass') (g.seen pass') (k.given tick) (k.given tick')
+                (w.pauses wait) (w.pauses wait') most (w.closes wait) (w.closes wait') (w.closed wait') end flags ready.empty ready.paused cause enough quiet told
+                opening (g.mine pass') driver a.tells (a.whole devices) (a.whole devices') (a.calls devices) (a.calls devices') legal refl driven few),
+            tt,
+          );
         }

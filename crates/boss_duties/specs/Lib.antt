@@ -1,4 +1,5 @@
 pub mod Desks
+pub mod Ended
 pub mod Saying
 pub mod Troubles
 pub mod Visits

@@ -1,5 +1,5 @@
 -- What the works of a server say of the entries of their lanes.
-use Rattle.std.specs.Prelude.{◌≡◌, ◌⊎◌, ℕ, Bool, List}
+use Rattle.std.specs.Prelude.{◌⊎◌, ℕ, Bool, List}
 use Rattle.boss_model.specs.Catalogue.{actuators, Catalogue}
 use Rattle.boss_history.specs.declared.entry.Entry.{Entry}
 use Rattle.boss_workers.specs.Hosts.{Served}

@@ -1,5 +1,5 @@
 -- A worker before it runs, and what it left.
-use Rattle.std.specs.Prelude.{◌≡◌, ℕ, ◌+◌, ◌<◌, ◌≤◌, Bool, false, List, [], ◌++◌}
+use Rattle.std.specs.Prelude.{◌≡◌, ℕ, ◌+◌, ◌<◌, ◌≤◌, Bool, true, List, [], ◌∷◌, ◌++◌}
 use Rattle.std.specs.List.{AllByRecursion}
 use Rattle.boss_model.specs.Catalogue.{actuators as points_of, Catalogue}
 use Rattle.boss_lanes.specs.Parts.{Terms}
@@ -15,7 +15,8 @@ use Rattle.boss_duties.specs.declared.duty.Duty.{Duty}
 use Rattle.boss_duties.specs.declared.duty.Duty.TheVariants.{Connections, Time, Devices}
 use Rattle.boss_duties.specs.declared.flags.Flags.{Flags}
 use Rattle.boss_duties.specs.Desks.{own_of}
-use Rattle.boss_duties.specs.Troubles.{no_flags}
+use Rattle.boss_duties.specs.Ended.{is_worked, AreEnded}
+use Rattle.boss_duties.specs.Troubles.{no_flags, IsQuiet}
 use Rattle.boss_duties.specs.Visits.{IsFreshHost, Left}
 
 module _ {H In Out A : Type 0} (h : host.Ghosts H In Out) where
@@ -41,11 +42,30 @@ module _ {H In Out A : Type 0} (h : host.Ghosts H In Out) where
   faults_at Time = 0
   faults_at (Devices driver devices was) = 0
 
-  -- workers for connections have the numbers from 0 on; then comes the one that lets time pass, and then one for each driver
+  -- the duty is one of the worker with this number: workers for connections have the numbers from 0 on; then comes the one that lets
+  -- time pass, and then one for each driver
   abbrev pub IsFreshDuty : ℕ → ℕ → Duty H A → Type 0
   IsFreshDuty workers number (Connections part) = (number < workers) × IsFreshHost h part × (h.tells → h.served part ≡ [])
   IsFreshDuty workers number Time = number ≡ workers
   IsFreshDuty workers number (Devices driver devices was) = (number ≡ workers + 1 + driver) × (was.value ≡ devices)
+
+module _ {H A : Type 0} where
+  -- the devices of a duty, as they were handed out and as they are
+  abbrev pub was_at : Duty H A → List A
+  was_at (Connections part) = []
+  was_at Time = []
+  was_at (Devices driver devices was) = was.value ∷ []
+
+  abbrev pub devices_at : Duty H A → List A
+  devices_at (Connections part) = []
+  devices_at Time = []
+  devices_at (Devices driver devices was) = devices ∷ []
+
+  -- workers for connections have the numbers from 0 on; then comes the one that lets time pass, and then one for each driver
+  abbrev pub IsPlaced : ℕ → ℕ → Duty H A → Type 0
+  IsPlaced workers number (Connections part) = number < workers
+  IsPlaced workers number Time = number ≡ workers
+  IsPlaced workers number (Devices driver devices was) = number ≡ workers + 1 + driver
 
 -- the devices gained the calls of the works on their driver, as far as they tell their calls and miss none
 abbrev pub HasCalls : {H A : Type 0} → actuators.Ghosts A → List Work → Duty H A → Type 0
@@ -76,3 +96,6 @@ module _ {G Pass H In Out C W A : Type 0} (g : desk.Ghosts G Pass) (h : host.Gho
         (handed_at h duty) (faults_at h duty) (k.faults clock) flags
     pub called : HasCalls a works duty
     pub paired : AllByRecursion (IsPairOf (w.pauses waiter, w.closed waiter)) works
+    pub placed : IsPlaced terms.workers number duty
+    pub worked : ran ≡ true → terms.workers ≤ number → is_worked terms.workers number works ≡ true
+    pub ended : IsQuiet flags → AreEnded terms.plant w.tells (own_of g pass) works

@@ -1,6 +1,6 @@
 ghost use Rattle.std.specs.Prelude.{◌≡◌, true, false};
 ghost use Rattle.boss_duties.specs.Saying.{terms_of};
-ghost use Rattle.boss_duties.specs.Workers.{HasLeft, IsReady, share_at};
+ghost use Rattle.boss_duties.specs.Workers.{HasLeft, IsReady, share_at, was_at};
 
 use crate::trouble::work_trouble;
 use crate::visits::attend_all;
@@ -36,10 +36,12 @@ impl<'a, G: Desk, H: Host, C: Clock, W: Waiter, A: Actuators + Drop> Task
         worker.number worker.pass worker.duty worker.clock worker.waiter worker.flags };
 
     ghost ran = { λ old new. (new.server.now ≡ old.server.now) × (new.number ≡ old.number) × (share_at H.Host new.duty ≡ share_at H.Host old.duty)
+        × (was_at new.duty ≡ was_at old.duty)
         × HasLeft G.Desk H.Host C.Clock W.Waiter A.Actuators true (terms_of new.server.now.catalogue.now new.server.now.workers H.In.tells H.Out.tells H.tells C.tells W.tells)
         new.server.now.desk new.number new.pass new.duty new.clock new.waiter new.flags };
 
     ghost abandoned = { λ old new. (new.server.now ≡ old.server.now) × (new.number ≡ old.number) × (share_at H.Host new.duty ≡ share_at H.Host old.duty)
+        × (was_at new.duty ≡ was_at old.duty)
         × HasLeft G.Desk H.Host C.Clock W.Waiter A.Actuators false (terms_of new.server.now.catalogue.now new.server.now.workers H.In.tells H.Out.tells H.tells C.tells W.tells)
         new.server.now.desk new.number new.pass new.duty new.clock new.waiter new.flags };
 

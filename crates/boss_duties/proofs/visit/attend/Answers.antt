@@ -1,4 +1,4 @@
-use Rattle.std.proofs.Common.{sym, ◌∙◌, subst, ap, arith, lit<}
+use Rattle.std.proofs.Common.{sym, ◌∙◌, subst, lit<}
 use Rattle.boss_lanes.specs.Lanes.{of_session}
 use Rattle.boss_lanes.specs.Parts.{Added}
 use Rattle.boss_history.specs.History.{is_broken}

@@ -1,4 +1,4 @@
-use Rattle.std.proofs.Common.{◌≡◌, ◌+◌, ◌*◌, ◌≤◌, [], ◌++◌, ◌∷◌, refl, sym, ap, ◌∙◌, subst, arith, false}
+use Rattle.std.proofs.Common.{◌+◌, [], ◌++◌, ◌∷◌, refl, sym, ap, ◌∙◌, subst, arith}
 use Rattle.boss_lanes.specs.Works.{visit}
 use Rattle.boss_workers.specs.Hosts.{served_of}
 use Rattle.boss_duties.specs.declared.flags.Flags.{Flags}
@@ -7,7 +7,7 @@ use Rattle.boss_duties.specs.Saying.{terms_of}
 use Rattle.boss_duties.specs.Troubles.{is_trouble, flags_after, Counts}
 use Rattle.boss_duties.specs.Visits.{SoFar}
 use Rattle.boss_duties.proofs.FlagLemmas.{clock-after, disk-after, host-after}
-use Rattle.boss_duties.proofs.LeftLemmas.{left-broken, left-closed, left-failed, so-far-first, so-far-more}
+use Rattle.boss_duties.proofs.LeftLemmas.{left-broken, so-far-first, so-far-more}
 use Rattle.boss_duties.proofs.visits.attend_all.Goals as goal
 
 pub connections-init : goal.connections-init
