@@ -1,0 +1,7 @@
+pub mod Accounts
+pub mod Kept
+pub mod Making
+pub mod Places
+pub mod Shares
+pub mod Together
+pub mod Turns

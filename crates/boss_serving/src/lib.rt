@@ -1,0 +1,15 @@
+//! What a server does between its desk and its workers: it makes a worker for each duty, with a part of what it has, runs them all,
+//! and takes every part back, so that what it then has stands for the one history that all of them made.
+#![tactic(auto)]
+
+mod joining;
+mod keeping;
+mod making;
+mod parts;
+mod returning;
+mod running;
+mod serving;
+mod shares;
+
+pub use keeping::{Ended, serve_keeper};
+pub use serving::serve;
