@@ -142,6 +142,15 @@ class Machine:
         self.lines = []
         self.drain()
 
+    def reopen(self):
+        """What lasts is opened again: nobody is attached, and each point wants its target."""
+        self.attached = {}
+        self.commanded = [self.basis(point)[2] for point in range(len(self.points))]
+        self.marks = ["pending"] * len(self.points)
+        self.wants = list(range(len(self.points)))
+        self.lines = []
+        self.drain()
+
     def answer(self, session, request, moment):
         n = self.pass_time(moment)
         self.settle()
