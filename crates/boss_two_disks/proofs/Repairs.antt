@@ -6,6 +6,7 @@ use Rattle.std.proofs.lemmas.Bool.{cases_lt}
 use Rattle.boss_model.specs.declared.event.Event.{Event}
 use Rattle.boss_model.specs.declared.state.Actuator.{Actuator}
 use Rattle.boss_model.specs.Limits.{last_number}
+use Rattle.boss_model.specs.Run.{replay_all}
 use Rattle.boss_model.specs.State.{Persistent, first_persistent}
 use Rattle.boss_bytes.specs.Batches.{batch_text}
 use Rattle.boss_disk.specs.Window.{Window, IsImage, settled}
@@ -19,7 +20,9 @@ use Rattle.boss_logs.proofs.Records.{records-of-log}
 use Rattle.boss_pairs.specs.Contents.{joined, IsNext, IsCourse, HoldsCleanly, EndsCleanly}
 use Rattle.boss_pairs.specs.Pairs.{IsNew, OfThatInForce, OpensCleanly}
 use Rattle.boss_pairs.proofs.Disks.{shut_holds, one_more}
+use Rattle.boss_pairs.proofs.OfRecords.{same_batches}
 use Rattle.boss_pairs.proofs.Prefixes.{same_front}
+use Rattle.boss_pairs.proofs.Replays.{some-is}
 use Rattle.boss_two_disks.specs.Images.{OpensToOne}
 use Rattle.boss_two_disks.specs.Orders.{InOrder}
 use Rattle.boss_two_disks.specs.Reads.{AtEnd, MayCome}
@@ -38,21 +41,42 @@ is_or_not : (n m : ℕ) → (n ≡ m) ⊎ (n ≢ m)
 is_or_not n m = ⊎_elim (λ below. inr (λ same. omega (arith, below, same)))
     (λ up. ⊎_elim (λ above. inr (λ same. omega (arith, above, same))) (λ down. inl (omega (arith, up, down))) (cases_lt m n)) (cases_lt n m)
 
+-- two ends that are one
+pub record IsOneEnd (version other : ℕ) (to d : Persistent) (gate last : ℕ) (tail rest : List ℕ) : Type 0 where
+  pub version_same : version ≡ other
+  pub state_same : to ≡ d
+  pub gate_same : gate ≡ last
+  pub tail_same : tail ≡ rest
+
 module _ (plant : List Actuator) (digest : List ℕ) (whole : length digest ≡ 32) (version : ℕ) (front : List ℕ) (from : Persistent) (before : ℕ)
     (batches : List (List Event)) (d : Persistent) (course : IsCourse plant digest version front from before batches d) where
-  -- a clean disk ends cleanly, however it is split
-  same_end : (count place : ℕ) (held : List ℕ) (at : IsAtEnd front (map batch_text batches) place held) → HoldsCleanly plant digest d count held →
-      EndsCleanly plant version d at.log.gate at.log.tail
-  same_end count place held at clean =
+  -- a clean disk comes to one end, however it is split
+  pub one_end : (to : Persistent) (count place : ℕ) (held : List ℕ) (at : IsAtEnd front (map batch_text batches) place held) (clean : HoldsCleanly plant digest to count held) →
+      IsOneEnd clean.held.version version to d clean.held.log.gate at.log.gate clean.held.log.tail at.log.tail
+  one_end to count place held at clean =
       let h = clean.held in
       let same = same_front plant digest h.version version clean.from from clean.before before h.front front _ _ h.course.is_front course.is_front (sym h.log.is ∙ at.log.is) in
       let ours : IsLog h.front (map batch_text batches) held = subst (λ f. IsLog f (map batch_text batches) held) (sym same.front_same) at.log in
       let records : map batch_text clean.batches ≡ map batch_text batches = records-of-log h.front held (map batch_text clean.batches) (map batch_text batches) h.log ours in
+      let found : clean.batches ≡ batches = same_batches clean.batches batches h.course.each course.each records in
       let ends : h.log.gate ∷ h.log.tail ≡ at.log.gate ∷ at.log.tail =
       append_cancel_left (spelled (map batch_text batches)) _ _ (ap (λ r. spelled r ++ h.log.gate ∷ h.log.tail) (sym records) ∙ same.rest_same) in
-      subst (λ v. EndsCleanly plant v d at.log.gate at.log.tail) same.version_same
-      (subst (λ x. EndsCleanly plant h.version d x at.log.tail) (first-same _ _ h.log.tail at.log.tail ends)
-      (subst (λ x. EndsCleanly plant h.version d h.log.gate x) (rest-same h.log.gate at.log.gate _ _ ends) clean.clean))
+      record {
+        version_same = same.version_same;
+        state_same = some-is to d (sym h.course.leads ∙ ap (λ p. replay_all plant p (joined clean.batches)) same.from_same
+            ∙ ap (λ bs. replay_all plant from (joined bs)) found ∙ course.leads);
+        gate_same = first-same _ _ h.log.tail at.log.tail ends;
+        tail_same = rest-same h.log.gate at.log.gate _ _ ends;
+      }
+
+  -- and ends cleanly there
+  same_end : (count place : ℕ) (held : List ℕ) (at : IsAtEnd front (map batch_text batches) place held) → HoldsCleanly plant digest d count held →
+      EndsCleanly plant version d at.log.gate at.log.tail
+  same_end count place held at clean =
+      let end = one_end d count place held at clean in
+      subst (λ v. EndsCleanly plant v d at.log.gate at.log.tail) end.version_same
+      (subst (λ x. EndsCleanly plant clean.held.version d x at.log.tail) end.gate_same
+      (subst (λ x. EndsCleanly plant clean.held.version d clean.held.log.gate x) end.tail_same clean.clean))
 
   module _ (second : Bool) (held other : List ℕ) (gate : ℕ) (tail : List ℕ) (is : held ≡ front ++ (spelled (map batch_text batches) ++ gate ∷ tail))
       (here : between second (kind_of held) (kind_of other) ≡ forced second) where
@@ -120,7 +144,7 @@ module _ (plant : List Actuator) (digest : List ℕ) (whole : length digest ≡ 
 -- ---- a pair that was read to its end
 
 -- what is said of a clean pair is said of the disk in force
-clean_holds : (plant : List Actuator) (digest : List ℕ) (d : Persistent) (count : ℕ) (second : Bool) (held other : List ℕ) → between second (kind_of held) (kind_of other) ≡ forced second →
+pub clean_holds : (plant : List Actuator) (digest : List ℕ) (d : Persistent) (count : ℕ) (second : Bool) (held other : List ℕ) → between second (kind_of held) (kind_of other) ≡ forced second →
     InOrder (OpensCleanly plant digest d count) second held other → HoldsCleanly plant digest d count held
 clean_holds plant digest d count false held other is opens =
     subst (λ i. OfThatInForce (HoldsCleanly plant digest d count) (λ bytes. IsNew bytes × (d ≡ first_persistent) × (count ≡ 0)) i held other) is opens

@@ -1,6 +1,6 @@
 ghost use Rattle.std.specs.Prelude.{◌≡◌, ◌≤◌, ℕ, ◌++◌, List, length};
 ghost use Rattle.boss_bytes.specs.Batches.{batch_text};
-ghost use Rattle.boss_journal.specs.Reads.{NextCause, NextStops};
+ghost use Rattle.boss_journal.specs.Reads.{NextCause, NextStops, Passes};
 ghost use Rattle.boss_model.specs.declared.event.Event.{Event};
 ghost use Rattle.boss_model.specs.declared.state.Actuator.{Actuator};
 ghost use Rattle.boss_model.specs.State.{Persistent};
@@ -33,6 +33,8 @@ impl<D: Disk> TwoDisks<D> {
         ensures windows { D.tells → D.story self.new.journal.disk ≡ D.story self.old.journal.disk }
         ensures cause { NextCause (D.faults self.old.journal.disk) (D.faults self.new.journal.disk) result }
         ensures stops { NextStops self.old.stopped self.new.stopped result }
+        ensures passes { Passes self.old.journal.place self.new.journal.place into.new.bytes result }
+        ensures first { self.new.journal.first ≡ self.old.journal.first }
         ensures version { self.new.journal.version ≡ self.old.journal.version }
         ensures generation { self.new.generation ≡ self.old.generation }
         ensures events { self.new.events ≡ self.old.events }
