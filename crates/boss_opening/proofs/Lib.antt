@@ -1,0 +1,10 @@
+pub mod Spellings
+pub mod Splits
+pub mod Redone
+pub mod ReadOn
+pub mod UnderWays
+pub mod Rested
+pub mod Openings
+pub mod GoingOn
+pub mod Finishes
+pub mod Beginnings

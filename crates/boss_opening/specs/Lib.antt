@@ -1,0 +1,5 @@
+pub mod Bounds
+pub mod Again
+pub mod UnderWay
+pub mod Reading
+pub mod Opens
