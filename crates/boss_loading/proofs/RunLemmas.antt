@@ -8,14 +8,13 @@ use Rattle.boss_wire.specs.Script.{script}
 use Rattle.boss_outside.specs.Counts.{Rose}
 use Rattle.boss_history.specs.declared.entry.Entry.{Entry}
 use Rattle.boss_history.specs.History.{deeds, is_broken, run}
-use Rattle.boss_load.specs.Day.{load_script}
 use Rattle.boss_lines.specs.declared.reader.Next.{Next}
 use Rattle.boss_lines.specs.declared.reader.Next.TheVariants.{Line, Finish, TooLong, ReadFault}
 use Rattle.boss_shared.specs.declared.keeper.Keeper as keeper
 use Rattle.boss_scripts.specs.Ends.{CarriesOut, EndsOver}
 use Rattle.boss_scripts.specs.Outside.{Outside, Trace}
 use Rattle.boss_scripts.specs.Scripts.{RanScript, script_with}
-use Rattle.boss_loading.specs.Load.{load_run, RanLoad}
+use Rattle.boss_loading.specs.Load.{Ran, run_over}
 use Rattle.boss_loading.specs.Plant.{plant}
 
 -- the counts of devices that count no fault
@@ -33,15 +32,14 @@ none-rose before now device rose =
     let is = none-counted now device in
     omega arith
 
-module _ (count seed : ℕ) (s : State) (entries : List Entry) (first : s ≡ first_state (actuators plant)) (whole : is_broken entries ≡ false) where
-  same : (results : List Bool) → script_with plant s (lines (load_script count seed)) entries results ≡ load_run count seed results
-  same results =
-      ap₂ (λ t b. script plant t (lines (load_script count seed)) results (if b then Some (length (deeds entries)) else None)) first whole
+module _ (all : List (List ℕ)) (s : State) (entries : List Entry) (first : s ≡ first_state (actuators plant)) (whole : is_broken entries ≡ false) where
+  same : (results : List Bool) → script_with plant s all entries results ≡ run_over all results
+  same results = ap₂ (λ t b. script plant t all results (if b then Some (length (deeds entries)) else None)) first whole
 
-  -- where no device's count rose, a sink that had taken nothing took the load's text
-  pub ran : (is_over : Bool) (old new : Trace) (now : State) → now ≡ run (actuators plant) entries s → old.taken ≡ []
+  -- where no device's count rose, a sink that had taken nothing took the script's text
+  ran : (is_over : Bool) (old new : Trace) (now : State) → now ≡ run (actuators plant) entries s → old.taken ≡ []
       → ((device : ℕ) → ¬ Rose (slice_index_or old.faults device 0) (slice_index_or new.faults device 0))
-      → RanScript plant s (lines (load_script count seed)) is_over entries old new → RanLoad count seed new.taken now.persistent
+      → RanScript plant s all is_over entries old new → Ran all new.taken now.persistent
   ran is_over old new now at empty fine it =
       let is = same it.results in
       record {
@@ -49,31 +47,28 @@ module _ (count seed : ℕ) (s : State) (entries : List Entry) (first : s ≡ fi
         taken = it.answered.taken fine;
         finished = ap (λ r. r.short) (sym is) ∙ it.finished;
         used = ap (λ r. r.results) (sym is) ∙ it.used;
-        told = it.text ∙ ap (λ t. t ++ (script_with plant s (lines (load_script count seed)) entries it.results).text) empty ∙ ap (λ r. r.text) is;
+        told = it.text ∙ ap (λ t. t ++ (script_with plant s all entries it.results).text) empty ∙ ap (λ r. r.text) is;
         lasts = ap (λ t. t.persistent) (at ∙ sym it.state ∙ ap (λ r. r.state) is);
       }
 
--- a script that was carried out to its end, which may be a line that is too long
+-- the end of a script that was carried out, which may be a line that is too long
 abbrev pub IsEnd : Next → Type 0
 IsEnd end = (end ≡ Finish) ⊎ (end ≡ TooLong)
 
-module _ {V : Type 0} (v : keeper.Ghosts V) (before now : V) (old new : Outside) (count seed : ℕ) where
-  -- how a load may end, by the entries that it left
-  abbrev Over : List Entry → Bool → Type 0
-  Over entries is_over = RanScript plant (v.state before) (lines (load_script count seed)) is_over entries old.trace new.trace
-
-  over-end : (entries : List Entry) (end : Next) → IsEnd end → old.sink_tells → old.left ≡ load_script count seed
-      → EndsOver (λ all is_over. RanScript plant (v.state before) all is_over entries old.trace new.trace) old new end → (is_over : Bool) × Over entries is_over
-  over-end entries Finish is tells left ends = (false, subst (λ bytes. RanScript plant (v.state before) (lines bytes) false entries old.trace new.trace) left (ends.2 tells))
-  over-end entries TooLong is tells left ends = (true, subst (λ bytes. RanScript plant (v.state before) (lines bytes) true entries old.trace new.trace) left (ends.4 tells))
-  over-end entries ReadFault is tells left ends = elim is [ inl other ↦ absurd cc | inr other ↦ absurd cc ]
-  over-end entries Line is tells left ends = elim is [ inl other ↦ absurd cc | inr other ↦ absurd cc ]
+module _ {V : Type 0} (v : keeper.Ghosts V) (before now : V) (old new : Outside) where
+  over-end : (entries : List Entry) (end : Next) → IsEnd end → old.sink_tells
+      → EndsOver (λ all is_over. RanScript plant (v.state before) all is_over entries old.trace new.trace) old new end
+      → (is_over : Bool) × RanScript plant (v.state before) (lines old.left) is_over entries old.trace new.trace
+  over-end entries Finish is tells ends = (false, ends.2 tells)
+  over-end entries TooLong is tells ends = (true, ends.4 tells)
+  over-end entries ReadFault is tells ends = elim is [ inl other ↦ absurd cc | inr other ↦ absurd cc ]
+  over-end entries Line is tells ends = elim is [ inl other ↦ absurd cc | inr other ↦ absurd cc ]
 
   pub carried : (end : Next) → IsEnd end → v.plant before ≡ actuators plant → v.state before ≡ first_state (actuators plant) → v.stopped now ≡ false
-      → old.source_tells → old.sink_tells → old.left ≡ load_script count seed → old.trace.taken ≡ []
+      → old.source_tells → old.sink_tells → old.trace.taken ≡ []
       → ((device : ℕ) → ¬ Rose (slice_index_or old.trace.faults device 0) (slice_index_or new.trace.faults device 0))
-      → CarriesOut v plant before now old new end → RanLoad count seed new.trace.taken (v.state now).persistent
-  carried end is points first off source sink left empty fine it =
-      let over = over-end it.entries end is sink left (it.ended source) in
+      → CarriesOut v plant before now old new end → Ran (lines old.left) new.trace.taken (v.state now).persistent
+  carried end is points first off source sink empty fine it =
+      let over = over-end it.entries end is sink (it.ended source) in
       let at : v.state now ≡ run (actuators plant) it.entries (v.state before) = it.kept.state_is off ∙ ap (λ p. run p it.entries (v.state before)) points in
-      ran count seed (v.state before) it.entries first (sym it.stopped ∙ off) over.0 old.trace new.trace (v.state now) at empty fine over.1
+      ran (lines old.left) (v.state before) it.entries first (sym it.stopped ∙ off) over.0 old.trace new.trace (v.state now) at empty fine over.1

@@ -33,25 +33,25 @@ summary_of count seed text lasting = record {
   last = value_of seed (count - 1);
 }
 
--- the load's script over its plant, from the first state, where the devices answer this
-abbrev pub load_run : ℕ → ℕ → List Bool → Run
-load_run count seed results = script plant (first_state (actuators plant)) (lines (load_script count seed)) results None
+-- a script of these lines over the load's plant, from the first state, where the devices answer this
+abbrev pub run_over : List (List ℕ) → List Bool → Run
+run_over all results = script plant (first_state (actuators plant)) all results None
 
--- The load was run to its end, with devices that took each of their calls: it told this text, and this lasts.
-pub record RanLoad (count seed : ℕ) (text : List ℕ) (lasting : Persistent) : Type 0 where
+-- The script was run to its end, with devices that took each of their calls: it told this text, and this lasts.
+pub record Ran (all : List (List ℕ)) (text : List ℕ) (lasting : Persistent) : Type 0 where
   pub results : List Bool
   pub taken : AllByRecursion (λ ok. ok ≡ true) results
-  pub finished : (load_run count seed results).short ≡ false
-  pub used : (load_run count seed results).results ≡ []
-  pub told : text ≡ (load_run count seed results).text
-  pub lasts : lasting ≡ (load_run count seed results).state.persistent
+  pub finished : (run_over all results).short ≡ false
+  pub used : (run_over all results).results ≡ []
+  pub told : text ≡ (run_over all results).text
+  pub lasts : lasting ≡ (run_over all results).state.persistent
 
 -- This sums up the load; its plant is the one that the catalogue's file spells.
 pub record Summarizes (count seed : ℕ) (summary : Summary) : Type 0 where
   pub spells : catalogue_of load_catalogue ≡ Ok plant
   pub text : List ℕ
   pub lasting : Persistent
-  pub ran : RanLoad count seed text lasting
+  pub ran : Ran (lines (load_script count seed)) text lasting
   pub sums : summary ≡ summary_of count seed text lasting
 
 -- The load's summary was told as one line; or a write failed, and the front of this line was told; or no memory was to be had, and

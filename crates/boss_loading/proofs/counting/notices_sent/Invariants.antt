@@ -1,5 +1,4 @@
-use Rattle.std.proofs.Common.{◌≡◌, ◌^◌, ◌-◌, map, min, sum_by, take}
-use Rattle.boss_model.specs.Seen.{seen_process}
+use Rattle.std.proofs.Common.{◌≡◌, ◌^◌, ◌-◌, min, sum_by, take}
 use Rattle.boss_loading.proofs.counting.notices_sent.Given as goal
 
 -- the notices of the processes so far

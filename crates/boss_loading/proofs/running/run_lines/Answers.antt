@@ -1,9 +1,5 @@
-use Rattle.std.proofs.Common.{◌≡◌, ◌⊎◌, inl, inr, List, ap, refl, subst, ◌∙◌}
+use Rattle.std.proofs.Common.{inl, inr, ap, refl, subst}
 use Rattle.boss_model.specs.Catalogue.{Catalogue}
-use Rattle.boss_lines.specs.declared.reader.Next.{Next}
-use Rattle.boss_lines.specs.declared.reader.Next.TheVariants.{Finish, TooLong}
-use Rattle.boss_load.specs.Day.{load_script}
-use Rattle.boss_outside.specs.Stores.{bytes_left}
 use Rattle.boss_outside.specs.contracts.actuators.IdleActuatorsActuators.TheImpl.{ghosts as idle}
 use Rattle.boss_outside.specs.contracts.sink.BytesSinkSink.TheImpl.{ghosts as takes}
 use Rattle.boss_outside.specs.contracts.source.BytesSourceSource.TheImpl.{ghosts as gives}
@@ -11,24 +7,22 @@ use Rattle.boss_unkept.specs.contracts.unkept.UnkeptKeeper.TheImpl.{ghosts as un
 use Rattle.boss_scripts.specs.Ends.{CarriesOut}
 use Rattle.boss_scripts.specs.Outside.{outside}
 use Rattle.boss_loading.proofs.RunLemmas.{carried, none-rose}
-use Rattle.boss_loading.proofs.running.run.Goals as goal
+use Rattle.boss_loading.proofs.running.run_lines.Goals as goal
 
 pub returns-in-Ok-Finish : goal.returns-in-Ok-Finish
 returns-in-Ok-Finish c =
-    let old = outside gives takes idle c.in_ok-source.source c.in_ok-sink.sink c.in_ok-devices.devices.items in
+    let old = outside gives takes idle c.args.source.now c.args.sink.now c.in_ok-devices.devices.items in
     let new = outside gives takes idle c.run_script.new.source c.run_script.new.sink c.run_script.new.devices.items in
-    let left : old.left ≡ load_script c.args.count c.args.seed = ap bytes_left c.in_ok-source.ensures ∙ c.in_ok-script.ensures in
-    carried unkept c.args.keeper.now c.run_script.new.keeper old new c.args.count c.args.seed c.in-Ok-Finish.field-0 (inl c.in-Ok-Finish.field-0-is)
-    (ap (λ e. e.plant) c.requires.new) (ap (λ e. e.state) c.requires.new) refl tt tt left (ap (λ k. k.taken) c.in_ok-sink.ensures)
+    carried unkept c.args.keeper.now c.run_script.new.keeper old new c.in-Ok-Finish.field-0 (inl c.in-Ok-Finish.field-0-is)
+    (ap (λ e. e.plant) c.requires.new) (ap (λ e. e.state) c.requires.new) refl tt tt c.requires.empty
     (none-rose c.in_ok-devices.devices.items c.run_script.new.devices.items)
     (subst (λ (catalogue : Catalogue). CarriesOut unkept catalogue c.args.keeper.now c.run_script.new.keeper old new c.in-Ok-Finish.field-0) c.requires.catalogue c.in-Ok-Finish.ensures.ran)
 
 pub returns-in-Ok-TooLong : goal.returns-in-Ok-TooLong
 returns-in-Ok-TooLong c =
-    let old = outside gives takes idle c.in_ok-source.source c.in_ok-sink.sink c.in_ok-devices.devices.items in
+    let old = outside gives takes idle c.args.source.now c.args.sink.now c.in_ok-devices.devices.items in
     let new = outside gives takes idle c.run_script.new.source c.run_script.new.sink c.run_script.new.devices.items in
-    let left : old.left ≡ load_script c.args.count c.args.seed = ap bytes_left c.in_ok-source.ensures ∙ c.in_ok-script.ensures in
-    carried unkept c.args.keeper.now c.run_script.new.keeper old new c.args.count c.args.seed c.in-Ok-TooLong.field-0 (inr c.in-Ok-TooLong.field-0-is)
-    (ap (λ e. e.plant) c.requires.new) (ap (λ e. e.state) c.requires.new) refl tt tt left (ap (λ k. k.taken) c.in_ok-sink.ensures)
+    carried unkept c.args.keeper.now c.run_script.new.keeper old new c.in-Ok-TooLong.field-0 (inr c.in-Ok-TooLong.field-0-is)
+    (ap (λ e. e.plant) c.requires.new) (ap (λ e. e.state) c.requires.new) refl tt tt c.requires.empty
     (none-rose c.in_ok-devices.devices.items c.run_script.new.devices.items)
     (subst (λ (catalogue : Catalogue). CarriesOut unkept catalogue c.args.keeper.now c.run_script.new.keeper old new c.in-Ok-TooLong.field-0) c.requires.catalogue c.in-Ok-TooLong.ensures.ran)
