@@ -23,6 +23,7 @@ pub kept-aside : (l : Lasting) (now : ℕ) (processes : List Process) → IsKept
 kept-aside l now processes kept = record {
   stands = record { txns = kept.stands.txns; done = kept.stands.done; reverting = kept.stands.reverting };
   slots = kept.slots;
+  records = kept.records;
 }
 
 -- the flags aside
@@ -30,4 +31,5 @@ pub kept-flags : (l : Lasting) (touched : List Bool) → IsKept l → IsKept (re
 kept-flags l touched kept = record {
   stands = record { txns = kept.stands.txns; done = kept.stands.done; reverting = kept.stands.reverting };
   slots = kept.slots;
+  records = kept.records;
 }

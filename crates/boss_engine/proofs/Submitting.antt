@@ -17,7 +17,8 @@ use Rattle.boss_model.specs.Submit.{first_until, granted, submit, submit_refused
 use Rattle.boss_lasting.specs.Lasting.{IsSubmit}
 use Rattle.boss_engine.specs.Ready.{IsReadyToSubmit}
 use Rattle.boss_engine.specs.declared.ready.Ready.TheVariants as ready
-use Rattle.boss_lasting.specs.Replying.{decided, with_reply}
+use Rattle.boss_lasting.specs.declared.replies.Decision.{Decision}
+use Rattle.boss_lasting.specs.Replying.{decided, decision_answer, with_reply}
 use Rattle.boss_effects.specs.Changes.{if_held, is_made}
 use Rattle.boss_lasting.proofs.Flagged.{made-decided, made-new}
 use Rattle.boss_lasting.proofs.Replied.{once-decided, once-did, once-refused}
@@ -66,13 +67,13 @@ module _ (plant : List Actuator) (session owner seq n : ℕ) (writes : List Sett
 -- ---- the same of what was made ready
 
 module _ (plant : List Actuator) (session seq n : ℕ) (writes : List Setting) (policy : Policy) (s : State) where
-  decided-held : (held : Option ℕ) (given : Answer) → process_of s.attached session ≡ held → IsReadyToSubmit plant held writes policy seq n (ready.Decided given) s →
-      act plant session n (command.Submit writes policy seq) s ≡ answered given s
+  decided-held : (held : Option ℕ) (given : Decision) → process_of s.attached session ≡ held → IsReadyToSubmit plant held writes policy seq n (ready.Decided given) s →
+      act plant session n (command.Submit writes policy seq) s ≡ answered (decision_answer given) s
   decided-held None given is made = absurd made
-  decided-held (Some owner) given is made = submit-decided plant session owner seq n writes policy s is given made
+  decided-held (Some owner) given is made = submit-decided plant session owner seq n writes policy s is (decision_answer given) made
 
-  pub decided-leaves : (given : Answer) → IsReadyToSubmit plant (process_of s.attached session) writes policy seq n (ready.Decided given) s →
-      act plant session n (command.Submit writes policy seq) s ≡ answered given s
+  pub decided-leaves : (given : Decision) → IsReadyToSubmit plant (process_of s.attached session) writes policy seq n (ready.Decided given) s →
+      act plant session n (command.Submit writes policy seq) s ≡ answered (decision_answer given) s
   decided-leaves given made = decided-held (process_of s.attached session) given refl made
 
   refused-held : (held : Option ℕ) (why : Refusal) → process_of s.attached session ≡ held → IsReadyToSubmit plant held writes policy seq n (ready.Refused why) s →
@@ -86,10 +87,10 @@ module _ (plant : List Actuator) (session seq n : ℕ) (writes : List Setting) (
 
 -- ---- what a reply decides, and what is refused, changes nothing
 
-pub decided-unchanged : (plant : List Actuator) (held : Option ℕ) (writes : List Setting) (policy : Policy) (seq n : ℕ) (given : Answer) (s : State) →
+pub decided-unchanged : (plant : List Actuator) (held : Option ℕ) (writes : List Setting) (policy : Policy) (seq n : ℕ) (given : Decision) (s : State) →
     IsReadyToSubmit plant held writes policy seq n (ready.Decided given) s → false ≡ if_held held (λ owner. is_made owner seq s.persistent (submit_refused plant writes s.persistent))
 decided-unchanged plant None writes policy seq n given s is = absurd is
-decided-unchanged plant (Some owner) writes policy seq n given s is = sym (made-decided owner seq s.persistent given (submit_refused plant writes s.persistent) is)
+decided-unchanged plant (Some owner) writes policy seq n given s is = sym (made-decided owner seq s.persistent (decision_answer given) (submit_refused plant writes s.persistent) is)
 
 pub refused-unchanged : (plant : List Actuator) (held : Option ℕ) (writes : List Setting) (policy : Policy) (seq n : ℕ) (why : Refusal) (s : State) →
     IsReadyToSubmit plant held writes policy seq n (ready.Refused why) s → false ≡ if_held held (λ owner. is_made owner seq s.persistent (submit_refused plant writes s.persistent))

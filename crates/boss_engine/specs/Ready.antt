@@ -9,7 +9,7 @@ use Rattle.boss_model.specs.Processes.{attach_refused, process_named, process_of
 use Rattle.boss_model.specs.State.{Persistent, State}
 use Rattle.boss_model.specs.Submit.{begun, granted, submit_refused}
 use Rattle.boss_notices.specs.Rings.{no_notices}
-use Rattle.boss_lasting.specs.Replying.{decided}
+use Rattle.boss_lasting.specs.Replying.{decided, decision_answer}
 use Rattle.boss_engine.specs.declared.machine.Machine.{Machine}
 use Rattle.boss_engine.specs.declared.ready.Ready.{Ready}
 use Rattle.boss_engine.specs.declared.ready.Ready.TheVariants as ready
@@ -60,7 +60,7 @@ IsReadyToAttach session name other s = ⊥
 
 abbrev pub IsReadyToSubmit : List Actuator → Option ℕ → List Setting → Policy → ℕ → ℕ → Ready → State → Type 0
 IsReadyToSubmit plant None writes policy seq n (ready.Refused why) s = why ≡ refusal.NotAttached
-IsReadyToSubmit plant (Some owner) writes policy seq n (ready.Decided given) s = decided s.persistent.processes owner seq ≡ Some given
+IsReadyToSubmit plant (Some owner) writes policy seq n (ready.Decided given) s = decided s.persistent.processes owner seq ≡ Some (decision_answer given)
 IsReadyToSubmit plant (Some owner) writes policy seq n (ready.Refused why) s =
     (decided s.persistent.processes owner seq ≡ None) × (submit_refused plant writes s.persistent ≡ Some why)
 IsReadyToSubmit plant (Some owner) writes policy seq n (ready.Submit transaction leases) s =

@@ -129,7 +129,7 @@ impl Machine {
                 answer: self.begin(transaction, leases, seq, n),
                 changed: true,
             },
-            Ready::Decided(answer) => Done::unchanged(answer),
+            Ready::Decided(decision) => Done::unchanged(decision.answer()),
             Ready::Refused(why) => Done::refused(why),
             _ => unreachable!(),
         }

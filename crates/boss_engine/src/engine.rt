@@ -1,10 +1,10 @@
-ghost use Rattle.std.specs.Prelude.{◌≡◌, ◌≤◌, ◌&&◌, not, length, map, min, is_some, IfErr, IfOk, OnOk, OnErr};
+ghost use Rattle.std.specs.Prelude.{◌≡◌, ◌+◌, ◌*◌, ◌<◌, ◌≤◌, ◌&&◌, not, length, map, min, is_some, IfErr, IfOk, OnOk, OnErr};
 ghost use Rattle.std.specs.Option.{option_map_or};
 ghost use Rattle.boss_model.specs.Acts.{replay};
 ghost use Rattle.boss_model.specs.Catalogue.{actuators};
 ghost use Rattle.boss_model.specs.Devices.{wanting};
 ghost use Rattle.boss_model.specs.Effects.{step_effect};
-ghost use Rattle.boss_model.specs.Limits.{last_moment, most_points};
+ghost use Rattle.boss_model.specs.Limits.{done_kept, last_moment, most_points, most_processes};
 ghost use Rattle.boss_model.specs.Machine.{step};
 ghost use Rattle.boss_model.specs.Order.{least};
 ghost use Rattle.boss_model.specs.Processes.{process_named};
@@ -19,6 +19,7 @@ ghost use Rattle.boss_engine.specs.declared.restoring.RestoreRefusal.TheVariants
 
 use crate::machine::Machine;
 use crate::restoring::RestoreRefusal;
+use crate::room::Room;
 use boss_model::{
     Actuator, Answer, Command, DriverId, Effect, Event, Kept, Name, NoMemory, PointId, SessionId,
 };
@@ -54,7 +55,7 @@ impl Model for Engine {
 
 impl Engine {
     /// The engine of a catalogue's points before anything was done: no process, no lease, and every point wants its
-    /// default. Room is taken for sixteen slots of each point, 256 sessions, and what is told in a step.
+    /// default. The room that `room` tells is taken.
     pub fn new(alloc: Global, catalogue: &Catalogue) -> Result<Engine, NoMemory>
         ensures new { IfOk result (λ engine. engine
             ≡ record { plant = actuators catalogue.now; state = first_state (actuators catalogue.now) }) }
@@ -78,7 +79,7 @@ impl Engine {
     }
 
     /// The engine of a catalogue's points with what outlasted a stop: nobody is attached, and every point wants its target.
-    /// Room is taken as by `new`.
+    /// The room that `room` tells is taken.
     ///
     /// `NotSound` comes exactly where what was kept is not sound over the catalogue's points, unless there was no memory to
     /// find that out.
@@ -151,6 +152,20 @@ impl Engine {
         ensures { result ≡ length self.now.state.persistent.pending }
     {
         self.machine.lasting.holdings.pending() as u64
+    }
+
+    /// What the engine has room for, whatever was done. A step that is not answered by want of memory finds its room here, so it
+    /// takes none.
+    pub fn room(&self) -> Room
+        ensures leases { result.leases ≡ 16 * length self.now.plant }
+        ensures reversions { result.reversions ≡ 16 * length self.now.plant }
+        ensures timers { result.timers ≡ 32 * length self.now.plant }
+        ensures records { length self.now.plant + done_kept ≤ result.records }
+        ensures sessions { most_processes ≤ result.sessions }
+        ensures told { 32 * length self.now.plant < result.told }
+        ensures rings { result.rings ≡ length self.now.state.persistent.processes }
+    {
+        self.machine.room()
     }
 
     /// Whether a process of this name is known. It takes no memory.

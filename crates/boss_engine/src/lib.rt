@@ -12,7 +12,9 @@ mod ready;
 mod reopening;
 mod replaying;
 mod restoring;
+mod room;
 mod settling;
 
 pub use engine::Engine;
 pub use restoring::RestoreRefusal;
+pub use room::Room;

@@ -101,8 +101,8 @@ impl Machine {
         let Some(owner) = process_of(&self.attached, session) else {
             return Ok(Ready::Refused(Refusal::NotAttached));
         };
-        if let Some(answer) = self.lasting.processes.decided(owner, seq) {
-            return Ok(Ready::Decided(answer));
+        if let Some(decision) = self.lasting.processes.decision(owner, seq) {
+            return Ok(Ready::Decided(decision));
         }
         if let Some(why) = submit_refused(plant, writes, &self.lasting) {
             return Ok(Ready::Refused(why));

@@ -1,4 +1,5 @@
-use boss_model::{Answer, Lease, Notice, Refusal};
+use boss_lasting::Decision;
+use boss_model::{Lease, Notice, Refusal};
 use boss_notices::Ring;
 use boss_stages::Transaction;
 
@@ -10,8 +11,8 @@ pub enum Ready {
     Nothing,
     /// The command is refused.
     Refused(Refusal),
-    /// The reply that is kept of the process decides the command: this is the answer.
-    Decided(Answer),
+    /// The reply that is kept of the process decides the command.
+    Decided(Decision),
     /// The ring of a new process.
     Process(Ring),
     /// The record of a new transaction, and its leases.

@@ -33,6 +33,14 @@ use boss_slots::{
 use std::alloc::Global;
 use std::marker::Model;
 
+/// How many leases, reversions and timers there is room for.
+#[derive(Clone, Copy, Debug, PartialEq, Eq)]
+pub struct Places {
+    pub leases: u32,
+    pub reversions: u32,
+    pub timers: u32,
+}
+
 /// Live leases and reversions under way, by slot. A contract sees them as the two lists of the definitions, in order of
 /// slots, with the moment of the last change in milliseconds and a flag for each point that was touched. Of the calls only
 /// those that say so take memory.
@@ -271,6 +279,27 @@ impl Holdings {
         let leases = all_leases(alloc, &self.tables)?;
         let pending = all_pending(alloc, &self.tables)?;
         Ok((leases, pending))
+    }
+
+    /// How many points there are.
+    pub fn points(&self) -> u32
+        ensures { result ≡ self.now.points }
+    {
+        self.tables.arrays.len() as u32
+    }
+
+    /// What there is room for, which no call changes: a lease and a reversion in each of the sixteen slots of a point, and a timer
+    /// for either.
+    pub fn places(&self) -> Places
+        ensures leases { result.leases ≡ 16 * self.now.points }
+        ensures reversions { result.reversions ≡ 16 * self.now.points }
+        ensures timers { result.timers ≡ 32 * self.now.points }
+    {
+        Places {
+            leases: self.tables.leases.keys(),
+            reversions: self.tables.pending.len() as u32,
+            timers: self.tables.timers.capacity(),
+        }
     }
 
     /// How many leases are live.

@@ -11,5 +11,5 @@ mod taking;
 mod telling;
 
 pub use boss_slots::Place;
-pub use holdings::Holdings;
+pub use holdings::{Holdings, Places};
 pub use listing::{copied_lease, copied_reversion};

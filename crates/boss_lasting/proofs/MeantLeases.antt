@@ -144,8 +144,8 @@ module _ (plant : List Actuator) (d : Persistent) (sound : IsSoundPersistent pla
 
 -- ---- the records, where leases alone changed
 
-pub kept-longer : (l k : Lasting) → k.stages ≡ l.stages → k.holdings.pending ≡ l.holdings.pending → most_writes ≤ vec_capacity k.slots → IsKept l → IsKept k
-kept-longer l k stages pending slots kept = record {
+pub kept-longer : (l k : Lasting) → k.stages ≡ l.stages → k.holdings.pending ≡ l.holdings.pending → k.holdings.points ≡ l.holdings.points → most_writes ≤ vec_capacity k.slots → IsKept l → IsKept k
+kept-longer l k stages pending points slots kept = record {
   stands = record {
     txns = refl;
     done = refl;
@@ -153,4 +153,5 @@ kept-longer l k stages pending slots kept = record {
         (subst (λ now. AllByRecursion (λ tracked. (point : ℕ) → member point tracked.reverting ≡ reverts_on (number tracked) point now) l.stages.kept) (sym pending) kept.stands.reverting);
   };
   slots = slots;
+  records = omega (arith, kept.records, points, ap (λ (s : Stages). s.room) stages);
 }

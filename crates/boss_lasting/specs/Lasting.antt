@@ -1,9 +1,9 @@
-use Rattle.std.specs.Prelude.{◌≡◌, ℕ, ◌≤◌, List, [], length, map, vec_capacity}
+use Rattle.std.specs.Prelude.{◌≡◌, ℕ, ◌+◌, ◌≤◌, List, [], length, map, vec_capacity}
 use Rattle.boss_model.specs.declared.command.Policy.{Policy}
 use Rattle.boss_model.specs.declared.command.Setting.{Setting}
 use Rattle.boss_model.specs.declared.state.Actuator.{Actuator}
 use Rattle.boss_model.specs.declared.state.Lease.{Lease}
-use Rattle.boss_model.specs.Limits.{most_writes}
+use Rattle.boss_model.specs.Limits.{done_kept, most_writes}
 use Rattle.boss_model.specs.Sound.{IsSoundPersistent}
 use Rattle.boss_model.specs.State.{Persistent}
 use Rattle.boss_model.specs.Submit.{begun, granted}
@@ -27,10 +27,12 @@ persistent_of l = record {
 abbrev pub IsSoundOfSome : Lasting → Type 0
 IsSoundOfSome l = (plant : List Actuator) × (length plant ≡ l.holdings.points) × IsSoundPersistent plant (persistent_of l)
 
--- the records know the reversions under way, and there is room for the slots of a transaction
+-- the records know the reversions under way, and there is room for the slots of a transaction, and for the records of those that
+-- are done and of one more a point
 pub record IsKept (l : Lasting) : Type 0 where
   pub stands : StandsFor l.stages (persistent_of l)
   pub slots : most_writes ≤ vec_capacity l.slots
+  pub records : l.holdings.points + done_kept ≤ l.stages.room
 
 -- the record and the leases are those of a submit of these writes, at moment n
 pub record IsSubmit (n : ℕ) (kept : Tracked) (new : List Lease) (d : Persistent) (owner : ℕ) (policy : Policy) (writes : List Setting) : Type 0 where

@@ -9,6 +9,8 @@ use Rattle.boss_model.specs.Renew.{is_meant, renewed}
 use Rattle.boss_model.specs.Replies.{answer_of, keep_reply, reply_of}
 use Rattle.boss_model.specs.State.{Process, Persistent}
 use Rattle.boss_model.specs.Submit.{first_until}
+use Rattle.boss_lasting.specs.declared.replies.Decision.{Decision}
+use Rattle.boss_lasting.specs.declared.replies.Decision.TheVariants as decision
 
 -- the answer to a request of this number, if the reply decides it: what was answered before, or that its number is stale
 abbrev pub decided_by : ℕ → Option KeptReply → Option Answer
@@ -16,6 +18,10 @@ decided_by seq None = None
 decided_by seq (Some reply) =
     if reply.seq == seq then Some (answer_of reply.acceptance) else
     (if nat_lt seq reply.seq then Some (answer.Refused (refusal.Stale reply.seq)) else None)
+
+abbrev pub decision_answer : Decision → Answer
+decision_answer (decision.Again given) = answer_of given
+decision_answer (decision.Stale kept) = answer.Refused (refusal.Stale kept)
 
 -- the same of a request of this process, which has no number where `seq` is 0
 abbrev pub decided : List Process → ℕ → ℕ → Option Answer

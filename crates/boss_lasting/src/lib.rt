@@ -21,4 +21,5 @@ pub use early::is_allowed;
 pub use lasting::{Lasting, Which};
 pub use queries::{first_until, notices, status};
 pub use refusals::{attach_refused, cancel_refused, renew_refused, submit_refused};
+pub use replies::Decision;
 pub use target::{basis_of, slots_of, target_of};

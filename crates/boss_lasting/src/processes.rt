@@ -1,4 +1,5 @@
 ghost use Rattle.std.specs.Prelude.{◌≡◌, ◌<◌, ◌≤◌, ◌+◌, [], ◌∷◌, ◌++◌, length, slice_get, unwrap_or, vec_capacity, IfOk, OnOk, OnErr, Some, None};
+ghost use Rattle.std.specs.Option.{option_map};
 ghost use Rattle.boss_model.specs.Happenings.{post, tell};
 ghost use Rattle.boss_model.specs.Limits.{most_processes};
 ghost use Rattle.boss_model.specs.Processes.{name_of, next_notice, number_of, process_named};
@@ -8,9 +9,9 @@ ghost use Rattle.boss_model.specs.Replies.{answer_of, keep_reply, reply_of};
 ghost use Rattle.boss_model.specs.Seen.{seen_process};
 ghost use Rattle.boss_effects.specs.Changes.{may_be_told};
 ghost use Rattle.boss_lasting.specs.Processes.{IsSomeProcess, process_at};
-ghost use Rattle.boss_lasting.specs.Replying.{accepted, decided};
+ghost use Rattle.boss_lasting.specs.Replying.{accepted, decided, decision_answer};
 
-use crate::replies::{answer_of, decided_by};
+use crate::replies::{Decision, answer_of, decided_by};
 use boss_books::Happening;
 use boss_model::{
     Acceptance, Answer, KeptProcess, KeptReply, LAST_NUMBER, MOST_PROCESSES, Name, NoMemory,
@@ -155,6 +156,16 @@ impl Processes {
     /// request was answered before, or that a greater number was accepted.
     pub fn decided(&self, process: ProcId, seq: u64) -> Option<Answer>
         ensures { result ≡ decided self.now process seq }
+    {
+        match self.decision(process, seq) {
+            Some(decision) => Some(decision.answer()),
+            None => None,
+        }
+    }
+
+    /// The same, before it is an answer.
+    pub fn decision(&self, process: ProcId, seq: u64) -> Option<Decision>
+        ensures { option_map decision_answer result ≡ decided self.now process seq }
     {
         if seq == 0 {
             return None;

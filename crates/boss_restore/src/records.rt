@@ -1,8 +1,9 @@
 //! The records of transactions are put back, each with the points on which it reverts.
 
-ghost use Rattle.std.specs.Prelude.{◌≡◌, ◌==◌, ◌<◌, ◌≤◌, false, [], find, map, IfOk};
+ghost use Rattle.std.specs.Prelude.{◌≡◌, ◌+◌, ◌==◌, ◌<◌, ◌≤◌, false, [], find, map, IfOk};
 ghost use Rattle.std.specs.List.{AllByRecursion};
 ghost use Rattle.std.specs.Option.{option_map_or};
+ghost use Rattle.boss_model.specs.Limits.{done_kept};
 ghost use Rattle.boss_model.specs.Seen.{seen, seen_part, seen_txn};
 ghost use Rattle.boss_model.specs.Sound.{Rising, number_rank};
 ghost use Rattle.boss_books.specs.Books.{StandsFor};
@@ -22,7 +23,8 @@ const LAST_LEVEL: u8 = 16;
 pub fn records_put_back(alloc: Global, holdings: &Holdings, kept: &Kept) -> Result<Stages, NoMemory>
     requires sound { IsSoundOver holdings.now.points (seen kept.now) }
     requires pending { holdings.now.pending ≡ kept.now.pending }
-    ensures { IfOk result (λ stages. StandsFor stages (seen kept.entry.now)) }
+    ensures stands { IfOk result (λ stages. StandsFor stages (seen kept.entry.now)) }
+    ensures room { IfOk result (λ stages. holdings.now.points + done_kept ≤ stages.room) }
 {
     let mut stages = transactions_put_back(alloc, holdings, kept.txns.slice())?;
     stages.put_back_done(kept.done.slice());
@@ -39,8 +41,9 @@ fn transactions_put_back(
     requires points { AllByRecursion (λ kept. AllByRecursion (λ part. part.point < holdings.now.points) kept.parts) txns.now }
     ensures kept { IfOk result (λ stages. stages.kept ≡ map (tracked holdings.now.pending) (map seen_txn txns.now)) }
     ensures done { IfOk result (λ stages. stages.done ≡ []) }
+    ensures room { IfOk result (λ stages. holdings.now.points + done_kept ≤ stages.room) }
 {
-    let mut stages = Stages::new(alloc, holdings.leases())?;
+    let mut stages = Stages::new(alloc, holdings.points())?;
     for kept in txns {
         let transaction = transaction_put_back(alloc, holdings, kept)?;
         stages.reserve()?;

@@ -72,6 +72,13 @@ impl Stages {
         Ok(())
     }
 
+    /// How many transactions there is room for, which no call makes less.
+    pub fn room(&self) -> usize
+        ensures { result ≡ self.now.room }
+    {
+        self.transactions.capacity()
+    }
+
     /// Makes room for one transaction more.
     pub fn reserve(&mut self) -> Result<(), NoMemory>
         ensures ok { OnOk result (length self.new.kept < self.new.room) }

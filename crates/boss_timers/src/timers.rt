@@ -73,6 +73,13 @@ impl Timers {
         }
     }
 
+    /// How many slots there are, which no call changes.
+    pub fn capacity(&self) -> u32
+        ensures { result ≡ length self.now }
+    {
+        self.places.len() as u32
+    }
+
     /// The timer that goes off first: its slot and its moment, in milliseconds. Of those that go off at once it is the one
     /// of the least slot.
     pub fn first(&self) -> Option<(u32, u64)>

@@ -1,9 +1,9 @@
-use Rattle.std.proofs.Common.{◌≡◌, ◌==◌, ◌&&◌, List, length, true, false, sym, subst, ◌∙◌, ap, arith}
-use Rattle.std.specs.List.{list_all, list_any, AllByRecursion}
+use Rattle.std.proofs.Common.{◌≡◌, ◌==◌, ◌&&◌, List, true, false, sym, subst, ◌∙◌, ap, arith}
+use Rattle.std.specs.List.{list_all, AllByRecursion}
 use Rattle.std.proofs.lemmas.Grind.{common_steps}
 use Rattle.boss_model.specs.Records.{Part}
 use Rattle.boss_model.specs.Renew.{named_parts, wrote}
-use Rattle.boss_effects.specs.Early.{is_cancellable, is_renewable, open_still}
+use Rattle.boss_effects.specs.Early.{is_renewable, open_still}
 use Rattle.boss_lasting.specs.Asking.{HasSlot}
 use Rattle.boss_lasting.specs.Lasting.{persistent_of}
 use Rattle.boss_lasting.proofs.Asked.{owned-none, owned-some, parts-placed}

@@ -1,4 +1,4 @@
-use Rattle.std.proofs.Common.{◌≡◌, ◌<◌, ◌∙◌, length, map, ap, arith}
+use Rattle.std.proofs.Common.{◌∙◌, map, ap, arith}
 use Rattle.boss_model.specs.Seen.{seen_process}
 use Rattle.boss_lasting.proofs.Outlasting.{next-kept}
 use Rattle.boss_lasting.proofs.kept.kept_processes.Goals as goal

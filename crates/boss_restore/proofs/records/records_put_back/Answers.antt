@@ -23,8 +23,8 @@ put_back_done-requires-clause-none c = c.in_ok-stages.ensures.done
 pub put_back_done-requires-clause-few : goal.put_back_done-requires-clause-few
 put_back_done-requires-clause-few c = rw c.slice-2.ensures c.requires.sound.2.few_done
 
-pub returns : goal.returns
-returns c =
+pub returns-clause-stands : goal.returns-clause-stands
+returns-clause-stands c =
     let d = seen c.args.kept.now in
     stands-for c.requires.sound.0 d c.put_back_done.new.self c.requires.sound.2
     (ap (λ s. s.kept) c.put_back_done.ensures ∙ c.in_ok-stages.ensures.kept ∙ (λ i. map (tracked (c.requires.pending i)) (map seen_txn (c.slice.ensures i))))

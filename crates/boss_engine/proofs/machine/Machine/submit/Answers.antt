@@ -57,13 +57,13 @@ returns-in-Submit-clause-state c = λ plant session writes policy some is.
 pub returns-in-Decided-clause-answer : goal.returns-in-Decided-clause-answer
 returns-in-Decided-clause-answer c = λ plant session writes policy some is.
     let s = state_of c.args.self.now in
-    ap (λ d. d.answer) c.unchanged.ensures ∙ sym (ap (λ r. r.answer) (decided-leaves plant session c.args.seq c.args.n writes policy s c.in-Decided.answer
+    ap (λ d. d.answer) c.unchanged.ensures ∙ c.answer.ensures ∙ sym (ap (λ r. r.answer) (decided-leaves plant session c.args.seq c.args.n writes policy s c.in-Decided.decision
     (subst (λ (given : Ready). IsReadyToSubmit plant (process_of s.attached session) writes policy c.args.seq c.args.n given s) c.in-Decided.is is)))
 
 pub returns-in-Decided-clause-state : goal.returns-in-Decided-clause-state
 returns-in-Decided-clause-state c = λ plant session writes policy some is.
     let s = state_of c.args.self.now in
-    sym (ap (λ r. r.state) (decided-leaves plant session c.args.seq c.args.n writes policy s c.in-Decided.answer
+    sym (ap (λ r. r.state) (decided-leaves plant session c.args.seq c.args.n writes policy s c.in-Decided.decision
     (subst (λ (given : Ready). IsReadyToSubmit plant (process_of s.attached session) writes policy c.args.seq c.args.n given s) c.in-Decided.is is)))
 
 pub returns-in-Refused-clause-answer : goal.returns-in-Refused-clause-answer
@@ -81,7 +81,7 @@ returns-in-Refused-clause-state c = λ plant session writes policy some is.
 pub returns-in-Decided-clause-changed : goal.returns-in-Decided-clause-changed
 returns-in-Decided-clause-changed c = λ plant session writes policy some is.
     let s = state_of c.args.self.now in
-    ap (λ d. d.changed) c.unchanged.ensures ∙ decided-unchanged plant (process_of s.attached session) writes policy c.args.seq c.args.n c.in-Decided.answer s
+    ap (λ d. d.changed) c.unchanged.ensures ∙ decided-unchanged plant (process_of s.attached session) writes policy c.args.seq c.args.n c.in-Decided.decision s
     (subst (λ (given : Ready). IsReadyToSubmit plant (process_of s.attached session) writes policy c.args.seq c.args.n given s) c.in-Decided.is is)
 
 pub returns-in-Refused-clause-changed : goal.returns-in-Refused-clause-changed

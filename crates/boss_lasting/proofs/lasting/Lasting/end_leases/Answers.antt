@@ -3,9 +3,10 @@ use Rattle.std.specs.List.Sorted.{IsPermutation}
 use Rattle.boss_model.specs.Ends.{end_leases}
 use Rattle.boss_books.specs.Bookable.{ComesTo}
 use Rattle.boss_books.specs.Books.{Books}
-use Rattle.boss_books.specs.Gathered.{booked_all, end_tellings, plain}
+use Rattle.boss_model.specs.Order.{in_order}
+use Rattle.boss_books.specs.Gathered.{booked_all, end_tellings, plain, told_rank}
 use Rattle.boss_books.proofs.EndsBooked.{ends-come}
-use Rattle.boss_grants.proofs.Together.{put_together, same-first, stands-for, together}
+use Rattle.boss_grants.proofs.Together.{put_together, room-booked, same-first, stands-for, together}
 use Rattle.boss_lasting.specs.Lasting.{persistent_of}
 use Rattle.boss_lasting.specs.Meant.{is_meant}
 use Rattle.boss_lasting.proofs.Moved.{comes-moved}
@@ -64,4 +65,12 @@ returns-clause-kept c =
           (put_together c.end_held.new.self.holdings.now c.end_held.new.self.next_txn c.end_held.new.self.holdings.leases c.end_held.new.self.holdings.pending (books at.After-book_all))
           c.book_all.ensures.books is.books (after at.After-book_all is);
       slots = omega (arith, c.requires.kept.slots, c.end_held.ensures.slots);
+      records = omega (
+        arith,
+        c.requires.kept.records,
+        c.end_held.ensures.points,
+        ap (λ b. b.stages.room) c.book_all.ensures.books
+            ∙ room-booked (in_order told_rank c.end_held.new.told.items) (record { stages = c.end_held.new.self.stages; processes = c.end_held.new.self.processes }),
+        ap (λ s. s.room) c.end_held.ensures.stages,
+      );
     }

@@ -57,6 +57,7 @@ returns-clause-first c =
 pub returns-clause-kept : goal.returns-clause-kept
 returns-clause-kept c = kept-longer c.args.self.now _ (ap (λ l. l.stages) c.fill_slots.ensures.others)
     (c.extend_slots-longer.ensures.pending ∙ ap (λ l. l.holdings.pending) c.fill_slots.ensures.others)
+    (c.extend_slots-longer.ensures.points ∙ ap (λ l. l.holdings.points) c.fill_slots.ensures.others)
     (omega (arith, c.requires.kept.slots, c.fill_slots.ensures.capacity)) c.requires.kept
 
 pub returns-clause-untouched : goal.returns-clause-untouched

@@ -45,7 +45,7 @@ returns-clause-persistent c =
     let h = c.in_ok-holdings.ensures in
     ap (λ (held : Held). rebuilt c.number.result held c.in_ok-stages.stages c.in_ok-processes_put_back.field-0) c.holdings.view_is
     ∙ same c.args.kept.now c.number.result c.in_ok-holdings.holdings c.in_ok-stages.stages c.in_ok-processes_put_back.field-0 c.number.ensures (ap (λ h. h.now) h) (ap (λ h. h.leases) h) (ap (λ h. h.pending) h)
-    c.in_ok-stages.ensures (c.in_ok-processes_put_back.ensures ∙ ap (map seen_process) c.slice.ensures)
+    c.in_ok-stages.ensures.stands (c.in_ok-processes_put_back.ensures ∙ ap (map seen_process) c.slice.ensures)
 
 pub returns-clause-kept : goal.returns-clause-kept
 returns-clause-kept c =
@@ -53,8 +53,9 @@ returns-clause-kept c =
     record {
       stands = subst (StandsFor c.in_ok-stages.stages) (sym (ap (λ (held : Held). rebuilt c.number.result held c.in_ok-stages.stages c.in_ok-processes_put_back.field-0) c.holdings.view_is
           ∙ same c.args.kept.now c.number.result c.in_ok-holdings.holdings c.in_ok-stages.stages c.in_ok-processes_put_back.field-0 c.number.ensures (ap (λ h. h.now) h) (ap (λ h. h.leases) h)
-          (ap (λ h. h.pending) h) c.in_ok-stages.ensures (c.in_ok-processes_put_back.ensures ∙ ap (map seen_process) c.slice.ensures))) c.in_ok-stages.ensures;
+          (ap (λ h. h.pending) h) c.in_ok-stages.ensures.stands (c.in_ok-processes_put_back.ensures ∙ ap (map seen_process) c.slice.ensures))) c.in_ok-stages.ensures.stands;
       slots = omega (arith, c.in_ok-with_capacity.ensures.exact);
+      records = omega (arith, c.in_ok-stages.ensures.room, ap (λ (held : Held). held.points) c.holdings.view_is);
     }
 
 pub returns-clause-points : goal.returns-clause-points

@@ -1,4 +1,4 @@
-use Rattle.std.proofs.Common.{◌≡◌, ℕ, ◌<◌, ◌+◌, ◌++◌, List, map, not, refl, ap, sym, ◌∙◌, subst}
+use Rattle.std.proofs.Common.{◌≡◌, ℕ, ◌<◌, ◌+◌, ◌++◌, List, map, not, refl, ap, sym, ◌∙◌, subst, arith}
 use Rattle.std.specs.List.{AllByRecursion, filter}
 use Rattle.std.specs.List.Sorted.{IsPermutation}
 use Rattle.std.proofs.lemmas.List.Elements.{All-from_recursion}
@@ -13,9 +13,9 @@ use Rattle.boss_time.proofs.Filters.{each-unmapped}
 use Rattle.boss_stages.specs.Stages.{Tracked, number}
 use Rattle.boss_books.specs.Bookable.{ComesTo}
 use Rattle.boss_books.specs.Books.{Books, Telling}
-use Rattle.boss_books.specs.Gathered.{booked_all, plain, with_begun}
+use Rattle.boss_books.specs.Gathered.{booked_all, plain, with_begun, told_rank}
 use Rattle.boss_grants.proofs.SubmitBooked.{slots-come}
-use Rattle.boss_grants.proofs.Together.{put_together, stands-for, together}
+use Rattle.boss_grants.proofs.Together.{put_together, room-booked, stands-for, together}
 use Rattle.boss_dues.proofs.Owners.{txns-given}
 use Rattle.boss_lasting.specs.Lasting.{IsSubmit, persistent_of}
 use Rattle.boss_lasting.proofs.Moved.{comes-moved}
@@ -92,4 +92,12 @@ returns-clause-kept c =
           (put_together c.take.new.self.now (d.next + 1) c.take.new.self.leases c.take.new.self.pending (books at.After-book_all))
           c.book_all.ensures.books is.books (after at.After-book_all s.0 s.1 s.2 s.3 is);
       slots = c.requires.kept.slots;
+      records = omega (
+        arith,
+        c.requires.kept.records,
+        c.take.ensures.points,
+        ap (λ b. b.stages.room) c.book_all.ensures.books
+            ∙ room-booked (in_order told_rank c.take.new.told.items) (record { stages = c.add.new.self; processes = d.processes }),
+        ap (λ s. s.room) c.add.ensures,
+      );
     }

@@ -63,6 +63,13 @@ returns-clause-kept c =
           (put_together c.tick.new.self.now d.next c.tick.new.self.leases c.tick.new.self.pending (books at.After-book_all))
           c.book_all.ensures.books is.books (after at.After-book_all is);
       slots = c.requires.kept.slots;
+      records = omega (
+        arith,
+        c.requires.kept.records,
+        c.tick.ensures.points,
+        ap (λ b. b.stages.room) c.book_all.ensures.books
+            ∙ room-booked (in_order told_rank c.tick.new.told.items) (record { stages = c.args.self.now.stages; processes = c.args.self.now.processes }),
+      );
     }
 
 pub returns-clause-stages : goal.returns-clause-stages

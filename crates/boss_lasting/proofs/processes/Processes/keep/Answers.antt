@@ -1,7 +1,6 @@
 use Rattle.std.proofs.Common.{◌≡◌, ◌<◌, length, get_or, sym, ap, ◌∙◌, arith}
 use Rattle.boss_model.specs.Processes.{name_of}
 use Rattle.boss_model.specs.Replies.{reply_of}
-use Rattle.boss_notices.specs.Rings.{ring_of}
 use Rattle.boss_lasting.specs.Processes.{process_at}
 use Rattle.boss_lasting.proofs.Side.{blank, length-processes_of, name-there, process_at-there, reply-there}
 use Rattle.boss_lasting.proofs.processes.Processes.keep.Goals as goal
