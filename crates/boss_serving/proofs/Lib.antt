@@ -1,3 +1,4 @@
+pub mod AccountLemmas
 pub mod Crosses
 pub mod DeskJoins
 pub mod FreshLemmas

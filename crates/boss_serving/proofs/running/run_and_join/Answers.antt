@@ -1,6 +1,10 @@
 use Rattle.std.proofs.Common.{◌≡◌, ℕ, ◌+◌, Bool, List, length, map, refl, sym, ap, ◌∙◌, subst, arith, length-append}
 use denote.Param.{param}
-use denote.Param.Send.{param_send}
+use denote.Exit.{no}
+use denote.Param.Send.{IsSend, param_send}
+use denote.RattleType.{RattleType}
+use denote.Signature.{named_lft}
+use Rattle.boss_duties.specs.contracts.worker.Worker as Worker
 use Rattle.boss_duties.specs.Desks.{own_of}
 use Rattle.boss_duties.specs.Saying.{terms_of}
 use Rattle.boss_duties.specs.Workers.{share_at, was_at, HasLeft, IsReady}
@@ -71,8 +75,12 @@ returns-in-Ok-clause-started g c =
 pub run_all-requires-send-T : goal.run_all-requires-send-T
 run_all-requires-send-T g c κs within =
     let bounds = c.type_bounds in
-    param_send 2 _ (Worker-send _ (param 0 g.row.G) (param 1 g.row.H) (param 2 g.row.C) (param 3 g.row.W) (param 4 g.row.A) (param 6 g.row.G-Pass)
-    bounds.sync-G bounds.send-H bounds.send-C bounds.send-W bounds.send-A bounds.send-G-Pass)
+    let it : RattleType = Worker.the_row (named_lft 5 4 tt κs) (param 0 g.row.G) (param 1 g.row.H) (param 2 g.row.C) (param 3 g.row.W) (param 4 g.row.A) (param 6 g.row.G-Pass) in
+    let sends : IsSend it = Worker-send (named_lft 5 4 tt κs) (param 0 g.row.G) (param 1 g.row.H) (param 2 g.row.C) (param 3 g.row.W) (param 4 g.row.A) (param 6 g.row.G-Pass)
+    bounds.sync-G bounds.send-H bounds.send-C bounds.send-W bounds.send-A bounds.send-G-Pass in
+    let kept : RattleType = record it { exit = λ k. it.exit no } in
+    let all = param_send 2 kept (record { owned = sends.owned; leaving = λ k. sends.leaving no }) in
+    record { owned = all.owned; leaving = all.leaving }
 
 pub run_all-requires-after_bounds : goal.run_all-requires-after_bounds
 run_all-requires-after_bounds g c κs within =
