@@ -34,6 +34,7 @@ impl<D: Disk> Durable<D> {
         ensures wants { result ≡ Outcome.NoMemory → may_want self.old.engine.state command.now ≡ true }
         ensures log { (answer : Answer) → result ≡ Outcome.Done answer → may_want self.old.engine.state command.now ≡ true → log self.new ≤ self.new.log_limit }
         ensures limit { self.new.log_limit ≡ self.old.log_limit }
+        ensures digest { self.new.disks.digest ≡ self.old.disks.digest }
     {
         if self.disks.stopped() {
             return Outcome::Stopped;
@@ -54,6 +55,7 @@ impl<D: Disk> Durable<D> {
         ensures passes { (before : List Event) → keeps self.old before → passes self.old self.new (lasting self.old) (lasting self.old) }
         ensures engine { self.new.engine ≡ self.old.engine }
         ensures limit { self.new.log_limit ≡ self.old.log_limit }
+        ensures digest { self.new.disks.digest ≡ self.old.disks.digest }
         ensures cause { BegunCause (counts_of self.old.disks) (counts_of self.new.disks) result }
         ensures stops { self.new.disks.stopped ≡ is_fault result }
         ensures memory { result ≡ Begun.NoMemory → is_growing command.now ≡ true }
@@ -84,6 +86,7 @@ impl<D: Disk> Durable<D> {
         ensures wants { result ≡ Outcome.NoMemory → may_want self.old.engine.state command.now ≡ true }
         ensures log { (answer : Answer) → result ≡ Outcome.Done answer → log self.new ≤ log self.old + 65536 }
         ensures limit { self.new.log_limit ≡ self.old.log_limit }
+        ensures digest { self.new.disks.digest ≡ self.old.disks.digest }
     {
         self.batch.clear();
         match take_step(&mut self.engine, &mut self.batch, session, command, moment) {

@@ -36,6 +36,7 @@ impl<D: Disk> Durable<D> {
         ensures passes { (before : List Event) → keeps self.old before → passes self.old self.new (lasting self.old) (lasting self.old) }
         ensures engine { self.new.engine ≡ self.old.engine }
         ensures limit { self.new.log_limit ≡ self.old.log_limit }
+        ensures digest { self.new.disks.digest ≡ self.old.disks.digest }
         ensures cause { BegunCause (counts_of self.old.disks) (counts_of self.new.disks) result }
         ensures stops { self.new.disks.stopped ≡ is_fault result }
         ensures memory { result ≡ Begun.NoMemory → self.new ≡ self.old }
@@ -71,6 +72,7 @@ impl<D: Disk> Durable<D> {
         ensures passes { (before : List Event) → keeps self.old before → passes self.old self.new (lasting self.old) (lasting self.old) }
         ensures engine { self.new.engine ≡ self.old.engine }
         ensures limit { self.new.log_limit ≡ self.old.log_limit }
+        ensures digest { self.new.disks.digest ≡ self.old.disks.digest }
         ensures cause { BegunCause (counts_of self.old.disks) (counts_of self.new.disks) result }
         ensures stops { self.new.disks.stopped ≡ is_fault result }
         ensures tried { result ≢ Begun.NoMemory }

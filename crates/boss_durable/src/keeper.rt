@@ -19,6 +19,8 @@ impl<D: Disk> Keeper for Durable<D> {
 
     ghost keeps = { λ durable events. keeps durable events };
 
+    ghost under = { λ durable. durable.disks.digest };
+
     fn apply(&mut self, session: SessionId, command: &Command, moment: u64) -> Outcome {
         Durable::apply(self, session, command, moment)
     }

@@ -46,6 +46,7 @@ impl<D: Disk> Durable<D> {
         ensures log { (log self.new ≤ self.new.log_limit) ⊎ WantNone self.old.engine.state (take result.done commands.now) }
         ensures room { vec_capacity answers.new ≡ vec_capacity answers.old }
         ensures limit { self.new.log_limit ≡ self.old.log_limit }
+        ensures digest { self.new.disks.digest ≡ self.old.disks.digest }
     {
         answers.clear();
         if self.disks.stopped() {
@@ -76,6 +77,7 @@ impl<D: Disk> Durable<D> {
         ensures passes { (before : List Event) → keeps self.old before → passes self.old self.new (lasting self.old) (lasting self.old) }
         ensures engine { self.new.engine ≡ self.old.engine }
         ensures limit { self.new.log_limit ≡ self.old.log_limit }
+        ensures digest { self.new.disks.digest ≡ self.old.disks.digest }
         ensures cause { CallCause false (counts_of self.old.disks) (counts_of self.new.disks) result }
         ensures fine { OnOk result (self.new.disks.stopped ≡ false) }
         ensures stops { OnErr result (self.new.disks.stopped ≡ true) }
@@ -113,6 +115,7 @@ impl<D: Disk> Durable<D> {
         ensures log { has_failed_rest result.rest ≡ false → log self.new ≤ log self.old + 65536 }
         ensures room { vec_capacity answers.new ≡ vec_capacity answers.old }
         ensures limit { self.new.log_limit ≡ self.old.log_limit }
+        ensures digest { self.new.disks.digest ≡ self.old.disks.digest }
     {
         self.batch.clear();
         take_steps(

@@ -37,6 +37,7 @@ pub fn drain<V: Keeper, K: Sink, A: Actuators>(
     requires room { 32768 ≤ text.old.capacity }
     requires devices { HasDevices (vec_len devices.old) (actuators catalogue.now) }
 
+    ensures under { V.under keeper.new ≡ V.under keeper.old }
     ensures room { text.new.capacity ≡ text.old.capacity }
     ensures len { vec_len devices.new ≡ vec_len devices.old }
     ensures cause { HasCause (K.faults sink.old) (K.faults sink.new) result }
@@ -84,6 +85,7 @@ fn serve<V: Keeper, K: Sink, A: Actuators>(
     requires room { 32768 ≤ text.old.capacity }
     requires device { driver < vec_len devices.old }
 
+    ensures under { V.under keeper.new ≡ V.under keeper.old }
     ensures room { text.new.capacity ≡ text.old.capacity }
     ensures len { vec_len devices.new ≡ vec_len devices.old }
     ensures cause { HasCause (K.faults sink.old) (K.faults sink.new) result }

@@ -45,6 +45,7 @@ pub fn run_script<V: Keeper, S: Source, K: Sink, A: Actuators>(
     requires sound { IsSound (V.plant keeper.old) (V.state keeper.old) }
     requires devices { HasDevices (vec_len devices.old) (actuators catalogue.now) }
 
+    ensures under { V.under keeper.new ≡ V.under keeper.old }
     ensures ran { IfOk result (λ end. CarriesOut ⟦<V as Keeper>⟧ catalogue.now keeper.old keeper.new
         (outside ⟦<S as Source>⟧ ⟦<K as Sink>⟧ ⟦<A as Actuators>⟧ source.old sink.old devices.old.items)
         (outside ⟦<S as Source>⟧ ⟦<K as Sink>⟧ ⟦<A as Actuators>⟧ source.new sink.new devices.new.items) end) }
@@ -96,6 +97,7 @@ fn take_lines<V: Keeper, S: Source, K: Sink, A: Actuators>(
     requires room { 32768 ≤ text.old.capacity }
     requires devices { HasDevices (vec_len devices.old) (actuators catalogue.now) }
 
+    ensures under { V.under keeper.new ≡ V.under keeper.old }
     ensures took { IfOk result (λ end. TookLines ⟦<V as Keeper>⟧ catalogue.now keeper.old keeper.new
         S.tells (reader.old.ahead ++ S.left source.old) (S.left source.new) K.tells
         (trace ⟦<K as Sink>⟧ ⟦<A as Actuators>⟧ sink.old devices.old.items)
@@ -144,6 +146,7 @@ fn take_line<V: Keeper, K: Sink, A: Actuators>(
     requires room { 32768 ≤ text.old.capacity }
     requires devices { HasDevices (vec_len devices.old) (actuators catalogue.now) }
 
+    ensures under { V.under keeper.new ≡ V.under keeper.old }
     ensures room { text.new.capacity ≡ text.old.capacity }
     ensures len { vec_len devices.new ≡ vec_len devices.old }
     ensures write { WriteCause (K.faults sink.old) (K.faults sink.new) result }
@@ -198,6 +201,7 @@ fn answer<V: Keeper, K: Sink, A: Actuators>(
     requires room { 32768 ≤ text.old.capacity }
     requires devices { HasDevices (vec_len devices.old) (actuators catalogue.now) }
 
+    ensures under { V.under keeper.new ≡ V.under keeper.old }
     ensures room { text.new.capacity ≡ text.old.capacity }
     ensures len { vec_len devices.new ≡ vec_len devices.old }
     ensures write { WriteCause (K.faults sink.old) (K.faults sink.new) result }

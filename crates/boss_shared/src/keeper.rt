@@ -1,4 +1,4 @@
-ghost use Rattle.std.specs.Prelude.{◌≡◌, ◌≤◌, ℕ, Bool, List, length, vec_capacity};
+ghost use Rattle.std.specs.Prelude.{◌≡◌, ◌≤◌, ℕ, Bool, List, [], length, vec_capacity};
 ghost use Rattle.std.specs.List.{AllByRecursion};
 ghost use Rattle.boss_model.specs.declared.event.Event.{Event};
 ghost use Rattle.boss_model.specs.declared.state.Actuator.{Actuator};
@@ -33,6 +33,10 @@ pub trait Keeper {
     /// The disk has as many events as there are in this list. Where the disk doesn't tell, this says nothing.
     ghost keeps: { Self → List Event → Type 0 };
 
+    /// The digest of the catalogue that the disk's journal is kept under, which no call changes. Where there is no journal it is
+    /// empty.
+    ghost under: { Self → List ℕ } = { λ _. [] };
+
     /// The least driver that has a want.
     fn wanting(&self) -> Option<DriverId>
         ensures { result ≡ wanting (plant self.now) (state self.now) };
@@ -46,6 +50,7 @@ pub trait Keeper {
     fn apply(&mut self, session: SessionId, command: &Command, moment: u64) -> Outcome
         requires may { MayCall (plant self.old) (command.now, moment) }
         ensures kept { Keeps plant state stopped faults leaves keeps self.old self.new (made_by session command.now moment result) }
+        ensures under { under self.new ≡ under self.old }
         ensures stops { is_stopped result ≡ stopped self.old }
         ensures memory { MayWant command.now result };
 
@@ -65,6 +70,7 @@ pub trait Keeper {
         requires room { length commands.now ≤ vec_capacity answers.old }
         ensures kept { Keeps plant state stopped faults leaves keeps self.old self.new
             (made_by_all session commands.now answers.new.items result.rest) }
+        ensures under { under self.new ≡ under self.old }
         ensures stops { is_stopped_rest result.rest ≡ stopped self.old }
         ensures done { length answers.new.items ≡ result.done }
         ensures rest { RestFits commands.now result.done result.rest }

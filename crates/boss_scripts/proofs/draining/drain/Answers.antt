@@ -10,6 +10,7 @@ use Rattle.boss_scripts.proofs.draining.drain.Goals as goal
 
 pub loop-driver-init : goal.loop-driver-init
 loop-driver-init g c = record {
+  under = refl;
   room = refl;
   len = refl;
   cause = refl;
@@ -42,6 +43,7 @@ loop-driver-preserved g c =
     let inv = c.loop-driver.invariant in
     let done = c.in_ok-serve.ensures in
     record {
+      under = c.serve.ensures.under ∙ inv.under;
       room = c.serve.ensures.room ∙ inv.room;
       len = c.serve.ensures.len ∙ inv.len;
       cause = done.cause.fine ∙ inv.cause;

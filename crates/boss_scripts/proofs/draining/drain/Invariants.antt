@@ -9,6 +9,7 @@ use Rattle.boss_scripts.proofs.draining.drain.Given as goal
 -- so far wants were served, and wants are left to be served
 abbrev pub invariant-loop-driver : goal.invariant-loop-driver
 invariant-loop-driver g l = record {
+  under : g.V.Keeper.under l.keeper ≡ g.V.Keeper.under l.fn.keeper;
   room : l.text.capacity ≡ l.fn.text.capacity;
   len : vec_len l.devices ≡ vec_len l.fn.devices;
   cause : g.K.Sink.faults l.sink ≡ g.K.Sink.faults l.fn.sink;

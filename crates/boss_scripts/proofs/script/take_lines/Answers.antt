@@ -19,6 +19,7 @@ pub loop-init : goal.loop-init
 loop-init g c = record {
   going = inl c.requires.fresh;
   over = λ left is. let none = c.requires.fresh in absurd cc;
+  under = refl;
   room = refl;
   len = refl;
   write = refl;
@@ -52,6 +53,7 @@ loop-preserved g c =
       over = λ left is.
           none-left (c.loop.reader.ahead ++ g.S.Source.left c.loop.source) c.next.new.self.ahead (g.S.Source.left c.next.new.source) c.next.new.self.line c.next.new.self.stopped
           (c.next.ensures.ends left c.in-Line.is) is;
+      under = c.take_line.ensures.under ∙ inv.under;
       room = c.take_line.ensures.room ∙ inv.room;
       len = c.take_line.ensures.len ∙ inv.len;
       write = c.in_ok-take_line-in-Line.ensures.write ∙ inv.write;
@@ -92,6 +94,7 @@ pub returns-in_default : goal.returns-in_default
 returns-in_default g c =
     let inv = c.loop.invariant in
     record {
+      under = inv.under;
       took = record {
         entries = inv.taken.0;
         kept = inv.taken.1;

@@ -15,6 +15,7 @@ abbrev pub invariant-loop : goal.invariant-loop
 invariant-loop g l = record {
   going : StopsAt Line l.reader.stopped;
   over : g.S.Source.tells → l.reader.stopped ≡ Some Finish → g.S.Source.left l.source ≡ [];
+  under : g.V.Keeper.under l.keeper ≡ g.V.Keeper.under l.fn.keeper;
   room : l.text.capacity ≡ l.fn.text.capacity;
   len : vec_len l.devices ≡ vec_len l.fn.devices;
   write : g.K.Sink.faults l.sink ≡ g.K.Sink.faults l.fn.sink;
