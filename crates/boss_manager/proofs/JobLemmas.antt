@@ -1,16 +1,11 @@
 -- A job by its ends.
-use Rattle.std.proofs.Common.{arith, ◌≡◌, ◌≢◌, ◌⊎◌, inl, inr, ℕ, ◌++◌, List, [], ◌∷◌, refl, sym, ap, ◌∙◌, Some, Ok, Err, Result}
+use Rattle.std.proofs.Common.{◌≡◌, ◌⊎◌, inl, inr, ℕ, ◌++◌, List, [], ◌∷◌, sym, ap, ◌∙◌, Some, Ok, Err, Result}
 use Rattle.boss_model.specs.Catalogue.{Catalogue}
 use Rattle.boss_outside.specs.declared.actuators.Actuators as actuators
 use Rattle.boss_files.specs.declared.files.Files as files
 use Rattle.boss_outside.specs.declared.sink.Sink as sink
 use Rattle.boss_outside.specs.declared.source.Source as source
 use Rattle.boss_points.specs.declared.CatalogueRefusal.{CatalogueRefusal}
-use Rattle.boss_lines.specs.declared.reader.Next.{Next}
-use Rattle.boss_lines.specs.declared.reader.Next.TheVariants.{Line, Finish, TooLong, ReadFault}
-use Rattle.boss_scripts.specs.declared.broken.Broken.{Broken}
-use Rattle.boss_scripts.specs.declared.broken.Broken.TheVariants.{WriteFault, NoMemory}
-use Rattle.boss_manager.specs.Ends.{status_of}
 use Rattle.boss_manager.specs.Jobs.{DoesScript, HadNoCatalogue, RanCatalogue, RefusedCatalogue, World}
 use Rattle.boss_manager.specs.Programs.{usable}
 
@@ -36,24 +31,3 @@ module _ {F D S K A : Type 0} (f : files.Ghosts F D) (s : source.Ghosts S) (k : 
       | inr (inr ran) ↦ ran.script.complete left fine' fine'' short few
     ];
   }
-
--- a job that is served does not end with the status of words that ask for none
-other-status : (end : Result Next Broken) → status_of end ≢ 2
-other-status (Ok Finish) is = omega (arith, is)
-other-status (Ok ReadFault) is = omega (arith, is)
-other-status (Ok TooLong) is = omega (arith, is)
-other-status (Ok Line) is = omega (arith, is)
-other-status (Err WriteFault) is = omega (arith, is)
-other-status (Err NoMemory) is = omega (arith, is)
-
-pub serves : {F D S K A : Type 0} {f : files.Ghosts F D} {s : source.Ghosts S} {k : sink.Ghosts K} {a : actuators.Ghosts A} {name : List ℕ} {count : ℕ} {old new : World F S K A} {status : ℕ} →
-    DoesScript f s k a name count old new status → status ≢ 2
-serves does is = elim does.did [
-  | inl none ↦ elim none.why [ inl fault ↦ omega (arith, is, fault.0) | inr lack ↦ omega (arith, is, lack.0) ]
-  | inr (inl refused) ↦ elim refused.tells [ inl told ↦ omega (arith, is, told.0) | inr (inl failed) ↦ omega (arith, is, failed.0) | inr (inr lack) ↦ omega (arith, is, lack.0) ]
-  | inr (inr ran) ↦ other-status ran.script.end (sym ran.script.told ∙ is)
-]
-
--- no memory was to be had before anything
-pub lacks : {F D S K A : Type 0} (f : files.Ghosts F D) (s : source.Ghosts S) (k : sink.Ghosts K) (a : actuators.Ghosts A) (name : List ℕ) (count : ℕ) (old : World F S K A) → DoesScript f s k a name count old old 8
-lacks f s k a name count old = does f s k a name count old old 8 (inl (record { why = inr (refl, refl); source = refl; sink = refl; devices = refl })) (λ tells. inr (refl, refl))

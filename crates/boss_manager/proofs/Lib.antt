@@ -1,4 +1,10 @@
 pub mod JobLemmas
+pub mod KeptLemmas
+pub mod Lifting
+pub mod OpenedLemmas
 pub mod Places
+pub mod Refusals
+pub mod Reopening
+pub mod RunLemmas
 pub mod StatusLemmas
 pub mod UnkeptLemmas

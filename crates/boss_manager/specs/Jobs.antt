@@ -44,7 +44,7 @@ module _ {F D S K A : Type 0} (f : files.Ghosts F D) (s : source.Ghosts S) (k : 
     pub devices : new.devices ≡ old.devices
 
   -- what the file under this name comes to, for so many devices, if files tell what they hold
-  abbrev Spells : List ℕ → ℕ → F → Result Catalogue CatalogueRefusal → Type 0
+  abbrev pub Spells : List ℕ → ℕ → F → Result Catalogue CatalogueRefusal → Type 0
   Spells name count files result = f.tells → (file : List ℕ) × (f.holds files name ≡ Some file) × (usable count file ≡ result)
 
   -- no catalogue was had, as a file failed, which is status 5, or no memory was to be had: nothing was told, read or called

@@ -1,5 +1,9 @@
+pub mod Checks
 pub mod Ends
 pub mod Jobs
+pub mod Journals
+pub mod KeptScripts
 pub mod Loads
+pub mod Openings
 pub mod Programs
 pub mod Scripts

@@ -1,5 +1,5 @@
 -- What the words and the catalogue's file come to.
-use Rattle.std.specs.Prelude.{ℕ, Bool, not, nat_lt, if◌then◌else◌, List, codes, Option, Some, None, Result, Ok, Err}
+use Rattle.std.specs.Prelude.{ℕ, Bool, true, false, not, nat_lt, if◌then◌else◌, List, codes, Option, Some, None, Result, Ok, Err}
 use Rattle.std.specs.List.{position_from}
 use Rattle.std.specs.Option.{option_and_then, option_map_or}
 use Rattle.std.specs.Str.{bytes_eq}
@@ -11,7 +11,7 @@ use Rattle.boss_words.specs.declared.Job.{Job}
 use Rattle.boss_words.specs.declared.Job.TheVariants.{Script, Serve, Check, Load}
 use Rattle.boss_words.specs.Words.{job_of}
 
--- the catalogue's file of a job that is served: a script whose journal is in memory alone
+-- the catalogue's file of a script whose journal is in memory alone
 abbrev pub catalogue_word : Job → Option (List ℕ)
 catalogue_word (Script catalogue journal) = if bytes_eq journal (codes "-") then Some catalogue else None
 catalogue_word (Serve catalogue journal address workers connections) = None
@@ -20,6 +20,14 @@ catalogue_word (Load count seed) = None
 
 abbrev pub script_of_words : List (List ℕ) → Option (List ℕ)
 script_of_words words = option_and_then catalogue_word (job_of words)
+
+-- what is served so far: a script, and a check
+abbrev pub is_served : Option Job → Bool
+is_served (Some (Script catalogue journal)) = true
+is_served (Some (Check catalogue journal)) = true
+is_served (Some (Serve catalogue journal address workers connections)) = false
+is_served (Some (Load count seed)) = false
+is_served None = false
 
 -- the point's driver has none of these devices
 abbrev pub lacks_device : ℕ → Point → Bool

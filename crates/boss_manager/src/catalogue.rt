@@ -1,4 +1,4 @@
-ghost use Rattle.std.specs.Prelude.{◌≡◌, ◌<◌, IfOk};
+ghost use Rattle.std.specs.Prelude.{◌≡◌, ◌<◌, ℕ, List, IfOk};
 ghost use Rattle.std.specs.List.{position_from};
 ghost use Rattle.boss_model.specs.Catalogue.{actuators};
 ghost use Rattle.boss_points.specs.Seen.{seen};
@@ -35,6 +35,7 @@ pub fn load<F: Files>(
     ensures loads { F.tells → Loads devices (F.holds files.old name.now) result }
     ensures known { IfOk result (λ catalogue. HasDevices devices (actuators catalogue)) }
     ensures asks { F.tells → AsksFor name.now (F.asked files.old) (F.asked files.new) result }
+    ensures stays { F.tells → (file : List ℕ) → F.holds files.new file ≡ F.holds files.old file }
     ensures cause { FaultOnly (F.faults files.old) (F.faults files.new) result }
 {
     let bytes = match files.read(alloc, name, LONGEST_FILE) {

@@ -2,10 +2,19 @@
 #![tactic(auto)]
 
 mod catalogue;
+mod checking;
+mod journal;
+mod kept_jobs;
+mod laws;
+mod memory_jobs;
+mod saying;
 mod script;
 mod status;
 mod top_call;
 
+pub use checking::check_on_disks;
+pub use journal::script_on_disks;
+pub use laws::a_second_script_goes_on;
 pub use script::script_run;
 pub use status::Status;
 pub use top_call::boss;

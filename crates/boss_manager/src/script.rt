@@ -34,7 +34,7 @@ pub fn script_run<S: Source, K: Sink, A: Actuators>(
 }
 
 /// The status that tells how a script ended.
-fn status_of(end: Result<Next, Broken>) -> Status
+pub fn status_of(end: Result<Next, Broken>) -> Status
     ensures { result.0 ≡ status_of end }
 {
     match end {

@@ -9,6 +9,8 @@ impl Status {
     pub const USAGE: Status = Status(2);
     /// The catalogue was refused.
     pub const CATALOGUE: Status = Status(3);
+    /// The journal was refused.
+    pub const JOURNAL: Status = Status(4);
     /// A file failed.
     pub const FILE_FAULT: Status = Status(5);
     /// A read failed.

@@ -1,24 +1,26 @@
-ghost use Rattle.std.specs.Prelude.{◌≡◌, List, ℕ, None, Some, vec_len, IfOk};
-ghost use Rattle.boss_words.specs.Words.{texts};
-ghost use Rattle.boss_answers.specs.Refused.{refusal_line, usage_line};
-ghost use Rattle.boss_manager.specs.Jobs.{DoesScript, SaysUsage, TellsLine, world};
-ghost use Rattle.boss_manager.specs.Programs.{catalogue_word, script_of_words};
+ghost use Rattle.std.specs.Prelude.{◌≡◌, ◌≢◌, List, ℕ, None, Some, codes, false, vec_len};
+ghost use Rattle.boss_words.specs.declared.job.Job.TheVariants as job;
+ghost use Rattle.boss_words.specs.Words.{job_of, texts};
+ghost use Rattle.boss_manager.specs.Checks.{ChecksJournal, ChecksMemory};
+ghost use Rattle.boss_manager.specs.Jobs.{DoesScript, SaysUsage, world};
+ghost use Rattle.boss_manager.specs.KeptScripts.{DoesKeptScript};
+ghost use Rattle.boss_manager.specs.Programs.{is_served, script_of_words};
 
 use crate::Status;
-use crate::catalogue::{Unusable, load};
-use crate::script::script_run;
-use boss_answers::{refusal_line, tell_usage};
+use crate::kept_jobs::{check_kept, do_kept_script};
+use crate::memory_jobs::{check_memory, do_script};
+use crate::saying::say_usage;
 use boss_files::Files;
-use boss_model::NoMemory;
 use boss_outside::{Actuators, Sink, Source};
-use boss_points::CatalogueRefusal;
-use boss_words::{Job, Word, WordsRefusal, read_words};
+use boss_words::{Job, WordsRefusal, read_words};
 use std::alloc::Global;
 
 /// Does what the words ask for. They do not include the program's own name.
 ///
-/// So far this is a script with its journal in memory, `script CATALOGUE -`: the catalogue is read, the lines of the
-/// source are answered to the sink, and the devices are driven, the d-th of them for driver d.
+/// So far this is a script, `script CATALOGUE JOURNAL`, and a check, `check CATALOGUE JOURNAL`. A script reads the catalogue, opens the
+/// journal, answers the lines of the source to the sink and drives the devices, the d-th of them for driver d. A check tells what the
+/// journal stands for. The journal is kept in two files, that of its name and that of its name with `.b` behind it, or with `-` in
+/// memory alone.
 pub fn boss<F: Files, S: Source, K: Sink, A: Actuators>(
     alloc: Global,
     words: &Vec<String>,
@@ -31,86 +33,57 @@ pub fn boss<F: Files, S: Source, K: Sink, A: Actuators>(
     ensures script { (name : List ℕ) → script_of_words (texts words.now.items) ≡ Some name
         → DoesScript ⟦<F as Files>⟧ ⟦<S as Source>⟧ ⟦<K as Sink>⟧ ⟦<A as Actuators>⟧ name (vec_len devices.old)
         (world files.old source.old sink.old devices.old.items) (world files.new source.new sink.new devices.new.items) result.0 }
+    ensures kept_script { (name journal : List ℕ) → job_of (texts words.now.items) ≡ Some (job.Script name journal) → journal ≢ codes "-"
+        → DoesKeptScript ⟦<F as Files>⟧ ⟦<S as Source>⟧ ⟦<K as Sink>⟧ ⟦<A as Actuators>⟧ name journal (vec_len devices.old)
+        (world files.old source.old sink.old devices.old.items) (world files.new source.new sink.new devices.new.items) result.0 }
+    ensures check { (name journal : List ℕ) → job_of (texts words.now.items) ≡ Some (job.Check name journal) → journal ≢ codes "-"
+        → ChecksJournal ⟦<F as Files>⟧ ⟦<S as Source>⟧ ⟦<K as Sink>⟧ ⟦<A as Actuators>⟧ name journal (vec_len devices.old)
+        (world files.old source.old sink.old devices.old.items) (world files.new source.new sink.new devices.new.items) result.0 }
+    ensures check_memory { (name : List ℕ) → job_of (texts words.now.items) ≡ Some (job.Check name (codes "-"))
+        → ChecksMemory ⟦<F as Files>⟧ ⟦<S as Source>⟧ ⟦<K as Sink>⟧ ⟦<A as Actuators>⟧ name (vec_len devices.old)
+        (world files.old source.old sink.old devices.old.items) (world files.new source.new sink.new devices.new.items) result.0 }
 
     // Status 2 comes exactly where they ask for no such job, but where the line that tells it can't be written, or memory is
     // wanting.
-    ensures usage_only { result.0 ≡ 2 → script_of_words (texts words.now.items) ≡ None }
-    ensures usage { script_of_words (texts words.now.items) ≡ None
+    ensures usage_only { result.0 ≡ 2 → is_served (job_of (texts words.now.items)) ≡ false }
+    ensures usage { is_served (job_of (texts words.now.items)) ≡ false
         → SaysUsage ⟦<F as Files>⟧ ⟦<S as Source>⟧ ⟦<K as Sink>⟧ ⟦<A as Actuators>⟧
         (world files.old source.old sink.old devices.old.items) (world files.new source.new sink.new devices.new.items) result.0 }
 {
-    match asked_catalogue(alloc, words) {
-        Ok(Some(catalogue)) => do_script(alloc, catalogue.text(), files, source, sink, devices),
-        Ok(None) => say_usage(sink),
-        Err(NoMemory) => Status::NO_MEMORY,
-    }
-}
-
-/// Runs the script of a catalogue's file.
-fn do_script<F: Files, S: Source, K: Sink, A: Actuators>(
-    alloc: Global,
-    name: &str,
-    files: &mut F,
-    source: &mut S,
-    sink: &mut K,
-    devices: &mut Vec<A>,
-) -> Status
-    ensures { DoesScript ⟦<F as Files>⟧ ⟦<S as Source>⟧ ⟦<K as Sink>⟧ ⟦<A as Actuators>⟧ name.now (vec_len devices.old)
-        (world files.old source.old sink.old devices.old.items) (world files.new source.new sink.new devices.new.items) result.0 }
-{
-    match load(alloc, files, name, devices.len()) {
-        Ok(catalogue) => script_run(alloc, &catalogue, source, sink, devices),
-        Err(Unusable::Refused(refusal)) => say_refusal(alloc, sink, refusal),
-        Err(Unusable::FileFault) => Status::FILE_FAULT,
-        Err(Unusable::NoMemory) => Status::NO_MEMORY,
-    }
-}
-
-/// The catalogue's file, where the words ask for a script with its journal in memory.
-fn asked_catalogue(alloc: Global, words: &Vec<String>) -> Result<Option<Word>, NoMemory>
-    ensures { IfOk result (λ word. word ≡ script_of_words (texts words.now.items)) }
-{
     match read_words(alloc, words) {
-        Ok(job) => Ok(catalogue_of_job(job)),
-        Err(WordsRefusal::Usage) => Ok(None),
-        Err(WordsRefusal::NoMemory) => Err(NoMemory),
-    }
-}
-
-fn catalogue_of_job(job: Job) -> Option<Word>
-    ensures { result ≡ catalogue_word job }
-{
-    match job {
-        Job::Script { catalogue, journal } => {
+        Ok(Job::Script { catalogue, journal }) => {
             if journal.text() == "-" {
-                Some(catalogue)
+                do_script(alloc, catalogue.text(), files, source, sink, devices)
             } else {
-                None
+                do_kept_script(
+                    alloc,
+                    catalogue.text(),
+                    journal.text(),
+                    files,
+                    source,
+                    sink,
+                    devices,
+                )
             }
         }
-        Job::Serve { .. } | Job::Check { .. } | Job::Load { .. } => None,
-    }
-}
-
-/// Tells how the program is used.
-fn say_usage<K: Sink>(sink: &mut K) -> Status
-    ensures { TellsLine ⟦<K as Sink>⟧ usage_line 2 sink.old sink.new result.0 }
-{
-    match tell_usage(sink) {
-        Ok(()) => Status::USAGE,
-        Err(_) => Status::WRITE_FAULT,
-    }
-}
-
-/// Tells why a catalogue was refused.
-fn say_refusal<K: Sink>(alloc: Global, sink: &mut K, refusal: CatalogueRefusal) -> Status
-    ensures { TellsLine ⟦<K as Sink>⟧ (refusal_line refusal) 3 sink.old sink.new result.0 }
-{
-    let Ok(line) = refusal_line(alloc, refusal) else {
-        return Status::NO_MEMORY;
-    };
-    match sink.write(&line) {
-        Ok(()) => Status::CATALOGUE,
-        Err(_) => Status::WRITE_FAULT,
+        Ok(Job::Check { catalogue, journal }) => {
+            if journal.text() == "-" {
+                check_memory(alloc, catalogue.text(), files, source, sink, devices)
+            } else {
+                check_kept(
+                    alloc,
+                    catalogue.text(),
+                    journal.text(),
+                    files,
+                    source,
+                    sink,
+                    devices,
+                )
+            }
+        }
+        Ok(Job::Serve { .. }) => say_usage(sink),
+        Ok(Job::Load { .. }) => say_usage(sink),
+        Err(WordsRefusal::Usage) => say_usage(sink),
+        Err(WordsRefusal::NoMemory) => Status::NO_MEMORY,
     }
 }

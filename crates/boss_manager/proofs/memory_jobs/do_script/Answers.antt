@@ -2,7 +2,7 @@ use Rattle.std.proofs.Common.{◌≡◌, Some, Ok, Err, List, ℕ, inl, inr, ref
 use Rattle.boss_manager.specs.Jobs.{world}
 use Rattle.boss_manager.specs.Programs.{usable}
 use Rattle.boss_manager.proofs.JobLemmas.{does}
-use Rattle.boss_manager.proofs.top_call.do_script.Goals as goal
+use Rattle.boss_manager.proofs.memory_jobs.do_script.Goals as goal
 
 pub returns-in-Ok : goal.returns-in-Ok
 returns-in-Ok g c =
