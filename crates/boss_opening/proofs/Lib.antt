@@ -8,3 +8,4 @@ pub mod Openings
 pub mod GoingOn
 pub mod Finishes
 pub mod Beginnings
+pub mod Looks

@@ -28,7 +28,14 @@ module _ {D : Type 0} {g : disk.Ghosts D} where
 
   pub not_read : (pair : TwoDisks D g) → IsReadOn pair pair
   not_read pair = record {
-    reads = λ told. refl; windows = λ told. refl; spare = refl; order = refl; version = refl; generation = refl; events = refl; digest = refl;
+    reads = λ told. refl;
+    windows = λ told. refl;
+    spare = refl;
+    order = refl;
+    version = refl;
+    generation = refl;
+    events = refl;
+    digest = refl;
   }
 
   pub read_further : (a b c : TwoDisks D g) → IsReadOn a b → IsReadOn b c → IsReadOn a c

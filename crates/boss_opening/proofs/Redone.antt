@@ -105,11 +105,14 @@ module _ (plant : List Actuator) (version : ℕ) (from : Persistent) where
               more = es;
               is = same;
               behind = rest;
-              leads = (then.0, record {
-                spelled = fit.0;
-                known = λ old. (all_split (λ x. act_number x.act ≡ 0) so.batch (e ∷ es) (subst (AllByRecursion (λ x. act_number x.act ≡ 0)) same (next.of_version old))).1.0;
-                leads = then.1;
-              });
+              leads = (
+                then.0,
+                record {
+                  spelled = fit.0;
+                  known = λ old. (all_split (λ x. act_number x.act ≡ 0) so.batch (e ∷ es) (subst (AllByRecursion (λ x. act_number x.act ≡ 0)) same (next.of_version old))).1.0;
+                  leads = then.1;
+                },
+              );
             }
 
     -- no record has these bytes where no event stands behind these, or sixteen are passed

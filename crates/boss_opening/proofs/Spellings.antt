@@ -135,8 +135,7 @@ act-spelled (act.Enrol bytes) fits modest = right_true _ _ fits
 act-spelled (act.Submit owner p ws seq) fits modest =
     let all = numbered-is submission owner seq (p, ws) fits in
     let many = right_true (policy.fits p) (writes.fits ws) all.rest in
-    let counts = count-fits (within 1 most_writes) most_writes setting ws many in
-    (
+    let counts = count-fits (within 1 most_writes) most_writes setting ws many in (
       all.owner_is,
       leb-true 1 (length ws) (right_true (byte.fits (length ws) && nat_le (length ws) most_writes) (nat_le 1 (length ws)) counts),
       few-items (within 1 most_writes) most_writes setting ws many,
@@ -146,8 +145,7 @@ act-spelled (act.Submit owner p ws seq) fits modest =
 act-spelled (act.Renew owner txn asked named seq) fits modest =
     let all = numbered-is renewal owner seq (txn, (asked, named)) fits in
     let behind = right_true ((number w64).fits txn) ((natural (number w32)).fits asked && points.fits named) all.rest in
-    let known = right_true ((natural (number w32)).fits asked) (points.fits named) behind in
-    (
+    let known = right_true ((natural (number w32)).fits asked) (points.fits named) behind in (
       all.owner_is,
       ltb-true txn (2 ^ 64) (left_true ((number w64).fits txn) ((natural (number w32)).fits asked && points.fits named) all.rest),
       between 1 longest_lease asked modest,

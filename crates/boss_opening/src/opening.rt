@@ -63,7 +63,7 @@ pub fn open<D: Disk>(
         → OpensCleanly (actuators catalogue.now) (digest_of catalogue.now) d count (D.reads first) (D.reads second)
         → (after : Persistent) × MayComeTo (actuators catalogue.now) (digest_of catalogue.now) d count after (D.reads first) (D.reads second)
         × Meanwhile (actuators catalogue.now) (digest_of catalogue.now) d after
-            (D.story first) (D.story second) (D.story (first_left result)) (D.story (second_left result)) }
+        (D.story first) (D.story second) (D.story (first_left result)) (D.story (second_left result)) }
     ensures cause { AnswerCause (counts (D.faults first) (D.faults second)) (counts (D.faults (first_left result)) (D.faults (second_left result))) result }
     ensures limit { IfOk result (λ durable. durable.log_limit ≡ log_limit) }
 {

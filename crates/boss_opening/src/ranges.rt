@@ -13,11 +13,8 @@ pub fn is_modest(act: &Act) -> bool
     match act {
         Act::Submit { writes, .. } => are_bounded(writes.slice()),
         Act::Renew { length, .. } => is_length(*length),
-        Act::Enrol { .. }
-        | Act::Cancel { .. }
-        | Act::Gone { .. }
-        | Act::Tick
-        | Act::Fault { .. } => true,
+        Act::Enrol { .. } | Act::Cancel { .. } | Act::Gone { .. } | Act::Tick | Act::Fault { .. } =>
+            true,
     }
 }
 

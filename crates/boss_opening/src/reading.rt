@@ -104,7 +104,12 @@ fn read_next<D: Disk>(
     ensures going { IfOk result (λ _. pair.new.stopped ≡ pair.old.stopped) }
 {
     match pair.next(buffer) {
-        NextRecord::Bytes { place } => match replay_record(alloc, engine, pair.version(), buffer.bytes()) {
+        NextRecord::Bytes { place } => match replay_record(
+            alloc,
+            engine,
+            pair.version(),
+            buffer.bytes(),
+        ) {
             Ok(Some(count)) => Ok(Some(count)),
             Ok(None) => Err(DurableRefusal::Damaged { place }),
             Err(NoMemory) => Err(DurableRefusal::NoMemory),

@@ -68,13 +68,7 @@ fn replay_first(
 {
     match read_event(alloc, bytes) {
         Ok(Some((event, size))) => match replay_known(engine, version, &event) {
-            Ok(done) => {
-                if done {
-                    Ok(Some(size))
-                } else {
-                    Ok(None)
-                }
-            }
+            Ok(done) => { if done { Ok(Some(size)) } else { Ok(None) } }
             Err(NoMemory) => Err(NoMemory),
         },
         Ok(None) => Ok(None),
