@@ -7,3 +7,4 @@ pub mod Loads
 pub mod Openings
 pub mod Programs
 pub mod Scripts
+pub mod LoadJobs

@@ -6,6 +6,7 @@ mod checking;
 mod journal;
 mod kept_jobs;
 mod laws;
+mod load_job;
 mod memory_jobs;
 mod saying;
 mod script;

@@ -4,10 +4,12 @@ ghost use Rattle.boss_words.specs.Words.{job_of, texts};
 ghost use Rattle.boss_manager.specs.Checks.{ChecksJournal, ChecksMemory};
 ghost use Rattle.boss_manager.specs.Jobs.{DoesScript, SaysUsage, world};
 ghost use Rattle.boss_manager.specs.KeptScripts.{DoesKeptScript};
+ghost use Rattle.boss_manager.specs.LoadJobs.{DoesLoad};
 ghost use Rattle.boss_manager.specs.Programs.{is_served, script_of_words};
 
 use crate::Status;
 use crate::kept_jobs::{check_kept, do_kept_script};
+use crate::load_job::do_load;
 use crate::memory_jobs::{check_memory, do_script};
 use crate::saying::say_usage;
 use boss_files::Files;
@@ -17,10 +19,10 @@ use std::alloc::Global;
 
 /// Does what the words ask for. They do not include the program's own name.
 ///
-/// So far this is a script, `script CATALOGUE JOURNAL`, and a check, `check CATALOGUE JOURNAL`. A script reads the catalogue, opens the
-/// journal, answers the lines of the source to the sink and drives the devices, the d-th of them for driver d. A check tells what the
-/// journal stands for. The journal is kept in two files, that of its name and that of its name with `.b` behind it, or with `-` in
-/// memory alone.
+/// So far this is a script, `script CATALOGUE JOURNAL`, a check, `check CATALOGUE JOURNAL`, and a generated load, `load COUNT SEED`. A
+/// script reads the catalogue, opens the journal, answers the lines of the source to the sink and drives the devices, the d-th of them
+/// for driver d. A check tells what the journal stands for. The journal is kept in two files, that of its name and that of its name
+/// with `.b` behind it, or with `-` in memory alone. A load tells what came of a generated day.
 pub fn boss<F: Files, S: Source, K: Sink, A: Actuators>(
     alloc: Global,
     words: &Vec<String>,
@@ -41,6 +43,9 @@ pub fn boss<F: Files, S: Source, K: Sink, A: Actuators>(
         (world files.old source.old sink.old devices.old.items) (world files.new source.new sink.new devices.new.items) result.0 }
     ensures check_memory { (name : List ℕ) → job_of (texts words.now.items) ≡ Some (job.Check name (codes "-"))
         → ChecksMemory ⟦<F as Files>⟧ ⟦<S as Source>⟧ ⟦<K as Sink>⟧ ⟦<A as Actuators>⟧ name (vec_len devices.old)
+        (world files.old source.old sink.old devices.old.items) (world files.new source.new sink.new devices.new.items) result.0 }
+    ensures load { (count seed : ℕ) → job_of (texts words.now.items) ≡ Some (job.Load count seed)
+        → DoesLoad ⟦<F as Files>⟧ ⟦<S as Source>⟧ ⟦<K as Sink>⟧ ⟦<A as Actuators>⟧ count seed
         (world files.old source.old sink.old devices.old.items) (world files.new source.new sink.new devices.new.items) result.0 }
 
     // Status 2 comes exactly where they ask for no such job, but where the line that tells it can't be written, or memory is
@@ -82,7 +87,7 @@ pub fn boss<F: Files, S: Source, K: Sink, A: Actuators>(
             }
         }
         Ok(Job::Serve { .. }) => say_usage(sink),
-        Ok(Job::Load { .. }) => say_usage(sink),
+        Ok(Job::Load { count, seed }) => do_load(alloc, count, seed, sink),
         Err(WordsRefusal::Usage) => say_usage(sink),
         Err(WordsRefusal::NoMemory) => Status::NO_MEMORY,
     }
