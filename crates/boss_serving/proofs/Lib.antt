@@ -2,6 +2,7 @@ pub mod AccountLemmas
 pub mod Crosses
 pub mod DeskJoins
 pub mod FreshLemmas
+pub mod KeptLemmas
 pub mod RanLemmas
 pub mod ReturnedLemmas
 pub mod ShareLemmas
