@@ -1,7 +1,10 @@
 //! The program on this machine: its words, its files, its standard input and output, and devices that take every command,
-//! behind each of the sixteen drivers.
+//! behind each of the sixteen drivers. Where not all was done, one sentence on the standard error says what happened and what to do.
 #![tactic(auto)]
 
+mod advice;
+
+use crate::advice::advice;
 use boss_adapters::{RealFiles, StdSink, StdSource, idle_devices};
 use boss_manager::{Status, boss};
 use boss_model::MOST_DRIVERS;
@@ -21,14 +24,19 @@ fn run(rt: HostRuntime) -> Result<Status, AllocError> {
     let mut source = StdSource::new(rt.stdin());
     let mut sink = StdSink::new(rt.stdout());
     let mut files = RealFiles::new(rt);
-    Ok(boss(
+    let status = boss(
         rt.alloc(),
         &words,
         &mut files,
         &mut source,
         &mut sink,
         &mut devices,
-    ))
+    );
+    // Where there is no memory for a sentence, or the standard error can't be written, the status alone tells.
+    if let Ok(Some(sentence)) = advice(rt.alloc(), status, &words) {
+        let _ = eprintln!(rt; "bossd: {sentence}");
+    }
+    Ok(status)
 }
 
 /// The program's words, without its own name. Words that are not UTF-8 are read as none, which is asking for nothing.

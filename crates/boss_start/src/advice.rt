@@ -1,0 +1,74 @@
+//! What is told beside the output of how a run ended.
+
+use boss_manager::Status;
+use std::alloc::{AllocError, Global};
+
+/// One sentence for a status: what happened, and what to do about it, with the names among the program's words. There is none where all
+/// was done.
+pub fn advice(
+    alloc: Global,
+    status: Status,
+    words: &Vec<String>,
+) -> Result<Option<String>, AllocError> {
+    if status == Status::DONE {
+        return Ok(None);
+    }
+    Ok(Some(sentence(alloc, status, words)?))
+}
+
+fn sentence(alloc: Global, status: Status, words: &Vec<String>) -> Result<String, AllocError> {
+    let catalogue = word_at(words, 1);
+    let journal = word_at(words, 2);
+    if status == Status::USAGE {
+        return String::from_str(alloc, USAGE);
+    }
+    if status == Status::CATALOGUE {
+        return format!(in alloc; "the catalogue {catalogue} was refused, as its line tells; correct that file");
+    }
+    if status == Status::JOURNAL {
+        return format!(in alloc; "the journal {journal} was refused, as its line tells; name this catalogue's journal, or a new one");
+    }
+    if status == Status::FILE_FAULT {
+        return file_fault(alloc, catalogue, journal);
+    }
+    String::from_str(alloc, of_this_run(status))
+}
+
+const USAGE: &str = "these words ask for nothing that it does; write script CATALOGUE JOURNAL or check CATALOGUE JOURNAL, with - for a \
+    journal in memory alone, or load COUNT SEED";
+
+/// A file failed.
+fn file_fault(alloc: Global, catalogue: &str, journal: &str) -> Result<String, AllocError> {
+    if journal == "-" {
+        return format!(in alloc; "a file failed; see that {catalogue} is there and can be read");
+    }
+    format!(in alloc; "a file failed; see that {catalogue} can be read, and {journal} and {journal}.b read and written")
+}
+
+/// What happened where no file of the words is concerned.
+fn of_this_run(status: Status) -> &'static str {
+    if status == Status::READ_FAULT {
+        return "the standard input could not be read to its end; give it again from where its answers end";
+    }
+    if status == Status::WRITE_FAULT {
+        return "the standard output could not be written; see where it leads";
+    }
+    if status == Status::NO_MEMORY {
+        return "no memory was to be had; free some and go on from where the answers end";
+    }
+    if status == Status::LINE_TOO_LONG {
+        return "a line of the standard input has more than 65,535 bytes; shorten it and go on from there";
+    }
+    if status == Status::TOO_MANY_LINES {
+        return "the standard input has more than 4,294,967,296 lines; go on with the others in another run";
+    }
+    "it ended with a status that is not told here"
+}
+
+/// The word at this place, counted from 0, or an empty one.
+fn word_at(words: &Vec<String>, place: usize) -> &str {
+    match words.get(place) {
+        Some(word) => word.as_str(),
+        None => "",
+    }
+}
