@@ -33,8 +33,7 @@ gains-from pausing between old new same gained = record { pairs = gained.pairs; 
 pub front-taken : {A : Type 0} (count : ℕ) (front rest all : List A) → front ++ rest ≡ all → length rest + count ≡ length all → (take count all ≡ front) × (drop count all ≡ rest)
 front-taken count front rest all are left =
     let size : length front + length rest ≡ length all = sym (length-append front rest) ∙ ap length are in
-    let here : count ≡ length front = omega (arith, size, left) in
-    (
+    let here : count ≡ length front = omega (arith, size, left) in (
       ap (λ k. take k all) here ∙ ap (take (length front)) (sym are) ∙ take-append_seam front rest,
       ap (λ k. drop k all) here ∙ ap (drop (length front)) (sym are) ∙ drop-append_seam front rest,
     )

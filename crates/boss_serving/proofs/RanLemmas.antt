@@ -23,8 +23,7 @@ module _ {T : Type 0} where
     each-ran (worker ∷ rest) [] n all each = absurd each
     each-ran (worker ∷ rest) (Ended new ∷ done) n all each =
         let one = ended n worker new all.0 each.0 in
-        let others = each-ran rest done (suc n) all.1 each.1 in
-        (
+        let others = each-ran rest done (suc n) all.1 each.1 in (
           (one.0, others.0),
           ap suc others.1,
           ap (λ a. a + shares_in done share) one.1 ∙ ap (λ b. share worker + b) others.2,
@@ -32,8 +31,7 @@ module _ {T : Type 0} where
         )
     each-ran (worker ∷ rest) (NotStarted new ∷ done) n all each =
         let one = left n worker new all.0 each.0 in
-        let others = each-ran rest done (suc n) all.1 each.1 in
-        (
+        let others = each-ran rest done (suc n) all.1 each.1 in (
           (one.0, others.0),
           ap suc others.1,
           ap (λ a. a + shares_in done share) one.1 ∙ ap (λ b. share worker + b) others.2,

@@ -26,11 +26,7 @@ fn insert_in_room<T: Drop>(items: &mut Vec<T>, place: usize, item: T)
 }
 
 /// Takes back what a worker's duty has: its part of the host, or the devices of its driver, which have their place by its number.
-fn join_duty<H: Host, A: Actuators + Drop>(
-    host: &mut H,
-    devices: &mut Vec<A>,
-    duty: Duty<H, A>,
-)
+fn join_duty<H: Host, A: Actuators + Drop>(host: &mut H, devices: &mut Vec<A>, duty: Duty<H, A>)
     requires sound { H.sound host.old }
     requires place { FitsAmong (length devices.old.items) duty }
     requires room { vec_len devices.old + length (was_at duty) ≤ vec_capacity devices.old }

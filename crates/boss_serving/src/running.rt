@@ -59,9 +59,7 @@ where
         × (waiter.new ≡ waiter.old) × (devices.new ≡ devices.old) × (spawner.new ≡ spawner.old)) }
 {
     match spawner.run_all(alloc, workers) {
-        Ok(done) => Ok(join_all(
-            server, pass, host, clock, waiter, devices, done,
-        )),
+        Ok(done) => Ok(join_all(server, pass, host, clock, waiter, devices, done)),
         Err((workers, _)) => Err(workers),
     }
 }

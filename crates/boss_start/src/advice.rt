@@ -23,10 +23,14 @@ fn sentence(alloc: Global, status: Status, words: &Vec<String>) -> Result<String
         return String::from_str(alloc, USAGE);
     }
     if status == Status::CATALOGUE {
-        return format!(in alloc; "the catalogue {catalogue} was refused, as its line tells; correct that file");
+        return format!(in alloc;
+            "the catalogue {catalogue} was refused, as its line tells; correct that file"
+        );
     }
     if status == Status::JOURNAL {
-        return format!(in alloc; "the journal {journal} was refused, as its line tells; name this catalogue's journal, or a new one");
+        return format!(in alloc;
+            "the journal {journal} was refused, as its line tells; name this catalogue's journal, or a new one"
+        );
     }
     if status == Status::FILE_FAULT {
         return file_fault(alloc, catalogue, journal);
@@ -34,7 +38,8 @@ fn sentence(alloc: Global, status: Status, words: &Vec<String>) -> Result<String
     String::from_str(alloc, of_this_run(status))
 }
 
-const USAGE: &str = "these words ask for nothing that it does; write script CATALOGUE JOURNAL or check CATALOGUE JOURNAL, with - for a \
+const USAGE: &str =
+    "these words ask for nothing that it does; write script CATALOGUE JOURNAL or check CATALOGUE JOURNAL, with - for a \
     journal in memory alone, or load COUNT SEED";
 
 /// A file failed.
@@ -42,7 +47,9 @@ fn file_fault(alloc: Global, catalogue: &str, journal: &str) -> Result<String, A
     if journal == "-" {
         return format!(in alloc; "a file failed; see that {catalogue} is there and can be read");
     }
-    format!(in alloc; "a file failed; see that {catalogue} can be read, and {journal} and {journal}.b read and written")
+    format!(in alloc;
+        "a file failed; see that {catalogue} can be read, and {journal} and {journal}.b read and written"
+    )
 }
 
 /// What happened where no file of the words is concerned.

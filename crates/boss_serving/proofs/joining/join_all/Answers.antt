@@ -123,9 +123,16 @@ loop-ran-preserved g c =
       devices = c.join_one.ensures.devices ∙ put-next g.A.Actuators c.args.server.now.workers (length c.loop-ran.yielded) c.worker_of-worker.result.0.duty inv.back c.args.devices.now.items c.loop-ran.devices.items
           facts.0.2.placed backs inv.devices;
       all_devices = append_assoc inv.was (was_at c.worker_of-worker.result.0.duty) (devices_in c.next.new.self.rest.items (λ worker. was_at worker.duty)) ∙ ap (λ list. inv.was ++ list) (sym handed) ∙ inv.all_devices;
-      room = omega (arith, inv.room, ap length handed, length-append (was_at c.worker_of-worker.result.0.duty) (devices_in c.next.new.self.rest.items (λ worker. was_at worker.duty)),
-          put-length c.worker_of-worker.result.0.duty c.loop-ran.devices.items
-          (fits-next g.A.Actuators c.args.server.now.workers (length c.loop-ran.yielded) c.worker_of-worker.result.0.duty inv.back c.args.devices.now.items c.loop-ran.devices.items facts.0.2.placed backs inv.devices), ap length c.join_one.ensures.devices, c.join_one.ensures.room);
+      room = omega (
+        arith,
+        inv.room,
+        ap length handed,
+        length-append (was_at c.worker_of-worker.result.0.duty) (devices_in c.next.new.self.rest.items (λ worker. was_at worker.duty)),
+        put-length c.worker_of-worker.result.0.duty c.loop-ran.devices.items
+            (fits-next g.A.Actuators c.args.server.now.workers (length c.loop-ran.yielded) c.worker_of-worker.result.0.duty inv.back c.args.devices.now.items c.loop-ran.devices.items facts.0.2.placed backs inv.devices),
+        ap length c.join_one.ensures.devices,
+        c.join_one.ensures.room,
+      );
       returned = subst (λ n. Returned g.A.Actuators.calls (λ device. g.A.Actuators.tells × g.A.Actuators.whole device) (terms_of c.args.server.now.catalogue.now c.args.server.now.workers g.H.In.Source.tells g.H.Out.Sink.tells g.H.Host.tells g.C.Clock.tells g.W.Waiter.tells) g.W.Waiter.tells n (inv.works ++ facts.0.2.works) (own_of g.G.Desk c.join_one.new.pass)
           (g.W.Waiter.waits c.args.waiter.now) (g.W.Waiter.waits c.join_one.new.waiter) (inv.was ++ was_at c.worker_of-worker.result.0.duty) (inv.back ++ devices_at c.worker_of-worker.result.0.duty) c.with-flags.result (c.loop-ran.unrun || not c.worker_of-worker.result.1)) more
           (subst (λ (flags : Flags). Returned g.A.Actuators.calls (λ device. g.A.Actuators.tells × g.A.Actuators.whole device) (terms_of c.args.server.now.catalogue.now c.args.server.now.workers g.H.In.Source.tells g.H.Out.Sink.tells g.H.Host.tells g.C.Clock.tells g.W.Waiter.tells) g.W.Waiter.tells (suc (length c.loop-ran.yielded)) (inv.works ++ facts.0.2.works) (own_of g.G.Desk c.join_one.new.pass)

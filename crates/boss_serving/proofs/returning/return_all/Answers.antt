@@ -93,8 +93,15 @@ loop-worker-preserved g c =
       devices = c.join_one.ensures.devices ∙ put-next g.A.Actuators c.args.server.now.workers (length c.loop-worker.yielded) c.in-Some.worker.duty inv.was c.args.devices.now.items c.loop-worker.devices.items placed inv.drivers inv.devices
           ∙ ap (λ list. (inv.was ++ list) ++ c.args.devices.now.items) (fresh-devices g.H.Host c.args.server.now.workers (length c.loop-worker.yielded) c.in-Some.worker.duty ready.fresh);
       all_devices = append_assoc inv.was (was_at c.in-Some.worker.duty) (devices_of c.next.new.self.rest.items (λ worker. was_at worker.duty)) ∙ ap (λ list. inv.was ++ list) (sym handed) ∙ inv.all_devices;
-      room = omega (arith, inv.room, ap length handed, length-append (was_at c.in-Some.worker.duty) (devices_of c.next.new.self.rest.items (λ worker. was_at worker.duty)),
-          put-length c.in-Some.worker.duty c.loop-worker.devices.items fits, ap length c.join_one.ensures.devices, c.join_one.ensures.room);
+      room = omega (
+        arith,
+        inv.room,
+        ap length handed,
+        length-append (was_at c.in-Some.worker.duty) (devices_of c.next.new.self.rest.items (λ worker. was_at worker.duty)),
+        put-length c.in-Some.worker.duty c.loop-worker.devices.items fits,
+        ap length c.join_one.ensures.devices,
+        c.join_one.ensures.room,
+      );
     }
 
 pub returns-clause-parts : goal.returns-clause-parts

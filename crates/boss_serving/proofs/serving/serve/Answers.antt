@@ -25,8 +25,15 @@ pub return_all-requires-in-Err-clause-room : goal.return_all-requires-in-Err-cla
 return_all-requires-in-Err-clause-room g c =
     let same = c.in-Err.ensures.refused in
     let all = ap length c.make_all.ensures.devices in
-    omega (arith, ap vec_len same.5, ap vec_capacity same.5, ap (λ items. length (devices_of items (λ worker. was_at worker.duty))) same.0, all,
-    length-append (devices_of c.make_all.new.made.items (λ worker. was_at worker.duty)) c.make_all.new.devices.items, c.make_all.ensures.devices_room)
+    omega (
+      arith,
+      ap vec_len same.5,
+      ap vec_capacity same.5,
+      ap (λ items. length (devices_of items (λ worker. was_at worker.duty))) same.0,
+      all,
+      length-append (devices_of c.make_all.new.made.items (λ worker. was_at worker.duty)) c.make_all.new.devices.items,
+      c.make_all.ensures.devices_room,
+    )
 
 pub returns-in-Ok-clause-account : goal.returns-in-Ok-clause-account
 returns-in-Ok-clause-account g c =
