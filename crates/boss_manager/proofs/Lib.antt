@@ -8,3 +8,4 @@ pub mod Reopening
 pub mod RunLemmas
 pub mod StatusLemmas
 pub mod UnkeptLemmas
+pub mod LoadLemmas
