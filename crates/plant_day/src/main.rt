@@ -1,4 +1,4 @@
-//! The day of the examples, `day.jsonl`, on the small plant, `plant.toml`. What it writes is `day.out`.
+//! The day of the examples, `day.jsonl`, on the small plant, `plant.toml`, with a journal in files. What it writes is `day.out`.
 #![tactic(auto)]
 
 use boss_start::start;
