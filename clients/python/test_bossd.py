@@ -1,0 +1,336 @@
+"""Tests of the client against the built program, which they start on a folder of their own: python3 -m unittest, in this folder.
+
+BOSSD may name another program to start."""
+
+import os
+import socket
+import subprocess
+import tempfile
+import threading
+import time
+import unittest
+
+import bossd
+
+TOP = os.path.dirname(os.path.dirname(os.path.dirname(os.path.abspath(__file__))))
+PROGRAM = os.environ.get("BOSSD", os.path.join(TOP, "crates", "bossd", "out", "bossd"))
+# Three points: ahu1.damper, analog, with the default 20000; lamp, binary, 0; fan with three states, 1.
+CATALOGUE = os.path.join(TOP, "examples", "floor.toml")
+MINUTE = 60_000
+
+
+def free_port():
+    with socket.create_server(("127.0.0.1", 0)) as taken:
+        return taken.getsockname()[1]
+
+
+def eventually(test):
+    """Whether it comes true within five seconds."""
+    deadline = time.monotonic() + 5
+    while not test():
+        if time.monotonic() > deadline:
+            return False
+        time.sleep(0.02)
+    return True
+
+
+class Server:
+    """The program, serving a journal of its own."""
+
+    def __init__(self, folder, workers=4):
+        self.port, self.workers, self.folder = free_port(), workers, folder
+        self.address = f"127.0.0.1:{self.port}"
+        self.start()
+
+    def start(self):
+        words = ["serve", CATALOGUE, os.path.join(self.folder, "journal"), self.address, str(self.workers), "1000"]
+        self.process = subprocess.Popen([PROGRAM, *words], stdin=subprocess.DEVNULL, stdout=subprocess.DEVNULL)
+        if not eventually(self.listens):
+            raise AssertionError("the program does not listen")
+
+    def listens(self):
+        try:
+            socket.create_connection(("127.0.0.1", self.port)).close()
+            return True
+        except OSError:
+            return False
+
+    def kill(self):
+        self.process.kill()
+        self.process.wait()
+
+
+class Relay:
+    """Stands between a client and the server. Of the first line from the client that has `word` in it either the line is lost, or its
+    answer, and the connection is cut; `during` is called in between."""
+
+    def __init__(self, server, word, loses, during=lambda: None):
+        self.server, self.word, self.loses, self.during = server, word.encode(), loses, during
+        self.cuts = 0
+        self.listener = socket.create_server(("127.0.0.1", 0))
+        self.address = f"127.0.0.1:{self.listener.getsockname()[1]}"
+        threading.Thread(target=self.run, daemon=True).start()
+
+    def run(self):
+        while True:
+            try:
+                near, _ = self.listener.accept()
+            except OSError:
+                return
+            with near, socket.create_connection(("127.0.0.1", self.server.port)) as far:
+                self.relay(near.makefile("rwb", buffering=0), far.makefile("rwb", buffering=0))
+
+    def relay(self, near, far):
+        for line in near:
+            cut = self.cuts == 0 and self.word in line
+            self.cuts += cut
+            if not (cut and self.loses == "line"):
+                far.write(line)
+                answer = far.readline()
+            if cut:
+                self.during()
+                return
+            near.write(answer)
+
+
+class Case(unittest.TestCase):
+    def setUp(self):
+        folder = tempfile.TemporaryDirectory()
+        self.addCleanup(folder.cleanup)
+        self.server = Server(folder.name)
+        self.addCleanup(lambda: self.server.kill())
+
+    def client(self, process=None, relay=None, **more):
+        made = bossd.Client((relay or self.server).address, process, **more)
+        self.addCleanup(made.close)
+        return made
+
+    def relay(self, *words):
+        made = Relay(self.server, *words)
+        self.addCleanup(made.listener.close)
+        return made
+
+
+def damper(value=45_000, priority=8, lease=MINUTE, **more):
+    return bossd.write("ahu1.damper", value, priority=priority, lease=lease, **more)
+
+
+class Requests(Case):
+    def test_a_write_is_in_force_and_reaches_its_device(self):
+        client = self.client("a")
+        before = time.time() * 1000
+        accepted = client.submit([damper(), bossd.write("lamp", 1, lease=2 * MINUTE)])
+        self.assertEqual(accepted.txn, 1)
+        self.assertLess(abs(accepted.until - before - MINUTE), 5_000)
+        self.assertTrue(eventually(lambda: client.read("ahu1.damper").mark == "settled"))
+        self.assertEqual(client.read("ahu1.damper"), bossd.Reading("ahu1.damper", 45_000, "lease", "settled", 8, 1))
+        self.assertEqual(client.array("ahu1.damper"), bossd.Slots("ahu1.damper", 20_000, {8: bossd.Slot(45_000, 1, accepted.until)}))
+        self.assertEqual(list(client.array("lamp").slots), [16])
+        self.assertEqual(client.status(1), bossd.Status(1, "a", "run", 2, 0))
+
+    def test_the_least_number_wins(self):
+        operator, schedule = self.client("operator"), self.client("schedule")
+        operator.submit([damper(100_000, 8)])
+        schedule.submit([damper(35_000, 12)])
+        self.assertEqual(operator.read("ahu1.damper").value, 100_000)
+        operator.cancel(1)
+        reading = self.client().read("ahu1.damper")
+        self.assertEqual((reading.value, reading.basis, reading.priority, reading.txn), (35_000, "lease", 12, 2))
+
+    def test_a_renewal_makes_a_lease_longer_and_never_shorter(self):
+        client = self.client("a")
+        until = client.submit([damper()]).until
+        self.assertGreaterEqual(client.renew(1, 2 * MINUTE), until + MINUTE)
+        later = client.renew(1, 2 * MINUTE, ["ahu1.damper"])
+        self.assertEqual(client.renew(1, 1), later)
+
+    def test_a_reversion_follows_a_cancel(self):
+        client = self.client("a")
+        client.submit([damper(revert=[(30_000, MINUTE), (25_000, MINUTE)])])
+        at = client.cancel(1)
+        reading = client.read("ahu1.damper")
+        self.assertEqual((reading.value, reading.basis, reading.priority, reading.txn), (30_000, "pending", 8, 1))
+        self.assertEqual(client.array("ahu1.damper").slots, {8: bossd.Slot(30_000, 1, end=at + 2 * MINUTE)})
+        self.assertEqual(client.status(1), bossd.Status(1, "a", "revert", 0, 1))
+        told = bossd.Notice(1, at, 1, "ended", "ahu1.damper", "cancelled")
+        self.assertEqual(client.notices(), bossd.Notices(1, 2, [told]))
+        self.assertEqual(self.client().notices("a", first=2), bossd.Notices(1, 2, []))
+
+    def test_refusals_have_their_fields(self):
+        client, other = self.client("a"), self.client("b")
+        client.submit([damper()])
+        for refused, fields, ask in [
+            (bossd.Malformed, {}, lambda: client.submit([])),
+            (bossd.UnknownOp, {}, lambda: client.ask({"op": "tick"})),
+            (bossd.UnknownPoint, {"index": 1}, lambda: client.submit([damper(), bossd.write("door", 1, lease=1)])),
+            (bossd.UnknownPoint, {"index": 0}, lambda: client.read("door")),
+            (bossd.NotAttached, {}, lambda: self.client().submit([damper()])),
+            (bossd.SamePoint, {"index": 1}, lambda: client.submit([damper(), damper()])),
+            (bossd.BadPriority, {"index": 0}, lambda: client.submit([damper(priority=6)])),
+            (bossd.OutOfRange, {"index": 0}, lambda: client.submit([damper(100_001)])),
+            (bossd.BadLease, {"index": 0}, lambda: client.submit([damper(lease=604_800_001)])),
+            (bossd.BadReversion, {"index": 0}, lambda: client.submit([damper(revert=[(0, 0)])])),
+            (bossd.UnknownTransaction, {}, lambda: client.cancel(9)),
+            (bossd.NotYours, {}, lambda: other.cancel(1)),
+            (bossd.NotInTransaction, {"index": 0}, lambda: client.renew(1, MINUTE, ["lamp"])),
+            (bossd.Already, {"process": "a"}, lambda: client.attach("c")),
+        ]:
+            with self.subTest(refused.__name__), self.assertRaises(refused) as caught:
+                ask()
+            told = {key: value for key, value in vars(caught.exception).items() if key != "error"}
+            self.assertEqual(told, fields)
+        with self.assertRaises(bossd.Taken) as caught:
+            self.client("a")
+        self.assertGreater(caught.exception.session, 0)
+
+    def test_what_is_over_says_how_it_ended(self):
+        client, other = self.client("a"), self.client("b")
+        client.submit([damper()])
+        other.submit([damper(50_000)])
+        with self.assertRaises(bossd.Ended) as caught:
+            client.renew(1, MINUTE)
+        self.assertEqual((caught.exception.cause, caught.exception.by), ("superseded", 2))
+        self.assertGreaterEqual(caught.exception.moment, caught.exception.at)
+        at = other.cancel(2)
+        with self.assertRaises(bossd.Over) as caught:
+            other.cancel(2)
+        self.assertEqual(caught.exception.at, at)
+
+    def test_a_line_that_is_too_long_is_not_sent(self):
+        client = self.client("a")
+        with self.assertRaises(ValueError):
+            client.notices("n" * bossd.LONGEST_LINE)
+        self.assertEqual(client.notices().list, [])
+
+    def test_nobody_answers(self):
+        client = self.client("a", patience=0.5)
+        self.server.kill()
+        with self.assertRaises(bossd.Unanswered) as caught:
+            client.submit([damper()])
+        self.assertEqual((caught.exception.request["op"], caught.exception.request["seq"]), ("submit", 1))
+        self.server.start()
+        self.assertEqual(client.ask(caught.exception.request)["txn"], 1)
+        self.assertEqual(client.submit([damper()]).txn, 2)
+
+
+class Holding(Case):
+    def test_a_lease_is_kept_alive_and_released(self):
+        client = self.client("a")
+        with client.hold([damper(lease=500), bossd.write("lamp", 1, lease=MINUTE)]) as held:
+            self.assertFalse(held.wait(2))
+            self.assertEqual((client.status(held.txn).live, held.ended), (2, None))
+        self.assertEqual(client.status(held.txn).stage, "done")
+        self.assertEqual({notice.cause for notice in client.notices().list if notice.kind == "ended"}, {"cancelled"})
+
+    def test_it_ends_with_the_reason(self):
+        client, other = self.client("a"), self.client("b")
+        held = client.hold([damper(lease=500)])
+        other.submit([damper(50_000)])
+        self.assertTrue(held.wait(5))
+        self.assertEqual((held.ended.cause, held.ended.by), ("superseded", 2))
+        held.release()
+
+    def test_a_process_that_is_gone_holds_nothing(self):
+        client, other = self.client("a"), self.client()
+        client.submit([damper(lease=60 * MINUTE)])
+        client.close()
+        self.assertTrue(eventually(lambda: other.read("ahu1.damper").basis == "default"))
+        told = [(notice.kind, notice.cause) for notice in other.notices("a").list]
+        self.assertEqual(told, [("ended", "died"), ("done", None)])
+
+    def test_it_outlives_the_server(self):
+        client = self.client("a")
+        held = client.hold([damper(lease=3_000)])
+        self.server.kill()
+        self.server.start()
+        self.assertFalse(held.wait(5))
+        self.assertEqual((client.status(held.txn).stage, held.ended), ("run", None))
+
+
+class Numbers(Case):
+    """Requests are made once, though they are asked again."""
+
+    def judge_once(self, relay, live):
+        client = self.client("a", relay)
+        self.assertEqual(client.submit([damper()]).txn, 1)
+        self.assertEqual(relay.cuts, 1)
+        self.assertEqual(client.status(1).live, live)
+        self.assertEqual(client.submit([bossd.write("fan", 2, lease=MINUTE)]).txn, 2)
+
+    def test_cut_off_before_the_server_had_it(self):
+        self.judge_once(self.relay("submit", "line"), live=1)
+
+    def test_cut_off_before_the_answer_came(self):
+        # The server lost the process for a moment, so the lease has ended.
+        self.judge_once(self.relay("submit", "answer"), live=0)
+
+    def test_the_server_is_killed_before_the_answer_came(self):
+        def restart():
+            self.server.kill()
+            self.server.start()
+        self.judge_once(self.relay("submit", "answer", restart), live=1)
+
+    def test_a_cancel_is_cut_off(self):
+        relay = self.relay("cancel\",\"txn\":1", "answer", lambda: None)
+        client, other = self.client("a", relay), self.client()
+        client.submit([damper()])
+        at = client.cancel(1)
+        self.assertEqual(relay.cuts, 1)
+        told = [(notice.at, notice.kind, notice.cause) for notice in other.notices("a").list]
+        self.assertEqual(told, [(at, "ended", "cancelled"), (at, "done", None)])
+
+    def test_a_new_life_goes_on_counting(self):
+        for txn in (1, 2, 3):
+            with self.client("a") as client:
+                self.assertEqual(client.submit([damper(txn * 1000)]).txn, txn)
+
+    def test_somebody_else_counts_too(self):
+        client = self.client("a")
+        client.submit([damper()])
+        client.ask({"op": "cancel", "txn": 1, "seq": 7})
+        with self.assertRaises(bossd.Stale) as caught:
+            client.submit([damper()])
+        self.assertEqual(caught.exception.kept, 7)
+        self.assertEqual(client.submit([damper()]).txn, 2)
+
+
+class Watching(Case):
+    def test_each_notice_comes_once_and_in_order(self):
+        client = self.client("a")
+        watched = bossd.watch(self.server.address, "a")
+        self.addCleanup(watched.close)
+        client.submit([damper()])
+        client.cancel(1)
+        self.assertEqual([next(watched).kind for _ in range(2)], ["ended", "done"])
+        self.server.kill()
+        self.server.start()
+        client.submit([damper(lease=300)])
+        told = [next(watched) for _ in range(2)]
+        self.assertEqual([(notice.n, notice.txn, notice.kind, notice.cause) for notice in told],
+                         [(3, 2, "ended", "expired"), (4, 2, "done", None)])
+
+    def test_it_begins_where_it_is_told(self):
+        client = self.client("a")
+        for txn in (1, 2):
+            client.submit([damper()])
+            client.cancel(txn)
+        watched = bossd.watch(self.server.address, "a", first=4)
+        self.addCleanup(watched.close)
+        self.assertEqual(next(watched).n, 4)
+
+    def test_a_name_that_is_none(self):
+        with self.assertRaises(bossd.Malformed):
+            next(bossd.watch(self.server.address, "No Name"))
+
+
+class Units(unittest.TestCase):
+    def test_thousandths(self):
+        self.assertEqual([bossd.thousandths(units) for units in (21.5, "0.001", -3, 0.1)], [21_500, 1, -3_000, 100])
+        with self.assertRaises(ValueError):
+            bossd.thousandths(0.0001)
+        self.assertEqual(str(bossd.units(21_500)), "21.5")
+        self.assertEqual(bossd.milliseconds(hours=1, seconds=0.5), 3_600_500)
+
+
+if __name__ == "__main__":
+    unittest.main()
