@@ -1,5 +1,6 @@
 ghost use Rattle.std.specs.Prelude.{◌≡◌, ◌≢◌, ℕ, List, [], Option, Some, IsSome, IfOk, unwrap_or};
 ghost use Rattle.boss_outside.specs.Counts.{Joins};
+ghost use Rattle.boss_disk.specs.Window.{settled};
 ghost use Rattle.boss_files.specs.Files.{KeepsLimit, ReadsFile, FileCause, Asks, opened};
 
 use boss_disk::Disk;
@@ -86,6 +87,8 @@ pub trait Files {
     fn disk(&mut self, alloc: Global, name: &str) -> Result<Self::Store, FileFault>
         ensures told { tells → Self.Store.tells }
         ensures bytes { tells → IfOk result (λ store. Self.Store.reads store ≡ unwrap_or (holds self.old name.now) []) }
+        // All of it outlasts a crash.
+        ensures settled { tells → IfOk result (λ store. (Self.Store.story store).window ≡ settled (Self.Store.reads store)) }
         ensures fresh { IfOk result (λ store. Self.Store.faults store ≡ 0) }
         ensures there { tells → holds self.new name.now ≡ opened (holds self.old name.now) result }
         ensures stays { tells → (file : List ℕ) → file ≢ name.now → holds self.new file ≡ holds self.old file }

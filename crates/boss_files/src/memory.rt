@@ -2,6 +2,7 @@ ghost use Rattle.std.specs.Prelude.{◌≡◌, ◌≢◌, ℕ, ◌||◌, ◌⊎�
 ghost use Rattle.boss_outside.specs.Counts.{Joins};
 ghost use Rattle.boss_outside.specs.Plan.{new_plan, fails_next, after_call};
 ghost use Rattle.boss_disk.specs.Record.{state_of};
+ghost use Rattle.boss_disk.specs.Window.{settled};
 ghost use Rattle.boss_files.specs.Files.{KeepsLimit, ReadsFile, FileCause, opened, is_failed};
 ghost use Rattle.boss_files.specs.Shelf.{ReadsShelf, OpensShelf, bytes_under, have_distinct_names};
 
@@ -118,6 +119,7 @@ impl Files for MemoryFiles {
     #[tactic(auto, using(crate::proofs::Shelves::added_here, crate::proofs::Shelves::added_elsewhere))]
     fn disk(&mut self, alloc: Global, name: &str) -> Result<MemoryDisk, FileFault>
         ensures bytes { IfOk result (λ store. (state_of store).bytes ≡ unwrap_or (bytes_under self.old.files name.now) []) }
+        ensures settled { IfOk result (λ store. (state_of store).story.window ≡ settled (state_of store).bytes) }
         ensures fresh { IfOk result (λ store. store.failures.plan.faults ≡ 0) }
         ensures there { bytes_under self.new.files name.now ≡ opened (bytes_under self.old.files name.now) result }
         ensures stays { (file : List ℕ) → file ≢ name.now → bytes_under self.new.files file ≡ bytes_under self.old.files file }

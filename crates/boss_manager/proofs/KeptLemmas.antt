@@ -98,7 +98,7 @@ module _ {F D S K A : Type 0} (f : files.Ghosts F D) (s : source.Ghosts S) (k : 
           was.tells → ((refusal : DurableRefusal) → IsRefused catalogue was refusal → ⊥) → s.tells → ¬ Rose was.faults now.faults → ¬ Rose (s.faults first.source) (s.faults last.source) → ¬ Rose (k.faults first.sink) (k.faults last.sink) →
           has_too_long (lines (s.left first.source)) ≡ false → length (lines (s.left first.source)) ≤ most_lines → (status ≡ 0) ⊎ (status ≡ 8)
       ran-fine catalogue was now first last it told opens left fine fine' fine'' short few = elim it [
-        | inl none ↦ none-fine was now first last status none fine
+        | inl none ↦ none-fine was now first last status none.0 fine
         | inr (inl refused) ↦ absurd (opens refused.0.refusal (refused.0.of_bytes, refused.0.refuses told))
         | inr (inr ran) ↦ by-broken ran (is_broken ran.made) refl
       ]

@@ -6,6 +6,7 @@ pub mod Places
 pub mod Refusals
 pub mod Reopening
 pub mod RunLemmas
+pub mod StandingLemmas
 pub mod StatusLemmas
 pub mod UnkeptLemmas
 pub mod LoadLemmas

@@ -2,6 +2,7 @@
 use Rattle.std.proofs.Common.{◌≡◌, inl, inr, ℕ, ◌+◌, ◌<◌, List, [], Some, unwrap_or, refl, sym, ap, subst, ◌∙◌, arith}
 use Rattle.boss_model.specs.Catalogue.{Catalogue, actuators}
 use Rattle.boss_disk.specs.declared.disk.Disk as disk
+use Rattle.boss_disk.specs.Window.{settled}
 use Rattle.boss_files.specs.declared.files.Files as files
 use Rattle.boss_outside.specs.Counts.{Joins, Rose}
 use Rattle.boss_outside.specs.declared.actuators.Actuators as actuators_of
@@ -9,8 +10,11 @@ use Rattle.boss_outside.specs.declared.sink.Sink as sink
 use Rattle.boss_outside.specs.declared.source.Source as source
 use Rattle.boss_opening.specs.Checks.{ChecksPair}
 use Rattle.boss_opening.specs.Opens.{digest_of, OpenedAt, OpenRefuses}
+use Rattle.boss_opening.specs.UnderWay.{MayComeTo}
+use Rattle.boss_pairs.specs.Pairs.{OpensCleanly}
+use Rattle.boss_two_disks.specs.Images.{OpensToOne}
 use Rattle.boss_stores.specs.Names.{second_name}
-use Rattle.boss_manager.specs.Journals.{Beside, ChecksOver, FoundJournal, HadNoJournal, HoldsAfter, in_files, on_disks, Pair, RanJournal, RefusedJournal, RunsOver}
+use Rattle.boss_manager.specs.Journals.{Beside, ChecksOver, FoundJournal, HadNoJournal, HoldsAfter, in_files, on_disks, Pair, RanJournal, RefusedJournal, RunsOver, StillStands}
 
 -- something said of two lists is said of the same two
 pub same-two : (P : List ℕ → List ℕ → Type 0) (a b c d : List ℕ) → (a ≡ c) × (b ≡ d) → P a b → P c d
@@ -19,6 +23,7 @@ same-two P a b c d same it = subst (λ x. P x d) same.0 (subst (λ x. P a x) sam
 -- The one pair is the other, at both moments, as far as the second tells, and its count moves as that of the first does.
 pub record Follows (was now first_was first_now : Pair) : Type 0 where
   pub tells : was.tells → first_was.tells
+  pub lasts : was.tells → was.lasts → first_was.lasts
   pub began : was.tells → (first_was.first ≡ was.first) × (first_was.second ≡ was.second)
   pub left : was.tells → (first_now.first ≡ now.first) × (first_now.second ≡ now.second)
   pub rose : Rose first_was.faults first_now.faults → Rose was.faults now.faults
@@ -30,6 +35,20 @@ module _ (was now was' now' : Pair) (so : Follows was now was' now') where
     why = elim it.why [ inl fault ↦ inl (fault.0, so.rose fault.1) | inr lack ↦ inr (lack.0, so.stood lack.1) ];
     untouched = it.untouched;
   }
+
+  pub stands-so : (catalogue : Catalogue) → was.tells → StillStands catalogue was' now' → StillStands catalogue was now
+  stands-so catalogue told it =
+      let plant = actuators catalogue in
+      let digest = digest_of catalogue in
+      let began = so.began told in
+      record {
+        stands = λ d count clean.
+            let then = it.stands d count (same-two (OpensCleanly plant digest d count) was.first was.second was'.first was'.second (sym began.0, sym began.1) clean) in (
+              then.0,
+              same-two (MayComeTo plant digest d count then.0) was'.first was'.second was.first was.second began then.1,
+              same-two (OpensToOne plant digest d then.0) now'.first now'.second now.first now.second (so.left told) then.2,
+            );
+      }
 
   holds-so : (was'.tells → (now'.first ≡ was'.first) × (now'.second ≡ was'.second)) → was.tells → (now.first ≡ was.first) × (now.second ≡ was.second)
   holds-so it told =
@@ -84,7 +103,7 @@ module _ (was now was' now' : Pair) (so : Follows was now was' now') where
 
     pub runs-so : RunsOver s k a catalogue was' now' old new status → RunsOver s k a catalogue was now old new status
     runs-so it = elim it [
-      | inl none ↦ inl (none-so old new status none)
+      | inl none ↦ inl (none-so old new status none.0, λ told lasts. stands-so catalogue told (none.1 (so.tells told) (so.lasts told lasts)))
       | inr (inl refused) ↦ inr (inl (refused-so k catalogue old.sink new.sink status refused.0, refused.1, refused.2))
       | inr (inr ran) ↦ inr (inr (ran-so ran))
     ]
@@ -95,11 +114,13 @@ module _ {F D : Type 0} (f : files.Ghosts F D) (d : disk.Ghosts D) (journal : Li
   -- the stores of a journal that were opened and given back
   pub stores-follow : (old mid new : F) (second last : List ℕ) (stores back : D × D) → second ≡ second_name journal → last ≡ second_name journal → (f.tells → d.tells) →
       (f.tells → d.reads stores.0 ≡ unwrap_or (f.holds old journal) []) → (f.tells → d.reads stores.1 ≡ unwrap_or (f.holds old second) []) →
+      (f.tells → ((d.story stores.0).window ≡ settled (d.reads stores.0)) × ((d.story stores.1).window ≡ settled (d.reads stores.1))) →
       (d.faults stores.0 ≡ 0) × (d.faults stores.1 ≡ 0) → (f.tells → f.holds new journal ≡ Some (d.reads back.0)) → (f.tells → f.holds new last ≡ Some (d.reads back.1)) →
       f.faults mid ≡ f.faults old → Joins (f.faults mid) (d.faults back.0 + d.faults back.1) (f.faults new) →
       Follows (in_files f journal old) (in_files f journal new) (on_disks d stores) (on_disks d back)
-  stores-follow old mid new second last stores back named named' told first other fresh closed closed' same joins = record {
+  stores-follow old mid new second last stores back named named' told first other lasts fresh closed closed' same joins = record {
     tells = told;
+    lasts = λ tells _. lasts tells;
     began = λ tells. (first tells, other tells ∙ ap (λ n. unwrap_or (f.holds old n) []) named);
     left = λ tells. (
       sym (ap (λ h. unwrap_or h []) (closed tells)),
@@ -120,6 +141,7 @@ module _ {F D : Type 0} (f : files.Ghosts F D) (journal : List ℕ) where
       Follows (in_files f journal old) (in_files f journal new) (in_files f journal mid) (in_files f journal new)
   later-follow old mid new stays same = record {
     tells = λ tells. tells;
+    lasts = λ _ lasts. lasts;
     began = λ tells. (ap (λ h. unwrap_or h []) (stays tells journal), ap (λ h. unwrap_or h []) (stays tells (second_name journal)));
     left = λ tells. (refl, refl);
     rose = λ rose. subst (λ n. Rose n (f.faults new)) same rose;

@@ -3,12 +3,13 @@ use Rattle.std.specs.Prelude.{◌≡◌, ◌⊎◌, ℕ, ◌+◌, ◌<◌, true,
 use Rattle.boss_model.specs.Catalogue.{Catalogue, actuators}
 use Rattle.boss_model.specs.Limits.{last_number}
 use Rattle.boss_model.specs.Lines.{lines}
-use Rattle.boss_model.specs.State.{State}
+use Rattle.boss_model.specs.State.{Persistent, State}
 use Rattle.boss_outside.specs.Counts.{Rose}
 use Rattle.boss_outside.specs.declared.actuators.Actuators as actuators_of
 use Rattle.boss_outside.specs.declared.sink.Sink as sink
 use Rattle.boss_outside.specs.declared.source.Source as source
 use Rattle.boss_disk.specs.declared.disk.Disk as disk
+use Rattle.boss_disk.specs.Window.{settled}
 use Rattle.boss_files.specs.declared.files.Files as files
 use Rattle.boss_stores.specs.Names.{second_name}
 use Rattle.boss_lines.specs.declared.reader.Next.{Next}
@@ -29,15 +30,17 @@ use Rattle.boss_opening.specs.declared.checking.Checked.{Checked}
 use Rattle.boss_opening.specs.declared.checking.Checked.TheVariants.{New, Found}
 use Rattle.boss_opening.specs.Checks.{ChecksPair}
 use Rattle.boss_opening.specs.Opens.{digest_of, OpenedAt, OpenRefuses}
+use Rattle.boss_opening.specs.UnderWay.{MayComeTo}
 use Rattle.boss_reports.specs.Reports.{new_line, refusal_line, summary_line}
 use Rattle.boss_manager.specs.Ends.{status_of}
 use Rattle.boss_manager.specs.Jobs.{TellsLine, World}
 
 -- ---- what holds a journal
 
--- Two disks, or a journal's two files, at one moment: the bytes of each, and how many calls failed.
+-- Two disks, or a journal's two files, at one moment: the bytes of each, whether all of them outlast a crash, and how many calls failed.
 pub record Pair : Type 1 where
   pub tells : Type 0
+  pub lasts : Type 0
   pub first : List ℕ
   pub second : List ℕ
   pub faults : ℕ
@@ -48,13 +51,20 @@ HoldSame was now = (now.first ≡ was.first) × (now.second ≡ was.second)
 
 module _ {D : Type 0} (d : disk.Ghosts D) where
   abbrev pub on_disks : D × D → Pair
-  on_disks disks = record { tells = d.tells; first = d.reads disks.0; second = d.reads disks.1; faults = d.faults disks.0 + d.faults disks.1 }
+  on_disks disks = record {
+    tells = d.tells;
+    lasts = ((d.story disks.0).window ≡ settled (d.reads disks.0)) × ((d.story disks.1).window ≡ settled (d.reads disks.1));
+    first = d.reads disks.0;
+    second = d.reads disks.1;
+    faults = d.faults disks.0 + d.faults disks.1;
+  }
 
 module _ {F D : Type 0} (f : files.Ghosts F D) where
   -- the files of the journal of this name; one that is not there counts as empty
   abbrev pub in_files : List ℕ → F → Pair
   in_files name files = record {
     tells = f.tells;
+    lasts = Unit {0};
     first = unwrap_or (f.holds files name) [];
     second = unwrap_or (f.holds files (second_name name)) [];
     faults = f.faults files;
@@ -67,6 +77,13 @@ IsRefused catalogue pair refusal = IsOfBytes refusal × OpenRefuses (actuators c
 -- of these names some were asked for, from the first on, and no other
 abbrev pub AsksFront : List (List ℕ) → List (List ℕ) → List (List ℕ) → Type 0
 AsksFront names old new = (asked : List (List ℕ)) × IsFrontOf asked names × (new ≡ old ++ asked)
+
+-- What the pair stands for is still there: where it opens cleanly, it does so after all to the same, or to what a record that was under
+-- way makes of that.
+pub record StillStands (catalogue : Catalogue) (was now : Pair) : Type 0 where
+  pub stands : (d : Persistent) (count : ℕ) → OpensCleanly (actuators catalogue) (digest_of catalogue) d count was.first was.second →
+      (after : Persistent) × MayComeTo (actuators catalogue) (digest_of catalogue) d count after was.first was.second
+      × OpensToOne (actuators catalogue) (digest_of catalogue) d after now.first now.second
 
 -- ---- what a job has beside its files
 
@@ -153,5 +170,5 @@ module _ {S K A : Type 0} (s : source.Ghosts S) (k : sink.Ghosts K) (a : actuato
 
     -- a script over a journal
     abbrev pub RunsOver : Type 0
-    RunsOver = HadNoJournal was now old new status
+    RunsOver = (HadNoJournal was now old new status × (was.tells → was.lasts → StillStands catalogue was now))
         ⊎ (RefusedJournal k catalogue was now old.sink new.sink status × (new.source ≡ old.source) × (new.devices ≡ old.devices)) ⊎ RanJournal

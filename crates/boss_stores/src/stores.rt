@@ -1,4 +1,5 @@
 ghost use Rattle.std.specs.Prelude.{◌≡◌, ◌≢◌, ◌+◌, ℕ, List, [], IsSome, IfOk, OnOk, unwrap_or};
+ghost use Rattle.boss_disk.specs.Window.{settled};
 ghost use Rattle.boss_files.specs.Files.{FileCause};
 ghost use Rattle.boss_outside.specs.Counts.{Joins};
 ghost use Rattle.boss_stores.specs.Stores.{AsksBoth};
@@ -19,6 +20,9 @@ pub fn open_stores<F: Files>(
     ensures told { F.tells → F.Store.tells }
     ensures first_bytes { F.tells → IfOk result (λ stores. F.Store.reads stores.0 ≡ unwrap_or (F.holds files.old journal.now) []) }
     ensures second_bytes { F.tells → IfOk result (λ stores. F.Store.reads stores.1 ≡ unwrap_or (F.holds files.old second.now) []) }
+    // All of both outlasts a crash.
+    ensures settled { F.tells → IfOk result (λ stores. ((F.Store.story stores.0).window ≡ settled (F.Store.reads stores.0))
+        × ((F.Store.story stores.1).window ≡ settled (F.Store.reads stores.1))) }
     ensures fresh { IfOk result (λ stores. (F.Store.faults stores.0 ≡ 0) × (F.Store.faults stores.1 ≡ 0)) }
     // Both may be given back.
     ensures there { F.tells → OnOk result (IsSome (F.holds files.new journal.now) × IsSome (F.holds files.new second.now)) }

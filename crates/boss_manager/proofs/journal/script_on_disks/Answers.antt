@@ -3,6 +3,7 @@ use Rattle.boss_finding.specs.Two.{counts}
 use Rattle.boss_manager.specs.Journals.{beside, on_disks}
 use Rattle.boss_manager.proofs.OpenedLemmas.{ran-journal}
 use Rattle.boss_manager.proofs.Refusals.{told-so}
+use Rattle.boss_manager.proofs.StandingLemmas.{disks-stand}
 use Rattle.boss_manager.proofs.journal.script_on_disks.Goals as goal
 
 pub returns-in-Ok : goal.returns-in-Ok
@@ -17,6 +18,9 @@ returns-in-Err g c =
     (counts (d.faults c.args.first) (d.faults c.args.second)) (counts (d.faults c.in-Err.disks.0) (d.faults c.in-Err.disks.1)) refl refl c.in-Err.refusal
     c.in-Err.ensures.refuses c.in-Err.ensures.unchanged c.say_journal-status.ensures c.in-Err.ensures.cause in
     elim it [
-      | inl none ↦ inl (record { why = none.why; untouched = ap (λ k. beside c.args.source.now k c.args.devices.now.items) none.untouched })
+      | inl none ↦ inl (
+        record { why = none.why; untouched = ap (λ k. beside c.args.source.now k c.args.devices.now.items) none.untouched },
+        disks-stand d c.args.catalogue.now c.args.first c.args.second c.in-Err.disks g.met.D.Disk.reads_stay c.in-Err.ensures.images,
+      )
       | inr refused ↦ inr (inl (refused, refl, refl))
     ]
