@@ -73,6 +73,7 @@ where
     requires some { 1 ≤ workers }
     requires few { workers ≤ 32 }
     ensures sound { H.sound host.new }
+    ensures under { K.under result.0 ≡ K.under keeper }
     ensures ran { IfOk result.1 (λ ended. Ran K.Keeper A.calls (λ device. A.tells × A.whole device)
         (terms_of catalogue.now workers H.In.tells H.Out.tells H.tells C.tells W.tells) W.tells
         (workers + 1 + drives_of catalogue.now devices.old.items) connections keeper result.0

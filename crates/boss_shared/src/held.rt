@@ -1,3 +1,4 @@
+ghost use Rattle.std.specs.Prelude.{◌≡◌};
 ghost use Rattle.boss_shared.specs.Keeping.{IsHeld};
 
 use crate::Keeper;
@@ -16,7 +17,8 @@ impl<K: Keeper> Stands for Held<K> {
 
     ghost start = { λ held. held.keeper };
 
-    ghost stands = { λ held start log. IsHeld K.plant K.state K.stopped K.faults K.leaves K.keeps start held.keeper log };
+    ghost stands = { λ held start log. IsHeld K.plant K.state K.stopped K.faults K.leaves K.keeps start held.keeper log
+        × (K.under held.keeper ≡ K.under start) };
 }
 
 /// A caller's right to take turns at a manager. It has no bytes, and may go to another thread.

@@ -87,6 +87,7 @@ impl<K: Keeper, R: Wait + Sync + Drop> Manager<K, R> {
         requires own { ⟦<Manager<K, R> as Desk>⟧.owns self pass }
         requires all_parts { pass.parts ≡ self.lock.seats }
         ensures held { IsHeld K.plant K.state K.stopped K.faults K.leaves K.keeps self.lock.start result pass.seen }
+        ensures under { K.under result ≡ K.under self.lock.start }
         ensures places { pass.places ≡ numbers_from 0 (length pass.seen) }
     {
         let Manager { lock, rt } = self;

@@ -5,11 +5,12 @@ use Rattle.boss_shared.proofs.Turns.{batch_of_turn, owned_after, turn_of}
 use Rattle.boss_shared.proofs.manager.ManagerDesk.call_all.Goals as goal
 
 pub leave-requires-clause-value : goal.leave-requires-clause-value
-leave-requires-clause-value g c = holds_on _ _ _ _ _ _ _ _ _ _ _ c.enter-held.ensures.value c.apply_all-outcomes.ensures.kept
+leave-requires-clause-value g c =
+    (holds_on _ _ _ _ _ _ _ _ _ _ _ c.enter-held.ensures.value.0 c.apply_all-outcomes.ensures.kept, c.apply_all-outcomes.ensures.under ∙ c.enter-held.ensures.value.1)
 
 pub returns-clause-own : goal.returns-clause-own
 returns-clause-own g c =
-    let held = holds_on _ _ _ _ _ _ _ _ _ _ _ c.enter-held.ensures.value c.apply_all-outcomes.ensures.kept in
+    let held = holds_on _ _ _ _ _ _ _ _ _ _ _ c.enter-held.ensures.value.0 c.apply_all-outcomes.ensures.kept in
     owned_after _ _ c.args.self.now.lock c.args.pass.now _ _ _ (record {
       entered = c.enter-held.ensures.seat;
       goes_on = c.enter-held.ensures.history;
@@ -20,19 +21,19 @@ returns-clause-own g c =
 
 pub returns-clause-turn : goal.returns-clause-turn
 returns-clause-turn g c =
-    let held = holds_on _ _ _ _ _ _ _ _ _ _ _ c.enter-held.ensures.value c.apply_all-outcomes.ensures.kept in
+    let held = holds_on _ _ _ _ _ _ _ _ _ _ _ c.enter-held.ensures.value.0 c.apply_all-outcomes.ensures.kept in
     turn_of _ _ c.args.pass.now _ _ _ _ (record {
       entered = c.enter-held.ensures.seat;
       goes_on = c.enter-held.ensures.history;
       left = c.leave.ensures.seat;
       own = c.leave.ensures.own_entries;
       places = c.leave.ensures.places;
-    }) held.legal (c.apply_all-outcomes.ensures.stops ∙ c.enter-held.ensures.value.marked)
+    }) held.legal (c.apply_all-outcomes.ensures.stops ∙ c.enter-held.ensures.value.0.marked)
 
 pub returns-clause-batch : goal.returns-clause-batch
 returns-clause-batch g c = batch_of_turn _ _ _ _ _ _ _ _ _ _ (returns-clause-turn g c)
 
 pub returns-clause-told : goal.returns-clause-told
 returns-clause-told g c =
-    let held = holds_on _ _ _ _ _ _ _ _ _ _ _ c.enter-held.ensures.value c.apply_all-outcomes.ensures.kept in
+    let held = holds_on _ _ _ _ _ _ _ _ _ _ _ c.enter-held.ensures.value.0 c.apply_all-outcomes.ensures.kept in
     calls_told _ _ _ _ _ _ _ _ held.sound held.legal c.apply_all-outcomes.ensures.done c.apply_all-outcomes.ensures.rest
