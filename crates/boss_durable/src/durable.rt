@@ -1,8 +1,5 @@
-ghost use Rattle.std.specs.Prelude.{◌≡◌, ◌≤◌, false, List, length};
-ghost use Rattle.boss_durable.specs.Words.{keeps};
-ghost use Rattle.boss_model.specs.declared.event.Event.{Event};
+ghost use Rattle.std.specs.Prelude.{◌≡◌, ◌≤◌, false, length};
 ghost use Rattle.boss_model.specs.Devices.{wanting};
-ghost use Rattle.boss_two_disks.specs.Rests.{counted};
 
 use crate::batch::Batch;
 use crate::machine::Machine;
@@ -33,14 +30,6 @@ impl<D: Disk> Durable<D> {
         ensures { result ≡ self.now.disks.stopped }
     {
         self.disks.stopped()
-    }
-
-    /// How many events there were, up to `2 ^ 62`, where the number stands still.
-    pub fn events(&self) -> u64
-        ensures is { result ≡ self.now.disks.events }
-        ensures kept { D.tells → (before : List Event) → keeps self.now before → result ≡ counted (length before) }
-    {
-        self.disks.events()
     }
 
     /// The generation of the kept state that is in force; 0 where there is none yet.
