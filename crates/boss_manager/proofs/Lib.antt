@@ -9,3 +9,4 @@ pub mod RunLemmas
 pub mod StatusLemmas
 pub mod UnkeptLemmas
 pub mod LoadLemmas
+pub mod ServedLemmas
