@@ -10,3 +10,4 @@ pub mod StandingLemmas
 pub mod StatusLemmas
 pub mod UnkeptLemmas
 pub mod LoadLemmas
+pub mod ServedLemmas

@@ -8,3 +8,4 @@ pub mod Openings
 pub mod Programs
 pub mod Scripts
 pub mod LoadJobs
+pub mod Serving
