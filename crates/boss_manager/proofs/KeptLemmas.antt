@@ -64,7 +64,7 @@ none-fine : {X : Type 0} (was now : Pair) (old new : X) (status : ℕ) → HadNo
 none-fine was now old new status none fine = elim none.why [ inl fault ↦ absurd (fine fault.1) | inr lack ↦ inr lack.0 ]
 
 module _ {F D S K A : Type 0} (f : files.Ghosts F D) (s : source.Ghosts S) (k : sink.Ghosts K) (a : actuators_of.Ghosts A) (old new : World F S K A) (status : ℕ) where
-  no-catalogue-fine : HadNoCatalogue f s k a old new status → ¬ Rose (f.faults old.files) (f.faults new.files) → (status ≡ 0) ⊎ (status ≡ 8)
+  pub no-catalogue-fine : HadNoCatalogue f s k a old new status → ¬ Rose (f.faults old.files) (f.faults new.files) → (status ≡ 0) ⊎ (status ≡ 8)
   no-catalogue-fine none fine = elim none.why [ inl fault ↦ absurd (fine fault.1) | inr lack ↦ inr lack.0 ]
 
   some-same : {X : Type 0} {x y : X} → Some x ≡ Some y → x ≡ y
@@ -78,14 +78,14 @@ module _ {F D S K A : Type 0} (f : files.Ghosts F D) (s : source.Ghosts S) (k : 
 
   module _ (name : List ℕ) (count : ℕ) where
     -- a catalogue that can be used is not refused
-    not-refused : {P : Type 0} (catalogue : Catalogue) (file : List ℕ) → f.tells → f.holds old.files name ≡ Some file → usable count file ≡ Ok catalogue → RefusedCatalogue f s k a name count old new status → P
+    pub not-refused : {P : Type 0} (catalogue : Catalogue) (file : List ℕ) → f.tells → f.holds old.files name ≡ Some file → usable count file ≡ Ok catalogue → RefusedCatalogue f s k a name count old new status → P
     not-refused catalogue file tells holds used refused =
         let spelt = refused.spells tells in
         let same : spelt.0 ≡ file = some-same (sym spelt.1 ∙ holds) in
         refused-used (usable count spelt.0) refused.refusal catalogue spelt.2 (ap (usable count) same ∙ used)
 
     -- the file spells one catalogue
-    one-catalogue : (catalogue other : Catalogue) (file : List ℕ) → f.holds old.files name ≡ Some file → usable count file ≡ Ok catalogue →
+    pub one-catalogue : (catalogue other : Catalogue) (file : List ℕ) → f.holds old.files name ≡ Some file → usable count file ≡ Ok catalogue →
         (spelt : (file : List ℕ) × (f.holds old.files name ≡ Some file) × (usable count file ≡ Ok other)) → other ≡ catalogue
     one-catalogue catalogue other file holds used spelt =
         let same : spelt.0 ≡ file = some-same (sym spelt.1 ∙ holds) in

@@ -9,3 +9,6 @@ pub mod RunLemmas
 pub mod StatusLemmas
 pub mod UnkeptLemmas
 pub mod LoadLemmas
+pub mod ServeLemmas
+pub mod ServeLifting
+pub mod WordLemmas
