@@ -1,5 +1,5 @@
 -- Jobs over a journal, by how they ended.
-use Rattle.std.proofs.Common.{arith, ◌≡◌, ◌≢◌, ◌⊎◌, inl, inr, Bool, true, false, if◌then◌else◌, ℕ, ◌≤◌, List, [], ◌∷◌, ◌++◌, length, refl, sym, ap, subst, ◌∙◌, append_assoc, Some, Ok, Err, Result, IfOk}
+use Rattle.std.proofs.Common.{arith, ◌≡◌, ◌≢◌, ◌⊎◌, inl, inr, Bool, true, false, if◌then◌else◌, ℕ, ◌≤◌, List, [], ◌∷◌, ◌++◌, length, refl, sym, ap, subst, ◌∙◌, append_assoc, append-nil, Some, Ok, Err, Result, IfOk}
 use Rattle.boss_model.specs.Catalogue.{Catalogue}
 use Rattle.boss_model.specs.Limits.{most_lines}
 use Rattle.boss_model.specs.Lines.{lines}
@@ -38,6 +38,16 @@ more-asked name names old mid new is asked = (
   (asked.1.0, ap (λ xs. name ∷ xs) asked.1.1),
   asked.2 ∙ ap (λ xs. xs ++ asked.0) is ∙ append_assoc old (name ∷ []) asked.0,
 )
+
+pub none-asked : (names old : List (List ℕ)) → AsksFront names old old
+none-asked names old = ([], (names, refl), sym (append-nil old))
+
+pub front-asked : (first second : List ℕ) (old new : List (List ℕ)) → (new ≡ old) ⊎ (new ≡ old ++ first ∷ []) ⊎ (new ≡ old ++ first ∷ second ∷ []) → AsksFront (first ∷ second ∷ []) old new
+front-asked first second old new it = elim it [
+  | inl none ↦ ([], (first ∷ second ∷ [], refl), none ∙ sym (append-nil old))
+  | inr (inl one) ↦ (first ∷ [], (second ∷ [], refl), one)
+  | inr (inr both) ↦ (first ∷ second ∷ [], ([], refl), both)
+]
 
 -- ---- statuses
 

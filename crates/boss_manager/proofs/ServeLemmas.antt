@@ -68,7 +68,7 @@ module _ (was now : Faults) where
 module _ {K A H In Out C W P Runtime : Type 0} (k : sink.Ghosts K) (a : actuators_of.Ghosts A) (h : host.Ghosts H In Out) (i : source.Ghosts In) (o : sink.Ghosts Out)
     (c : clock.Ghosts C) (w : waiter.Ghosts W) (p : spawner.Ghosts P Runtime) (catalogue : Catalogue) (workers connections : ℕ) (old new : Outside K A H C W P) (status : ℕ) where
 
-  faults_of : ℕ → Outside K A H C W P → Faults
+  abbrev faults_of : ℕ → Outside K A H C W P → Faults
   faults_of files outside =
       record { files = files; sink = k.faults outside.sink; host = h.faults outside.host; spawner = p.faults outside.spawner; clock = c.faults outside.clock }
 
@@ -131,8 +131,10 @@ module _ {F D S K A H In Out C W P Runtime : Type 0} (f : files.Ghosts F D) (s :
     (h : host.Ghosts H In Out) (i : source.Ghosts In) (o : sink.Ghosts Out) (c : clock.Ghosts C) (w : waiter.Ghosts W) (p : spawner.Ghosts P Runtime)
     (name : List ℕ) (count workers connections : ℕ) (old new : ServerWorld F S K A C H W P) (status : ℕ) where
 
-  was now : Faults
+  abbrev was : Faults
   was = faults_at f s k a h i o c w p old
+
+  abbrev now : Faults
   now = faults_at f s k a h i o c w p new
 
   none-ends : ServesNone f s k a h i o c w p name count old new status → EndsBy was now status ⊎ (status ≡ 3)

@@ -18,7 +18,7 @@ module _ {K A H In Out C W P Runtime : Type 0} (k : sink.Ghosts K) (a : actuator
     (c : clock.Ghosts C) (w : waiter.Ghosts W) (p : spawner.Ghosts P Runtime) (catalogue : Catalogue) (workers connections : ℕ) (old new : Outside K A H C W P) (status : ℕ) where
 
   -- where less is known, no more is said of the number of events
-  known-so : (known less : Type 0) (s : State) (number : ℕ) → (less → known) → ServedFrom k a h i o c w p catalogue known s number workers connections old new status →
+  abbrev known-so : (known less : Type 0) (s : State) (number : ℕ) → (less → known) → ServedFrom k a h i o c w p catalogue known s number workers connections old new status →
       ServedFrom k a h i o c w p catalogue less s number workers connections old new status
   known-so known less s number knows it = record {
     log = it.log;
