@@ -68,6 +68,6 @@ returns-clause-serves g c =
             one-as _ plant _ start.disks.digest _ (run plant log s).persistent _ (run_tried plant (shortened ran.held.images.0 log) s).persistent (d.reads disks.0) (d.reads disks.1)
                 same c.run_workers-durable.ensures.under
                 (ap (λ p. (run p log s).persistent) c.requires.plant) (ap (λ p. (run_tried p (shortened ran.held.images.0 log) s).persistent) c.requires.plant)
-                (c.close.ensures.left told _ _ ran.held.images.1),
+                (c.close.ensures.left told (run start.engine.plant log s).persistent (run_tried start.engine.plant (shortened ran.held.images.0 log) s).persistent ran.held.images.1),
           ));
     }

@@ -5,6 +5,7 @@ use Rattle.boss_model.specs.declared.event.Event.{Event}
 use Rattle.boss_model.specs.Limits.{last_number}
 use Rattle.boss_model.specs.Settle.{first_state}
 use Rattle.boss_reports.specs.Reports.{summary_line}
+use Rattle.boss_manager.specs.Serving.{outside, ServedFrom}
 use Rattle.boss_manager.proofs.ServedLemmas.{counted-from-none, served-end, summary-so}
 use Rattle.boss_manager.proofs.serving.serve_unkept.Goals as goal
 
@@ -24,6 +25,10 @@ returns-clause-serves g c =
     let engine = c.engine-engine.ensures in
     let number : c.events.result ≡ min (length (events plant log s)) last_number =
     c.events.ensures ∙ ran.held.gained refl [] c.requires.events ∙ ap (λ e. min (length (events e.plant log e.state)) last_number) c.requires.new in
+    let served : ServedFrom g.K.Sink g.A.Actuators g.H.Host g.H.In.Source g.H.Out.Sink g.C.Clock g.W.Waiter g.P.Spawner c.args.catalogue.now (Unit {0}) s 0 c.args.workers c.args.connections
+    (outside c.args.sink.now c.args.devices.now.items c.args.clock.now c.args.host.now c.args.waiter.now c.args.spawner.now)
+    (outside c.tell_end.new.sink c.run_workers-unkept.new.devices.items c.run_workers-unkept.new.clock c.run_workers-unkept.new.host c.run_workers-unkept.new.waiter c.run_workers-unkept.new.spawner)
+    c.tell_end.result.0 =
     record {
       log = log;
       legal = subst (λ e. IsLegal e.plant log e.state) c.requires.new ran.held.legal;
@@ -35,4 +40,5 @@ returns-clause-serves g c =
           (c.pending.ensures ∙ ap (λ e. length e.state.persistent.pending) engine) state)
           (λ fine told. number ∙ counted-from-none (length (events plant log s)))
           c.run_workers-unkept.result.1 ran.end c.tell_end.ensures;
-    }
+    } in
+    (served, sym ran.held.marked)
