@@ -12,3 +12,4 @@ pub mod LoadLemmas
 pub mod ServeLemmas
 pub mod ServeLifting
 pub mod WordLemmas
+pub mod ServedLemmas

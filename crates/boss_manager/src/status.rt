@@ -19,11 +19,11 @@ impl Status {
     pub const WRITE_FAULT: Status = Status(7);
     /// No memory was to be had.
     pub const NO_MEMORY: Status = Status(8);
-    /// The host could not listen, or a connection could not be accepted.
+    /// The host failed: it could not listen at its address, or accept a connection.
     pub const HOST_FAULT: Status = Status(9);
-    /// A worker of a server was not started.
+    /// A worker was not started.
     pub const UNSTARTED: Status = Status(11);
-    /// The clock could not be read.
+    /// The clock failed.
     pub const CLOCK_FAULT: Status = Status(12);
     /// A line is too long.
     pub const LINE_TOO_LONG: Status = Status(13);
