@@ -180,8 +180,11 @@ module _ {K A H In Out C W P Runtime : Type 0} (k : sink.Ghosts K) (a : actuator
     ServesOver = HadNoJournal was now old new status
         ⊎ (RefusedJournal k catalogue was now old.sink new.sink status × (new ≡ record old { sink = new.sink })) ⊎ ServedJournal
 
-  -- A server over memory alone begins with the catalogue's first state; or no memory was to be had at all.
+  -- A server over memory alone begins with the catalogue's first state, and nothing fails that keeps what it does.
+  abbrev pub ServedMemory : Catalogue → ℕ → ℕ → Outside K A H C W P → Outside K A H C W P → ℕ → Type 0
+  ServedMemory catalogue workers connections old new status =
+      (served : ServedFrom catalogue (Unit {0}) (first_state (actuators catalogue)) 0 workers connections old new status) × (is_broken served.log ≡ false)
+
+  -- that, or no memory was to be had at all
   abbrev pub ServesMemory : Catalogue → ℕ → ℕ → Outside K A H C W P → Outside K A H C W P → ℕ → Type 0
-  ServesMemory catalogue workers connections old new status =
-      ((status ≡ 8) × (new ≡ old))
-      ⊎ ServedFrom catalogue (Unit {0}) (first_state (actuators catalogue)) 0 workers connections old new status
+  ServesMemory catalogue workers connections old new status = ((status ≡ 8) × (new ≡ old)) ⊎ ServedMemory catalogue workers connections old new status

@@ -10,6 +10,7 @@ mod load_job;
 mod memory_jobs;
 mod saying;
 mod script;
+mod serve_jobs;
 mod serving;
 mod status;
 mod top_call;

@@ -12,7 +12,7 @@ ghost use Rattle.boss_manager.specs.Serving.{
   outside,
   parts,
   RanWorkers,
-  ServedFrom,
+  ServedMemory,
   ServesFrom,
   ServesMemory,
   ServesOver,
@@ -295,8 +295,8 @@ where
     requires some { 1 ≤ workers }
     requires few { workers ≤ 32 }
     ensures sound { H.sound host.new }
-    ensures serves { ServedFrom K.Sink A.Actuators H.Host H.In.Source H.Out.Sink C.Clock W.Waiter P.Spawner catalogue.now
-        (Unit {0}) (first_state (actuators catalogue.now)) 0 workers connections
+    ensures serves { ServedMemory K.Sink A.Actuators H.Host H.In.Source H.Out.Sink C.Clock W.Waiter P.Spawner catalogue.now
+        workers connections
         (outside sink.old devices.old.items clock.old host.old waiter.old spawner.old)
         (outside sink.new devices.new.items clock.new host.new waiter.new spawner.new) result.0 }
 {
