@@ -31,7 +31,7 @@ use Rattle.boss_opening.specs.Opens.{digest_of, OpenedAt}
 use Rattle.boss_reports.specs.Reports.{summary_line}
 use Rattle.boss_manager.specs.declared.serving.Run.{Run}
 use Rattle.boss_manager.specs.declared.serving.Run.TheVariants.{NotBound as not_bound, NoMemory, Ended}
-use Rattle.boss_manager.specs.Journals.{HadNoJournal, HoldsAfter, Pair, RefusedJournal}
+use Rattle.boss_manager.specs.Journals.{HadNoJournal, HoldsAfter, Pair, RefusedJournal, StillStands}
 
 -- ---- what a server has beside its files
 
@@ -177,7 +177,7 @@ module _ {K A H In Out C W P Runtime : Type 0} (k : sink.Ghosts K) (a : actuator
 
     -- a server over a journal
     abbrev pub ServesOver : Type 0
-    ServesOver = HadNoJournal was now old new status
+    ServesOver = (HadNoJournal was now old new status × (was.tells → was.lasts → StillStands catalogue was now))
         ⊎ (RefusedJournal k catalogue was now old.sink new.sink status × (new ≡ record old { sink = new.sink })) ⊎ ServedJournal
 
   -- A server over memory alone begins with the catalogue's first state, and nothing fails that keeps what it does.

@@ -4,10 +4,13 @@ use Rattle.boss_outside.specs.Counts.{Rose}
 use Rattle.boss_manager.specs.Journals.{on_disks}
 use Rattle.boss_manager.specs.Serving.{outside}
 use Rattle.boss_manager.proofs.Refusals.{both, told-so}
+use Rattle.boss_manager.proofs.StandingLemmas.{disks-stand, same-stands}
 use Rattle.boss_manager.proofs.serving.serve_on_disks.Goals as goal
 
 pub returns-then-is_err-clause-serves : goal.returns-then-is_err-clause-serves
-returns-then-is_err-clause-serves g c = inl (record { why = inr (refl, refl); untouched = refl })
+returns-then-is_err-clause-serves g c =
+    let disks = on_disks g.D.Disk (c.args.first, c.args.second) in
+    inl (record { why = inr (refl, refl); untouched = refl }, λ told lasts. same-stands c.args.catalogue.now disks disks (refl, refl))
 
 pub returns-in-Ok-clause-serves : goal.returns-in-Ok-clause-serves
 returns-in-Ok-clause-serves g c =
@@ -31,6 +34,9 @@ returns-in-Err-clause-serves g c =
     (counts (d.faults c.args.first) (d.faults c.args.second)) (counts (d.faults c.in-Err.disks.0) (d.faults c.in-Err.disks.1)) refl refl c.in-Err.refusal
     c.in-Err.ensures.refuses c.in-Err.ensures.unchanged c.say_journal-status.ensures c.in-Err.ensures.cause in
     elim it [
-      | inl none ↦ inl (record { why = none.why; untouched = ap (λ k. outside k c.args.devices.now.items c.args.clock.now c.args.host.now c.args.waiter.now c.args.spawner.now) none.untouched })
+      | inl none ↦ inl (
+        record { why = none.why; untouched = ap (λ k. outside k c.args.devices.now.items c.args.clock.now c.args.host.now c.args.waiter.now c.args.spawner.now) none.untouched },
+        disks-stand d c.args.catalogue.now c.args.first c.args.second c.in-Err.disks g.met.D.Disk.reads_stay c.in-Err.ensures.images,
+      )
       | inr refused ↦ inr (inl (refused, refl))
     ]
