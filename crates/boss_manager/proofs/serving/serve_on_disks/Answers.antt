@@ -36,7 +36,7 @@ returns-in-Err-clause-serves g c =
     elim it [
       | inl none ↦ inl (
         record { why = none.why; untouched = ap (λ k. outside k c.args.devices.now.items c.args.clock.now c.args.host.now c.args.waiter.now c.args.spawner.now) none.untouched },
-        disks-stand d c.args.catalogue.now c.args.first c.args.second c.in-Err.disks g.met.D.Disk.reads_stay c.in-Err.ensures.images,
+        disks-stand d c.args.catalogue.now c.args.first c.args.second c.in-Err.disks (g.met.D.Disk g.world.𝓛 g.world.𝓜 g.world.𝓡 ((λ s x. x), (λ x. x), (λ x. x), λ x. x)).reads_stay c.in-Err.ensures.images,
       )
       | inr refused ↦ inr (inl (refused, refl))
     ]
