@@ -10,16 +10,16 @@ use Rattle.boss_manager.proofs.top_call.boss.Goals as goal
 -- ---- a server's workers are as many as its row allows
 
 pub do_memory_serve-requires-clause-some : goal.do_memory_serve-requires-clause-some
-do_memory_serve-requires-clause-some g c = (workers-fit (texts c.args.words.now.items) _ _ _ _ _ (rw c.in-Ok-Serve.field-0-is at c.in-Ok-Serve.ensures)).0
+do_memory_serve-requires-clause-some g c = λ _ _. (workers-fit (texts c.args.words.now.items) _ _ _ _ _ (rw c.in-Ok-Serve.field-0-is at c.in-Ok-Serve.ensures)).0
 
 pub do_memory_serve-requires-clause-few : goal.do_memory_serve-requires-clause-few
-do_memory_serve-requires-clause-few g c = (workers-fit (texts c.args.words.now.items) _ _ _ _ _ (rw c.in-Ok-Serve.field-0-is at c.in-Ok-Serve.ensures)).1
+do_memory_serve-requires-clause-few g c = λ _ _. (workers-fit (texts c.args.words.now.items) _ _ _ _ _ (rw c.in-Ok-Serve.field-0-is at c.in-Ok-Serve.ensures)).1
 
 pub do_kept_serve-requires-clause-some : goal.do_kept_serve-requires-clause-some
-do_kept_serve-requires-clause-some g c = (workers-fit (texts c.args.words.now.items) _ _ _ _ _ (rw c.in-Ok-Serve.field-0-is at c.in-Ok-Serve.ensures)).0
+do_kept_serve-requires-clause-some g c = λ _ _. (workers-fit (texts c.args.words.now.items) _ _ _ _ _ (rw c.in-Ok-Serve.field-0-is at c.in-Ok-Serve.ensures)).0
 
 pub do_kept_serve-requires-clause-few : goal.do_kept_serve-requires-clause-few
-do_kept_serve-requires-clause-few g c = (workers-fit (texts c.args.words.now.items) _ _ _ _ _ (rw c.in-Ok-Serve.field-0-is at c.in-Ok-Serve.ensures)).1
+do_kept_serve-requires-clause-few g c = λ _ _. (workers-fit (texts c.args.words.now.items) _ _ _ _ _ (rw c.in-Ok-Serve.field-0-is at c.in-Ok-Serve.ensures)).1
 
 -- ---- no memory for the words: nothing was done
 
