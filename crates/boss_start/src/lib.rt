@@ -12,15 +12,16 @@ use boss_model::{MOST_DRIVERS, NoMemory};
 use boss_real::{RealClock, RealHost, RealSpawner, RealWaiter};
 use std::alloc::AllocError;
 use std::process::ExitCode;
+use std::sync::Wait;
 use std::{env, io};
 
-/// Does what the program's words ask for, and tells how it ended.
-pub fn start(rt: HostRuntime) -> ExitCode {
-    let status = run(rt).unwrap_or(Status::NO_MEMORY);
+/// Does what the program's words ask for, and tells how it ended. Only a server waits, by this handle.
+pub fn start<R: Wait + Sync>(rt: HostRuntime, waiting: &R) -> ExitCode {
+    let status = run(rt, waiting).unwrap_or(Status::NO_MEMORY);
     ExitCode::from(status.0)
 }
 
-fn run(rt: HostRuntime) -> Result<Status, NoMemory> {
+fn run<R: Wait + Sync>(rt: HostRuntime, waiting: &R) -> Result<Status, NoMemory> {
     let words = words_of(&rt)?;
     let mut devices = idle_devices(rt.alloc(), MOST_DRIVERS)?;
     let mut waiter = RealWaiter::new(rt.alloc(), &rt)?;
@@ -31,7 +32,7 @@ fn run(rt: HostRuntime) -> Result<Status, NoMemory> {
     let mut host = RealHost::new(rt.alloc(), &rt);
     let mut spawner = RealSpawner::new(&rt);
     let status = boss(
-        &rt,
+        waiting,
         rt.alloc(),
         &words,
         &mut files,
