@@ -32,13 +32,6 @@ impl<D: Disk> Durable<D> {
         self.disks.stopped()
     }
 
-    /// How many events there were, up to `2 ^ 62`, where the number stands still.
-    pub fn events(&self) -> u64
-        ensures { result ≡ self.now.disks.events }
-    {
-        self.disks.events()
-    }
-
     /// The generation of the kept state that is in force; 0 where there is none yet.
     pub fn generation(&self) -> u64
         ensures { result ≡ self.now.disks.generation }

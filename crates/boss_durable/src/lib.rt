@@ -11,6 +11,7 @@ mod applying;
 mod batch;
 mod beginning;
 mod closing;
+mod counting;
 mod durable;
 mod keeper;
 mod machine;

@@ -1,7 +1,7 @@
 use boss_journal::{NextRecord, OpenRefusal};
 
 /// What is expected of bytes that are opened.
-#[derive(Clone, Copy, Debug, PartialEq, Eq)]
+#[derive(Clone, Copy, PartialEq, Eq)]
 pub enum Expected {
     New,
     Old(u8),

@@ -1,7 +1,9 @@
+ghost use Rattle.std.specs.Prelude.{◌≤◌};
+
 use crate::bytes::{ATTACH, DIGEST, LOG, SUBMIT, disk_of, failing_disk, journal};
 use boss_disk::MemoryDisk;
 use boss_journal::{Appended, Journal, Looked, NextRecord, OpenRefusal};
-use boss_model::Buffer;
+use boss_model::{Buffer, NoMemory};
 use std::alloc::Global;
 use std::process::Abort;
 use std::test::Fail;
@@ -16,29 +18,15 @@ const READY: u64 = 1;
 const APPEND: u64 = 4;
 
 /// How far a run came.
-#[derive(Drop)]
+#[derive(Clone, Copy)]
 struct Came {
-    disk: MemoryDisk,
     opened: bool,
     ready: bool,
     appended: u64,
 }
 
-/// Makes a journal and appends two records, up to the first answer that tells a fault.
-fn run<R: Abort>(rt: &R, disk: MemoryDisk) -> Came {
-    let mut journal = match Journal::open(disk, &DIGEST) {
-        Ok(journal) => journal,
-        Err((disk, refusal)) => {
-            assert_eq!(rt; refusal, OpenRefusal::DiskFault);
-            return Came {
-                disk,
-                opened: false,
-                ready: false,
-                appended: 0,
-            };
-        }
-    };
-    let ready = journal.ready().is_ok();
+/// Appends two records, up to the first answer that tells a fault; how many were appended.
+fn append_both<R: Abort>(rt: &R, journal: &mut Journal<MemoryDisk>, ready: bool) -> u64 {
     let mut appended: u64 = 0;
     let mut stopped = !ready;
     for second in [false, true] {
@@ -59,73 +47,121 @@ fn run<R: Abort>(rt: &R, disk: MemoryDisk) -> Came {
             Appended::Stopped => assert!(rt; stopped),
         }
     }
-    Came {
-        disk: journal.close(),
-        opened: true,
-        ready,
-        appended,
+    appended
+}
+
+/// Makes a journal and appends two records, up to the first answer that tells a fault, and notes how far that came. The disk
+/// afterwards.
+fn run<R: Abort>(rt: &R, disk: MemoryDisk, came: &mut Came) -> MemoryDisk {
+    match Journal::open(disk, &DIGEST) {
+        Ok(mut journal) => {
+            let ready = journal.ready().is_ok();
+            *came = Came {
+                opened: true,
+                ready,
+                appended: append_both(rt, &mut journal, ready),
+            };
+            journal.close()
+        }
+        Err((disk, refusal)) => {
+            assert!(rt; refusal == OpenRefusal::DiskFault);
+            disk
+        }
     }
+}
+
+/// How far a run has come that has not begun.
+const NOWHERE: Came = Came {
+    opened: false,
+    ready: false,
+    appended: 0,
+};
+
+/// Reads what is left of the two records, each as it was appended; how many there are.
+fn count<R: Abort>(rt: &R, journal: &mut Journal<MemoryDisk>, into: &mut Buffer) -> u64
+    requires { 65535 ≤ into.old.capacity }
+{
+    let first = journal.next(into);
+    if first == NextRecord::Finish {
+        return 0;
+    }
+    assert!(rt; first == NextRecord::Bytes { place: 41 });
+    assert!(rt; into.bytes() == ATTACH.as_slice());
+    let second = journal.next(into);
+    if second == NextRecord::Finish {
+        return 1;
+    }
+    assert!(rt; second == NextRecord::Bytes { place: 57 });
+    assert!(rt; into.bytes() == SUBMIT.as_slice());
+    assert!(rt; journal.next(into) == NextRecord::Finish);
+    2
 }
 
 /// How many records a disk has when it is opened again, each as it was appended.
 fn records<R: Abort>(rt: &R, alloc: Global, disk: MemoryDisk) -> Result<u64, Fail> {
     let mut into = Buffer::new(alloc, 65_536)?;
-    let Ok(mut journal) = Journal::open(disk, &DIGEST) else {
-        return Err(Fail::new("a journal that opens"));
-    };
-    let first = journal.next(&mut into);
-    if first == NextRecord::Finish {
-        return Ok(0);
+    match Journal::open(disk, &DIGEST) {
+        Ok(mut journal) => Ok(count(rt, &mut journal, &mut into)),
+        Err(_refused) => Err(Fail::new("a journal that opens")),
     }
-    assert_eq!(rt; first, NextRecord::Bytes { place: 41 });
-    assert!(rt; into.bytes() == ATTACH.as_slice());
-    let second = journal.next(&mut into);
-    if second == NextRecord::Finish {
-        return Ok(1);
-    }
-    assert_eq!(rt; second, NextRecord::Bytes { place: 57 });
-    assert!(rt; into.bytes() == SUBMIT.as_slice());
-    assert_eq!(rt; journal.next(&mut into), NextRecord::Finish);
-    Ok(2)
 }
 
-/// Looks at a journal whose disk fails at the call of this number, and reads up to what is no record; that, and how many
-/// records there were.
-fn read_to_fault<R: Abort>(
-    rt: &R,
-    alloc: Global,
-    bytes: &[u8],
-    call: u64,
-) -> Result<(NextRecord, u64), Fail> {
-    let mut into = Buffer::new(alloc, 65_536)?;
-    let disk = failing_disk(alloc, bytes, call)?;
-    let Ok(Looked::Old(mut journal)) = Journal::look(disk, &DIGEST) else {
-        return Err(Fail::new("an old journal"));
-    };
-    let first = journal.next(&mut into);
-    let second = journal.next(&mut into);
-    let third = journal.next(&mut into);
-    assert_eq!(rt; journal.append(&ATTACH), Appended::Stopped);
-    assert_eq!(rt; journal.close().faults(), 1);
-    Ok(match (first, second) {
+/// Reads up to what is no record, which is a fault of the disk and stops the journal; how many records there were.
+fn read_to_fault<R: Abort>(rt: &R, journal: &mut Journal<MemoryDisk>, into: &mut Buffer) -> u64
+    requires { 65535 ≤ into.old.capacity }
+{
+    let first = journal.next(into);
+    let second = journal.next(into);
+    let third = journal.next(into);
+    let (told, records) = match (first, second) {
         (NextRecord::Bytes { .. }, NextRecord::Bytes { .. }) => (third, 2),
         (NextRecord::Bytes { .. }, other) => (other, 1),
         (other, _) => (other, 0),
-    })
+    };
+    assert!(rt; told == NextRecord::DiskFault);
+    assert!(rt; journal.append(&ATTACH) == Appended::Stopped);
+    records
+}
+
+/// Looks at a journal whose disk fails at the call of this number, and reads up to the fault, the only one of the disk; how many
+/// records there were.
+fn records_to_fault<R: Abort>(rt: &R, alloc: Global, bytes: &[u8], call: u64) -> Result<u64, Fail> {
+    let mut into = Buffer::new(alloc, 65_536)?;
+    match Journal::look(failing_disk(alloc, bytes, call)?, &DIGEST) {
+        Ok(Looked::Old(mut journal)) => {
+            let records = read_to_fault(rt, &mut journal, &mut into);
+            let faults = journal.close().faults();
+            assert_eq!(rt; faults, 1);
+            Ok(records)
+        }
+        _ => Err(Fail::new("an old journal")),
+    }
+}
+
+/// Whether a run over a disk whose call of this number fails has the fault of the disk, and came as far as that lets it.
+fn fails_at(call: u64, came: Came, faults: u64) -> bool {
+    let calls = MAKING + READY + 2 * APPEND;
+    let whole = call.saturating_sub(MAKING + READY + 1) / APPEND;
+    faults == (call <= calls) as u64
+        && came.opened == (call > MAKING)
+        && came.ready == (call > MAKING + READY)
+        && came.appended == whole.min(2)
+}
+
+/// Makes and fills journals over disks of which each call fails in turn, and none.
+fn fail_each_write<R: Abort>(rt: &R, alloc: Global) -> Result<(), NoMemory> {
+    for call in 1..=MAKING + READY + 2 * APPEND + 1 {
+        let mut came = NOWHERE;
+        let faults = run(rt, failing_disk(alloc, &[], call)?, &mut came).faults();
+        assert!(rt; fails_at(call, came, faults), "call {call}");
+    }
+    Ok(())
 }
 
 #[test]
 fn each_call_of_the_disk_may_fail(rt: HostRuntime) -> Result<(), Fail> {
     let alloc = rt.alloc();
-    let calls = MAKING + READY + 2 * APPEND;
-    for call in 1..=calls + 1 {
-        let came = run(&rt, failing_disk(alloc, &[], call)?);
-        assert_eq!(rt; came.disk.faults(), (call <= calls) as u64, "call {call}");
-        assert_eq!(rt; came.opened, call > MAKING, "call {call}");
-        assert_eq!(rt; came.ready, call > MAKING + READY, "call {call}");
-        let whole = call.saturating_sub(MAKING + READY + 1) / APPEND;
-        assert_eq!(rt; came.appended, whole.min(2), "call {call}");
-    }
+    fail_each_write(&rt, alloc)?;
     // A look takes the length and the first bytes; a record takes the length, its heading and its bytes; the end takes the
     // length and the heading.
     let bytes = journal(alloc, 2, &DIGEST, &LOG)?;
@@ -139,22 +175,32 @@ fn each_call_of_the_disk_may_fail(rt: HostRuntime) -> Result<(), Fail> {
         (9, 2),
         (10, 2),
     ] {
-        let came = read_to_fault(&rt, alloc, &bytes, call)?;
-        assert_eq!(rt; came, (NextRecord::DiskFault, told), "call {call}");
+        let records = records_to_fault(&rt, alloc, &bytes, call)?;
+        assert_eq!(rt; records, told, "call {call}");
     }
     Ok(())
 }
 
+/// Whether no record that was appended before a stop after so many calls is missing in this image of the disk.
+fn keeps_what_was_appended<R: Abort>(
+    rt: &R,
+    alloc: Global,
+    stop: u64,
+    pick: u64,
+) -> Result<bool, Fail> {
+    let mut disk = disk_of(alloc, &[])?;
+    disk.stop_after(stop);
+    let mut came = NOWHERE;
+    let image = run(rt, disk, &mut came).image(alloc, pick)?;
+    Ok(came.appended <= records(rt, alloc, image)?)
+}
+
 #[test]
 fn each_call_of_the_disk_may_be_the_last(rt: HostRuntime) -> Result<(), Fail> {
-    let alloc = rt.alloc();
     for stop in 0..=MAKING + READY + 2 * APPEND {
         for pick in [0, 1, 2, 5] {
-            let mut disk = disk_of(alloc, &[])?;
-            disk.stop_after(stop);
-            let came = run(&rt, disk);
-            let found = records(&rt, alloc, came.disk.image(alloc, pick)?)?;
-            assert!(rt; came.appended <= found, "stop {stop} pick {pick}");
+            let kept = keeps_what_was_appended(&rt, rt.alloc(), stop, pick)?;
+            assert!(rt; kept, "stop {stop} pick {pick}");
         }
     }
     Ok(())

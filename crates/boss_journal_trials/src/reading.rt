@@ -4,7 +4,7 @@ use crate::bytes::{ATTACH, DIGEST, LOG, OTHER, SUBMIT, disk_of, journal};
 use crate::expected::{Expected, expected_next, expected_start};
 use boss_disk::MemoryDisk;
 use boss_journal::{Appended, Journal, Looked, NextRecord};
-use boss_model::{Buffer, Items};
+use boss_model::{Buffer, Items, NoMemory};
 use std::alloc::Global;
 use std::process::Abort;
 use std::test::Fail;
@@ -18,7 +18,7 @@ fn read_on<R: Abort>(rt: &R, journal: &mut Journal<MemoryDisk>, bytes: &[u8], in
     'records: for _ in 0..bytes.len() {
         let (expected, size) = expected_next(bytes, gate);
         let told = journal.next(into);
-        assert_eq!(rt; told, expected, "at {gate}");
+        assert!(rt; told == expected, "at {gate}");
         let NextRecord::Bytes { .. } = told else {
             return;
         };
@@ -29,76 +29,94 @@ fn read_on<R: Abort>(rt: &R, journal: &mut Journal<MemoryDisk>, bytes: &[u8], in
 }
 
 /// Looks at bytes and opens them, and compares what is found with what is expected of them.
-fn compare<R: Abort>(rt: &R, alloc: Global, bytes: &[u8]) -> Result<(), Fail> {
+fn compare<R: Abort>(rt: &R, alloc: Global, bytes: &[u8]) -> Result<(), NoMemory> {
+    let mut into = Buffer::new(alloc, 65_536)?;
     let expected = expected_start(bytes, &DIGEST);
-    compare_look(rt, alloc, bytes, expected)?;
-    compare_open(rt, alloc, bytes, expected)
+    let looked = looks_as(rt, disk_of(alloc, bytes)?, bytes, expected, &mut into);
+    let opened = opens_as(rt, disk_of(alloc, bytes)?, bytes, expected, &mut into);
+    assert!(rt; looked && opened);
+    Ok(())
 }
 
-/// The same of a look.
-fn compare_look<R: Abort>(
+/// Whether a look at the disk of these bytes finds what is expected and changes nothing.
+fn looks_as<R: Abort>(
     rt: &R,
-    alloc: Global,
+    disk: MemoryDisk,
     bytes: &[u8],
     expected: Expected,
-) -> Result<(), Fail> {
-    let mut into = Buffer::new(alloc, 65_536)?;
-    match Journal::look(disk_of(alloc, bytes)?, &DIGEST) {
-        Ok(Looked::New(disk)) => {
-            assert_eq!(rt; expected, Expected::New);
-            assert_eq!(rt; disk.faults(), 0);
-        }
+    into: &mut Buffer,
+) -> bool
+    requires { 65535 ≤ into.old.capacity }
+    ensures { into.new.capacity ≡ into.old.capacity }
+{
+    match Journal::look(disk, &DIGEST) {
+        Ok(Looked::New(disk)) => expected == Expected::New && disk.faults() == 0,
         Ok(Looked::Old(mut journal)) => {
-            assert_eq!(rt; expected, Expected::Old(journal.version()));
-            read_on(rt, &mut journal, bytes, &mut into);
-            let disk = journal.close();
-            assert!(rt; disk.into_bytes().slice() == bytes);
+            let found = Expected::Old(journal.version());
+            read_on(rt, &mut journal, bytes, into);
+            let left = journal.close().into_bytes();
+            expected == found && left.slice() == bytes
         }
         Err((disk, refusal)) => {
-            assert_eq!(rt; expected, Expected::Refused(refusal));
-            assert!(rt; disk.into_bytes().slice() == bytes);
+            let left = disk.into_bytes();
+            expected == Expected::Refused(refusal) && left.slice() == bytes
         }
     }
-    Ok(())
 }
 
-/// The same of an opening.
-fn compare_open<R: Abort>(
+/// Whether the disk of these bytes opens as is expected.
+fn opens_as<R: Abort>(
     rt: &R,
-    alloc: Global,
+    disk: MemoryDisk,
     bytes: &[u8],
     expected: Expected,
-) -> Result<(), Fail> {
-    let mut into = Buffer::new(alloc, 65_536)?;
-    match Journal::open(disk_of(alloc, bytes)?, &DIGEST) {
+    into: &mut Buffer,
+) -> bool
+    requires { 65535 ≤ into.old.capacity }
+{
+    match Journal::open(disk, &DIGEST) {
         Ok(mut journal) => {
             if expected == Expected::New {
-                assert_eq!(rt; journal.next(&mut into), NextRecord::Finish);
-            } else {
-                assert_eq!(rt; expected, Expected::Old(journal.version()));
-                read_on(rt, &mut journal, bytes, &mut into);
+                return journal.next(into) == NextRecord::Finish;
             }
+            let found = Expected::Old(journal.version());
+            read_on(rt, &mut journal, bytes, into);
+            expected == found
         }
-        Err((_disk, refusal)) => assert_eq!(rt; expected, Expected::Refused(refusal)),
+        Err((_disk, refusal)) => expected == Expected::Refused(refusal),
     }
-    Ok(())
 }
 
-/// Makes a journal and appends the two records, and gives its bytes.
-fn append_two<R: Abort>(rt: &R, alloc: Global, into: &mut Buffer) -> Result<Items<u8>, Fail>
+/// Appends the two records to a new journal.
+fn append_two<R: Abort>(rt: &R, journal: &mut Journal<MemoryDisk>, into: &mut Buffer)
+    requires { 65535 ≤ into.old.capacity }
+    ensures { into.new.capacity ≡ into.old.capacity }
+{
+    assert_eq!(rt; journal.version(), 2);
+    assert!(rt; journal.next(into) == NextRecord::Finish);
+    assert!(rt; journal.ready().is_ok());
+    assert!(rt; journal.append(&ATTACH) == Appended::Done);
+    assert!(rt; journal.append(&SUBMIT) == Appended::Done);
+    assert_eq!(rt; journal.log(), 52);
+}
+
+/// Makes a journal with the two records, whose disk has these bytes then.
+fn make_journal<R: Abort>(
+    rt: &R,
+    alloc: Global,
+    wanted: &[u8],
+    into: &mut Buffer,
+) -> Result<(), Fail>
     requires { 65535 ≤ into.old.capacity }
     ensures { into.new.capacity ≡ into.old.capacity }
 {
     let Ok(mut journal) = Journal::open(disk_of(alloc, &[])?, &DIGEST) else {
         return Err(Fail::new("a new journal"));
     };
-    assert_eq!(rt; journal.version(), 2);
-    assert_eq!(rt; journal.next(into), NextRecord::Finish);
-    assert!(rt; journal.ready().is_ok());
-    assert_eq!(rt; journal.append(&ATTACH), Appended::Done);
-    assert_eq!(rt; journal.append(&SUBMIT), Appended::Done);
-    assert_eq!(rt; journal.log(), 52);
-    Ok(journal.close().into_bytes())
+    append_two(rt, &mut journal, into);
+    let bytes = journal.close().into_bytes();
+    assert!(rt; bytes.slice() == wanted);
+    Ok(())
 }
 
 /// Reads the two records.
@@ -106,50 +124,78 @@ fn read_two<R: Abort>(rt: &R, journal: &mut Journal<MemoryDisk>, into: &mut Buff
     requires { 65535 ≤ into.old.capacity }
     ensures { into.new.capacity ≡ into.old.capacity }
 {
-    assert_eq!(rt; journal.next(into), NextRecord::Bytes { place: 41 });
+    assert!(rt; journal.next(into) == NextRecord::Bytes { place: 41 });
     assert!(rt; into.bytes() == ATTACH.as_slice());
-    assert_eq!(rt; journal.next(into), NextRecord::Bytes { place: 57 });
+    assert!(rt; journal.next(into) == NextRecord::Bytes { place: 57 });
     assert!(rt; into.bytes() == SUBMIT.as_slice());
-    assert_eq!(rt; journal.next(into), NextRecord::Finish);
+    assert!(rt; journal.next(into) == NextRecord::Finish);
     assert!(rt; journal.ready().is_ok());
 }
 
-/// Goes on in another disk, with the longest record and one more, and gives the bytes of the first disk and of this one.
+/// Appends the longest record and one more behind a place, where the log begins.
+fn append_longest<R: Abort>(rt: &R, journal: &mut Journal<MemoryDisk>, longest: &[u8]) {
+    assert_eq!(rt; longest.len(), 65_535);
+    assert!(rt; journal.append(longest) == Appended::Done);
+    assert!(rt; journal.append(&ATTACH) == Appended::Done);
+    assert_eq!(rt; journal.log(), 65_556);
+}
+
+/// Reads the two records of a journal of these bytes and goes on in another disk behind two bytes, with the longest record and
+/// one more. The first disk is as it was; the bytes of the other.
 fn go_on<R: Abort>(
     rt: &R,
     alloc: Global,
-    journal: Journal<MemoryDisk>,
-) -> Result<(Items<u8>, Items<u8>), Fail> {
-    let mut journal = journal;
-    let longest = vec![in alloc; 5u8; 65_535]?;
-    assert_eq!(rt; longest.len(), 65_535);
-    let mut other = disk_of(alloc, &[9, 9, 0])?;
-    journal.go_on_in(&mut other, 2);
-    assert_eq!(rt; journal.append(&longest), Appended::Done);
-    assert_eq!(rt; journal.append(&ATTACH), Appended::Done);
-    assert_eq!(rt; journal.log(), 65_556);
-    Ok((other.into_bytes(), journal.close().into_bytes()))
-}
-
-/// Reads the longest record and one more behind a front of two bytes.
-fn read_longest<R: Abort>(
-    rt: &R,
-    alloc: Global,
-    bytes: &[u8],
+    wanted: &[u8],
     into: &mut Buffer,
-) -> Result<(), Fail>
+) -> Result<Items<u8>, Fail>
     requires { 65535 ≤ into.old.capacity }
     ensures { into.new.capacity ≡ into.old.capacity }
 {
-    assert_eq!(rt; bytes.len(), 65_559);
-    let Ok(mut last) = Journal::open_after(disk_of(alloc, bytes)?, 2) else {
-        return Err(Fail::new("a journal behind two bytes"));
+    let longest = vec![in alloc; 5u8; 65_535]?;
+    let mut other = disk_of(alloc, &[9, 9, 0])?;
+    let Ok(mut journal) = Journal::open(disk_of(alloc, wanted)?, &DIGEST) else {
+        return Err(Fail::new("an old journal"));
     };
-    assert_eq!(rt; last.next(into), NextRecord::Bytes { place: 2 });
+    read_two(rt, &mut journal, into);
+    journal.go_on_in(&mut other, 2);
+    append_longest(rt, &mut journal, &longest);
+    let second = journal.close().into_bytes();
+    let first = other.into_bytes();
+    assert!(rt; first.slice() == wanted);
+    Ok(second)
+}
+
+/// Reads the longest record and one more behind a front of two bytes.
+fn read_longest<R: Abort>(rt: &R, journal: &mut Journal<MemoryDisk>, into: &mut Buffer)
+    requires { 65535 ≤ into.old.capacity }
+{
+    assert!(rt; journal.next(into) == NextRecord::Bytes { place: 2 });
     assert_eq!(rt; into.bytes().len(), 65_535);
     assert!(rt; into.bytes().iter().all(|byte| *byte == 5));
-    assert_eq!(rt; last.next(into), NextRecord::Bytes { place: 65_542 });
-    assert_eq!(rt; last.next(into), NextRecord::Finish);
+    assert!(rt; journal.next(into) == NextRecord::Bytes { place: 65_542 });
+    assert!(rt; journal.next(into) == NextRecord::Finish);
+}
+
+/// Opens the journal of these bytes behind a front of two bytes, and reads it.
+fn open_behind<R: Abort>(rt: &R, alloc: Global, bytes: &[u8], into: &mut Buffer) -> Result<(), Fail>
+    requires { 65535 ≤ into.old.capacity }
+{
+    assert_eq!(rt; bytes.len(), 65_559);
+    match Journal::open_after(disk_of(alloc, bytes)?, 2) {
+        Ok(mut last) => {
+            read_longest(rt, &mut last, into);
+            Ok(())
+        }
+        Err(_refused) => Err(Fail::new("a journal behind two bytes")),
+    }
+}
+
+/// Appends to a journal that begins in a disk with one byte in front.
+fn begin<R: Abort>(rt: &R, alloc: Global) -> Result<(), Fail> {
+    let mut fresh = Journal::fresh(disk_of(alloc, &[9, 0])?, 1);
+    let appended = fresh.append(&ATTACH);
+    let log = fresh.log();
+    assert!(rt; appended == Appended::Done && log == 16);
     Ok(())
 }
 
@@ -157,25 +203,16 @@ fn read_longest<R: Abort>(
 fn journal_has_the_bytes_of_its_format(rt: HostRuntime) -> Result<(), Fail> {
     let alloc = rt.alloc();
     let mut into = Buffer::new(alloc, 65_536)?;
-    let bytes = append_two(&rt, alloc, &mut into)?;
-    let wanted = journal_of(alloc, 2)?;
-    assert_eq!(rt; bytes.slice().len(), 94);
-    assert!(rt; bytes.slice() == wanted.as_slice());
-    let Ok(mut again) = Journal::open(disk_of(alloc, &wanted)?, &DIGEST) else {
-        return Err(Fail::new("an old journal"));
-    };
-    read_two(&rt, &mut again, &mut into);
-    let (first, second) = go_on(&rt, alloc, again)?;
-    assert!(rt; first.slice() == wanted.as_slice());
-    read_longest(&rt, alloc, second.slice(), &mut into)?;
-    let mut fresh = Journal::fresh(disk_of(alloc, &[9, 0])?, 1);
-    assert_eq!(rt; fresh.append(&ATTACH), Appended::Done);
-    assert_eq!(rt; fresh.log(), 16);
-    Ok(())
+    let wanted = journal(alloc, 2, &DIGEST, &LOG)?;
+    assert_eq!(rt; wanted.len(), 94);
+    make_journal(&rt, alloc, &wanted, &mut into)?;
+    let other = go_on(&rt, alloc, &wanted, &mut into)?;
+    open_behind(&rt, alloc, other.slice(), &mut into)?;
+    begin(&rt, alloc)
 }
 
 /// A journal cut to each length, and with each of its bytes changed.
-fn compare_changed<R: Abort>(rt: &R, alloc: Global, whole: &[u8]) -> Result<(), Fail> {
+fn compare_changed<R: Abort>(rt: &R, alloc: Global, whole: &[u8]) -> Result<(), NoMemory> {
     for size in 0..=whole.len() {
         compare(rt, alloc, &whole[..size])?;
     }
@@ -192,7 +229,7 @@ fn compare_changed<R: Abort>(rt: &R, alloc: Global, whole: &[u8]) -> Result<(), 
 }
 
 /// Fresh journals, whose first byte may be any, of a version that is known and of one that is not.
-fn compare_fresh<R: Abort>(rt: &R, alloc: Global, version: u8) -> Result<(), Fail> {
+fn compare_fresh<R: Abort>(rt: &R, alloc: Global, version: u8) -> Result<(), NoMemory> {
     for first in [0, 1, 66, 255] {
         for version in [version, 3] {
             let mut fresh = journal(alloc, version, &DIGEST, &[0])?;
@@ -206,7 +243,7 @@ fn compare_fresh<R: Abort>(rt: &R, alloc: Global, version: u8) -> Result<(), Fai
 }
 
 /// A length of 65,536, and one of 255, with enough bytes behind it.
-fn compare_long<R: Abort>(rt: &R, alloc: Global, version: u8) -> Result<(), Fail> {
+fn compare_long<R: Abort>(rt: &R, alloc: Global, version: u8) -> Result<(), NoMemory> {
     let mut long = journal(alloc, version, &DIGEST, &[1, 0, 1, 0, 0])?;
     long.resize(65_700, 0)?;
     compare(rt, alloc, &long)?;
@@ -217,23 +254,23 @@ fn compare_long<R: Abort>(rt: &R, alloc: Global, version: u8) -> Result<(), Fail
     compare(rt, alloc, &long)
 }
 
-#[test]
-fn any_bytes_are_read_as_expected(rt: HostRuntime) -> Result<(), Fail> {
-    let alloc = rt.alloc();
-    for version in [1, 2] {
-        compare_changed(&rt, alloc, &journal_of(alloc, version)?)?;
-        compare_fresh(&rt, alloc, version)?;
-        compare_long(&rt, alloc, version)?;
-        // A record of no bytes, and another catalogue with a version that is known and one that is not.
-        for (version, digest) in [(version, &DIGEST), (version, &OTHER), (3, &OTHER)] {
-            let bytes = journal(alloc, version, digest, &[1, 0, 0, 0, 0, 0])?;
-            compare(&rt, alloc, &bytes)?;
-        }
+/// Journals of this version: one that is cut and changed, fresh ones, long ones, and one whose record has no bytes, also with
+/// another catalogue and with a version that is not known.
+fn compare_version<R: Abort>(rt: &R, alloc: Global, version: u8) -> Result<(), NoMemory> {
+    compare_changed(rt, alloc, &journal(alloc, version, &DIGEST, &LOG)?)?;
+    compare_fresh(rt, alloc, version)?;
+    compare_long(rt, alloc, version)?;
+    for (version, digest) in [(version, &DIGEST), (version, &OTHER), (3, &OTHER)] {
+        let bytes = journal(alloc, version, digest, &[1, 0, 0, 0, 0, 0])?;
+        compare(rt, alloc, &bytes)?;
     }
     Ok(())
 }
 
-/// The journal of the two records.
-fn journal_of(alloc: Global, version: u8) -> Result<Vec<u8>, Fail> {
-    Ok(journal(alloc, version, &DIGEST, &LOG)?)
+#[test]
+fn any_bytes_are_read_as_expected(rt: HostRuntime) -> Result<(), Fail> {
+    for version in [1, 2] {
+        compare_version(&rt, rt.alloc(), version)?;
+    }
+    Ok(())
 }

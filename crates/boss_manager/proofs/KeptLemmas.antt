@@ -1,5 +1,5 @@
 -- Jobs over a journal, by how they ended.
-use Rattle.std.proofs.Common.{arith, ◌≡◌, ◌≢◌, ◌⊎◌, inl, inr, Bool, true, false, if◌then◌else◌, ℕ, ◌≤◌, List, [], ◌∷◌, ◌++◌, length, refl, sym, ap, subst, ◌∙◌, append_assoc, Some, Ok, Err, Result, IfOk}
+use Rattle.std.proofs.Common.{arith, ◌≡◌, ◌≢◌, ◌⊎◌, inl, inr, Bool, true, false, if◌then◌else◌, ℕ, ◌≤◌, List, [], ◌∷◌, ◌++◌, length, refl, sym, ap, subst, ◌∙◌, append_assoc, append-nil, Some, Ok, Err, Result, IfOk}
 use Rattle.boss_model.specs.Catalogue.{Catalogue}
 use Rattle.boss_model.specs.Limits.{most_lines}
 use Rattle.boss_model.specs.Lines.{lines}
@@ -39,6 +39,16 @@ more-asked name names old mid new is asked = (
   asked.2 ∙ ap (λ xs. xs ++ asked.0) is ∙ append_assoc old (name ∷ []) asked.0,
 )
 
+pub none-asked : (names old : List (List ℕ)) → AsksFront names old old
+none-asked names old = ([], (names, refl), sym (append-nil old))
+
+pub front-asked : (first second : List ℕ) (old new : List (List ℕ)) → (new ≡ old) ⊎ (new ≡ old ++ first ∷ []) ⊎ (new ≡ old ++ first ∷ second ∷ []) → AsksFront (first ∷ second ∷ []) old new
+front-asked first second old new it = elim it [
+  | inl none ↦ ([], (first ∷ second ∷ [], refl), none ∙ sym (append-nil old))
+  | inr (inl one) ↦ (first ∷ [], (second ∷ [], refl), one)
+  | inr (inr both) ↦ (first ∷ second ∷ [], ([], refl), both)
+]
+
 -- ---- statuses
 
 wrong : {P : Type 0} → true ≡ false → P
@@ -64,7 +74,7 @@ none-fine : {X : Type 0} (was now : Pair) (old new : X) (status : ℕ) → HadNo
 none-fine was now old new status none fine = elim none.why [ inl fault ↦ absurd (fine fault.1) | inr lack ↦ inr lack.0 ]
 
 module _ {F D S K A : Type 0} (f : files.Ghosts F D) (s : source.Ghosts S) (k : sink.Ghosts K) (a : actuators_of.Ghosts A) (old new : World F S K A) (status : ℕ) where
-  no-catalogue-fine : HadNoCatalogue f s k a old new status → ¬ Rose (f.faults old.files) (f.faults new.files) → (status ≡ 0) ⊎ (status ≡ 8)
+  pub no-catalogue-fine : HadNoCatalogue f s k a old new status → ¬ Rose (f.faults old.files) (f.faults new.files) → (status ≡ 0) ⊎ (status ≡ 8)
   no-catalogue-fine none fine = elim none.why [ inl fault ↦ absurd (fine fault.1) | inr lack ↦ inr lack.0 ]
 
   some-same : {X : Type 0} {x y : X} → Some x ≡ Some y → x ≡ y
@@ -78,14 +88,14 @@ module _ {F D S K A : Type 0} (f : files.Ghosts F D) (s : source.Ghosts S) (k : 
 
   module _ (name : List ℕ) (count : ℕ) where
     -- a catalogue that can be used is not refused
-    not-refused : {P : Type 0} (catalogue : Catalogue) (file : List ℕ) → f.tells → f.holds old.files name ≡ Some file → usable count file ≡ Ok catalogue → RefusedCatalogue f s k a name count old new status → P
+    pub not-refused : {P : Type 0} (catalogue : Catalogue) (file : List ℕ) → f.tells → f.holds old.files name ≡ Some file → usable count file ≡ Ok catalogue → RefusedCatalogue f s k a name count old new status → P
     not-refused catalogue file tells holds used refused =
         let spelt = refused.spells tells in
         let same : spelt.0 ≡ file = some-same (sym spelt.1 ∙ holds) in
         refused-used (usable count spelt.0) refused.refusal catalogue spelt.2 (ap (usable count) same ∙ used)
 
     -- the file spells one catalogue
-    one-catalogue : (catalogue other : Catalogue) (file : List ℕ) → f.holds old.files name ≡ Some file → usable count file ≡ Ok catalogue →
+    pub one-catalogue : (catalogue other : Catalogue) (file : List ℕ) → f.holds old.files name ≡ Some file → usable count file ≡ Ok catalogue →
         (spelt : (file : List ℕ) × (f.holds old.files name ≡ Some file) × (usable count file ≡ Ok other)) → other ≡ catalogue
     one-catalogue catalogue other file holds used spelt =
         let same : spelt.0 ≡ file = some-same (sym spelt.1 ∙ holds) in

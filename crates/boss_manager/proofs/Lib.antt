@@ -10,3 +10,7 @@ pub mod StandingLemmas
 pub mod StatusLemmas
 pub mod UnkeptLemmas
 pub mod LoadLemmas
+pub mod ServeLemmas
+pub mod ServeLifting
+pub mod WordLemmas
+pub mod ServedLemmas

@@ -7,4 +7,6 @@ pub mod Loads
 pub mod Openings
 pub mod Programs
 pub mod Scripts
+pub mod ServeJobs
+pub mod Serving
 pub mod LoadJobs

@@ -21,11 +21,11 @@ catalogue_word (Load count seed) = None
 abbrev pub script_of_words : List (List ℕ) → Option (List ℕ)
 script_of_words words = option_and_then catalogue_word (job_of words)
 
--- what is served so far: a script, a check, and a load
+-- what is served: a job of the table of words
 abbrev pub is_served : Option Job → Bool
 is_served (Some (Script catalogue journal)) = true
 is_served (Some (Check catalogue journal)) = true
-is_served (Some (Serve catalogue journal address workers connections)) = false
+is_served (Some (Serve catalogue journal address workers connections)) = true
 is_served (Some (Load count seed)) = true
 is_served None = false
 

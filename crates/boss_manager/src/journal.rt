@@ -21,7 +21,7 @@ use boss_scripts::{Broken, run_script};
 use std::alloc::Global;
 
 /// How many bytes a log may have.
-const LOG_LIMIT: u64 = 16_777_216;
+pub const LOG_LIMIT: u64 = 16_777_216;
 
 /// Runs a script over a journal on two disks, which come back: the journal is opened, the wants of the beginning are served, and then
 /// each line of the source is answered, and the wants that it leaves are served, before the next is read.

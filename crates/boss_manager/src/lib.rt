@@ -10,6 +10,8 @@ mod load_job;
 mod memory_jobs;
 mod saying;
 mod script;
+mod serve_jobs;
+mod serving;
 mod status;
 mod top_call;
 
@@ -17,5 +19,6 @@ pub use checking::check_on_disks;
 pub use journal::script_on_disks;
 pub use laws::a_second_script_goes_on;
 pub use script::script_run;
+pub use serving::{serve_in_memory, serve_on_disks};
 pub use status::Status;
 pub use top_call::boss;

@@ -19,6 +19,12 @@ impl Status {
     pub const WRITE_FAULT: Status = Status(7);
     /// No memory was to be had.
     pub const NO_MEMORY: Status = Status(8);
+    /// The host failed: it could not listen at its address, or accept a connection.
+    pub const HOST_FAULT: Status = Status(9);
+    /// A worker was not started.
+    pub const UNSTARTED: Status = Status(11);
+    /// The clock failed.
+    pub const CLOCK_FAULT: Status = Status(12);
     /// A line is too long.
     pub const LINE_TOO_LONG: Status = Status(13);
     /// There are more than 2^32 lines.

@@ -6,31 +6,58 @@ ghost use Rattle.boss_manager.specs.Jobs.{DoesScript, SaysUsage, world};
 ghost use Rattle.boss_manager.specs.KeptScripts.{DoesKeptScript};
 ghost use Rattle.boss_manager.specs.LoadJobs.{DoesLoad};
 ghost use Rattle.boss_manager.specs.Programs.{is_served, script_of_words};
+ghost use Rattle.boss_manager.specs.ServeJobs.{DoesServe, is_serve, server_world, ServesInMemory};
 
 use crate::Status;
 use crate::kept_jobs::{check_kept, do_kept_script};
 use crate::load_job::do_load;
 use crate::memory_jobs::{check_memory, do_script};
 use crate::saying::say_usage;
+use crate::serve_jobs::{do_kept_serve, do_memory_serve};
 use boss_files::Files;
 use boss_outside::{Actuators, Sink, Source};
 use boss_words::{Job, WordsRefusal, read_words};
+use boss_workers::{Clock, Host, Spawner, Waiter};
 use std::alloc::Global;
+use std::sync::Wait;
 
 /// Does what the words ask for. They do not include the program's own name.
 ///
-/// So far this is a script, `script CATALOGUE JOURNAL`, a check, `check CATALOGUE JOURNAL`, and a generated load, `load COUNT SEED`. A
-/// script reads the catalogue, opens the journal, answers the lines of the source to the sink and drives the devices, the d-th of them
-/// for driver d. A check tells what the journal stands for. The journal is kept in two files, that of its name and that of its name
-/// with `.b` behind it, or with `-` in memory alone. A load tells what came of a generated day.
-pub fn boss<F: Files, S: Source, K: Sink, A: Actuators>(
+/// This is a script, `script CATALOGUE JOURNAL`, a server, `serve CATALOGUE JOURNAL ADDRESS WORKERS CONNECTIONS`, a check, `check
+/// CATALOGUE JOURNAL`, or a generated load, `load COUNT SEED`. A script reads the catalogue, opens the journal, answers the lines of
+/// the source to the sink and drives the devices, the d-th of them for driver d. A server does so for so many connections that the host
+/// takes at the address, by so many workers, in time that the clock tells. A check tells what the journal stands for. The journal is
+/// kept in two files, that of its name and that of its name with `.b` behind it, or with `-` in memory alone. A load tells what came of
+/// a generated day.
+pub fn boss<
+    R: Wait + Sync + Drop,
+    F: Files,
+    S: Source,
+    K: Sink,
+    A: Actuators + Drop + Send,
+    C: Clock + Send,
+    H: Host + Send,
+    W: Waiter + Send,
+    P: Spawner,
+>(
+    rt: R,
     alloc: Global,
     words: &Vec<String>,
     files: &mut F,
     source: &mut S,
     sink: &mut K,
     devices: &mut Vec<A>,
+    clock: &mut C,
+    host: &mut H,
+    waiter: &mut W,
+    spawner: &mut P,
 ) -> Status
+where
+    F::Store: Send,
+    H::In: Send,
+    H::Out: Send,
+    requires host { H.sound host.old }
+    ensures sound { H.sound host.new }
     // The job of each row of words that is served.
     ensures script { (name : List ℕ) → script_of_words (texts words.now.items) ≡ Some name
         → DoesScript ⟦<F as Files>⟧ ⟦<S as Source>⟧ ⟦<K as Sink>⟧ ⟦<A as Actuators>⟧ name (vec_len devices.old)
@@ -44,9 +71,25 @@ pub fn boss<F: Files, S: Source, K: Sink, A: Actuators>(
     ensures check_memory { (name : List ℕ) → job_of (texts words.now.items) ≡ Some (job.Check name (codes "-"))
         → ChecksMemory ⟦<F as Files>⟧ ⟦<S as Source>⟧ ⟦<K as Sink>⟧ ⟦<A as Actuators>⟧ name (vec_len devices.old)
         (world files.old source.old sink.old devices.old.items) (world files.new source.new sink.new devices.new.items) result.0 }
+    ensures serve { (name journal address : List ℕ) (workers connections : ℕ)
+        → job_of (texts words.now.items) ≡ Some (job.Serve name journal address workers connections) → journal ≢ codes "-"
+        → DoesServe F.Files S.Source K.Sink A.Actuators H.Host H.In.Source H.Out.Sink
+        C.Clock W.Waiter P.Spawner name journal (vec_len devices.old) workers connections
+        (server_world (world files.old source.old sink.old devices.old.items) clock.old host.old waiter.old spawner.old)
+        (server_world (world files.new source.new sink.new devices.new.items) clock.new host.new waiter.new spawner.new) result.0 }
+    ensures serve_memory { (name address : List ℕ) (workers connections : ℕ)
+        → job_of (texts words.now.items) ≡ Some (job.Serve name (codes "-") address workers connections)
+        → ServesInMemory F.Files S.Source K.Sink A.Actuators H.Host H.In.Source H.Out.Sink
+        C.Clock W.Waiter P.Spawner name (vec_len devices.old) workers connections
+        (server_world (world files.old source.old sink.old devices.old.items) clock.old host.old waiter.old spawner.old)
+        (server_world (world files.new source.new sink.new devices.new.items) clock.new host.new waiter.new spawner.new) result.0 }
     ensures load { (count seed : ℕ) → job_of (texts words.now.items) ≡ Some (job.Load count seed)
         → DoesLoad ⟦<F as Files>⟧ ⟦<S as Source>⟧ ⟦<K as Sink>⟧ ⟦<A as Actuators>⟧ count seed
         (world files.old source.old sink.old devices.old.items) (world files.new source.new sink.new devices.new.items) result.0 }
+
+    // Only a server reads a clock, takes connections, waits and starts workers.
+    ensures apart { is_serve (job_of (texts words.now.items)) ≡ false
+        → (clock.new ≡ clock.old) × (host.new ≡ host.old) × (waiter.new ≡ waiter.old) × (spawner.new ≡ spawner.old) }
 
     // Status 2 comes exactly where they ask for no such job, but where the line that tells it can't be written, or memory is
     // wanting.
@@ -86,7 +129,52 @@ pub fn boss<F: Files, S: Source, K: Sink, A: Actuators>(
                 )
             }
         }
-        Ok(Job::Serve { .. }) => say_usage(sink),
+        Ok(
+            Job::Serve {
+                catalogue,
+                journal,
+                address,
+                workers,
+                connections,
+            },
+        ) => {
+            if journal.text() == "-" {
+                do_memory_serve(
+                    rt,
+                    alloc,
+                    catalogue.text(),
+                    address.text(),
+                    workers,
+                    connections,
+                    files,
+                    source,
+                    sink,
+                    devices,
+                    clock,
+                    host,
+                    waiter,
+                    spawner,
+                )
+            } else {
+                do_kept_serve(
+                    rt,
+                    alloc,
+                    catalogue.text(),
+                    journal.text(),
+                    address.text(),
+                    workers,
+                    connections,
+                    files,
+                    source,
+                    sink,
+                    devices,
+                    clock,
+                    host,
+                    waiter,
+                    spawner,
+                )
+            }
+        }
         Ok(Job::Load { count, seed }) => do_load(alloc, count, seed, sink),
         Err(WordsRefusal::Usage) => say_usage(sink),
         Err(WordsRefusal::NoMemory) => Status::NO_MEMORY,

@@ -23,3 +23,7 @@ new_line = codes "journal new" ++ 10 ∷ []
 abbrev pub summary_line : ℕ → ℕ → ℕ → ℕ → List ℕ
 summary_line events now leases pending =
     codes "events " ++ decimal events ++ codes " now " ++ decimal now ++ codes " leases " ++ decimal leases ++ codes " pending " ++ decimal pending ++ 10 ∷ []
+
+-- its words and its end have 30 bytes, and each number has 20 digits at most
+abbrev pub longest_summary : ℕ
+longest_summary = 110

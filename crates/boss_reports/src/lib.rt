@@ -5,4 +5,4 @@ mod refusal;
 mod summary;
 
 pub use refusal::refusal_line;
-pub use summary::{new_line, summary_line};
+pub use summary::{LONGEST_SUMMARY, new_line, summary_in_room, summary_line};

@@ -35,12 +35,18 @@ fn sentence(alloc: Global, status: Status, words: &Vec<String>) -> Result<String
     if status == Status::FILE_FAULT {
         return file_fault(alloc, catalogue, journal);
     }
+    if status == Status::HOST_FAULT {
+        let address = word_at(words, 3);
+        return format!(in alloc;
+            "no connection could be taken at {address}; see that it is an address of this machine with a free port, as 127.0.0.1:7000"
+        );
+    }
     String::from_str(alloc, of_this_run(status))
 }
 
 const USAGE: &str =
-    "these words ask for nothing that it does; write script CATALOGUE JOURNAL or check CATALOGUE JOURNAL, with - for a \
-    journal in memory alone, or load COUNT SEED";
+    "these words ask for nothing that it does; write script CATALOGUE JOURNAL, check CATALOGUE JOURNAL or \
+    serve CATALOGUE JOURNAL ADDRESS WORKERS CONNECTIONS, with - for a journal in memory alone, or load COUNT SEED";
 
 /// A file failed.
 fn file_fault(alloc: Global, catalogue: &str, journal: &str) -> Result<String, AllocError> {
@@ -62,6 +68,12 @@ fn of_this_run(status: Status) -> &'static str {
     }
     if status == Status::NO_MEMORY {
         return "no memory was to be had; free some and go on from where the answers end";
+    }
+    if status == Status::UNSTARTED {
+        return "not all workers could be started; free some memory, or serve by fewer";
+    }
+    if status == Status::CLOCK_FAULT {
+        return "the clock could not be read, or stands before 1970; set it and start again";
     }
     if status == Status::LINE_TOO_LONG {
         return "a line of the standard input has more than 65,535 bytes; shorten it and go on from there";

@@ -1,5 +1,6 @@
-//! The program on this machine: its words, its files, its standard input and output, and devices that take every command,
-//! behind each of the sixteen drivers. Where not all was done, one sentence on the standard error says what happened and what to do.
+//! The program on this machine: its words, its files, its standard input and output, devices that take every command behind each of
+//! the sixteen drivers, and for a server the system's clock, its network and threads. Where not all was done, one sentence on the
+//! standard error says what happened and what to do.
 #![tactic(auto)]
 
 mod advice;
@@ -7,30 +8,41 @@ mod advice;
 use crate::advice::advice;
 use boss_adapters::{RealFiles, StdSink, StdSource, idle_devices};
 use boss_manager::{Status, boss};
-use boss_model::MOST_DRIVERS;
+use boss_model::{MOST_DRIVERS, NoMemory};
+use boss_real::{RealClock, RealHost, RealSpawner, RealWaiter};
 use std::alloc::AllocError;
 use std::process::ExitCode;
+use std::sync::Wait;
 use std::{env, io};
 
-/// Does what the program's words ask for, and tells how it ended.
-pub fn start(rt: HostRuntime) -> ExitCode {
-    let status = run(rt).unwrap_or(Status::NO_MEMORY);
+/// Does what the program's words ask for, and tells how it ended. Only a server waits, by this handle.
+pub fn start<R: Wait + Sync>(rt: HostRuntime, waiting: &R) -> ExitCode {
+    let status = run(rt, waiting).unwrap_or(Status::NO_MEMORY);
     ExitCode::from(status.0)
 }
 
-fn run(rt: HostRuntime) -> Result<Status, AllocError> {
+fn run<R: Wait + Sync>(rt: HostRuntime, waiting: &R) -> Result<Status, NoMemory> {
     let words = words_of(&rt)?;
     let mut devices = idle_devices(rt.alloc(), MOST_DRIVERS)?;
+    let mut waiter = RealWaiter::new(rt.alloc(), &rt)?;
     let mut source = StdSource::new(rt.stdin());
     let mut sink = StdSink::new(rt.stdout());
     let mut files = RealFiles::new(rt);
+    let mut clock = RealClock::new(&rt);
+    let mut host = RealHost::new(rt.alloc(), &rt);
+    let mut spawner = RealSpawner::new(&rt);
     let status = boss(
+        waiting,
         rt.alloc(),
         &words,
         &mut files,
         &mut source,
         &mut sink,
         &mut devices,
+        &mut clock,
+        &mut host,
+        &mut waiter,
+        &mut spawner,
     );
     // Where there is no memory for a sentence, or the standard error can't be written, the status alone tells.
     if let Ok(Some(sentence)) = advice(rt.alloc(), status, &words) {

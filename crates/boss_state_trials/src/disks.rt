@@ -1,4 +1,4 @@
-ghost use Rattle.std.specs.Prelude.{◌≡◌, true, IfOk};
+ghost use Rattle.std.specs.Prelude.{◌≡◌, true, IfSome};
 ghost use Rattle.boss_bytes.specs.States.{state};
 ghost use Rattle.boss_model.specs.Seen.{seen};
 
@@ -6,7 +6,6 @@ use boss_disk::MemoryDisk;
 use boss_model::{Items, Kept, NoMemory};
 use boss_snapshot::read_kept;
 use std::alloc::Global;
-use std::test::Fail;
 
 /// A disk of these bytes, of which the call of this number fails.
 pub fn failing_disk(alloc: Global, bytes: &[u8], call: u64) -> Result<MemoryDisk, NoMemory> {
@@ -20,12 +19,12 @@ pub fn disk_of(alloc: Global, bytes: &[u8]) -> Result<MemoryDisk, NoMemory> {
     failing_disk(alloc, bytes, 0)
 }
 
-/// The state that these bytes spell in version 2.
-pub fn spelled(alloc: Global, bytes: &[u8]) -> Result<Kept, Fail>
-    ensures { IfOk result (λ kept. (state 2).fits (seen kept) ≡ true) }
+/// The state that these bytes spell in version 2; none where they spell none, or no memory is left.
+pub fn spelled(alloc: Global, bytes: &[u8]) -> Option<Kept>
+    ensures { IfSome result (λ kept. (state 2).fits (seen kept) ≡ true) }
 {
-    match read_kept(alloc, 2, bytes)? {
-        Some(kept) => Ok(kept),
-        None => Err(Fail::new("a state")),
+    match read_kept(alloc, 2, bytes) {
+        Ok(kept) => kept,
+        Err(NoMemory) => None,
     }
 }

@@ -1,6 +1,6 @@
 use boss_model::{
-    Acceptance, Cause, Items, Kept, KeptPart, KeptProcess, KeptReply, KeptTxn, Lease, Name, Notice,
-    Pending, PointId, Policy, Priority, ProcId, Step, Txn, What,
+    Acceptance, Cause, Items, Kept, KeptPart, KeptProcess, KeptReply, KeptTxn, Lease, Name,
+    NoMemory, Notice, Pending, PointId, Policy, Priority, ProcId, Step, Txn, What,
 };
 use std::alloc::{AllocError, Global};
 use std::test::Fail;
@@ -68,7 +68,7 @@ fn process(
 }
 
 /// `ahu`, with notices and a kept reply, and `b` without.
-fn processes(alloc: Global) -> Result<Items<KeptProcess>, Fail> {
+fn add_processes(alloc: Global, processes: &mut Items<KeptProcess>) -> Result<(), Fail> {
     let renewed = KeptReply {
         seq: 5,
         acceptance: Acceptance::Renewed {
@@ -76,10 +76,9 @@ fn processes(alloc: Global) -> Result<Items<KeptProcess>, Fail> {
             until: 63_000,
         },
     };
-    let mut processes = Items::new(alloc);
     processes.try_push(process(b"ahu", 9, notices(alloc)?, Some(renewed))?)?;
     processes.try_push(process(b"b", 0, Items::new(alloc), None)?)?;
-    Ok(processes)
+    Ok(())
 }
 
 /// A write on this point.
@@ -102,15 +101,13 @@ fn txn(number: u64, policy: Policy, parts: Vec<KeptPart>) -> KeptTxn {
 }
 
 /// One that holds its slot, and one whose two leases ended.
-fn txns(alloc: Global) -> Result<Items<KeptTxn>, Fail> {
+fn add_txns(alloc: Global, txns: &mut Items<KeptTxn>) -> Result<(), NoMemory> {
     let first = part(1, 16, Some((Cause::Superseded { by: Txn(3) }, 61_000)));
     let second = part(2, 8, Some((Cause::Cancelled, 62_000)));
     let live = vec![in alloc; part(0, 8, None)]?;
-    let past = vec![in alloc; first, second]?;
-    let mut txns = Items::new(alloc);
     txns.try_push(txn(1, Policy::Abort, live))?;
-    txns.try_push(txn(2, Policy::Keep, past))?;
-    Ok(txns)
+    let past = vec![in alloc; first, second]?;
+    txns.try_push(txn(2, Policy::Keep, past))
 }
 
 /// A step of a reversion.
@@ -119,9 +116,9 @@ fn step(value: i64, hold: i64) -> Step {
 }
 
 /// A lease with two steps.
-fn leases(alloc: Global) -> Result<Items<Lease>, Fail> {
+fn add_lease(alloc: Global, leases: &mut Items<Lease>) -> Result<(), NoMemory> {
     let revert = vec![in alloc; step(-1, 5_000), step(30_000, 86_400_000)]?;
-    let lease = Lease {
+    leases.try_push(Lease {
         txn: Txn(1),
         owner: ProcId(0),
         point: PointId(0),
@@ -130,38 +127,43 @@ fn leases(alloc: Global) -> Result<Items<Lease>, Fail> {
         until: 130_000,
         revert: Items::from_vec(revert),
         policy: Policy::Abort,
-    };
-    let mut leases = Items::new(alloc);
-    leases.try_push(lease)?;
-    Ok(leases)
+    })
 }
 
 /// A reversion with one step.
-fn reversions(alloc: Global) -> Result<Items<Pending>, Fail> {
-    let pending = Pending {
+fn add_reversion(alloc: Global, reversions: &mut Items<Pending>) -> Result<(), NoMemory> {
+    let steps = vec![in alloc; step(1, 60_000)]?;
+    reversions.try_push(Pending {
         txn: Txn(2),
         owner: ProcId(0),
         point: PointId(1),
         priority: Priority(16),
-        steps: Items::from_vec(vec![in alloc; step(1, 60_000)]?),
+        steps: Items::from_vec(steps),
         start: 61_000,
-    };
-    let mut reversions = Items::new(alloc);
-    reversions.try_push(pending)?;
-    Ok(reversions)
+    })
+}
+
+/// All lists of the state of the 371 bytes.
+fn fill(alloc: Global, kept: &mut Kept) -> Result<(), Fail> {
+    add_processes(alloc, &mut kept.processes)?;
+    add_txns(alloc, &mut kept.txns)?;
+    kept.done.try_push(Txn(2))?;
+    add_lease(alloc, &mut kept.leases)?;
+    add_reversion(alloc, &mut kept.pending)?;
+    Ok(())
 }
 
 /// The state of the 371 bytes.
 pub fn made(alloc: Global) -> Result<Kept, Fail> {
-    let mut done = Items::new(alloc);
-    done.try_push(Txn(2))?;
-    Ok(Kept {
+    let mut kept = Kept {
         now: 70_000,
         next: Txn(5),
-        processes: processes(alloc)?,
-        txns: txns(alloc)?,
-        done,
-        leases: leases(alloc)?,
-        pending: reversions(alloc)?,
-    })
+        processes: Items::new(alloc),
+        txns: Items::new(alloc),
+        done: Items::new(alloc),
+        leases: Items::new(alloc),
+        pending: Items::new(alloc),
+    };
+    fill(alloc, &mut kept)?;
+    Ok(kept)
 }

@@ -2,45 +2,44 @@ use crate::bytes::{DIGEST, OTHER, SMALL, state_disk};
 use crate::disks::{disk_of, failing_disk};
 use boss_disk::MemoryDisk;
 use boss_logs::DiskKind;
+use boss_model::NoMemory;
 use boss_snapshot::{SnapshotRefusal, kind, read_state};
-use std::alloc::Global;
+use std::alloc::{AllocError, Global};
+use std::process::Abort;
 use std::test::Fail;
 
-/// Why the state of a disk is not read.
-fn refusal(alloc: Global, disk: &mut MemoryDisk) -> Result<SnapshotRefusal, Fail> {
+/// Whether a disk has a kept state that is refused so.
+fn is_refused(alloc: Global, disk: &mut MemoryDisk, wanted: SnapshotRefusal) -> bool {
     let Ok(DiskKind::State { .. }) = kind(disk) else {
-        return Err(Fail::new("a kept state"));
+        return false;
     };
     match read_state(alloc, disk, &DIGEST) {
-        Ok(_kept) => Err(Fail::new("a refusal")),
-        Err(refusal) => Ok(refusal),
+        Ok(_kept) => false,
+        Err(refusal) => refusal == wanted,
     }
 }
 
-/// Why bytes are not read whose byte at this place is changed to this value.
-fn changed(alloc: Global, bytes: &[u8], place: usize, value: u8) -> Result<SnapshotRefusal, Fail> {
+/// Whether bytes are refused so whose byte at this place is changed to this value.
+fn is_refused_changed(
+    alloc: Global,
+    bytes: &[u8],
+    place: usize,
+    value: u8,
+    wanted: SnapshotRefusal,
+) -> Result<bool, NoMemory> {
     let mut bytes = bytes.to_vec(alloc)?;
     if place < bytes.len() {
         bytes[place] = value;
     }
-    refusal(alloc, &mut disk_of(alloc, &bytes)?)
+    let mut disk = disk_of(alloc, &bytes)?;
+    Ok(is_refused(alloc, &mut disk, wanted))
 }
 
-/// At which place bytes are damaged whose byte at this place is changed to this value; or 0.
-fn damaged(alloc: Global, bytes: &[u8], place: usize, value: u8) -> Result<u64, Fail> {
-    match changed(alloc, bytes, place, value)? {
-        SnapshotRefusal::Damaged { place } => Ok(place),
-        _other => Ok(0),
-    }
-}
-
-#[test]
-fn changed_byte_is_refused_at_its_place(rt: HostRuntime) -> Result<(), Fail> {
-    let alloc = rt.alloc();
-    let whole = state_disk(alloc, 3, 5, SMALL)?;
+/// Changes the head of a kept state.
+fn change_head<R: Abort>(rt: &R, alloc: Global, whole: &[u8]) -> Result<(), NoMemory> {
     for found in [0, 3, 255] {
         let version = SnapshotRefusal::Version { found };
-        assert!(rt; changed(alloc, &whole, 8, found)? == version);
+        assert!(rt; is_refused_changed(alloc, whole, 8, found, version)?);
     }
     let mut kept = DIGEST;
     kept[31] = 8;
@@ -48,45 +47,61 @@ fn changed_byte_is_refused_at_its_place(rt: HostRuntime) -> Result<(), Fail> {
         kept,
         found: DIGEST,
     };
-    assert!(rt; changed(alloc, &whole, 40, 8)? == catalogue);
-    // Which byte is changed, to what, and the place that is told. From 65 on it is of the number of processes, a name's length, the
-    // name, the number of kept notices, a reply, a policy, an end, the number of steps; the last is a version without replies.
-    for (place, value, told) in [
-        (49, 0x40, 49),
-        (49, 0xff, 49),
-        (57, 1, 57),
-        (64, 97, 57),
-        (64, 95, 65),
-        (64, 0, 65),
-        (82, 0, 65),
-        (83, 0, 65),
-        (84, b'A', 65),
-        (93, 4, 65),
-        (94, 1, 65),
-        (95, 4, 65),
-        (110, 2, 65),
-        (117, 2, 65),
-        (156, 9, 65),
-        (8, 1, 65),
-    ] {
-        assert_eq!(rt;
-            damaged(alloc, &whole, place, value)?,
-            told,
-            "{place} {value}"
-        );
+    assert!(rt; is_refused_changed(alloc, whole, 40, 8, catalogue)?);
+    Ok(())
+}
+
+/// Which byte is changed, to what, and the place that is told. From 65 on it is of the number of processes, a name's length, the
+/// name, the number of kept notices, a reply, a policy, an end, the number of steps; the last is a version without replies.
+const DAMAGES: &[(usize, u8, u64)] = &[
+    (49, 0x40, 49),
+    (49, 0xff, 49),
+    (57, 1, 57),
+    (64, 97, 57),
+    (64, 95, 65),
+    (64, 0, 65),
+    (82, 0, 65),
+    (83, 0, 65),
+    (84, b'A', 65),
+    (93, 4, 65),
+    (94, 1, 65),
+    (95, 4, 65),
+    (110, 2, 65),
+    (117, 2, 65),
+    (156, 9, 65),
+    (8, 1, 65),
+];
+
+/// Changes other bytes of it.
+fn change_state<R: Abort>(rt: &R, alloc: Global, whole: &[u8]) -> Result<(), NoMemory> {
+    for (at, value, place) in DAMAGES {
+        let damaged = SnapshotRefusal::Damaged { place: *place };
+        let refused = is_refused_changed(alloc, whole, *at, *value, damaged)?;
+        assert!(rt; refused, "{at} {value}");
     }
     Ok(())
 }
 
 #[test]
-fn first_cause_is_told(rt: HostRuntime) -> Result<(), Fail> {
-    let alloc = rt.alloc();
-    let whole = state_disk(alloc, 3, 5, SMALL)?;
+fn changed_byte_is_refused_at_its_place(rt: HostRuntime) -> Result<(), Fail> {
+    let whole = state_disk(rt.alloc(), 3, 5, SMALL)?;
+    change_head(&rt, rt.alloc(), &whole)?;
+    change_state(&rt, rt.alloc(), &whole)?;
+    Ok(())
+}
+
+/// Cuts a kept state to each length that has the head and a part of the rest.
+fn cut_each<R: Abort>(rt: &R, alloc: Global, whole: &[u8]) -> Result<(), NoMemory> {
     for size in 66..whole.len() {
-        let cut = refusal(alloc, &mut disk_of(alloc, &whole[..size])?)?;
-        assert!(rt; cut == SnapshotRefusal::Damaged { place: 57 }, "{size}");
+        let mut disk = disk_of(alloc, &whole[..size])?;
+        let refused = is_refused(alloc, &mut disk, SnapshotRefusal::Damaged { place: 57 });
+        assert!(rt; refused, "{size}");
     }
-    // All is wrong; then all but the version, and all but the version and the catalogue.
+    Ok(())
+}
+
+/// A kept state in which all is wrong but byte 65: the version, the catalogue, the number of events and the length.
+fn wrong(alloc: Global, whole: &[u8]) -> Result<Vec<u8>, AllocError> {
     let mut wrong = whole.to_vec(alloc)?;
     if wrong.len() > 65 {
         wrong[8] = 9;
@@ -94,32 +109,57 @@ fn first_cause_is_told(rt: HostRuntime) -> Result<(), Fail> {
         wrong[49] = 0x80;
         wrong[57] = 0x80;
     }
+    Ok(wrong)
+}
+
+/// What is told where all is wrong, and where all is wrong but the version.
+fn refuse_wrong<R: Abort>(rt: &R, alloc: Global, wrong: &[u8]) -> Result<(), NoMemory> {
     let version = SnapshotRefusal::Version { found: 9 };
-    assert!(rt; changed(alloc, &wrong, 65, 1)? == version);
+    assert!(rt; is_refused_changed(alloc, wrong, 65, 1, version)?);
     let catalogue = SnapshotRefusal::Catalogue {
         kept: OTHER,
         found: DIGEST,
     };
-    assert!(rt; changed(alloc, &wrong, 8, 2)? == catalogue);
-    assert!(rt; changed(alloc, &wrong, 8, 1)? == catalogue);
+    assert!(rt; is_refused_changed(alloc, wrong, 8, 2, catalogue)?);
+    assert!(rt; is_refused_changed(alloc, wrong, 8, 1, catalogue)?);
+    Ok(())
+}
+
+#[test]
+fn first_cause_is_told(rt: HostRuntime) -> Result<(), Fail> {
+    let whole = state_disk(rt.alloc(), 3, 5, SMALL)?;
+    cut_each(&rt, rt.alloc(), &whole)?;
+    refuse_wrong(&rt, rt.alloc(), &wrong(rt.alloc(), &whole)?)?;
+    Ok(())
+}
+
+/// Whether the kind of a disk is not told whose call of this number fails.
+fn has_no_kind(alloc: Global, whole: &[u8], call: u64) -> Result<bool, NoMemory> {
+    let mut disk = failing_disk(alloc, whole, call)?;
+    Ok(kind(&mut disk).is_err() && disk.faults() == 1)
+}
+
+/// Whether the state of a disk is not read whose call of this number fails.
+fn has_no_state(alloc: Global, whole: &[u8], call: u64) -> Result<bool, NoMemory> {
+    let mut disk = failing_disk(alloc, whole, call)?;
+    Ok(is_refused(alloc, &mut disk, SnapshotRefusal::DiskFault) && disk.faults() == 1)
+}
+
+/// Fails each read in turn.
+fn fail_each_read<R: Abort>(rt: &R, alloc: Global, whole: &[u8]) -> Result<(), NoMemory> {
+    // The kind takes the length and the first bytes; the state takes the length, what stands before it, and its bytes.
+    for call in [1, 2] {
+        assert!(rt; has_no_kind(alloc, whole, call)?, "{call}");
+    }
+    for call in [3, 4, 5] {
+        assert!(rt; has_no_state(alloc, whole, call)?, "{call}");
+    }
     Ok(())
 }
 
 #[test]
 fn each_read_of_the_disk_may_fail(rt: HostRuntime) -> Result<(), Fail> {
-    let alloc = rt.alloc();
-    let whole = state_disk(alloc, 3, 5, SMALL)?;
-    // The kind takes the length and the first bytes; the state takes the length, what stands before it, and its bytes.
-    for call in [1, 2] {
-        let mut disk = failing_disk(alloc, &whole, call)?;
-        assert!(rt; kind(&mut disk).is_err());
-        assert_eq!(rt; disk.faults(), 1);
-    }
-    for call in [3, 4, 5] {
-        let mut disk = failing_disk(alloc, &whole, call)?;
-        let told = refusal(alloc, &mut disk)?;
-        assert!(rt; told == SnapshotRefusal::DiskFault, "{call}");
-        assert_eq!(rt; disk.faults(), 1);
-    }
+    let whole = state_disk(rt.alloc(), 3, 5, SMALL)?;
+    fail_each_read(&rt, rt.alloc(), &whole)?;
     Ok(())
 }

@@ -219,7 +219,7 @@ fn a_run_has_its_status(rt: HostRuntime) -> Result<(), Fail> {
     for ending in ENDINGS {
         let shows = ending.shows;
         let input = ending.input.as_bytes();
-        let outcome = run(rt.alloc(), ending.words, ending.file, input, ending.fails)?;
+        let outcome = run(rt, ending.words, ending.file, input, ending.fails)?;
         assert_eq!(&rt; outcome.status, Status(ending.status), "{shows}");
         assert_eq!(&rt; outcome.sink.taken(), ending.output.as_bytes(), "{shows}");
         let device = outcome.devices.first().ok_or("a device")?;
@@ -244,7 +244,7 @@ fn a_line_too_long_ends_a_script(rt: HostRuntime) -> Result<(), Fail> {
         input.resize(blanks, b' ')?;
         input.push(b'\n')?;
         input.extend_from_slice(ATTACH.as_bytes())?;
-        let outcome = run(rt.alloc(), SCRIPT_WORDS, THREE_POINTS, &input, NONE_FAILS)?;
+        let outcome = run(rt, SCRIPT_WORDS, THREE_POINTS, &input, NONE_FAILS)?;
         assert_eq!(&rt; outcome.status, Status(status));
         let told = outcome.sink.taken().strip_prefix(OPENING.as_bytes());
         assert_eq!(&rt; told.ok_or("the opening")?, last.as_bytes());

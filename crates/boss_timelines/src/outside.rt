@@ -7,6 +7,7 @@ use boss_files::MemoryFiles;
 use boss_manager::{Status, boss};
 use boss_model::Items;
 use boss_outside::{BytesSink, BytesSource, DeviceCall, Got, SimActuators, Source};
+use boss_workers::{ListClock, ListHost, ListSpawner, TurnWaiter};
 use std::alloc::{AllocError, Global};
 use std::test::Fail;
 
@@ -76,34 +77,66 @@ impl Source for Bytewise<'_> {
 /// Runs the program on these words with one file, `site.toml`, with this input, and with sixteen devices, of which the first
 /// may fail.
 pub fn run(
-    alloc: Global,
+    rt: HostRuntime,
     words: &str,
     file: &str,
     input: &[u8],
     fails: Fails,
 ) -> Result<Outcome, Fail> {
+    let alloc = rt.alloc();
     let mut source = BytesSource::new(alloc, bytes(alloc, input)?, call(alloc, fails.source)?)?;
-    run_over(alloc, words, file, &mut source, fails)
+    run_over(rt, words, file, &mut source, fails)
 }
 
 /// The same over any source.
 pub fn run_over<S: Source>(
-    alloc: Global,
+    rt: HostRuntime,
     words: &str,
     file: &str,
     source: &mut S,
     fails: Fails,
 ) -> Result<Outcome, Fail> {
+    let alloc = rt.alloc();
     let words = words_of(alloc, words)?;
     let mut files = MemoryFiles::new(alloc, one_file(alloc, file)?, call(alloc, fails.files)?)?;
     let mut sink = BytesSink::new(alloc, call(alloc, fails.sink)?)?;
     let mut devices = sixteen_devices(alloc, fails.device)?;
-    let status = boss(alloc, &words, &mut files, source, &mut sink, &mut devices);
+    let status = without_server(rt, &words, &mut files, source, &mut sink, &mut devices)?;
     Ok(Outcome {
         status,
         sink,
         devices,
     })
+}
+
+/// Runs the program with nothing for a server: a host without a connection, a clock without a moment and a waiter without a turn.
+fn without_server<S: Source>(
+    rt: HostRuntime,
+    words: &Vec<String>,
+    files: &mut MemoryFiles,
+    source: &mut S,
+    sink: &mut BytesSink,
+    devices: &mut Vec<SimActuators>,
+) -> Result<Status, Fail> {
+    let alloc = rt.alloc();
+    let mut clock = ListClock::new(alloc, Items::new(alloc), Items::new(alloc))?;
+    let mut host: ListHost<BytesSource, BytesSink> =
+        ListHost::new(alloc, Items::new(alloc), Items::new(alloc))?;
+    let mut waiter = TurnWaiter::new(alloc, 0)?;
+    let mut spawner: ListSpawner<HostRuntime> = ListSpawner::new(alloc, Items::new(alloc))?;
+    Ok(boss(
+        rt,
+        alloc,
+        words,
+        files,
+        source,
+        sink,
+        devices,
+        &mut clock,
+        &mut host,
+        &mut waiter,
+        &mut spawner,
+    ))
 }
 
 /// The words of a text, which blanks part. An empty text has none.

@@ -466,7 +466,8 @@ fn put_parts(script: &str, asked: &mut String, told: &mut String) -> Result<(), 
 }
 
 /// Whether a script tells its text, however its bytes are read, and ends with status 0.
-fn expect(rt: &impl Abort, alloc: Global, batch: &Batch, script: &str) -> Result<(), Fail> {
+fn expect(rt: HostRuntime, batch: &Batch, script: &str) -> Result<(), Fail> {
+    let alloc = rt.alloc();
     let fails = Fails {
         device: batch.fails,
         ..NONE_FAILS
@@ -477,13 +478,13 @@ fn expect(rt: &impl Abort, alloc: Global, batch: &Batch, script: &str) -> Result
     let asked = asked.as_bytes();
     let mut bytewise = Bytewise::new(asked);
     for outcome in [
-        run(alloc, SCRIPT_WORDS, batch.file, asked, fails)?,
-        run_over(alloc, SCRIPT_WORDS, batch.file, &mut bytewise, fails)?,
+        run(rt, SCRIPT_WORDS, batch.file, asked, fails)?,
+        run_over(rt, SCRIPT_WORDS, batch.file, &mut bytewise, fails)?,
     ] {
-        assert_eq!(rt; outcome.status, Status(0), "{script}");
-        assert_eq!(rt; outcome.sink.taken(), told.as_bytes(), "{script}");
+        assert_eq!(&rt; outcome.status, Status(0), "{script}");
+        assert_eq!(&rt; outcome.sink.taken(), told.as_bytes(), "{script}");
         let device = outcome.devices.first().ok_or("a device")?;
-        expect_calls(rt, alloc, device, told.as_str())?;
+        expect_calls(&rt, alloc, device, told.as_str())?;
     }
     Ok(())
 }
@@ -511,7 +512,7 @@ fn expect_calls(
 fn scripts_tell_what_was_worked_out(rt: HostRuntime) -> Result<(), Fail> {
     for batch in BATCHES {
         for script in batch.scripts.split("\n== ").skip(1) {
-            expect(&rt, rt.alloc(), batch, script)?;
+            expect(rt, batch, script)?;
         }
     }
     Ok(())

@@ -6,6 +6,7 @@ use boss_points::CatalogueRefusal::{
 };
 use boss_points::{Catalogue, CatalogueRefusal, Key};
 use std::alloc::{AllocError, Global};
+use std::process::Abort;
 use std::test::Fail;
 
 /// What `sha256sum` says of the canonical text of the three points.
@@ -24,34 +25,52 @@ const POINTS: &[(&str, &str)] = &[
     ("fan", "DriverId(0) Multi { states: 3 } 1"),
 ];
 
-#[test]
-fn reads_three_points(rt: HostRuntime) -> Result<(), Fail> {
-    let alloc = rt.alloc();
-    let catalogue = Catalogue::read(alloc, THREE_POINTS.as_bytes())?;
-    assert_eq!(rt; catalogue.digest(), DIGEST);
+/// Compares a catalogue with the three points.
+fn compare(rt: &impl Abort, alloc: Global, catalogue: &Catalogue) -> Result<(), Fail> {
+    assert!(rt; catalogue.digest() == DIGEST);
     assert_eq!(rt; catalogue.count(), 3);
     for place in 0..catalogue.count() {
         let (name, told) = POINTS.get(place as usize).ok_or("a point")?;
         let point = catalogue.point(PointId(place));
         let read = format!(in alloc; "{:?} {:?} {}", point.driver, point.kind, point.default)?;
         assert_eq!(rt; read.as_str(), *told);
-        assert_eq!(rt; point.name.bytes(), name.as_bytes());
-        assert_eq!(rt; catalogue.find(name.as_bytes()), Some(PointId(place)));
+        assert!(rt; point.name.bytes() == name.as_bytes());
+        assert!(rt; is_at(catalogue, name, place));
     }
     Ok(())
 }
 
+/// Whether a name is found at this place.
+fn is_at(catalogue: &Catalogue, name: &str, place: u32) -> bool {
+    match catalogue.find(name.as_bytes()) {
+        Some(PointId(found)) => found == place,
+        None => false,
+    }
+}
+
 #[test]
-fn knows_its_driver_and_no_other_point(rt: HostRuntime) -> Result<(), Fail> {
-    let catalogue = Catalogue::read(rt.alloc(), THREE_POINTS.as_bytes())?;
-    assert_eq!(rt; catalogue.drivers(), 1);
-    assert_eq!(rt;
-        catalogue.driver_name(DriverId(0)).bytes(),
-        b"field".as_slice()
-    );
-    assert_eq!(rt; catalogue.find(b"fans"), None);
-    assert_eq!(rt; catalogue.find(b"no name"), None);
-    Ok(())
+fn reads_three_points(rt: HostRuntime) -> Result<(), Fail> {
+    match Catalogue::read(rt.alloc(), THREE_POINTS.as_bytes()) {
+        Ok(catalogue) => compare(&rt, rt.alloc(), &catalogue),
+        Err(_refusal) => Err("three points".into()),
+    }
+}
+
+/// Whether a catalogue has one driver, `field`, and finds no other points.
+fn has_one_driver(catalogue: &Catalogue) -> bool {
+    catalogue.drivers() == 1
+        && catalogue.driver_name(DriverId(0)).bytes() == b"field".as_slice()
+        && catalogue.find(b"fans").is_none()
+        && catalogue.find(b"no name").is_none()
+}
+
+#[test]
+fn knows_its_driver_and_no_other_point(rt: HostRuntime) {
+    let known = match Catalogue::read(rt.alloc(), THREE_POINTS.as_bytes()) {
+        Ok(catalogue) => has_one_driver(&catalogue),
+        Err(_refusal) => false,
+    };
+    assert!(rt; known);
 }
 
 /// Files that are refused: for each test some that fail it, and some that fail a later test too, or fail it again at a
@@ -298,21 +317,26 @@ const REFUSED: &[(&str, CatalogueRefusal)] = &[
     ),
 ];
 
+/// Whether a file is refused so.
+fn is_refused(alloc: Global, file: &[u8], refusal: CatalogueRefusal) -> bool {
+    match Catalogue::read(alloc, file) {
+        Ok(_catalogue) => false,
+        Err(found) => found == refusal,
+    }
+}
+
 #[test]
 fn refuses_each_fault(rt: HostRuntime) {
     for (text, refusal) in REFUSED {
-        assert_eq!(rt;
-            refusal_of(rt.alloc(), text.as_bytes()),
-            Some(*refusal),
-            "{text}"
-        );
+        let refused = is_refused(rt.alloc(), text.as_bytes(), *refusal);
+        assert!(rt; refused, "{text}");
     }
 }
 
 #[test]
 fn refuses_bytes_that_are_no_text(rt: HostRuntime) {
     let file = b"drivers=['\xff']\npoint=[]";
-    assert_eq!(rt; refusal_of(rt.alloc(), file), Some(NotToml));
+    assert!(rt; is_refused(rt.alloc(), file, NotToml));
 }
 
 /// Files that are accepted, and how many points they have: the bounds of each rule, keys that mean nothing here, and
@@ -345,30 +369,37 @@ const ACCEPTED: &[(&str, u32)] = &[
     ),
 ];
 
-#[test]
-fn accepts_the_bounds(rt: HostRuntime) -> Result<(), Fail> {
-    for (text, count) in ACCEPTED {
-        let catalogue = Catalogue::read(rt.alloc(), text.as_bytes())?;
-        assert_eq!(rt; catalogue.count(), *count, "{text}");
+/// Whether a file is accepted with so many points.
+fn has_points(alloc: Global, file: &[u8], count: u32) -> bool {
+    match Catalogue::read(alloc, file) {
+        Ok(catalogue) => catalogue.count() == count,
+        Err(_refusal) => false,
     }
-    Ok(())
 }
 
 #[test]
-fn reads_4096_points_and_no_more(rt: HostRuntime) -> Result<(), Fail> {
-    let mut file = String::from_str(rt.alloc(), "drivers=['f']\n")?;
-    for number in 0..4096 {
-        add_point(rt.alloc(), &mut file, number)?;
+fn accepts_the_bounds(rt: HostRuntime) {
+    for (text, count) in ACCEPTED {
+        let accepted = has_points(rt.alloc(), text.as_bytes(), *count);
+        assert!(rt; accepted, "{text}");
     }
-    let catalogue = Catalogue::read(rt.alloc(), file.as_bytes())?;
-    assert_eq!(rt; catalogue.count(), 4096);
-    assert_eq!(rt; catalogue.find(b"p4095"), Some(PointId(4095)));
-    add_point(rt.alloc(), &mut file, 4096)?;
-    assert_eq!(rt;
-        refusal_of(rt.alloc(), file.as_bytes()),
-        Some(TooMany { count: 4097 })
-    );
-    Ok(())
+}
+
+/// Whether a file is accepted with 4,096 points, of which `p4095` is the last.
+fn has_4096_points(alloc: Global, file: &[u8]) -> bool {
+    match Catalogue::read(alloc, file) {
+        Ok(catalogue) => catalogue.count() == 4096 && is_at(&catalogue, "p4095", 4095),
+        Err(_refusal) => false,
+    }
+}
+
+/// A file of so many binary points, `p0`, `p1` and so on.
+fn points(alloc: Global, count: u32) -> Result<String, AllocError> {
+    let mut file = String::from_str(alloc, "drivers=['f']\n")?;
+    for number in 0..count {
+        add_point(alloc, &mut file, number)?;
+    }
+    Ok(file)
 }
 
 /// One binary point more at the end of a file.
@@ -380,22 +411,38 @@ fn add_point(alloc: Global, file: &mut String, number: u32) -> Result<(), AllocE
 }
 
 #[test]
-fn reads_1048576_bytes_and_no_more(rt: HostRuntime) -> Result<(), Fail> {
-    let mut file = Vec::with_capacity(rt.alloc(), 1_048_577)?;
-    file.extend_from_slice(THREE_POINTS.as_bytes())?;
-    file.push(b'#')?;
-    file.resize(1_048_576, b' ')?;
-    assert_eq!(rt; file.len(), 1_048_576);
-    let catalogue = Catalogue::read(rt.alloc(), &file)?;
-    assert_eq!(rt; catalogue.digest(), DIGEST);
-    file.push(b' ')?;
-    assert_eq!(rt;
-        refusal_of(rt.alloc(), &file),
-        Some(TooLong { length: 1_048_577 })
-    );
+fn reads_4096_points_and_no_more(rt: HostRuntime) -> Result<(), Fail> {
+    let alloc = rt.alloc();
+    let most = points(alloc, 4096)?;
+    assert!(rt; has_4096_points(alloc, most.as_bytes()));
+    let more = points(alloc, 4097)?;
+    assert!(rt; is_refused(alloc, more.as_bytes(), TooMany { count: 4097 }));
     Ok(())
 }
 
-fn refusal_of(alloc: Global, file: &[u8]) -> Option<CatalogueRefusal> {
-    Catalogue::read(alloc, file).err()
+/// Whether a file is accepted with the digest of the three points.
+fn has_three_points(alloc: Global, file: &[u8]) -> bool {
+    match Catalogue::read(alloc, file) {
+        Ok(catalogue) => catalogue.digest() == DIGEST,
+        Err(_refusal) => false,
+    }
+}
+
+/// The file of the three points, made as long as this by a comment of blanks.
+fn file_of(alloc: Global, length: usize) -> Result<Vec<u8>, AllocError> {
+    let mut file = THREE_POINTS.as_bytes().to_vec(alloc)?;
+    file.push(b'#')?;
+    file.resize(length, b' ')?;
+    Ok(file)
+}
+
+#[test]
+fn reads_1048576_bytes_and_no_more(rt: HostRuntime) -> Result<(), Fail> {
+    let alloc = rt.alloc();
+    let most = file_of(alloc, 1_048_576)?;
+    assert_eq!(rt; most.len(), 1_048_576);
+    assert!(rt; has_three_points(alloc, &most));
+    let more = file_of(alloc, 1_048_577)?;
+    assert!(rt; is_refused(alloc, &more, TooLong { length: 1_048_577 }));
+    Ok(())
 }

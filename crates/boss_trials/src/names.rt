@@ -19,15 +19,19 @@ const TEXTS: &[(&str, bool)] = &[
     ("fan\n", false),
 ];
 
+/// 0 where a text is no name, 1 where it is one that has its bytes, and 2 where it is one that has others.
+fn named(text: &[u8]) -> u8 {
+    match Name::new(text) {
+        None => 0,
+        Some(name) if name.bytes() == text && name.copied().bytes() == text => 1,
+        Some(_name) => 2,
+    }
+}
+
 #[test]
 fn a_name_is_its_bytes(rt: HostRuntime) {
     for (text, is_name) in TEXTS {
-        let spelled = Name::new(text.as_bytes());
-        assert_eq!(rt; spelled.is_some(), *is_name, "{text:?}");
-        if let Some(name) = spelled {
-            assert_eq!(rt; name.bytes(), text.as_bytes());
-            assert_eq!(rt; name.copied().bytes(), text.as_bytes());
-        }
+        assert_eq!(rt; named(text.as_bytes()), u8::from(*is_name), "{text:?}");
     }
 }
 
@@ -36,19 +40,20 @@ fn a_buffer_and_a_list_take_what_they_are_given(rt: HostRuntime) -> Result<(), F
     let mut buffer = Buffer::new(rt.alloc(), 2)?;
     buffer.push(b'o');
     buffer.push(b'k');
-    assert_eq!(rt; buffer.bytes(), b"ok".as_slice());
+    let pushed = buffer.bytes() == b"ok".as_slice();
     buffer.clear();
-    assert_eq!(rt; buffer.bytes(), b"".as_slice());
+    let cleared = buffer.bytes().is_empty();
     buffer.extend(b"no");
-    assert_eq!(rt; buffer.bytes(), b"no".as_slice());
+    let extended = buffer.bytes() == b"no".as_slice();
+    assert!(rt; pushed && cleared && extended);
     Ok(())
 }
 
 #[test]
 fn a_list_takes_what_it_is_given(rt: HostRuntime) -> Result<(), Fail> {
     let mut items = Items::new(rt.alloc());
-    assert!(rt; items.try_push(7u8).is_ok());
-    assert_eq!(rt; items.slice(), [7].as_slice());
-    assert_eq!(rt; items.into_vec().as_slice(), [7].as_slice());
+    let pushed = items.try_push(7u8).is_ok() && items.slice() == [7].as_slice();
+    let taken = items.into_vec();
+    assert!(rt; pushed && taken.as_slice() == [7].as_slice());
     Ok(())
 }

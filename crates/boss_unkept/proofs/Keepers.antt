@@ -8,7 +8,7 @@ use Rattle.boss_model.specs.State.{Persistent, State}
 use Rattle.boss_history.specs.declared.entry.Entry.{Entry}
 use Rattle.boss_history.specs.declared.outcome.Outcome.{Outcome}
 use Rattle.boss_history.specs.declared.outcome.Outcome.TheVariants.{Done, Stopped, DiskFault, NoMemory}
-use Rattle.boss_history.specs.History.{is_broken, run, run_tried, IsLegal}
+use Rattle.boss_history.specs.History.{events, is_broken, run, run_tried, IsLegal}
 use Rattle.boss_history.specs.Made.{done_by, mark_by, made_by_all}
 use Rattle.boss_history.proofs.Going.{tried_whole}
 use Rattle.boss_shared.specs.Calls.{has_failed_rest}
@@ -22,8 +22,9 @@ module _ {V : Type 0} (plant : V → List Actuator) (state : V → State) (stopp
 
   pub done_keeps : (old new : V) (made : List Entry) → stopped old ≡ false → stopped new ≡ false → plant new ≡ plant old → faults new ≡ faults old →
       is_broken made ≡ false → IsLegal (plant old) made (state old) → state new ≡ run (plant old) made (state old) →
-      leaves new (state new).persistent (state new).persistent → ((es : List Event) → keeps new es) → Keeps plant state stopped faults leaves keeps old new made
-  done_keeps old new made off on same stood whole legal ran there any = record {
+      leaves new (state new).persistent (state new).persistent →
+      ((before : List Event) → keeps old before → keeps new (before ++ events (plant old) made (state old))) → Keeps plant state stopped faults leaves keeps old new made
+  done_keeps old new made off on same stood whole legal ran there gains = record {
     legal = legal;
     same_plant = same;
     marked = on ∙ sym (λ i. off i || whole i);
@@ -41,7 +42,7 @@ module _ {V : Type 0} (plant : V → List Actuator) (state : V → State) (stopp
           )) there,
     );
     images_stay = λ was. absurd (never old was off);
-    gained = λ _ before _. any _;
+    gained = λ _. gains;
   }
 
 mark_none : (session : ℕ) (calls : List (Command × ℕ)) (rest : Option Outcome) → has_failed_rest rest ≡ false → mark_by session calls rest ≡ []

@@ -1,19 +1,21 @@
--- Commands done in order, one more at a time.
-use Rattle.std.proofs.Common.{◌≡◌, true, false, ℕ, zero, suc, ◌<◌, List, [], ◌∷◌, ◌++◌, length, get_or, refl, sym, ap, ◌∙◌, subst, arith}
+-- Commands done in order, one more at a time, and their events.
+use Rattle.std.proofs.Common.{◌≡◌, true, false, ℕ, zero, suc, ◌+◌, ◌<◌, ◌≤◌, List, [], ◌∷◌, ◌++◌, length, min, get_or, refl, sym, ap, ◌∙◌, subst, arith, length-append}
 use Rattle.std.specs.List.{AllByRecursion}
 use Rattle.boss_model.specs.declared.answer.Answer.{Answer}
 use Rattle.boss_model.specs.declared.command.Command.{Command}
 use Rattle.boss_model.specs.declared.command.Command.TheVariants as command
 use Rattle.boss_model.specs.declared.state.Actuator.{Actuator}
+use Rattle.boss_model.specs.Effects.{event_of, step_effect}
+use Rattle.boss_model.specs.Limits.{last_number}
 use Rattle.boss_model.specs.Machine.{step}
 use Rattle.boss_model.specs.State.{State}
 use Rattle.boss_history.specs.declared.entry.Entry.{Entry}
 use Rattle.boss_history.specs.declared.entry.Entry.TheVariants.{Did}
-use Rattle.boss_history.specs.History.{is_broken, run, IsLegal, MayCall}
+use Rattle.boss_history.specs.History.{events, if_event, is_broken, run, IsLegal, MayCall}
 use Rattle.boss_history.specs.Made.{done_by, is_growing}
 use Rattle.boss_shared.specs.Calls.{is_growing_at}
 use Rattle.boss_engine.specs.Ready.{MayNeedMemory}
-use Rattle.boss_history.proofs.Going.{run_append, legal_append}
+use Rattle.boss_history.proofs.Going.{events_append, run_append, legal_append}
 
 pub done_none : (session : ℕ) (calls : List (Command × ℕ)) → done_by session calls [] ≡ []
 done_none session [] = refl
@@ -77,3 +79,31 @@ pub growing_at : (calls : List (Command × ℕ)) (i : ℕ) (call : Command × �
 growing_at [] i call less is grows = absurd (omega arith)
 growing_at (first ∷ calls) zero call less is grows = subst (λ (c : Command × ℕ). is_growing c.0 ≡ true) is grows
 growing_at (first ∷ calls) (suc i) call less is grows = growing_at calls i call (omega arith) is grows
+
+-- ---- the events of what was done, of which there were so many before
+
+pub count_nothing : (plant : List Actuator) (session : ℕ) (calls : List (Command × ℕ)) (answers : List Answer) (s : State) (from : ℕ) → answers ≡ [] →
+    from ≤ last_number → from ≡ min (from + length (events plant (done_by session calls answers) s)) last_number
+count_nothing plant session calls answers s from nil few =
+    let none : length (events plant (done_by session calls answers) s) ≡ 0 = ap (λ es. length (events plant es s)) (ap (done_by session calls) nil ∙ done_none session calls) in
+    omega arith
+
+pub count_next : (plant : List Actuator) (session : ℕ) (calls : List (Command × ℕ)) (answers : List Answer) (old new : State) (call : Command × ℕ) (answer : Answer) (from before now : ℕ) →
+    HasDone plant session calls answers old new → length answers < length calls → call ≡ get_or calls (length answers) call →
+    before ≡ min (from + length (events plant (done_by session calls answers) old)) last_number →
+    now ≡ min (before + length (if_event (event_of call.0 (step_effect plant session call.0 call.1 new)) [])) last_number →
+    now ≡ min (from + length (events plant (done_by session calls (answers ++ answer ∷ [])) old)) last_number
+count_next plant session calls answers old new call answer from before now done less is counted next =
+    let one : List Entry = Did session call.0 call.1 answer ∷ [] in
+    let so : List Entry = done_by session calls answers in
+    let more : length (events plant (done_by session calls (answers ++ answer ∷ [])) old) ≡ length (events plant so old) + length (events plant one new) =
+    ap (λ es. length (events plant es old)) (done_more session calls answers call answer less is)
+    ∙ ap length (events_append plant so one old)
+    ∙ length-append (events plant so old) (events plant one (run plant so old))
+    ∙ ap (λ s. length (events plant so old) + length (events plant one s)) (sym done.state_is) in
+    let last : now ≡ min (before + length (events plant one new)) last_number = next in
+    omega arith
+
+-- so many more than the events of a list are those of a longer list
+pub count_more : (before many more now whole : ℕ) → before ≡ min many last_number → now ≡ min (before + more) last_number → whole ≡ many + more → now ≡ min whole last_number
+count_more before many more now whole had next is = omega arith

@@ -1,9 +1,10 @@
-ghost use Rattle.std.specs.Prelude.{◌≡◌, false, IfOk};
+ghost use Rattle.std.specs.Prelude.{◌≡◌, ◌≤◌, false, length, min, IfOk};
 ghost use Rattle.boss_model.specs.Catalogue.{actuators};
+ghost use Rattle.boss_model.specs.Limits.{last_number};
 ghost use Rattle.boss_model.specs.Settle.{first_state};
 ghost use Rattle.boss_model.specs.Sound.{IsSound};
 
-use crate::stepping::step_all;
+use crate::stepping::{step_all, step_counted};
 use boss_engine::Engine;
 use boss_history::{Outcome, Outcomes};
 use boss_model::{Answer, Command, DriverId, Items, NoMemory, SessionId};
@@ -11,10 +12,13 @@ use boss_points::Catalogue;
 use boss_shared::Keeper;
 use std::alloc::Global;
 
-/// An engine that keeps nothing. It has no disk, so it never stops.
+/// An engine that keeps nothing, and counts its events. It has no disk, so it never stops.
 #[derive(Drop)]
 pub struct Unkept {
     engine: Engine,
+    /// How many events there were, up to `2 ^ 62`, where the number stands still.
+    events: u64,
+    ghost few: { events ≤ last_number },
 }
 
 impl Unkept {
@@ -23,10 +27,19 @@ impl Unkept {
         ensures new { IfOk result (λ keeper. keeper.engine
             ≡ record { plant = actuators catalogue.now; state = first_state (actuators catalogue.now) }) }
         ensures sound { IfOk result (λ keeper. IsSound keeper.engine.plant keeper.engine.state) }
+        ensures events { IfOk result (λ keeper. keeper.events ≡ 0) }
     {
         Ok(Unkept {
             engine: Engine::new(alloc, catalogue)?,
+            events: 0,
         })
+    }
+
+    /// How many events there were, up to `2 ^ 62`, where the number stands still.
+    pub fn events(&self) -> u64
+        ensures { result ≡ self.now.events }
+    {
+        self.events
     }
 
     /// The engine, with what was done so far.
@@ -48,7 +61,7 @@ impl Keeper for Unkept {
 
     ghost leaves = { λ keeper first second. Unit {0} };
 
-    ghost keeps = { λ keeper events. Unit {0} };
+    ghost keeps = { λ keeper events. keeper.events ≡ min (length events) last_number };
 
     fn wanting(&self) -> Option<DriverId> {
         self.engine.wanting()
@@ -59,8 +72,8 @@ impl Keeper for Unkept {
     }
 
     fn apply(&mut self, session: SessionId, command: &Command, moment: u64) -> Outcome {
-        match self.engine.step(session, command, moment) {
-            Ok((answer, _)) => Outcome::Done { answer },
+        match step_counted(&mut self.engine, &mut self.events, session, command, moment) {
+            Ok(answer) => Outcome::Done { answer },
             Err(NoMemory) => Outcome::NoMemory,
         }
     }
@@ -72,6 +85,12 @@ impl Keeper for Unkept {
         answers: &mut Vec<Answer>,
     ) -> Outcomes {
         answers.clear();
-        step_all(&mut self.engine, session, commands.slice(), answers)
+        step_all(
+            &mut self.engine,
+            &mut self.events,
+            session,
+            commands.slice(),
+            answers,
+        )
     }
 }

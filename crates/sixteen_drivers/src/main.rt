@@ -5,5 +5,5 @@ use boss_start::start;
 use std::process::ExitCode;
 
 fn main(rt: HostRuntime) -> ExitCode {
-    start(rt)
+    start(rt, &rt)
 }

@@ -31,4 +31,4 @@ returns-clause-kept c =
     let kept = c.apply_all.ensures.kept in
     done_keeps _ _ _ _ _ _ c.args.self.now (record { unkept = c.apply_all.new.self; good_calls = c.fails.new.self.good_calls; stopped = c.fails.new.self.stopped }) made off on
     (kept.same_plant ∙ ap (λ e. e.plant) same) (ap (λ (b : Bool). if b then 1 else 0) (on ∙ sym off)) (sym kept.marked)
-    (subst (λ e. IsLegal e.plant made e.state) same kept.legal) (subst (λ e. c.apply_all.new.self.engine.state ≡ run e.plant made e.state) same (kept.state_is refl)) (inl refl) (λ _. tt)
+    (subst (λ e. IsLegal e.plant made e.state) same kept.legal) (subst (λ e. c.apply_all.new.self.engine.state ≡ run e.plant made e.state) same (kept.state_is refl)) (inl refl) (λ _ _. tt)

@@ -1,0 +1,94 @@
+-- A server over a keeper, by how its workers ran and what was told.
+use Rattle.std.proofs.Common.{◌≡◌, ◌⊎◌, inl, inr, ℕ, ◌+◌, Bool, false, List, ◌++◌, length, ap, subst, ◌∙◌, arith}
+use Rattle.boss_model.specs.Catalogue.{Catalogue, actuators}
+use Rattle.boss_model.specs.declared.event.Event.{Event}
+use Rattle.boss_model.specs.declared.state.Actuator.{Actuator}
+use Rattle.boss_model.specs.State.{Persistent, State}
+use Rattle.boss_outside.specs.declared.actuators.Actuators as actuators_of
+use Rattle.boss_outside.specs.declared.sink.Sink as sink
+use Rattle.boss_outside.specs.declared.source.Source as source
+use Rattle.boss_workers.specs.declared.clock.Clock as clock
+use Rattle.boss_workers.specs.declared.host.Host as host
+use Rattle.boss_workers.specs.declared.spawner.Spawner as spawner
+use Rattle.boss_workers.specs.declared.waiter.Waiter as waiter
+use Rattle.boss_history.specs.declared.entry.Entry.{Entry}
+use Rattle.boss_history.specs.History.{events, is_broken, IsLegal, run}
+use Rattle.boss_shared.specs.Keeping.{IsHeld}
+use Rattle.boss_reports.specs.Reports.{summary_line}
+use Rattle.boss_two_disks.specs.Rests.{counted}
+use Rattle.boss_manager.specs.declared.serving.Run.{Run}
+use Rattle.boss_manager.specs.declared.serving.Run.TheVariants.{NotBound as not_bound, NoMemory, Ended}
+use Rattle.boss_manager.specs.Serving.{EndsRun, NoneRan, NotBound, outside, parts, Served, status_of, TellsEnd, TellsLast}
+
+-- what a keeper is after the history that it stands for, where no disk failed in it
+module _ {V : Type 0} (plant : V → List Actuator) (state : V → State) (stopped : V → Bool) (faults : V → ℕ) (leaves : V → Persistent → Persistent → Type 0)
+    (keeps : V → List Event → Type 0) (points : List Actuator) (start now : V) (log : List Entry) (held : IsHeld plant state stopped faults leaves keeps start now log)
+    (same : plant start ≡ points) where
+  pub legal-so : IsLegal points log (state start)
+  legal-so = subst (λ p. IsLegal p log (state start)) same held.legal
+
+  pub state-so : is_broken log ≡ false → state now ≡ run points log (state start)
+  state-so whole = held.state_is (held.marked ∙ whole) ∙ ap (λ p. run p log (state start)) same
+
+  pub gained-so : is_broken log ≡ false → (before : List Event) → keeps start before → keeps now (before ++ events points log (state start))
+  gained-so whole before kept = subst (λ p. keeps now (before ++ events p log (state start))) same (held.gained (held.marked ∙ whole) before kept)
+
+pub counted-from-none : (number : ℕ) → counted number ≡ counted (0 + number)
+counted-from-none number = omega arith
+
+-- what a server tells of a state, by what it asked of it
+pub summary-so : (all now leases pending : ℕ) (is at : State) → now ≡ is.persistent.now → leases ≡ length is.persistent.leases → pending ≡ length is.persistent.pending →
+    is ≡ at → summary_line all now leases pending ≡ summary_line all at.persistent.now (length at.persistent.leases) (length at.persistent.pending)
+summary-so all now leases pending is at moment live under same i =
+    summary_line all ((moment ∙ ap (λ s. s.persistent.now) same) i) ((live ∙ ap (λ s. length s.persistent.leases) same) i) ((under ∙ ap (λ s. length s.persistent.pending) same) i)
+
+module _ {K A H In Out C W P Runtime : Type 0} (k : sink.Ghosts K) (a : actuators_of.Ghosts A) (h : host.Ghosts H In Out) (i : source.Ghosts In) (o : sink.Ghosts Out)
+    (c : clock.Ghosts C) (w : waiter.Ghosts W) (p : spawner.Ghosts P Runtime)
+    (catalogue : Catalogue) (workers connections : ℕ) (old-sink new-sink : K) (old-devices new-devices : List A) (old-clock new-clock : C) (old-host new-host : H)
+    (old-waiter new-waiter : W) (old-spawner new-spawner : P) (known : Type 0) (s : State) (number all : ℕ) (line : List ℕ) (status : ℕ) (log : List Entry)
+    (line-is : is_broken log ≡ false → line ≡ summary_line all (run (actuators catalogue) log s).persistent.now
+    (length (run (actuators catalogue) log s).persistent.leases) (length (run (actuators catalogue) log s).persistent.pending))
+    (all-are : is_broken log ≡ false → known → all ≡ counted (number + length (events (actuators catalogue) log s))) where
+  -- the workers' run, and what was told of it, are all that a server did
+  pub served-end : (result : Run)
+      → EndsRun a h i o c w p catalogue workers connections log (parts old-devices old-clock old-host old-waiter old-spawner)
+      (parts new-devices new-clock new-host new-waiter new-spawner) result
+      → TellsEnd k line result old-sink new-sink status
+      → NotBound h log (outside old-sink old-devices old-clock old-host old-waiter old-spawner)
+      (outside new-sink new-devices new-clock new-host new-waiter new-spawner) status
+      ⊎ NoneRan h c w log (outside old-sink old-devices old-clock old-host old-waiter old-spawner)
+      (outside new-sink new-devices new-clock new-host new-waiter new-spawner) status
+      ⊎ Served k a h i o c w p catalogue known s number workers connections log (outside old-sink old-devices old-clock old-host old-waiter old-spawner)
+      (outside new-sink new-devices new-clock new-host new-waiter new-spawner) status
+  served-end not_bound ends told = inl (record {
+    nothing = ends.nothing;
+    told = told.0;
+    why = ends.why;
+    served = ends.served;
+    sink = told.1;
+    devices = ends.devices;
+    clock = ends.clock;
+    waiter = ends.waiter;
+    spawner = ends.spawner;
+  })
+  served-end NoMemory ends told = inr (inl (record {
+    nothing = ends.nothing;
+    told = told.0;
+    host = ends.host;
+    clock = ends.clock;
+    waiter = ends.waiter;
+    sink = told.1;
+    devices = ends.devices;
+    spawner = ends.spawner;
+  }))
+  served-end (Ended ended) ends told = inr (inr (record {
+    flags = ended.flags;
+    unstarted = ended.unstarted;
+    worked = record { bound = ends.bound; listens = ends.listens; account = ends.account; started = ends.started; disk = ends.disk };
+    summary = λ whole. record {
+      all = all;
+      all_are = all-are whole;
+      tells = subst (λ text. TellsLast k text (status_of ended.flags ended.unstarted) old-sink new-sink status) (line-is whole) (told.0 (ends.disk ∙ whole));
+    };
+    no_summary = λ broken. told.1 (ends.disk ∙ broken);
+  }))
