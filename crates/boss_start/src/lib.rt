@@ -11,17 +11,25 @@ use boss_manager::{Status, boss};
 use boss_model::{MOST_DRIVERS, NoMemory};
 use boss_real::{RealClock, RealHost, RealSpawner, RealWaiter};
 use std::alloc::AllocError;
+use std::net::{Net, TcpListener, TcpStream};
 use std::process::ExitCode;
 use std::sync::Wait;
+use std::thread::Threads;
 use std::{env, io};
 
-/// Does what the program's words ask for, and tells how it ended. Only a server waits, by this handle.
-pub fn start<R: Wait + Sync>(rt: HostRuntime, waiting: &R) -> ExitCode {
-    let status = run(rt, waiting).unwrap_or(Status::NO_MEMORY);
+/// Does what the program's words ask for, and tells how it ended. By the second handle a server listens, starts threads and waits.
+pub fn start<R>(rt: HostRuntime, server: &R) -> ExitCode
+where
+    R: Net<Listener = TcpListener, Stream = TcpStream> + Threads + Wait + Sync,
+{
+    let status = run(rt, server).unwrap_or(Status::NO_MEMORY);
     ExitCode::from(status.0)
 }
 
-fn run<R: Wait + Sync>(rt: HostRuntime, waiting: &R) -> Result<Status, NoMemory> {
+fn run<R>(rt: HostRuntime, server: &R) -> Result<Status, NoMemory>
+where
+    R: Net<Listener = TcpListener, Stream = TcpStream> + Threads + Wait + Sync,
+{
     let words = words_of(&rt)?;
     let mut devices = idle_devices(rt.alloc(), MOST_DRIVERS)?;
     let mut waiter = RealWaiter::new(rt.alloc(), &rt)?;
@@ -29,10 +37,10 @@ fn run<R: Wait + Sync>(rt: HostRuntime, waiting: &R) -> Result<Status, NoMemory>
     let mut sink = StdSink::new(rt.stdout());
     let mut files = RealFiles::new(rt);
     let mut clock = RealClock::new(&rt);
-    let mut host = RealHost::new(rt.alloc(), &rt);
-    let mut spawner = RealSpawner::new(&rt);
+    let mut host = RealHost::new(rt.alloc(), server);
+    let mut spawner = RealSpawner::new(server);
     let status = boss(
-        waiting,
+        server,
         rt.alloc(),
         &words,
         &mut files,
