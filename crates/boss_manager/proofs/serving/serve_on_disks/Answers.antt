@@ -1,9 +1,10 @@
-use Rattle.std.proofs.Common.{◌+◌, refl, inl, inr, ap, subst, sym, ◌∙◌}
+use Rattle.std.proofs.Common.{◌+◌, refl, inl, inr, ap, subst, ◌∙◌}
 use Rattle.boss_finding.specs.Two.{counts}
 use Rattle.boss_outside.specs.Counts.{Rose}
 use Rattle.boss_manager.specs.Journals.{on_disks}
 use Rattle.boss_manager.specs.Serving.{outside}
 use Rattle.boss_manager.proofs.Refusals.{both, told-so}
+use Rattle.boss_manager.proofs.ServedLemmas.{sink-alone}
 use Rattle.boss_manager.proofs.StandingLemmas.{disks-stand, same-stands}
 use Rattle.boss_manager.proofs.serving.serve_on_disks.Goals as goal
 
@@ -38,5 +39,5 @@ returns-in-Err-clause-serves g c =
         record { why = none.why; untouched = ap (λ k. outside k c.args.devices.now.items c.args.clock.now c.args.host.now c.args.waiter.now c.args.spawner.now) none.untouched },
         disks-stand d c.args.catalogue.now c.args.first c.args.second c.in-Err.disks (g.met.D.Disk g.world.𝓛 g.world.𝓜 g.world.𝓡 ((λ s x. x), (λ x. x), (λ x. x), λ x. x)).reads_stay c.in-Err.ensures.images,
       )
-      | inr refused ↦ inr (inl (refused, refl))
+      | inr refused ↦ inr (inl (refused, sink-alone c.args.sink.now c.say_journal-status.new.sink c.args.devices.now.items c.args.clock.now c.args.host.now c.args.waiter.now c.args.spawner.now))
     ]
