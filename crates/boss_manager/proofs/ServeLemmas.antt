@@ -67,7 +67,6 @@ module _ (was now : Faults) where
 
 module _ {K A H In Out C W P Runtime : Type 0} (k : sink.Ghosts K) (a : actuators_of.Ghosts A) (h : host.Ghosts H In Out) (i : source.Ghosts In) (o : sink.Ghosts Out)
     (c : clock.Ghosts C) (w : waiter.Ghosts W) (p : spawner.Ghosts P Runtime) (catalogue : Catalogue) (workers connections : ℕ) (old new : Outside K A H C W P) (status : ℕ) where
-
   abbrev faults_of : ℕ → Outside K A H C W P → Faults
   faults_of files outside =
       record { files = files; sink = k.faults outside.sink; host = h.faults outside.host; spawner = p.faults outside.spawner; clock = c.faults outside.clock }
@@ -111,10 +110,10 @@ module _ {K A H In Out C W P Runtime : Type 0} (k : sink.Ghosts K) (a : actuator
   over-ends was now it = elim it [
     | inl none ↦ elim none.why [ inl fault ↦ inl (inr (inl fault)) | inr lack ↦ inl (lacks _ _ status lack.0) ]
     | inr (inl refused) ↦ elim refused.0.tells [
-        | inl said ↦ inr said.0
-        | inr (inl fault) ↦ inl (inr (inr (inl (fault.0, fault.2))))
-        | inr (inr lack) ↦ inl (lacks _ _ status lack.0)
-      ]
+      | inl said ↦ inr said.0
+      | inr (inl fault) ↦ inl (inr (inr (inl (fault.0, fault.2))))
+      | inr (inr lack) ↦ inl (lacks _ _ status lack.0)
+    ]
     | inr (inr ran) ↦ inl (from-ends was.tells ran.state ran.number was.faults now.faults ran.served ran.disk_fault ran.no_disk_fault)
   ]
 
@@ -130,7 +129,6 @@ module _ {K A H In Out C W P Runtime : Type 0} (k : sink.Ghosts K) (a : actuator
 module _ {F D S K A H In Out C W P Runtime : Type 0} (f : files.Ghosts F D) (s : source.Ghosts S) (k : sink.Ghosts K) (a : actuators_of.Ghosts A)
     (h : host.Ghosts H In Out) (i : source.Ghosts In) (o : sink.Ghosts Out) (c : clock.Ghosts C) (w : waiter.Ghosts W) (p : spawner.Ghosts P Runtime)
     (name : List ℕ) (count workers connections : ℕ) (old new : ServerWorld F S K A C H W P) (status : ℕ) where
-
   abbrev was : Faults
   was = faults_at f s k a h i o c w p old
 
@@ -141,10 +139,10 @@ module _ {F D S K A H In Out C W P Runtime : Type 0} (f : files.Ghosts F D) (s :
   none-ends none = elim none.0 [
     | inl lost ↦ elim lost.why [ inl fault ↦ inl (inr (inl fault)) | inr lack ↦ inl (lacks was now status lack.0) ]
     | inr refused ↦ elim refused.tells [
-        | inl said ↦ inr said.0
-        | inr (inl fault) ↦ inl (inr (inr (inl (fault.0, fault.2))))
-        | inr (inr lack) ↦ inl (lacks was now status lack.0)
-      ]
+      | inl said ↦ inr said.0
+      | inr (inl fault) ↦ inl (inr (inr (inl (fault.0, fault.2))))
+      | inr (inr lack) ↦ inl (lacks was now status lack.0)
+    ]
   ]
 
   none-fine : (catalogue : Catalogue) (file : List ℕ) → f.tells → f.holds old.world.files name ≡ Some file → usable count file ≡ Ok catalogue →

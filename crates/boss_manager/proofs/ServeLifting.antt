@@ -16,7 +16,6 @@ use Rattle.boss_manager.proofs.Lifting.{Follows, none-so, refused-so, same-two}
 
 module _ {K A H In Out C W P Runtime : Type 0} (k : sink.Ghosts K) (a : actuators_of.Ghosts A) (h : host.Ghosts H In Out) (i : source.Ghosts In) (o : sink.Ghosts Out)
     (c : clock.Ghosts C) (w : waiter.Ghosts W) (p : spawner.Ghosts P Runtime) (catalogue : Catalogue) (workers connections : ℕ) (old new : Outside K A H C W P) (status : ℕ) where
-
   -- where less is known, no more is said of the number of events
   abbrev known-so : (known less : Type 0) (s : State) (number : ℕ) → (less → known) → ServedFrom k a h i o c w p catalogue known s number workers connections old new status →
       ServedFrom k a h i o c w p catalogue less s number workers connections old new status
@@ -27,16 +26,16 @@ module _ {K A H In Out C W P Runtime : Type 0} (k : sink.Ghosts K) (a : actuator
       | inl unbound ↦ inl unbound
       | inr (inl none) ↦ inr (inl none)
       | inr (inr ran) ↦ inr (inr (record {
-          flags = ran.flags;
-          unstarted = ran.unstarted;
-          worked = ran.worked;
-          summary = λ whole. record {
-            all = (ran.summary whole).all;
-            all_are = λ tells. (ran.summary whole).all_are (knows tells);
-            tells = (ran.summary whole).tells;
-          };
-          no_summary = ran.no_summary;
-        }))
+        flags = ran.flags;
+        unstarted = ran.unstarted;
+        worked = ran.worked;
+        summary = λ whole. record {
+          all = (ran.summary whole).all;
+          all_are = λ tells. (ran.summary whole).all_are (knows tells);
+          tells = (ran.summary whole).tells;
+        };
+        no_summary = ran.no_summary;
+      }))
     ];
   }
 

@@ -82,7 +82,6 @@ EndsBy was now status =
 
 module _ {F D S K A H In Out C W P Runtime : Type 0} (f : files.Ghosts F D) (s : source.Ghosts S) (k : sink.Ghosts K) (a : actuators.Ghosts A)
     (h : host.Ghosts H In Out) (i : source.Ghosts In) (o : sink.Ghosts Out) (c : clock.Ghosts C) (w : waiter.Ghosts W) (p : spawner.Ghosts P Runtime) where
-
   abbrev pub faults_at : ServerWorld F S K A C H W P → Faults
   faults_at all = record {
     files = f.faults all.world.files;

@@ -409,7 +409,12 @@ fn tell_end<K: Sink>(sink: &mut K, line: &mut Vec<u8>, standing: Standing, run: 
 }
 
 /// Tells in one write what a history leaves. A write that failed counts where nothing else is told.
-fn tell_summary<K: Sink>(sink: &mut K, line: &mut Vec<u8>, standing: Standing, told: Status) -> Status
+fn tell_summary<K: Sink>(
+    sink: &mut K,
+    line: &mut Vec<u8>,
+    standing: Standing,
+    told: Status,
+) -> Status
     requires empty { line.old.items ≡ [] }
     requires room { longest_summary ≤ vec_capacity line.old }
     ensures { TellsLast K.Sink (summary_line standing.events standing.now standing.leases standing.pending) told.0 sink.old sink.new result.0 }

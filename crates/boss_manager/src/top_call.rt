@@ -129,13 +129,15 @@ where
                 )
             }
         }
-        Ok(Job::Serve {
-            catalogue,
-            journal,
-            address,
-            workers,
-            connections,
-        }) => {
+        Ok(
+            Job::Serve {
+                catalogue,
+                journal,
+                address,
+                workers,
+                connections,
+            },
+        ) => {
             if journal.text() == "-" {
                 do_memory_serve(
                     rt,
