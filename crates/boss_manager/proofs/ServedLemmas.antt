@@ -1,8 +1,10 @@
 -- A server over a keeper, by how its workers ran and what was told.
-use Rattle.std.proofs.Common.{◌≡◌, ◌⊎◌, inl, inr, ℕ, ◌+◌, Bool, false, List, ◌++◌, length, ap, subst, ◌∙◌, arith}
+use Rattle.std.proofs.Common.{◌≡◌, ◌⊎◌, inl, inr, ℕ, ◌+◌, Bool, false, List, [], ◌++◌, length, min, refl, ap, subst, ◌∙◌, arith}
 use Rattle.boss_model.specs.Catalogue.{Catalogue, actuators}
 use Rattle.boss_model.specs.declared.event.Event.{Event}
 use Rattle.boss_model.specs.declared.state.Actuator.{Actuator}
+use Rattle.boss_model.specs.Limits.{last_number}
+use Rattle.boss_model.specs.Settle.{first_state}
 use Rattle.boss_model.specs.State.{Persistent, State}
 use Rattle.boss_outside.specs.declared.actuators.Actuators as actuators_of
 use Rattle.boss_outside.specs.declared.sink.Sink as sink
@@ -13,6 +15,8 @@ use Rattle.boss_workers.specs.declared.spawner.Spawner as spawner
 use Rattle.boss_workers.specs.declared.waiter.Waiter as waiter
 use Rattle.boss_history.specs.declared.entry.Entry.{Entry}
 use Rattle.boss_history.specs.History.{events, is_broken, IsLegal, run}
+use Rattle.boss_unkept.specs.contracts.unkept.UnkeptKeeper.TheImpl.{ghosts as unkept}
+use Rattle.boss_unkept.specs.declared.unkept.Unkept.{Unkept}
 use Rattle.boss_shared.specs.Keeping.{IsHeld}
 use Rattle.boss_reports.specs.Reports.{summary_line}
 use Rattle.boss_two_disks.specs.Rests.{counted}
@@ -33,8 +37,26 @@ module _ {V : Type 0} (plant : V → List Actuator) (state : V → State) (stopp
   pub gained-so : is_broken log ≡ false → (before : List Event) → keeps start before → keeps now (before ++ events points log (state start))
   gained-so whole before kept = subst (λ p. keeps now (before ++ events p log (state start))) same (held.gained (held.marked ∙ whole) before kept)
 
-pub counted-from-none : (number : ℕ) → counted number ≡ counted (0 + number)
-counted-from-none number = omega arith
+-- the same of an engine in memory that had done nothing
+module _ (points : List Actuator) (start now : Unkept) (log : List Entry)
+    (held : IsHeld unkept.plant unkept.state unkept.stopped unkept.faults unkept.leaves unkept.keeps start now log)
+    (new : start.engine ≡ record { plant = points; state = first_state points }) (none : start.events ≡ 0) where
+  pub memory-legal : IsLegal points log (first_state points)
+  memory-legal = subst (λ e. IsLegal e.plant log e.state) new held.legal
+
+  pub memory-state : now.engine.state ≡ run points log (first_state points)
+  memory-state = held.state_is refl ∙ ap (λ e. run e.plant log e.state) new
+
+  pub memory-number : now.events ≡ counted (0 + length (events points log (first_state points)))
+  memory-number =
+      let all : now.events ≡ min (length (events points log (first_state points))) last_number =
+      subst (λ e. now.events ≡ min (length (events e.plant log e.state)) last_number) new (held.gained refl [] none) in
+      omega arith
+
+-- only the sink changed
+pub sink-alone : {K A H C W P : Type 0} (old-sink new-sink : K) (devices : List A) (clock : C) (host : H) (waiter : W) (spawner : P) →
+    outside new-sink devices clock host waiter spawner ≡ record (outside old-sink devices clock host waiter spawner) { sink = new-sink }
+sink-alone old-sink new-sink devices clock host waiter spawner = refl
 
 -- what a server tells of a state, by what it asked of it
 pub summary-so : (all now leases pending : ℕ) (is at : State) → now ≡ is.persistent.now → leases ≡ length is.persistent.leases → pending ≡ length is.persistent.pending →

@@ -51,7 +51,7 @@ returns-clause-serves g c =
             c.args.clock.now c.run_workers-durable.new.clock c.args.host.now c.run_workers-durable.new.host c.args.waiter.now c.run_workers-durable.new.waiter
             c.args.spawner.now c.run_workers-durable.new.spawner
             d.tells s number c.events.result (summary_line c.events.result c.now.result c.leases.result c.pending.result) c.tell_end-status.result.0 log
-            (λ fine. summary-so _ _ _ _ now.engine.state (run plant log s) c.now.ensures c.leases.ensures c.pending.ensures (state fine))
+            (λ fine. summary-so c.events.result c.now.result c.leases.result c.pending.result now.engine.state (run plant log s) c.now.ensures c.leases.ensures c.pending.ensures (state fine))
             (λ fine told. c.events.ensures.kept told (any ++ more) (gained fine any kept)
             ∙ ap counted (length-append any more ∙ ap (λ n. n + length more) (many-events number)))
             c.run_workers-durable.result.1 ran.end c.tell_end-status.ensures;

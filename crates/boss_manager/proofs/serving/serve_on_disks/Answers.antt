@@ -1,9 +1,10 @@
-use Rattle.std.proofs.Common.{◌+◌, refl, inl, inr, ap, subst, sym, ◌∙◌}
+use Rattle.std.proofs.Common.{◌+◌, refl, inl, inr, ap, subst, ◌∙◌}
 use Rattle.boss_finding.specs.Two.{counts}
 use Rattle.boss_outside.specs.Counts.{Rose}
 use Rattle.boss_manager.specs.Journals.{on_disks}
 use Rattle.boss_manager.specs.Serving.{outside}
 use Rattle.boss_manager.proofs.Refusals.{both, told-so}
+use Rattle.boss_manager.proofs.ServedLemmas.{sink-alone}
 use Rattle.boss_manager.proofs.serving.serve_on_disks.Goals as goal
 
 pub returns-then-is_err-clause-serves : goal.returns-then-is_err-clause-serves
@@ -32,5 +33,5 @@ returns-in-Err-clause-serves g c =
     c.in-Err.ensures.refuses c.in-Err.ensures.unchanged c.say_journal-status.ensures c.in-Err.ensures.cause in
     elim it [
       | inl none ↦ inl (record { why = none.why; untouched = ap (λ k. outside k c.args.devices.now.items c.args.clock.now c.args.host.now c.args.waiter.now c.args.spawner.now) none.untouched })
-      | inr refused ↦ inr (inl (refused, refl))
+      | inr refused ↦ inr (inl (refused, sink-alone c.args.sink.now c.say_journal-status.new.sink c.args.devices.now.items c.args.clock.now c.args.host.now c.args.waiter.now c.args.spawner.now))
     ]

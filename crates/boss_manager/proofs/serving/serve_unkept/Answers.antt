@@ -1,12 +1,13 @@
-use Rattle.std.proofs.Common.{◌≡◌, ℕ, List, [], length, min, refl, sym, ap, subst, ◌∙◌}
-use Rattle.boss_history.specs.History.{events, IsLegal, run}
+use Rattle.std.proofs.Common.{◌≡◌, ◌+◌, List, [], length, min, sym, ap, ◌∙◌}
+use Rattle.boss_history.specs.History.{events, run}
 use Rattle.boss_model.specs.Catalogue.{actuators}
 use Rattle.boss_model.specs.declared.event.Event.{Event}
 use Rattle.boss_model.specs.Limits.{last_number}
 use Rattle.boss_model.specs.Settle.{first_state}
 use Rattle.boss_reports.specs.Reports.{summary_line}
+use Rattle.boss_two_disks.specs.Rests.{counted}
 use Rattle.boss_manager.specs.Serving.{outside, ServedFrom}
-use Rattle.boss_manager.proofs.ServedLemmas.{counted-from-none, served-end, summary-so}
+use Rattle.boss_manager.proofs.ServedLemmas.{memory-legal, memory-number, memory-state, served-end, summary-so}
 use Rattle.boss_manager.proofs.serving.serve_unkept.Goals as goal
 
 pub run_workers-unkept-requires-clause-events : goal.run_workers-unkept-requires-clause-events
@@ -18,27 +19,28 @@ pub returns-clause-serves : goal.returns-clause-serves
 returns-clause-serves g c =
     let plant = actuators c.args.catalogue.now in
     let s = first_state plant in
+    let start = c.args.unkept in
+    let now = c.run_workers-unkept.result.0 in
     let ran = c.run_workers-unkept.ensures.ran in
     let log = ran.log in
-    let now = c.run_workers-unkept.result.0 in
-    let state : now.engine.state ≡ run plant log s = ran.held.state_is refl ∙ ap (λ e. run e.plant log e.state) c.requires.new in
     let engine = c.engine-engine.ensures in
-    let number : c.events.result ≡ min (length (events plant log s)) last_number =
-    c.events.ensures ∙ ran.held.gained refl [] c.requires.events ∙ ap (λ e. min (length (events e.plant log e.state)) last_number) c.requires.new in
+    let state : now.engine.state ≡ run plant log s = memory-state plant start now log ran.held c.requires.new c.requires.events in
+    let number : now.events ≡ counted (0 + length (events plant log s)) = memory-number plant start now log ran.held c.requires.new c.requires.events in
     let served : ServedFrom g.K.Sink g.A.Actuators g.H.Host g.H.In.Source g.H.Out.Sink g.C.Clock g.W.Waiter g.P.Spawner c.args.catalogue.now (Unit {0}) s 0 c.args.workers c.args.connections
     (outside c.args.sink.now c.args.devices.now.items c.args.clock.now c.args.host.now c.args.waiter.now c.args.spawner.now)
     (outside c.tell_end.new.sink c.run_workers-unkept.new.devices.items c.run_workers-unkept.new.clock c.run_workers-unkept.new.host c.run_workers-unkept.new.waiter c.run_workers-unkept.new.spawner)
     c.tell_end.result.0 =
     record {
       log = log;
-      legal = subst (λ e. IsLegal e.plant log e.state) c.requires.new ran.held.legal;
+      legal = memory-legal plant start now log ran.held c.requires.new c.requires.events;
       end = served-end g.K.Sink g.A.Actuators g.H.Host g.H.In.Source g.H.Out.Sink g.C.Clock g.W.Waiter g.P.Spawner
           c.args.catalogue.now c.args.workers c.args.connections c.args.sink.now c.tell_end.new.sink c.args.devices.now.items c.run_workers-unkept.new.devices.items
           c.args.clock.now c.run_workers-unkept.new.clock c.args.host.now c.run_workers-unkept.new.host c.args.waiter.now c.run_workers-unkept.new.waiter c.args.spawner.now c.run_workers-unkept.new.spawner
           (Unit {0}) s 0 c.events.result (summary_line c.events.result c.now.result c.leases.result c.pending.result) c.tell_end.result.0 log
-          (λ fine. summary-so _ _ _ _ now.engine.state (run plant log s) (c.now.ensures ∙ ap (λ e. e.state.persistent.now) engine) (c.leases.ensures ∙ ap (λ e. length e.state.persistent.leases) engine)
+          (λ fine. summary-so c.events.result c.now.result c.leases.result c.pending.result now.engine.state (run plant log s)
+          (c.now.ensures ∙ ap (λ e. e.state.persistent.now) engine) (c.leases.ensures ∙ ap (λ e. length e.state.persistent.leases) engine)
           (c.pending.ensures ∙ ap (λ e. length e.state.persistent.pending) engine) state)
-          (λ fine told. number ∙ counted-from-none (length (events plant log s)))
+          (λ fine told. c.events.ensures ∙ number)
           c.run_workers-unkept.result.1 ran.end c.tell_end.ensures;
     } in
     (served, sym ran.held.marked)
