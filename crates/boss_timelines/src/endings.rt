@@ -158,6 +158,44 @@ const ENDINGS: &[Ending] = &[
         ..LATE
     },
     Ending {
+        shows: "a server whose connection does not come drives the devices",
+        words: "serve site.toml - here 1 1",
+        status: 9,
+        output: "events 0 now 0 leases 0 pending 0\n",
+        ..LATE
+    },
+    Ending {
+        shows: "a server over a journal",
+        words: "serve site.toml j here 32 4294967295",
+        status: 9,
+        output: "events 0 now 0 leases 0 pending 0\n",
+        ..LATE
+    },
+    Ending {
+        shows: "what is told of a server cannot be written, which does not hide what failed before",
+        words: "serve site.toml - here 1 1",
+        fails: Fails {
+            sink: 1,
+            ..NONE_FAILS
+        },
+        status: 9,
+        output: "",
+        ..LATE
+    },
+    Ending {
+        shows: "a server with 33 workers",
+        words: "serve site.toml - here 33 1",
+        ..EARLY
+    },
+    Ending {
+        shows: "a server under a catalogue that is refused",
+        words: "serve site.toml - here 1 1",
+        file: LAMP_AT_TWO,
+        status: 3,
+        output: "catalogue bad-default 1\n",
+        ..EARLY
+    },
+    Ending {
         shows: "the script without a line",
         input: "",
         status: 0,
@@ -219,7 +257,14 @@ fn a_run_has_its_status(rt: HostRuntime) -> Result<(), Fail> {
     for ending in ENDINGS {
         let shows = ending.shows;
         let input = ending.input.as_bytes();
-        let outcome = run(rt, ending.words, ending.file, input, ending.fails)?;
+        let outcome = run(
+            &rt,
+            rt.alloc(),
+            ending.words,
+            ending.file,
+            input,
+            ending.fails,
+        )?;
         assert_eq!(&rt; outcome.status, Status(ending.status), "{shows}");
         assert_eq!(&rt; outcome.sink.taken(), ending.output.as_bytes(), "{shows}");
         let device = outcome.devices.first().ok_or("a device")?;
@@ -244,7 +289,14 @@ fn a_line_too_long_ends_a_script(rt: HostRuntime) -> Result<(), Fail> {
         input.resize(blanks, b' ')?;
         input.push(b'\n')?;
         input.extend_from_slice(ATTACH.as_bytes())?;
-        let outcome = run(rt, SCRIPT_WORDS, THREE_POINTS, &input, NONE_FAILS)?;
+        let outcome = run(
+            &rt,
+            rt.alloc(),
+            SCRIPT_WORDS,
+            THREE_POINTS,
+            &input,
+            NONE_FAILS,
+        )?;
         assert_eq!(&rt; outcome.status, Status(status));
         let told = outcome.sink.taken().strip_prefix(OPENING.as_bytes());
         assert_eq!(&rt; told.ok_or("the opening")?, last.as_bytes());

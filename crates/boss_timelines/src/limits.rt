@@ -1,7 +1,11 @@
 use crate::outside::*;
 use boss_manager::Status;
 use boss_trials::THREE_POINTS;
+use std::alloc::Global;
+use std::process::Abort;
+use std::sync::Wait;
 use std::test::Fail;
+use std::thread::Threads;
 
 /// The one process more than there may be is refused.
 #[test]
@@ -22,7 +26,8 @@ fn there_are_256_processes(rt: HostRuntime) -> Result<(), Fail> {
         .split_once("{\"ok\":\"attached\",\"process\":\"p257\"")
         .ok_or("the last")?;
     let outcome = run(
-        rt,
+        &rt,
+        alloc,
         SCRIPT_WORDS,
         THREE_POINTS,
         input.as_bytes(),
@@ -42,13 +47,17 @@ fn there_are_256_processes(rt: HostRuntime) -> Result<(), Fail> {
 #[test]
 fn done_transactions_are_kept_for_a_while(rt: HostRuntime) -> Result<(), Fail> {
     let ended = "{\"error\":\"ended\",\"cause\":\"cancelled\",\"at\":0,\"moment\":0}\n";
-    expect_renewal(rt, 1024, ended)?;
-    expect_renewal(rt, 1025, "{\"error\":\"unknown-txn\"}\n")
+    expect_renewal(&rt, rt.alloc(), 1024, ended)?;
+    expect_renewal(&rt, rt.alloc(), 1025, "{\"error\":\"unknown-txn\"}\n")
 }
 
 /// Whether the renewal of the first of so many transactions, all of which are done, is answered so.
-fn expect_renewal(rt: HostRuntime, count: u64, answer: &str) -> Result<(), Fail> {
-    let alloc = rt.alloc();
+fn expect_renewal<R: Abort + Threads + Wait + Sync>(
+    rt: &R,
+    alloc: Global,
+    count: u64,
+    answer: &str,
+) -> Result<(), Fail> {
     let mut input = String::from_str(alloc, "{\"op\":\"attach\",\"process\":\"a\"}\n")?;
     for txn in 1..=count {
         input.push_str(
@@ -59,12 +68,13 @@ fn expect_renewal(rt: HostRuntime, count: u64, answer: &str) -> Result<(), Fail>
     input.push_str("{\"op\":\"renew\",\"txn\":1,\"length\":1000}\n")?;
     let outcome = run(
         rt,
+        alloc,
         SCRIPT_WORDS,
         THREE_POINTS,
         input.as_bytes(),
         NONE_FAILS,
     )?;
-    assert_eq!(&rt; outcome.status, Status(0));
-    assert!(&rt; outcome.sink.taken().ends_with(answer.as_bytes()));
+    assert_eq!(rt; outcome.status, Status(0));
+    assert!(rt; outcome.sink.taken().ends_with(answer.as_bytes()));
     Ok(())
 }

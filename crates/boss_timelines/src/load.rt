@@ -17,7 +17,7 @@ fn a_generated_day_is_carried_out(rt: HostRuntime) -> Result<(), Fail> {
     let catalogue = load_catalogue(alloc)?;
     let file = str::from_utf8(catalogue.slice()).map_err(|_| Fail::from("a text"))?;
     let script = load_script(alloc, 500, 7)?;
-    let outcome = run(rt, SCRIPT_WORDS, file, script.slice(), NONE_FAILS)?;
+    let outcome = run(&rt, alloc, SCRIPT_WORDS, file, script.slice(), NONE_FAILS)?;
     assert_eq!(&rt; outcome.status, Status(0));
     let told = outcome.sink.taken();
     for (beginning, lines) in [

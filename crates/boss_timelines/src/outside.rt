@@ -9,7 +9,9 @@ use boss_model::Items;
 use boss_outside::{BytesSink, BytesSource, DeviceCall, Got, SimActuators, Source};
 use boss_workers::{ListClock, ListHost, ListSpawner, TurnWaiter};
 use std::alloc::{AllocError, Global};
+use std::sync::Wait;
 use std::test::Fail;
+use std::thread::Threads;
 
 /// The words of a script with its journal in memory.
 pub const SCRIPT_WORDS: &str = "script site.toml -";
@@ -76,32 +78,40 @@ impl Source for Bytewise<'_> {
 
 /// Runs the program on these words with one file, `site.toml`, with this input, and with sixteen devices, of which the first
 /// may fail.
-pub fn run(
-    rt: HostRuntime,
+pub fn run<R: Threads + Wait + Sync>(
+    rt: &R,
+    alloc: Global,
     words: &str,
     file: &str,
     input: &[u8],
     fails: Fails,
 ) -> Result<Outcome, Fail> {
-    let alloc = rt.alloc();
     let mut source = BytesSource::new(alloc, bytes(alloc, input)?, call(alloc, fails.source)?)?;
-    run_over(rt, words, file, &mut source, fails)
+    run_over(rt, alloc, words, file, &mut source, fails)
 }
 
 /// The same over any source.
-pub fn run_over<S: Source>(
-    rt: HostRuntime,
+pub fn run_over<R: Threads + Wait + Sync, S: Source>(
+    rt: &R,
+    alloc: Global,
     words: &str,
     file: &str,
     source: &mut S,
     fails: Fails,
 ) -> Result<Outcome, Fail> {
-    let alloc = rt.alloc();
     let words = words_of(alloc, words)?;
     let mut files = MemoryFiles::new(alloc, one_file(alloc, file)?, call(alloc, fails.files)?)?;
     let mut sink = BytesSink::new(alloc, call(alloc, fails.sink)?)?;
     let mut devices = sixteen_devices(alloc, fails.device)?;
-    let status = without_server(rt, &words, &mut files, source, &mut sink, &mut devices)?;
+    let status = alone(
+        rt,
+        alloc,
+        &words,
+        &mut files,
+        source,
+        &mut sink,
+        &mut devices,
+    )?;
     Ok(Outcome {
         status,
         sink,
@@ -109,21 +119,25 @@ pub fn run_over<S: Source>(
     })
 }
 
-/// Runs the program with nothing for a server: a host without a connection, a clock without a moment and a waiter without a turn.
-fn without_server<S: Source>(
-    rt: HostRuntime,
+/// Runs the program with a host that has no connection, a clock that tells 0, a waiter that closes at once, and a spawner that starts
+/// every task.
+fn alone<R: Threads + Wait + Sync, S: Source>(
+    rt: &R,
+    alloc: Global,
     words: &Vec<String>,
     files: &mut MemoryFiles,
     source: &mut S,
     sink: &mut BytesSink,
     devices: &mut Vec<SimActuators>,
 ) -> Result<Status, Fail> {
-    let alloc = rt.alloc();
     let mut clock = ListClock::new(alloc, Items::new(alloc), Items::new(alloc))?;
-    let mut host: ListHost<BytesSource, BytesSink> =
-        ListHost::new(alloc, Items::new(alloc), Items::new(alloc))?;
+    let mut host: ListHost<BytesSource, BytesSink> = ListHost::new(
+        alloc,
+        Items::new(alloc),
+        Items::new(alloc),
+    )?;
     let mut waiter = TurnWaiter::new(alloc, 0)?;
-    let mut spawner: ListSpawner<HostRuntime> = ListSpawner::new(alloc, Items::new(alloc))?;
+    let mut spawner: ListSpawner<R> = ListSpawner::new(alloc, Items::new(alloc))?;
     Ok(boss(
         rt,
         alloc,

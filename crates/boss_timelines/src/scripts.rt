@@ -4,7 +4,9 @@ use boss_outside::SimActuators;
 use boss_trials::THREE_POINTS;
 use std::alloc::{AllocError, Global};
 use std::process::Abort;
+use std::sync::Wait;
 use std::test::Fail;
+use std::thread::Threads;
 
 // Each script begins with a line `== ..` that says what it shows. A line behind `> ` is asked, and the others are told.
 
@@ -466,8 +468,12 @@ fn put_parts(script: &str, asked: &mut String, told: &mut String) -> Result<(), 
 }
 
 /// Whether a script tells its text, however its bytes are read, and ends with status 0.
-fn expect(rt: HostRuntime, batch: &Batch, script: &str) -> Result<(), Fail> {
-    let alloc = rt.alloc();
+fn expect<R: Abort + Threads + Wait + Sync>(
+    rt: &R,
+    alloc: Global,
+    batch: &Batch,
+    script: &str,
+) -> Result<(), Fail> {
     let fails = Fails {
         device: batch.fails,
         ..NONE_FAILS
@@ -478,13 +484,13 @@ fn expect(rt: HostRuntime, batch: &Batch, script: &str) -> Result<(), Fail> {
     let asked = asked.as_bytes();
     let mut bytewise = Bytewise::new(asked);
     for outcome in [
-        run(rt, SCRIPT_WORDS, batch.file, asked, fails)?,
-        run_over(rt, SCRIPT_WORDS, batch.file, &mut bytewise, fails)?,
+        run(rt, alloc, SCRIPT_WORDS, batch.file, asked, fails)?,
+        run_over(rt, alloc, SCRIPT_WORDS, batch.file, &mut bytewise, fails)?,
     ] {
-        assert_eq!(&rt; outcome.status, Status(0), "{script}");
-        assert_eq!(&rt; outcome.sink.taken(), told.as_bytes(), "{script}");
+        assert_eq!(rt; outcome.status, Status(0), "{script}");
+        assert_eq!(rt; outcome.sink.taken(), told.as_bytes(), "{script}");
         let device = outcome.devices.first().ok_or("a device")?;
-        expect_calls(&rt, alloc, device, told.as_str())?;
+        expect_calls(rt, alloc, device, told.as_str())?;
     }
     Ok(())
 }
@@ -512,7 +518,7 @@ fn expect_calls(
 fn scripts_tell_what_was_worked_out(rt: HostRuntime) -> Result<(), Fail> {
     for batch in BATCHES {
         for script in batch.scripts.split("\n== ").skip(1) {
-            expect(rt, batch, script)?;
+            expect(&rt, rt.alloc(), batch, script)?;
         }
     }
     Ok(())
