@@ -39,38 +39,49 @@ pub fn length_within<F: Files>(
     })
 }
 
+/// Whether the file `a` has its three bytes.
+fn has_one(alloc: Global, files: &mut MemoryFiles) -> bool {
+    match files.read(alloc, "a", 3) {
+        Ok(FileBytes::Whole(found)) => found.slice() == b"one".as_slice(),
+        _ => false,
+    }
+}
+
+/// Whether a second call fails, and later ones give what is under their names.
+fn give_lengths(alloc: Global, files: &mut MemoryFiles) -> bool {
+    matches!(length_within(files, alloc, "a", 3), Err(FileFault::Failed))
+        && matches!(length_within(files, alloc, "a", 3), Ok(Ok(3)))
+        && matches!(length_within(files, alloc, "a", 2), Ok(Err(3)))
+        && matches!(length_within(files, alloc, "empty", 0), Ok(Ok(0)))
+        && matches!(length_within(files, alloc, "b", 3), Err(FileFault::Failed))
+}
+
 #[test]
 fn files_give_what_is_under_their_names(rt: HostRuntime) -> Result<(), Fail> {
     let alloc = rt.alloc();
     let mut files = two_files(alloc, &[2])?;
-    match files.read(alloc, "a", 3) {
-        Ok(FileBytes::Whole(found)) => assert_eq!(rt; found.slice(), b"one".as_slice()),
-        other => assert!(rt; false, "{other:?}"),
-    }
-    for (name, limit, wanted) in [
-        ("a", 3, Err(FileFault::Failed)),
-        ("a", 3, Ok(Ok(3))),
-        ("a", 2, Ok(Err(3))),
-        ("empty", 0, Ok(Ok(0))),
-        ("b", 3, Err(FileFault::Failed)),
-    ] {
-        assert_eq!(rt; length_within(&mut files, alloc, name, limit), wanted);
-    }
+    assert!(rt; has_one(alloc, &mut files) && give_lengths(alloc, &mut files));
     Ok(())
+}
+
+/// Whether these bytes are under a name, and no others.
+fn has_bytes(files: &MemoryFiles, name: &str, bytes: &[u8]) -> bool {
+    match files.bytes_under(name) {
+        Some(found) => found == bytes,
+        None => false,
+    }
 }
 
 #[test]
 fn a_file_is_kept_as_it_was_given_back(rt: HostRuntime) -> Result<(), Fail> {
     let alloc = rt.alloc();
     let mut files = two_files(alloc, &[3])?;
-    assert_eq!(rt;
-        edit_file(alloc, &mut files, "b")?.as_slice(),
-        EDITED.as_slice()
-    );
-    assert_eq!(rt; files.bytes_under("b"), Some(EDITED.as_slice()));
-    assert_eq!(rt; files.bytes_under("a"), Some(b"one".as_slice()));
-    assert_eq!(rt; files.bytes_under("c"), None);
-    assert!(rt; matches!(files.disk(alloc, "a"), Err(FileFault::Failed)));
-    assert_eq!(rt; files.asked().len(), 3);
+    let edited = edit_file(alloc, &mut files, "b")?;
+    let kept = edited.as_slice() == EDITED.as_slice()
+        && has_bytes(&files, "b", EDITED)
+        && has_bytes(&files, "a", b"one")
+        && files.bytes_under("c").is_none();
+    let failed = matches!(files.disk(alloc, "a"), Err(FileFault::Failed));
+    assert!(rt; kept && failed && files.asked().len() == 3);
     Ok(())
 }

@@ -107,7 +107,7 @@ fn look(rt: &impl Abort, alloc: Global, disk: &MemoryDisk, wanted: [Image; 4]) -
     for (pick, wanted) in PICKS.iter().zip(&wanted) {
         let image = disk.image(alloc, *pick)?.into_bytes();
         let wanted = wanted.bytes(alloc)?;
-        assert_eq!(rt; image.slice(), wanted.as_slice(), "pick {pick}");
+        assert!(rt; image.slice() == wanted.as_slice(), "pick {pick}");
     }
     Ok(())
 }
@@ -127,26 +127,32 @@ fn a_crash_leaves_what_is_picked(rt: HostRuntime) -> Result<(), Fail> {
     Ok(())
 }
 
+/// Whether a disk of 58 bytes fails at its second call only.
+fn fails_once(disk: &mut MemoryDisk) -> bool {
+    disk.sync().is_ok()
+        && disk.length().is_err()
+        && matches!(disk.length(), Ok(58))
+        && disk.faults() == 1
+}
+
+/// Whether that disk, stopped after one more call, fails at each later one.
+fn fails_from_then_on(disk: &mut MemoryDisk) -> bool {
+    disk.stop_after(1);
+    disk.sync().is_ok() && disk.sync().is_err() && disk.length().is_err() && disk.faults() == 3
+}
+
 #[test]
 fn calls_fail_as_planned_and_from_a_stop_on(rt: HostRuntime) -> Result<(), Fail> {
     let mut disk = zeros(rt.alloc(), 58, &[2])?;
-    assert!(rt; disk.sync().is_ok());
-    assert!(rt; disk.length().is_err());
-    assert_eq!(rt; disk.length(), Ok(58));
-    assert_eq!(rt; disk.faults(), 1);
-    disk.stop_after(1);
-    assert!(rt; disk.sync().is_ok());
-    assert!(rt; disk.sync().is_err());
-    assert!(rt; disk.length().is_err());
-    assert_eq!(rt; disk.faults(), 3);
+    assert!(rt; fails_once(&mut disk) && fails_from_then_on(&mut disk));
     Ok(())
 }
 
 #[test]
 fn a_disk_in_memory_reads_what_was_written(rt: HostRuntime) -> Result<(), Fail> {
-    let alloc = rt.alloc();
-    let mut disk = zeros(alloc, 0, &[])?;
+    let mut disk = zeros(rt.alloc(), 0, &[])?;
     edit(&mut disk)?;
-    assert_eq!(rt; whole(alloc, &mut disk)?.as_slice(), EDITED.as_slice());
+    let bytes = whole(rt.alloc(), &mut disk)?;
+    assert!(rt; bytes.as_slice() == EDITED.as_slice());
     Ok(())
 }

@@ -5,6 +5,7 @@ use crate::files::length_within;
 use boss_adapters::{RealDisk, RealFiles};
 use boss_disk::{Disk, MOST};
 use boss_files::{FileFault, Files};
+use std::alloc::Global;
 use std::test::Fail;
 use std::{env, fs, process};
 
@@ -38,62 +39,95 @@ fn disk(rt: HostRuntime, name: &str) -> Result<RealDisk, Fail> {
     Ok(RealDisk::open(rt, rt.alloc(), name)?)
 }
 
+/// A disk that no write has made yet: it is empty, a cut and a sync leave it so, and a read past its end is its only fault.
+fn is_idle(alloc: Global, disk: &mut RealDisk) -> Result<bool, Fail> {
+    let bytes = whole(alloc, disk)?;
+    shorten(disk, 0)?;
+    disk.sync()?;
+    Ok(bytes.is_empty() && disk.read_at(0, &mut [0]).is_err() && disk.faults() == 1)
+}
+
+/// Whether the file of this name is made by the first write of its disk, and not before.
+fn is_made_by_write(rt: HostRuntime, name: &str) -> Result<bool, Fail> {
+    let mut looked_at = disk(rt, name)?;
+    let idle = is_idle(rt.alloc(), &mut looked_at)? && !fs::exists(&rt, name)?;
+    put(&mut looked_at, 0, b"ab")?;
+    let written = has_bytes(rt, name, b"ab")?;
+    looked_at.sync()?;
+    Ok(idle && written)
+}
+
+/// Whether the file of this name has these bytes.
+fn has_bytes(rt: HostRuntime, name: &str, bytes: &[u8]) -> Result<bool, Fail> {
+    let found = fs::read(&rt, name)?;
+    Ok(found.as_slice() == bytes)
+}
+
 #[test]
 fn a_file_is_made_by_its_first_write(rt: HostRuntime) -> Result<(), Fail> {
-    let alloc = rt.alloc();
     let folder = Folder::make(rt, "made")?;
     let name = folder.path_of("log")?;
-    let mut looked_at = disk(rt, name.as_str())?;
-    assert_eq!(rt; whole(alloc, &mut looked_at)?.as_slice(), b"".as_slice());
-    shorten(&mut looked_at, 0)?;
-    looked_at.sync()?;
-    assert!(rt; looked_at.read_at(0, &mut [0]).is_err());
-    assert_eq!(rt; looked_at.faults(), 1);
-    assert_eq!(rt; fs::exists(&rt, name.as_str())?, false);
-    put(&mut looked_at, 0, b"ab")?;
-    assert_eq!(rt; fs::read(&rt, name.as_str())?.as_slice(), b"ab".as_slice());
-    looked_at.sync()?;
+    assert!(rt; is_made_by_write(rt, name.as_str())?);
     folder.remove()
+}
+
+/// Whether a file of this name is kept as it was edited, and read within its length but not within one byte less.
+fn is_kept(rt: HostRuntime, name: &str) -> Result<bool, Fail> {
+    let alloc = rt.alloc();
+    let mut files = RealFiles::new(rt);
+    let kept = edit_file(alloc, &mut files, name)?;
+    let same = kept.as_slice() == EDITED.as_slice() && has_bytes(rt, name, EDITED)?;
+    let within = length_within(&mut files, alloc, name, 8);
+    let past = length_within(&mut files, alloc, name, 7);
+    Ok(same && matches!(within, Ok(Ok(8))) && matches!(past, Ok(Err(8))))
 }
 
 #[test]
 fn a_file_is_kept_as_it_was_given_back(rt: HostRuntime) -> Result<(), Fail> {
-    let alloc = rt.alloc();
     let folder = Folder::make(rt, "kept")?;
     let name = folder.path_of("log")?;
-    let mut files = RealFiles::new(rt);
-    let kept = edit_file(alloc, &mut files, name.as_str())?;
-    assert_eq!(rt; kept.as_slice(), EDITED.as_slice());
-    assert_eq!(rt; fs::read(&rt, name.as_str())?.as_slice(), EDITED.as_slice());
-    for (limit, wanted) in [(8, Ok(8)), (7, Err(8))] {
-        assert_eq!(rt;
-            length_within(&mut files, alloc, name.as_str(), limit),
-            Ok(wanted)
-        );
-    }
+    assert!(rt; is_kept(rt, name.as_str())?);
     folder.remove()
+}
+
+/// Whether no disk and no bytes are had under names that are none of files: this path of a folder, one with a NUL, and others.
+fn are_refused(rt: HostRuntime, path: &str, nul: &str) -> bool {
+    let alloc = rt.alloc();
+    let mut files = RealFiles::new(rt);
+    let mut refused = true;
+    for name in [path, "/dev/null", "/dev/full", nul] {
+        refused = refused && matches!(files.disk(alloc, name), Err(FileFault::Failed));
+    }
+    for name in [path, "", nul] {
+        let length = length_within(&mut files, alloc, name, 9);
+        refused = refused && matches!(length, Err(FileFault::Failed));
+    }
+    refused
 }
 
 #[test]
 fn what_is_no_file_is_refused(rt: HostRuntime) -> Result<(), Fail> {
-    let alloc = rt.alloc();
     let folder = Folder::make(rt, "refused")?;
-    let mut files = RealFiles::new(rt);
     let nul = folder.path_of("a\0b")?;
-    for name in [folder.path.as_str(), "/dev/null", "/dev/full", nul.as_str()] {
-        assert!(rt;
-            matches!(files.disk(alloc, name), Err(FileFault::Failed)),
-            "{name}"
-        );
-    }
-    for name in [folder.path.as_str(), "", nul.as_str()] {
-        assert_eq!(rt;
-            length_within(&mut files, alloc, name, 9),
-            Err(FileFault::Failed),
-            "{name}"
-        );
-    }
+    assert!(rt; are_refused(rt, folder.path.as_str(), nul.as_str()));
     folder.remove()
+}
+
+/// Whether a disk of this name fails at its first write, its only fault, and stays empty.
+fn fails_at_once(rt: HostRuntime, name: &str) -> Result<bool, Fail> {
+    let mut disk = disk(rt, name)?;
+    let failed = disk.write_at(0, b"a").is_err();
+    Ok(failed && matches!(disk.length(), Ok(0)) && disk.faults() == 1)
+}
+
+/// Whether that holds of each of these names.
+fn all_fail_at_once(rt: HostRuntime, names: &[&str]) -> Result<bool, Fail> {
+    for name in names {
+        if !fails_at_once(rt, name)? {
+            return Ok(false);
+        }
+    }
+    Ok(true)
 }
 
 #[test]
@@ -101,43 +135,50 @@ fn a_name_that_no_file_can_have_fails_at_the_first_write(rt: HostRuntime) -> Res
     let folder = Folder::make(rt, "nameless")?;
     let nowhere = folder.path_of("missing/log")?;
     let slash = folder.path_of("missing/")?;
-    for name in ["", nowhere.as_str(), slash.as_str(), "/proc/no-such-file"] {
-        let mut disk = disk(rt, name)?;
-        assert!(rt; disk.write_at(0, b"a").is_err(), "{name}");
-        assert_eq!(rt; disk.length(), Ok(0), "{name}");
-        assert_eq!(rt; disk.faults(), 1, "{name}");
-    }
+    let names = ["", nowhere.as_str(), slash.as_str(), "/proc/no-such-file"];
+    assert!(rt; all_fail_at_once(rt, &names)?);
     folder.remove()
+}
+
+/// Whether a disk of this name does not write over the file that another writer has made in between.
+fn leaves_theirs(rt: HostRuntime, name: &str) -> Result<bool, Fail> {
+    let mut disk = disk(rt, name)?;
+    fs::write(&rt, name, "theirs")?;
+    let failed = disk.write_at(0, b"ours").is_err();
+    Ok(failed && has_bytes(rt, name, b"theirs")?)
 }
 
 #[test]
 fn a_file_that_came_in_between_is_not_written_over(rt: HostRuntime) -> Result<(), Fail> {
     let folder = Folder::make(rt, "between")?;
     let name = folder.path_of("log")?;
-    let mut disk = disk(rt, name.as_str())?;
-    fs::write(&rt, name.as_str(), "theirs")?;
-    assert!(rt; disk.write_at(0, b"ours").is_err());
-    assert_eq!(rt;
-        fs::read(&rt, name.as_str())?.as_slice(),
-        b"theirs".as_slice()
-    );
+    assert!(rt; leaves_theirs(rt, name.as_str())?);
     folder.remove()
+}
+
+/// Whether a disk of three bytes refuses what is past its bounds, with a fault each, and no cut makes it longer.
+fn keeps_bounds(disk: &mut RealDisk) -> bool {
+    // No byte may stand past the greatest length, and a read does not pass the end.
+    disk.write_at(MOST, b"d").is_err()
+        && disk.write_at(u64::MAX, b"d").is_err()
+        && disk.read_at(2, &mut [0; 2]).is_err()
+        && disk.read_at(u64::MAX, &mut [0; 1]).is_err()
+        && disk.cut(9).is_ok()
+        && matches!(disk.length(), Ok(3))
+        && disk.faults() == 4
+}
+
+/// Whether a disk of this name has its bounds when three bytes are written.
+fn has_bounds(rt: HostRuntime, name: &str) -> Result<bool, Fail> {
+    let mut disk = disk(rt, name)?;
+    put(&mut disk, 0, b"abc")?;
+    Ok(keeps_bounds(&mut disk))
 }
 
 #[test]
 fn a_file_has_its_bounds(rt: HostRuntime) -> Result<(), Fail> {
     let folder = Folder::make(rt, "bounds")?;
     let name = folder.path_of("log")?;
-    let mut disk = disk(rt, name.as_str())?;
-    put(&mut disk, 0, b"abc")?;
-    // No byte may stand past the greatest length, and a read does not pass the end.
-    assert!(rt; disk.write_at(MOST, b"d").is_err());
-    assert!(rt; disk.write_at(u64::MAX, b"d").is_err());
-    assert!(rt; disk.read_at(2, &mut [0; 2]).is_err());
-    assert!(rt; disk.read_at(u64::MAX, &mut [0; 1]).is_err());
-    // A cut makes no file longer.
-    disk.cut(9)?;
-    assert_eq!(rt; disk.length(), Ok(3));
-    assert_eq!(rt; disk.faults(), 4);
+    assert!(rt; has_bounds(rt, name.as_str())?);
     folder.remove()
 }
