@@ -273,7 +273,7 @@ class Client:
         self.address, self.patience = address, patience
         # The number of the process's next notice when it attached last.
         self.next_notice = None
-        self._process, self._number = None, 1
+        self._process, self._attached, self._number = None, False, 1
         self._link, self._lines = None, None
         self._lock, self._closed = threading.RLock(), False
         try:
@@ -393,24 +393,27 @@ class Client:
             return stale.kept + 1
 
     def _patiently(self, request, attempt):
-        """What an attempt gives, tried again for as long as patience lasts where the connection is lost or the disk stopped."""
-        deadline = time.monotonic() + self.patience
-        lost = self._link is None and self._process is not None
+        """What an attempt gives, tried again for as long as patience lasts where the connection is lost or the disk stopped, and for a
+        moment where the process is still its last connection's."""
+        began = time.monotonic()
+        deadline = began + self.patience
+        lost, why = self._process is not None and not self._attached, None
         while True:
             try:
                 return attempt(deadline)
-            except (OSError, Stopped, Taken) as error:
-                if isinstance(error, Taken) and not lost:
+            except Taken as error:
+                why = error
+                if not lost and time.monotonic() + PAUSE > began + PARTING:
                     raise
-                # Behind a lost connection the server may take the process for that connection's for a moment.
+            except (OSError, Stopped) as error:
                 self._drop()
-                lost = True
-                if self._closed or time.monotonic() + PAUSE > deadline:
-                    raise Unanswered(request) from error
+                lost, why = True, error
+            if lost and (self._closed or time.monotonic() + PAUSE > deadline):
+                raise Unanswered(request) from why
             time.sleep(PAUSE)
 
     def _exchange(self, request, deadline):
-        if self._link is None and self._process is not None:
+        if self._process is not None and not self._attached:
             self._attach(self._process, deadline)
         self._connect(deadline)
         return answer_of(self._tell(request, deadline))
@@ -418,7 +421,7 @@ class Client:
     def _attach(self, process, deadline):
         self._connect(deadline)
         answer = answer_of(self._tell({"op": "attach", "process": process}, deadline))
-        self._process, self.next_notice = process, answer["next"]
+        self._process, self._attached, self.next_notice = process, True, answer["next"]
 
     def _connect(self, deadline):
         if self._closed:
@@ -455,6 +458,7 @@ class Client:
             self._lines.close()
             self._link.close()
         self._link = self._lines = None
+        self._attached = False
 
 
 def renewal(txn, length, points=()):
