@@ -30,6 +30,8 @@ from typing import Dict, List, NamedTuple, Optional
 LONGEST_LINE = 65_535
 # How long to wait before connecting anew, in seconds.
 PAUSE = 0.2
+# How often the server is asked how a lease stands that is held, in seconds.
+PULSE = 1.0
 # How long to wait for the server when a client is closed, in seconds.
 PARTING = 2.0
 
@@ -266,14 +268,14 @@ class Client:
 
     `address` is "host:port". `patience` is for how many seconds a request is asked again, over new connections, until it is answered;
     a server whose workers are all busy answers nothing until one is free, so it should be long. While a connection is gone the server
-    takes the process for lost; when it was the server that was gone, leases are as they were."""
+    takes the process for lost, as of its last request; when it was the server that was gone, leases are as they were."""
 
     def __init__(self, address, process=None, patience=60.0):
         """Connects, and attaches as the process if it is given. Unanswered; or as `attach`."""
         self.address, self.patience = address, patience
         # The number of the process's next notice when it attached last.
         self.next_notice = None
-        self._process, self._number = None, 1
+        self._process, self._attached, self._number = None, False, 1
         self._link, self._lines = None, None
         self._lock, self._closed = threading.RLock(), False
         try:
@@ -334,8 +336,7 @@ class Client:
     def hold(self, writes, policy="abort"):
         """Submits, and keeps the leases alive until they are released, the client is closed, or the program ends: gives a Held. Errors
         as of `submit`."""
-        writes = list(writes)
-        return Held(self, self.submit(writes, policy), min(one["lease"] for one in writes))
+        return Held(self, list(writes), policy)
 
     def read(self, point):
         """The Reading of a point. UnknownPoint, Unanswered."""
@@ -393,24 +394,27 @@ class Client:
             return stale.kept + 1
 
     def _patiently(self, request, attempt):
-        """What an attempt gives, tried again for as long as patience lasts where the connection is lost or the disk stopped."""
-        deadline = time.monotonic() + self.patience
-        lost = self._link is None and self._process is not None
+        """What an attempt gives, tried again for as long as patience lasts where the connection is lost or the disk stopped, and for a
+        moment where the process is still its last connection's."""
+        began = time.monotonic()
+        deadline = began + self.patience
+        lost, why = self._process is not None and not self._attached, None
         while True:
             try:
                 return attempt(deadline)
-            except (OSError, Stopped, Taken) as error:
-                if isinstance(error, Taken) and not lost:
+            except Taken as error:
+                why = error
+                if not lost and time.monotonic() + PAUSE > began + PARTING:
                     raise
-                # Behind a lost connection the server may take the process for that connection's for a moment.
+            except (OSError, Stopped) as error:
                 self._drop()
-                lost = True
-                if self._closed or time.monotonic() + PAUSE > deadline:
-                    raise Unanswered(request) from error
+                lost, why = True, error
+            if lost and (self._closed or time.monotonic() + PAUSE > deadline):
+                raise Unanswered(request) from why
             time.sleep(PAUSE)
 
     def _exchange(self, request, deadline):
-        if self._link is None and self._process is not None:
+        if self._process is not None and not self._attached:
             self._attach(self._process, deadline)
         self._connect(deadline)
         return answer_of(self._tell(request, deadline))
@@ -418,7 +422,7 @@ class Client:
     def _attach(self, process, deadline):
         self._connect(deadline)
         answer = answer_of(self._tell({"op": "attach", "process": process}, deadline))
-        self._process, self.next_notice = process, answer["next"]
+        self._process, self._attached, self.next_notice = process, True, answer["next"]
 
     def _connect(self, deadline):
         if self._closed:
@@ -455,6 +459,7 @@ class Client:
             self._lines.close()
             self._link.close()
         self._link = self._lines = None
+        self._attached = False
 
 
 def renewal(txn, length, points=()):
@@ -465,11 +470,16 @@ def renewal(txn, length, points=()):
 class Held:
     """A transaction whose leases are renewed in the background, every third part of the shortest, for this length. `txn` is its number,
     `until` the moment up to which it was held at least when that was last told. `ended` is why it is held no longer, or None: mostly
-    an Ended, whose cause is "died" where the server had lost the connection. It is not taken again by itself."""
+    an Ended, whose cause is "died" where the server had lost the connection. It is not taken again by itself.
 
-    def __init__(self, client, accepted, length):
+    Every second the server is asked how it stands: so an end is soon known here, and the server knows when the program was last alive,
+    which is when reversions begin if it dies."""
+
+    def __init__(self, client, writes, policy):
+        accepted = client.submit(writes, policy)
         self.txn, self.until, self.ended = accepted.txn, accepted.until, None
-        self._client, self._length, self._over = client, length, threading.Event()
+        self._client, self._count, self._length = client, len(writes), min(one["lease"] for one in writes)
+        self._over = threading.Event()
         threading.Thread(target=self._keep, name=f"bossd-{self.txn}", daemon=True).start()
 
     def __enter__(self):
@@ -489,15 +499,22 @@ class Held:
             self._client.cancel(self.txn)
 
     def _keep(self):
-        # A renewal that is made twice does no harm, so it takes no number, which are for what the program asks.
-        while not self._over.wait(self._length / 3000):
+        third = self._length / 3000
+        due = time.monotonic() + third
+        while not self._over.wait(min(PULSE, third)):
             try:
-                self.until = self._client.ask(renewal(self.txn, self._length))["until"]
+                if time.monotonic() >= due or self._client.status(self.txn).live < self._count:
+                    self._renew()
+                    due = time.monotonic() + third
             except (Unanswered, NoMemory) as error:
                 if self._client._closed:
                     self._end(error)
             except Exception as error:
                 self._end(error)
+
+    def _renew(self):
+        # A renewal that is made twice does no harm, so it takes no number: these are for what the program asks.
+        self.until = self._client.ask(renewal(self.txn, self._length))["until"]
 
     def _end(self, why):
         if not self._over.is_set():

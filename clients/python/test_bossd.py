@@ -238,6 +238,16 @@ class Holding(Case):
         told = [(notice.kind, notice.cause) for notice in other.notices("a").list]
         self.assertEqual(told, [("ended", "died"), ("done", None)])
 
+    def test_a_reversion_is_played_when_the_process_is_gone(self):
+        client, other = self.client("a"), self.client()
+        client.hold([damper(lease=60 * MINUTE, revert=[(30_000, 5_000)])])
+        time.sleep(3)
+        client.close()
+        reading = other.read("ahu1.damper")
+        self.assertEqual((reading.value, reading.basis), (30_000, "pending"))
+        # It was last alive less than two seconds ago.
+        self.assertLess(abs(other.array("ahu1.damper").slots[8].end - time.time() * 1000 - 5_000), 2_000)
+
     def test_it_outlives_the_server(self):
         client = self.client("a")
         held = client.hold([damper(lease=3_000)])
