@@ -1,5 +1,5 @@
-use boss_lines::{Lines, LinesRead, Next, read_lines};
-use boss_model::{Items, NoMemory};
+use boss_lines::{Lines, Next, read_lines};
+use boss_model::Items;
 use boss_outside::{BytesSource, Got, Source};
 use std::alloc::{AllocError, Global};
 use std::process::Abort;
@@ -219,34 +219,20 @@ const LIMITS: &[(u64, &str, Next)] = &[
     (2, "a$$", Next::Line),
 ];
 
-/// Puts the lines that were read behind these bytes, each with an end behind it.
-fn put_lines(read: &LinesRead, told: &mut Vec<u8>) -> Result<(), AllocError> {
-    for line in read.lines.slice() {
-        told.extend_from_slice(line.slice())?;
-        told.push(b'\n')?;
-    }
-    Ok(())
-}
-
-/// Whether these lines of one text are read up to a limit, and this is behind them.
-fn reads_up_to(alloc: Global, limit: u64, lines: &[u8], end: Next) -> Result<bool, NoMemory> {
-    let text = Items::from_vec(meant(alloc, "a$$bc")?);
-    let mut source = BytesSource::new(alloc, text, Items::new(alloc))?;
-    let mut told = Vec::new(alloc);
-    match read_lines(alloc, &mut source, limit) {
-        Ok(read) => {
-            let put = put_lines(&read, &mut told).is_ok();
-            Ok(put && told.as_slice() == lines && read.end == end)
-        }
-        Err(NoMemory) => Err(NoMemory),
-    }
-}
-
 #[test]
 fn lines_are_read_up_to_a_limit(rt: HostRuntime) -> Result<(), Fail> {
+    let alloc = rt.alloc();
     for (limit, lines, end) in LIMITS {
-        let lines = meant(rt.alloc(), lines)?;
-        assert!(rt; reads_up_to(rt.alloc(), *limit, &lines, *end)?);
+        let text = Items::from_vec(meant(alloc, "a$$bc")?);
+        let mut source = BytesSource::new(alloc, text, Items::new(alloc))?;
+        let read = read_lines(alloc, &mut source, *limit)?;
+        let mut told = Vec::new(alloc);
+        for line in read.lines.slice() {
+            told.extend_from_slice(line.slice())?;
+            told.push(b'\n')?;
+        }
+        let lines = meant(alloc, lines)?;
+        assert!(rt; told.as_slice() == lines.as_slice() && read.end == *end);
     }
     Ok(())
 }

@@ -3,7 +3,6 @@ ghost use Rattle.std.specs.Prelude.{◌<◌, length};
 use boss_model::{Cause, PointId, ProcId, Txn, What};
 use boss_notices::Rings;
 use std::alloc::Global;
-use std::process::Abort;
 use std::test::Fail;
 
 /// The answer to a process that asks for at most two notices from a number on, and what is left in the list.
@@ -13,34 +12,6 @@ fn told(alloc: Global, rings: &Rings, owner: ProcId, number: u64) -> Result<Stri
     let mut list = Vec::with_capacity(alloc, 2)?;
     let (first, next) = rings.from(owner, number, 2, &mut list);
     Ok(format!(in alloc; "{first} {next} {list:?}")?)
-}
-
-/// Compares what the quiet process and the busy one are told with what each was sent.
-fn compare(
-    rt: &impl Abort,
-    alloc: Global,
-    rings: &Rings,
-    quiet: ProcId,
-    busy: ProcId,
-) -> Result<(), Fail>
-    requires quiet { quiet < length rings.now }
-    requires busy { busy < length rings.now }
-{
-    assert_eq!(rt; rings.count(quiet), 2);
-    assert!(rt;
-        told(alloc, rings, quiet, 1)?.as_str()
-            == "1 3 [Notice { number: 1, at: 2000, txn: Txn(1), what: Ended { point: PointId(0), cause: Superseded { by: Txn(2) } } }, Notice { number: 2, at: 2000, txn: Txn(1), what: Done }]"
-    );
-    assert!(rt; told(alloc, rings, quiet, 9)?.as_str() == "1 3 []");
-    assert!(rt;
-        told(alloc, rings, busy, 1)?.as_str()
-            == "7 9 [Notice { number: 7, at: 2000, txn: Txn(7), what: Done }, Notice { number: 8, at: 2000, txn: Txn(8), what: Done }]"
-    );
-    assert!(rt;
-        told(alloc, rings, busy, 1030)?.as_str()
-            == "7 1031 [Notice { number: 1030, at: 2000, txn: Txn(1030), what: Done }]"
-    );
-    Ok(())
 }
 
 #[test]
@@ -58,5 +29,19 @@ fn a_process_has_its_last_notices(rt: HostRuntime) -> Result<(), Fail> {
     for txn in 1..1031 {
         rings.post(busy, 2000, Txn(txn), What::Done);
     }
-    compare(&rt, alloc, &rings, quiet, busy)
+    assert_eq!(rt; rings.count(quiet), 2);
+    assert_eq!(rt;
+        told(alloc, &rings, quiet, 1)?.as_str(),
+        "1 3 [Notice { number: 1, at: 2000, txn: Txn(1), what: Ended { point: PointId(0), cause: Superseded { by: Txn(2) } } }, Notice { number: 2, at: 2000, txn: Txn(1), what: Done }]"
+    );
+    assert_eq!(rt; told(alloc, &rings, quiet, 9)?.as_str(), "1 3 []");
+    assert_eq!(rt;
+        told(alloc, &rings, busy, 1)?.as_str(),
+        "7 9 [Notice { number: 7, at: 2000, txn: Txn(7), what: Done }, Notice { number: 8, at: 2000, txn: Txn(8), what: Done }]"
+    );
+    assert_eq!(rt;
+        told(alloc, &rings, busy, 1030)?.as_str(),
+        "7 1031 [Notice { number: 1030, at: 2000, txn: Txn(1030), what: Done }]"
+    );
+    Ok(())
 }

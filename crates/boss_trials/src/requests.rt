@@ -4,7 +4,6 @@ use boss_requests::{
     Ask, Form, ReadRefusal, Request, RequestReader, is_blank, read_by, read_request,
 };
 use std::alloc::{AllocError, Global};
-use std::process::Abort;
 use std::test::Fail;
 
 /// What a line is read as, by itself and by a reader that has read others.
@@ -312,64 +311,27 @@ const ENDS: &[(&[u8], &str)] = &[
     (b" {\"op\" : \"tick\"}\r", "1 0 Tick"),
 ];
 
-/// Compares what a line is read as with what is wanted.
-fn compare(
-    rt: &impl Abort,
-    alloc: Global,
-    catalogue: &Catalogue,
-    reader: &mut RequestReader,
-    form: Form,
-    line: &[u8],
-    wanted: &str,
-) -> Result<(), Fail> {
-    let read = reading(alloc, catalogue, form, line, reader)?;
-    assert_eq!(rt; read.as_str(), wanted, "{line:?}");
-    Ok(())
-}
-
-/// Compares each line of a group.
-fn compare_group(
-    rt: &impl Abort,
-    alloc: Global,
-    catalogue: &Catalogue,
-    reader: &mut RequestReader,
-    form: Form,
-    group: &str,
-) -> Result<(), Fail> {
-    let (wanted, lines) = group.split_once('\n').ok_or("a group")?;
-    for line in lines.split('\n') {
-        if !line.is_empty() && !line.starts_with('#') {
-            compare(rt, alloc, catalogue, reader, form, line.as_bytes(), wanted)?;
-        }
-    }
-    Ok(())
-}
-
-/// Compares each line of the tables.
-fn compare_tables(
-    rt: &impl Abort,
-    alloc: Global,
-    catalogue: &Catalogue,
-    reader: &mut RequestReader,
-) -> Result<(), Fail> {
+#[test]
+fn a_line_is_read_as_its_request(rt: HostRuntime) -> Result<(), Fail> {
+    let alloc = rt.alloc();
+    let catalogue = Catalogue::read(alloc, THREE_POINTS.as_bytes())?;
+    let mut reader = RequestReader::new(alloc);
     for (form, table) in TABLES {
         for group in table.split("\n= ").skip(1) {
-            compare_group(rt, alloc, catalogue, reader, *form, group)?;
+            let (wanted, lines) = group.split_once('\n').ok_or("a group")?;
+            for line in lines.split('\n') {
+                if !line.is_empty() && !line.starts_with('#') {
+                    let read = reading(alloc, &catalogue, *form, line.as_bytes(), &mut reader)?;
+                    assert_eq!(rt; read.as_str(), wanted, "{line}");
+                }
+            }
         }
     }
     for (line, wanted) in ENDS {
-        compare(rt, alloc, catalogue, reader, Form::Script, line, wanted)?;
+        let read = reading(alloc, &catalogue, Form::Script, line, &mut reader)?;
+        assert_eq!(rt; read.as_str(), *wanted, "{line:?}");
     }
     Ok(())
-}
-
-#[test]
-fn a_line_is_read_as_its_request(rt: HostRuntime) -> Result<(), Fail> {
-    let mut reader = RequestReader::new(rt.alloc());
-    match Catalogue::read(rt.alloc(), THREE_POINTS.as_bytes()) {
-        Ok(catalogue) => compare_tables(&rt, rt.alloc(), &catalogue, &mut reader),
-        Err(_refusal) => Err("three points".into()),
-    }
 }
 
 /// Lines of as many parts as there may be: what stands in front, a part, what answers each part behind them all, what stands
@@ -415,49 +377,32 @@ fn line_of(
     Ok(line)
 }
 
-/// Whether a line of a script is read as a request.
-fn is_request(
-    alloc: Global,
-    catalogue: &Catalogue,
-    reader: &mut RequestReader,
-    line: &str,
-) -> Result<bool, Fail> {
-    let read = reading(alloc, catalogue, Form::Script, line.as_bytes(), reader)?;
-    Ok(read.starts_with("1 0 "))
-}
-
-/// Reads each of the longest lines, and one of a part more.
-fn read_longest(
-    rt: &impl Abort,
-    alloc: Global,
-    catalogue: &Catalogue,
-    reader: &mut RequestReader,
-) -> Result<(), Fail> {
-    for (front, part, other, back, most) in LONGEST {
-        let longest = line_of(alloc, front, part, other, back, *most)?;
-        assert!(rt; is_request(alloc, catalogue, reader, longest.as_str())?);
-        let longer = line_of(alloc, front, part, other, back, most.saturating_add(1))?;
-        let line = longer.as_bytes();
-        compare(
-            rt,
-            alloc,
-            catalogue,
-            reader,
-            Form::Script,
-            line,
-            "Malformed",
-        )?;
-    }
-    Ok(())
-}
-
 #[test]
 fn a_line_has_its_bounds(rt: HostRuntime) -> Result<(), Fail> {
-    let mut reader = RequestReader::new(rt.alloc());
-    match Catalogue::read(rt.alloc(), THREE_POINTS.as_bytes()) {
-        Ok(catalogue) => read_longest(&rt, rt.alloc(), &catalogue, &mut reader),
-        Err(_refusal) => Err("three points".into()),
+    let alloc = rt.alloc();
+    let catalogue = Catalogue::read(alloc, THREE_POINTS.as_bytes())?;
+    let mut reader = RequestReader::new(alloc);
+    for (front, part, other, back, most) in LONGEST {
+        let longest = line_of(alloc, front, part, other, back, *most)?;
+        let read = reading(
+            alloc,
+            &catalogue,
+            Form::Script,
+            longest.as_bytes(),
+            &mut reader,
+        )?;
+        assert!(rt; read.starts_with("1 0 "), "{longest}");
+        let longer = line_of(alloc, front, part, other, back, most.saturating_add(1))?;
+        let read = reading(
+            alloc,
+            &catalogue,
+            Form::Script,
+            longer.as_bytes(),
+            &mut reader,
+        )?;
+        assert_eq!(rt; read.as_str(), "Malformed", "{longer}");
     }
+    Ok(())
 }
 
 #[test]

@@ -1,7 +1,6 @@
 use boss_model::{Cause, Items, NoMemory, PointId, Policy, Priority, ProcId, Stage, Txn};
 use boss_stages::{PartEnd, Stages};
 use std::alloc::Global;
-use std::process::Abort;
 use std::test::Fail;
 
 const DAMPER: PointId = PointId(0);
@@ -21,33 +20,28 @@ fn parts(
     Ok(parts)
 }
 
-/// Supersedes transaction 1, whose only write is on the damper.
-fn supersede(rt: &impl Abort, stages: &mut Stages) {
-    assert!(rt; stages.stage(Txn(1)) == Some(Stage::Run));
-    assert!(rt; stages.owner(Txn(1)) == Some(OWNER));
-    assert!(rt; stages.part(Txn(1), 0) == Some((DAMPER, Priority(8))));
-    assert!(rt; stages.part(Txn(1), 1) == None);
-    assert!(rt; stages.end_of(Txn(1), LAMP) == PartEnd::NotInTxn);
-    assert!(rt; stages.end_of(Txn(1), DAMPER) == PartEnd::Live);
-    let cause = Cause::Superseded { by: Txn(2) };
-    stages.lease_ended(Txn(1), DAMPER, cause, 2000, false);
-    assert!(rt; stages.stage(Txn(1)) == Some(Stage::Done));
-    assert!(rt;
-        stages.end_of(Txn(1), DAMPER)
-            == PartEnd::Ended {
-                cause: Cause::Superseded { by: Txn(2) },
-                at: 2000
-            }
-    );
-    assert!(rt; stages.stage(Txn(9)) == None);
-}
-
 #[test]
 fn a_superseded_transaction_is_done(rt: HostRuntime) -> Result<(), Fail> {
     let mut stages = Stages::new(rt.alloc(), 4)?;
     let parts = parts(rt.alloc(), &[(DAMPER, Priority(8))])?;
     stages.begin(rt.alloc(), Txn(1), OWNER, Policy::Abort, &parts)?;
-    supersede(&rt, &mut stages);
+    assert_eq!(rt; stages.stage(Txn(1)), Some(Stage::Run));
+    assert_eq!(rt; stages.owner(Txn(1)), Some(OWNER));
+    assert_eq!(rt; stages.part(Txn(1), 0), Some((DAMPER, Priority(8))));
+    assert_eq!(rt; stages.part(Txn(1), 1), None);
+    assert_eq!(rt; stages.end_of(Txn(1), LAMP), PartEnd::NotInTxn);
+    assert_eq!(rt; stages.end_of(Txn(1), DAMPER), PartEnd::Live);
+    let cause = Cause::Superseded { by: Txn(2) };
+    stages.lease_ended(Txn(1), DAMPER, cause, 2000, false);
+    assert_eq!(rt; stages.stage(Txn(1)), Some(Stage::Done));
+    assert_eq!(rt;
+        stages.end_of(Txn(1), DAMPER),
+        PartEnd::Ended {
+            cause: Cause::Superseded { by: Txn(2) },
+            at: 2000
+        }
+    );
+    assert_eq!(rt; stages.stage(Txn(9)), None);
     Ok(())
 }
 
