@@ -74,6 +74,12 @@ impl FailingKeeper {
         self.taken.slice()
     }
 
+    /// The same calls, once nothing more is to be done.
+    pub fn into_taken(self) -> Items<Taken> {
+        let FailingKeeper { taken, .. } = self;
+        taken
+    }
+
     /// Notes a call.
     fn note(&mut self, call: Taken)
         ensures unkept { self.new.unkept ≡ self.old.unkept }

@@ -4,5 +4,7 @@
 
 mod keeper;
 mod stepping;
+mod trial;
 
 pub use keeper::{FailingKeeper, Taken};
+pub use trial::{Trial, run_trial};

@@ -3,18 +3,22 @@
 ghost use Rattle.std.specs.Prelude.{◌≡◌};
 ghost use Rattle.boss_model.specs.Catalogue.{actuators};
 
-use crate::machine::{
-    ALL, GOOD, Machine, answer, call, has_done, joined, moments, replies_to, three_points,
-};
+use crate::asking::{ALL, GOOD, Machine, prepare};
+use crate::connection::{Connection, NONE_FAILS};
+use crate::outside::{Own, call};
+use crate::pieces::Piece;
+use crate::texts::{compare, joined, tell_end};
 use boss_drive::drive;
 use boss_expiry::WorkEnd;
-use boss_model::{Command, DriverId, SessionId};
+use boss_model::{DriverId, NoMemory, SessionId};
 use boss_outside::{DeviceCall, SimActuators};
 use boss_points::Catalogue;
-use boss_shared::{Desk, Manager};
-use boss_workers::{ListClock, TurnWaiter, Waiter};
-use std::alloc::Global;
-use std::process::Abort;
+use boss_sessions::serve_connection;
+use boss_shared::Desk;
+use boss_shared_keeper::{Trial, run_trial};
+use boss_trials::THREE_POINTS;
+use std::alloc::{AllocError, Global};
+use std::sync::Wait;
 use std::test::Fail;
 
 /// Turns of the driver.
@@ -26,28 +30,21 @@ struct Turns {
     turns: u64,
     /// How many pauses say that the worker is to go on.
     going: u64,
-    pauses: u64,
-    closed: bool,
-    end: WorkEnd,
 }
 
-/// The driver's turns, and between the first and the second of them what sessions have done; what fails, and what the devices are
-/// told.
+/// The driver's turns, and between the first and the second of them what sessions have done; what fails; and what a session asks at the
+/// end. Then what is told: each call of a device, how the first turns and the others ended, and what the session is answered.
 #[derive(Drop)]
 struct Drive {
     shows: &'static str,
     machine: Machine,
-    /// Whether another session has met a fault of the disk before.
-    broken: bool,
     /// The number of the write that fails, from 1; 0 is none.
     write: u64,
     first: Turns,
     lines: &'static [&'static str],
     then: Turns,
-    /// Each call of a device, in order.
-    calls: &'static [&'static str],
-    /// What a session asks at the end, at this moment, and what it is told.
     asks: &'static [&'static str],
+    /// The moment at which it asks.
     at: u32,
     told: &'static [&'static str],
 }
@@ -58,32 +55,39 @@ const OPENING: Turns = Turns {
     reading: 0,
     turns: 4,
     going: 8,
-    pauses: 1,
-    closed: false,
-    end: WorkEnd::Finished,
 };
 
 const NO_TURN: Turns = Turns {
     turns: 0,
-    pauses: 0,
     ..OPENING
 };
+
+const DAMPER: &str = "ahu1.damper 20000 ok";
+
+const LAMP: &str = "lamp 0 ok";
+
+const FAN: &str = "fan 1 ok";
+
+const DONE: &str = "Finished; pauses: 1";
+
+const NONE_DONE: &str = "Finished; pauses: 0";
 
 const OPENED: Drive = Drive {
     shows: "the opening",
     machine: GOOD,
-    broken: false,
     write: 0,
     first: OPENING,
     lines: &[],
     then: NO_TURN,
-    calls: &["ahu1.damper 20000 ok", "lamp 0 ok", "fan 1 ok"],
     asks: &[],
     at: 0,
-    told: &[],
+    told: &[DAMPER, LAMP, FAN, DONE, NONE_DONE],
 };
 
 const ATTACH: &str = r#"{"op":"attach","process":"a"}"#;
+
+const ONE_WRITE: &str =
+    r#"{"at":1000,"op":"submit","writes":[{"point":"ahu1.damper","value":45000,"priority":8,"lease":60000}]}"#;
 
 const TWO_WRITES: &str =
     r#"{"at":1000,"op":"submit","writes":[{"point":"ahu1.damper","value":45000,"priority":8,"lease":60000,"revert":[[30000,5000]]},{"point":"lamp","value":1,"priority":8,"lease":60000}]}"#;
@@ -91,14 +95,11 @@ const TWO_WRITES: &str =
 const KEPT_WRITES: &str =
     r#"{"at":1000,"op":"submit","policy":"keep","writes":[{"point":"ahu1.damper","value":45000,"priority":8,"lease":60000},{"point":"lamp","value":1,"priority":8,"lease":60000}]}"#;
 
-const ONE_WRITE: &str =
-    r#"{"at":1000,"op":"submit","writes":[{"point":"ahu1.damper","value":45000,"priority":8,"lease":60000}]}"#;
-
 const NOTICES: &str = r#"{"op":"notices","process":"a"}"#;
 
 const READ_LAMP: &str = r#"{"op":"read","point":"lamp"}"#;
 
-const RUNS: [Drive; 12] = [
+const RUNS: &[Drive] = &[
     OPENED,
     Drive {
         shows: "a device that fails aborts its transaction",
@@ -109,18 +110,18 @@ const RUNS: [Drive; 12] = [
             turns: 5,
             ..OPENING
         },
-        calls: &[
-            "ahu1.damper 20000 ok",
-            "lamp 0 ok",
-            "fan 1 ok",
+        asks: &[NOTICES],
+        at: 1000,
+        told: &[
+            DAMPER,
+            LAMP,
+            FAN,
             "ahu1.damper 45000 ok",
             "lamp 1 failed",
             "ahu1.damper 30000 ok",
             "lamp 0 ok",
-        ],
-        asks: &[NOTICES],
-        at: 1000,
-        told: &[
+            DONE,
+            DONE,
             r#"{"ok":"notices","first":1,"next":4,"list":[{"n":1,"at":1000,"txn":1,"kind":"fault","point":"lamp"},{"n":2,"at":1000,"txn":1,"kind":"ended","point":"ahu1.damper","cause":"fault"},{"n":3,"at":1000,"txn":1,"kind":"ended","point":"lamp","cause":"fault"}]}"#,
         ],
         ..OPENED
@@ -134,22 +135,22 @@ const RUNS: [Drive; 12] = [
             turns: 3,
             ..OPENING
         },
-        calls: &[
-            "ahu1.damper 20000 ok",
-            "lamp 0 ok",
-            "fan 1 ok",
-            "ahu1.damper 45000 failed",
-            "ahu1.damper 20000 ok",
-        ],
         asks: &[NOTICES],
         at: 1000,
         told: &[
+            DAMPER,
+            LAMP,
+            FAN,
+            "ahu1.damper 45000 failed",
+            "ahu1.damper 20000 ok",
+            DONE,
+            DONE,
             r#"{"ok":"notices","first":1,"next":4,"list":[{"n":1,"at":1000,"txn":1,"kind":"fault","point":"ahu1.damper"},{"n":2,"at":1000,"txn":1,"kind":"ended","point":"ahu1.damper","cause":"fault"},{"n":3,"at":1000,"txn":1,"kind":"done"}]}"#,
         ],
         ..OPENED
     },
     Drive {
-        shows: "a device that fails is not told again within five seconds",
+        shows: "a device that fails is not told again within five seconds, where the transaction is kept",
         write: 5,
         lines: &[ATTACH, KEPT_WRITES],
         then: Turns {
@@ -157,16 +158,16 @@ const RUNS: [Drive; 12] = [
             turns: 3,
             ..OPENING
         },
-        calls: &[
-            "ahu1.damper 20000 ok",
-            "lamp 0 ok",
-            "fan 1 ok",
-            "ahu1.damper 45000 ok",
-            "lamp 1 failed",
-        ],
         asks: &[NOTICES, READ_LAMP],
         at: 5999,
         told: &[
+            DAMPER,
+            LAMP,
+            FAN,
+            "ahu1.damper 45000 ok",
+            "lamp 1 failed",
+            DONE,
+            DONE,
             r#"{"ok":"notices","first":1,"next":2,"list":[{"n":1,"at":1000,"txn":1,"kind":"fault","point":"lamp"}]}"#,
             r#"{"ok":"read","point":"lamp","value":1,"from":"lease","priority":8,"txn":1,"mark":"failed"}"#,
         ],
@@ -181,17 +182,17 @@ const RUNS: [Drive; 12] = [
             turns: 4,
             ..OPENING
         },
-        calls: &[
-            "ahu1.damper 20000 ok",
-            "lamp 0 ok",
-            "fan 1 ok",
-            "ahu1.damper 45000 ok",
-            "lamp 1 failed",
-            "lamp 1 ok",
-        ],
         asks: &[READ_LAMP],
         at: 6000,
         told: &[
+            DAMPER,
+            LAMP,
+            FAN,
+            "ahu1.damper 45000 ok",
+            "lamp 1 failed",
+            "lamp 1 ok",
+            DONE,
+            DONE,
             r#"{"ok":"read","point":"lamp","value":1,"from":"lease","priority":8,"txn":1,"mark":"settled"}"#,
         ],
         ..OPENED
@@ -201,65 +202,52 @@ const RUNS: [Drive; 12] = [
         first: Turns {
             turns: 6,
             going: 0,
-            closed: true,
-            end: WorkEnd::Closed,
             ..OPENING
         },
+        told: &[
+            DAMPER,
+            LAMP,
+            FAN,
+            "Closed; pauses: 1; told to end",
+            NONE_DONE,
+        ],
         ..OPENED
     },
     Drive {
         shows: "the first reading fails",
         first: Turns {
             reading: 1,
-            pauses: 0,
-            end: WorkEnd::ClockFault,
             ..OPENING
         },
-        calls: &[],
+        told: &["ClockFault; pauses: 0", NONE_DONE],
         ..OPENED
     },
     Drive {
         shows: "the reading for a report fails, behind its write",
         first: Turns {
             reading: 4,
-            pauses: 0,
-            end: WorkEnd::ClockFault,
             ..OPENING
         },
-        calls: &["ahu1.damper 20000 ok", "lamp 0 ok"],
+        told: &[DAMPER, LAMP, "ClockFault; pauses: 0", NONE_DONE],
         ..OPENED
     },
     Drive {
         shows: "the disk fails where a want is asked for",
         machine: Machine {
             good_calls: 2,
-            fed: ALL,
+            ..GOOD
         },
-        first: Turns {
-            pauses: 0,
-            end: WorkEnd::DiskFault,
-            ..OPENING
-        },
-        calls: &["ahu1.damper 20000 ok"],
+        told: &[DAMPER, "DiskFault; pauses: 0", NONE_DONE],
         ..OPENED
     },
     Drive {
         shows: "the disk fails at a report, and has failed for the next turns",
         machine: Machine {
             good_calls: 3,
-            fed: ALL,
+            ..GOOD
         },
-        first: Turns {
-            pauses: 0,
-            end: WorkEnd::DiskFault,
-            ..OPENING
-        },
-        then: Turns {
-            pauses: 0,
-            end: WorkEnd::Stopped,
-            ..OPENING
-        },
-        calls: &["ahu1.damper 20000 ok", "lamp 0 ok"],
+        then: OPENING,
+        told: &[DAMPER, LAMP, "DiskFault; pauses: 0", "Stopped; pauses: 0"],
         ..OPENED
     },
     Drive {
@@ -267,128 +255,171 @@ const RUNS: [Drive; 12] = [
         machine: Machine {
             good_calls: 0,
             fed: ALL,
+            broken: true,
         },
-        broken: true,
-        first: Turns {
-            pauses: 0,
-            end: WorkEnd::Stopped,
-            ..OPENING
-        },
-        calls: &[],
+        told: &["Stopped; pauses: 0", NONE_DONE],
         ..OPENED
     },
     Drive {
         shows: "no memory is wanted",
-        machine: Machine {
-            good_calls: ALL,
-            fed: 0,
-        },
+        machine: Machine { fed: 0, ..GOOD },
         ..OPENED
     },
 ];
 
-/// Takes turns, and compares how they end.
-fn take<R: Abort, G: Desk>(
-    rt: &R,
+/// Turns of a driver that are to be taken.
+#[derive(Drop)]
+struct Driving<'a> {
     alloc: Global,
+    run: &'a Drive,
+    devices: SimActuators,
+    first: Own,
+    then: Own,
+    question: Connection<'a>,
+}
+
+/// How the turns ended, unless what comes before them did not go as it is to.
+#[derive(Drop)]
+struct Driven {
+    first: Option<WorkEnd>,
+    then: Option<WorkEnd>,
+}
+
+/// Takes turns.
+fn take<G: Desk>(
     desk: &G,
     pass: &mut G::Pass,
     devices: &mut SimActuators,
-    turns: &Turns,
-    shows: &str,
-) -> Result<(), Fail>
+    own: &mut Own,
+    turns: u64,
+) -> Option<WorkEnd>
     requires own { G.owns desk.now pass.old }
     ensures own { G.owns desk.now pass.new }
     ensures parts { G.parts pass.new ≡ G.parts pass.old }
 {
-    let mut clock = ListClock::new(
-        alloc,
-        moments(alloc, turns.moments)?,
-        call(alloc, turns.reading)?,
-    )?;
-    let mut waiter = TurnWaiter::new(alloc, turns.going)?;
-    let mut part = waiter.split(alloc)?;
-    let end = drive(
+    Some(drive(
         desk,
         pass,
         DriverId(0),
         devices,
-        &mut clock,
-        &mut part,
-        turns.turns,
-    );
-    assert_eq!(rt; end, turns.end, "{shows}");
-    waiter.join(part);
-    let waits = waiter.waits(alloc)?;
-    assert_eq!(rt; waits.len(), 1);
-    assert_eq!(rt; *waits[0], (turns.pauses, turns.closed), "{shows}");
-    Ok(())
+        &mut own.clock,
+        &mut own.waiter,
+        turns,
+    ))
 }
 
-/// Drives the devices, and compares what the sessions and the devices are told.
-fn run_over<R: Abort, G: Desk>(
+impl Trial for Driving<'_> {
+    type Told = Driven;
+
+    fn run<G: Desk>(&mut self, catalogue: &Catalogue, desk: &G, pass: &mut G::Pass) -> Driven {
+        let alloc = self.alloc;
+        let run = self.run;
+        let mut driven = Driven {
+            first: None,
+            then: None,
+        };
+        if prepare(alloc, catalogue, desk, pass, &[], run.machine.broken) {
+            let devices = &mut self.devices;
+            driven.first = take(desk, pass, devices, &mut self.first, run.first.turns);
+        }
+        if prepare(alloc, catalogue, desk, pass, run.lines, false) {
+            let devices = &mut self.devices;
+            driven.then = take(desk, pass, devices, &mut self.then, run.then.turns);
+        }
+        let _ = serve_connection(
+            alloc,
+            desk,
+            pass,
+            catalogue,
+            SessionId(9),
+            &mut self.question.source,
+            &mut self.question.sink,
+            &mut self.question.clock,
+        );
+        driven
+    }
+}
+
+/// The name of a point.
+fn name_of(point: u32) -> &'static str {
+    match point {
+        0 => "ahu1.damper",
+        1 => "lamp",
+        _ => "fan",
+    }
+}
+
+/// Tells of each call of a device.
+fn calls_of(alloc: Global, calls: &[DeviceCall]) -> Result<String, AllocError> {
+    let mut text = String::new(alloc);
+    for call in calls {
+        let taken = if call.ok { "ok" } else { "failed" };
+        writeln!(text, "{} {} {taken}", name_of(call.point.0), call.value)?;
+    }
+    Ok(text)
+}
+
+/// Tells of the calls, how the turns ended, and what the session was answered.
+fn tell(alloc: Global, driving: Driving<'_>, driven: Driven) -> Result<String, Fail> {
+    let mut text = calls_of(alloc, driving.devices.calls())?;
+    tell_end(alloc, &mut text, driven.first, driving.first.waiter)?;
+    tell_end(alloc, &mut text, driven.then, driving.then.waiter)?;
+    text.push_str(std::str::from_utf8(driving.question.sink.taken())?)?;
+    Ok(text)
+}
+
+/// The turns of a run, and the question behind them.
+fn ready_to_drive<'a>(
+    alloc: Global,
+    run: &'a Drive,
+    asks: &'a str,
+) -> Result<Driving<'a>, NoMemory> {
+    let devices = SimActuators::new(alloc, call(alloc, run.write)?)?;
+    let first = own_of(alloc, &run.first)?;
+    let then = own_of(alloc, &run.then)?;
+    match Connection::new(alloc, asks, Piece::Whole, &[run.at], NONE_FAILS) {
+        Ok(question) => Ok(Driving {
+            alloc,
+            run,
+            devices,
+            first,
+            then,
+            question,
+        }),
+        Err(none) => Err(none),
+    }
+}
+
+/// What the turns are taken by.
+fn own_of(alloc: Global, turns: &Turns) -> Result<Own, NoMemory> {
+    Own::new(alloc, turns.moments, turns.reading, turns.going)
+}
+
+/// Drives over a machine of its own.
+fn drive_over<R: Wait + Sync>(
     rt: &R,
     alloc: Global,
     catalogue: &Catalogue,
-    desk: &G,
-    pass: &mut G::Pass,
     run: &Drive,
-) -> Result<(), Fail>
-    requires own { G.owns desk.now pass.old }
-    requires plant { actuators catalogue.now ≡ G.plant desk.now }
-    ensures own { G.owns desk.now pass.new }
-    ensures parts { G.parts pass.new ≡ G.parts pass.old }
-{
-    let mut devices = SimActuators::new(alloc, call(alloc, run.write)?)?;
-    if run.broken {
-        let early = answer(desk, pass, SessionId(2), &Command::Tick, 0);
-        assert!(rt; early.is_none(), "{}", run.shows);
-    }
-    take(rt, alloc, desk, pass, &mut devices, &run.first, run.shows)?;
-    assert!(rt;
-        has_done(alloc, catalogue, desk, pass, run.lines),
-        "{}",
-        run.shows
-    );
-    take(rt, alloc, desk, pass, &mut devices, &run.then, run.shows)?;
-    compare_calls(rt, alloc, devices.calls(), run)?;
-    let replies = replies_to(alloc, catalogue, desk, pass, run.asks, run.at)?;
-    let told = joined(alloc, run.told)?;
-    assert_eq!(rt; replies.taken(), told.as_bytes(), "{}", run.shows);
-    Ok(())
-}
-
-fn compare_calls(
-    rt: &impl Abort,
-    alloc: Global,
-    calls: &[DeviceCall],
-    run: &Drive,
-) -> Result<(), Fail> {
-    assert_eq!(rt; calls.len(), run.calls.len(), "{}", run.shows);
-    for (made, wanted) in calls.iter().zip(run.calls) {
-        let name = match made.point.0 {
-            0 => "ahu1.damper",
-            1 => "lamp",
-            _ => "fan",
-        };
-        let taken = if made.ok { "ok" } else { "failed" };
-        let call = format!(in alloc; "{name} {} {taken}", made.value)?;
-        assert_eq!(rt; call.as_str(), *wanted, "{}", run.shows);
-    }
-    Ok(())
+) -> Result<String, Fail> {
+    let asks = joined(alloc, run.asks)?;
+    let mut driving = ready_to_drive(alloc, run, asks.as_str())?;
+    let Machine {
+        good_calls,
+        fed,
+        ..
+    } = run.machine;
+    let (driven, _) = run_trial(rt, alloc, catalogue, good_calls, fed, &mut driving)?;
+    tell(alloc, driving, driven)
 }
 
 #[test]
 fn devices_are_driven_as_it_was_worked_out(rt: HostRuntime) -> Result<(), Fail> {
     let alloc = rt.alloc();
-    for run in &RUNS {
-        let (catalogue, keeper) = three_points(alloc, run.machine)?;
-        let Ok((manager, mut pass)) = Manager::new(&rt, alloc, keeper, 1) else {
-            return Err(Fail::new("no memory"));
-        };
-        let ran = run_over(&rt, alloc, &catalogue, &manager, &mut pass, run);
-        let _ = manager.close(pass);
-        ran?;
+    let catalogue = Catalogue::read(alloc, THREE_POINTS.as_bytes())?;
+    for run in RUNS {
+        let told = drive_over(&rt, alloc, &catalogue, run)?;
+        compare(&rt, alloc, told.as_str(), run.told, run.shows)?;
     }
     Ok(())
 }

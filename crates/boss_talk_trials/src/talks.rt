@@ -3,15 +3,16 @@
 ghost use Rattle.std.specs.Prelude.{◌≡◌};
 ghost use Rattle.boss_model.specs.Catalogue.{actuators};
 
-use crate::machine::{ALL, GOOD, Machine, answer, call, joined, moments, process_a, three_points};
-use crate::pieces::{Piece, Pieces};
-use boss_model::{Answer, Command, SessionId};
-use boss_outside::BytesSink;
+use crate::asking::{ALL, GOOD, Machine, is_line_done, prepare};
+use crate::connection::{Connection, Fails, NONE_FAILS};
+use crate::pieces::Piece;
+use crate::texts::{compare, joined};
+use boss_model::SessionId;
 use boss_points::Catalogue;
 use boss_sessions::{SessionEnd, serve_connection};
-use boss_shared::{Desk, Manager};
-use boss_shared_keeper::Taken;
-use boss_workers::ListClock;
+use boss_shared::Desk;
+use boss_shared_keeper::{Taken, Trial, run_trial};
+use boss_trials::THREE_POINTS;
 use std::alloc::{AllocError, Global};
 use std::process::Abort;
 use std::sync::Wait;
@@ -50,7 +51,14 @@ const MEMORY: &str = r#"{"error":"memory"}"#;
 
 const STOPPED: &str = r#"{"error":"stopped"}"#;
 
-/// What comes on a connection of session 1 and how, what fails, and what then goes out, is called and ends it.
+/// An attach of the same process by another session.
+const ATTACH_AGAIN: &str = r#"{"on":9,"op":"attach","process":"a"}"#;
+
+const ENDED: &str = "End; bytes left: 0; a is free";
+
+/// What comes on a connection of session 1 and how, and what fails. Then what is told: what goes out, how the session ends, how much is
+/// left in the source and whether its process is free; and of each call in which the disk did not fail how many commands it had and
+/// the moment of the first.
 #[derive(Drop)]
 struct Talk {
     shows: &'static str,
@@ -59,19 +67,9 @@ struct Talk {
     rest: usize,
     piece: Piece,
     moments: &'static [u32],
-    /// The number of the read, of the write and of the reading of the clock that fails, from 1; 0 is none.
-    read: u64,
-    write: u64,
-    reading: u64,
+    fails: Fails,
     machine: Machine,
-    /// Whether another session has met a fault of the disk before.
-    broken: bool,
-    replies: &'static [&'static str],
-    /// How many commands each call has, in which the disk does not fail, and the moment of the first of them.
-    calls: &'static [(usize, u64)],
-    end: &'static str,
-    /// How many bytes are left in the source.
-    left: usize,
+    told: &'static [&'static str],
 }
 
 /// An attach, a submit and a read in one read, the clock standing still.
@@ -81,54 +79,64 @@ const ONE_PIECE: Talk = Talk {
     rest: 0,
     piece: Piece::Whole,
     moments: &[1000],
-    read: 0,
-    write: 0,
-    reading: 0,
+    fails: NONE_FAILS,
     machine: GOOD,
-    broken: false,
-    replies: &[ATTACHED, ACCEPTED, HELD],
-    calls: &[(3, 1000), (1, 1000)],
-    end: "End",
-    left: 0,
-};
-
-/// A read of the damper alone.
-const ONE_READ: Talk = Talk {
-    shows: "no attach",
-    lines: &[READ],
-    replies: &[FREE],
-    calls: &[(1, 1000)],
-    ..ONE_PIECE
+    told: &[ATTACHED, ACCEPTED, HELD, ENDED, "3 at 1000", "1 at 1000"],
 };
 
 /// How the lines come.
-const PIECES: [Talk; 8] = [
+const PIECES: &[Talk] = &[
     ONE_PIECE,
     Talk {
         shows: "three pieces",
         piece: Piece::Line,
-        calls: &[(1, 1000), (1, 1000), (1, 1000), (1, 1000)],
+        told: &[
+            ATTACHED,
+            ACCEPTED,
+            HELD,
+            ENDED,
+            "1 at 1000",
+            "1 at 1000",
+            "1 at 1000",
+            "1 at 1000",
+        ],
         ..ONE_PIECE
     },
     Talk {
         shows: "one byte a read",
         piece: Piece::Byte,
-        calls: &[(1, 1000), (1, 1000), (1, 1000), (1, 1000)],
+        told: &[
+            ATTACHED,
+            ACCEPTED,
+            HELD,
+            ENDED,
+            "1 at 1000",
+            "1 at 1000",
+            "1 at 1000",
+            "1 at 1000",
+        ],
         ..ONE_PIECE
     },
     Talk {
         shows: "each line has a moment of its own, and the last one is that of the loss",
         moments: &[1000, 2000, 500],
         piece: Piece::Line,
-        replies: &[ATTACHED, ACCEPTED_LATER, HELD],
-        calls: &[(1, 1000), (1, 2000), (1, 500), (1, 500)],
+        told: &[
+            ATTACHED,
+            ACCEPTED_LATER,
+            HELD,
+            ENDED,
+            "1 at 1000",
+            "1 at 2000",
+            "1 at 500",
+            "1 at 500",
+        ],
         ..ONE_PIECE
     },
     Talk {
         shows: "a blank line ends no batch",
         lines: &[READ, "  ", READ],
-        replies: &[FREE, FREE],
-        calls: &[(2, 1000)],
+        told: &[FREE, FREE, ENDED, "2 at 1000"],
         ..ONE_PIECE
     },
     Talk {
@@ -137,55 +145,69 @@ const PIECES: [Talk; 8] = [
             READ, READ, READ, READ, READ, READ, READ, READ, READ, READ, READ, READ, READ, READ,
             READ, READ, READ,
         ],
-        replies: &[
-            FREE, FREE, FREE, FREE, FREE, FREE, FREE, FREE, FREE, FREE, FREE, FREE, FREE, FREE,
-            FREE, FREE, FREE,
+        told: &[
+            FREE,
+            FREE,
+            FREE,
+            FREE,
+            FREE,
+            FREE,
+            FREE,
+            FREE,
+            FREE,
+            FREE,
+            FREE,
+            FREE,
+            FREE,
+            FREE,
+            FREE,
+            FREE,
+            FREE,
+            ENDED,
+            "16 at 1000",
+            "1 at 1000",
         ],
-        calls: &[(16, 1000), (1, 1000)],
         ..ONE_PIECE
     },
-    ONE_READ,
+    Talk {
+        shows: "no attach",
+        lines: &[READ],
+        told: &[FREE, ENDED, "1 at 1000"],
+        ..ONE_PIECE
+    },
     Talk {
         shows: "no line",
         lines: &[],
-        replies: &[],
-        calls: &[],
+        told: &[ENDED],
         ..ONE_PIECE
     },
 ];
 
 /// Lines that are no commands.
-const OTHER_LINES: [Talk; 6] = [
+const OTHER_LINES: &[Talk] = &[
     Talk {
         shows: "a first line that watches has no reply, and the others are not read",
         lines: &[WATCH, READ, READ],
         piece: Piece::Line,
-        replies: &[],
-        calls: &[],
-        end: "Watch a from 1",
-        left: 72,
+        told: &["watches a from 1; bytes left: 72; a is free"],
         ..ONE_PIECE
     },
     Talk {
         shows: "a blank line is not the first",
         lines: &["\t", WATCH_FROM_3],
-        replies: &[],
-        calls: &[],
-        end: "Watch a from 3",
+        told: &["watches a from 3; bytes left: 0; a is free"],
         ..ONE_PIECE
     },
     Talk {
         shows: "a later line that watches",
         lines: &[READ, WATCH],
-        replies: &[FREE, UNKNOWN_OP],
-        calls: &[(1, 1000)],
+        told: &[FREE, UNKNOWN_OP, ENDED, "1 at 1000"],
         ..ONE_PIECE
     },
     Talk {
         shows: "a line between two reads that asks nothing",
         lines: &[READ, "{}", READ],
-        replies: &[FREE, MALFORMED, FREE],
-        calls: &[(1, 1000), (1, 1000)],
+        told: &[FREE, MALFORMED, FREE, ENDED, "1 at 1000", "1 at 1000"],
         ..ONE_PIECE
     },
     Talk {
@@ -195,140 +217,237 @@ const OTHER_LINES: [Talk; 6] = [
             READ,
         ],
         rest: 65_536,
-        replies: &[
-            FREE, FREE, FREE, FREE, FREE, FREE, FREE, FREE, FREE, FREE, FREE, FREE, FREE, FREE,
-            FREE, TOO_LONG,
+        told: &[
+            FREE,
+            FREE,
+            FREE,
+            FREE,
+            FREE,
+            FREE,
+            FREE,
+            FREE,
+            FREE,
+            FREE,
+            FREE,
+            FREE,
+            FREE,
+            FREE,
+            FREE,
+            TOO_LONG,
+            "TooLong; bytes left: 0; a is free",
+            "15 at 1000",
         ],
-        calls: &[(15, 1000)],
-        end: "TooLong",
         ..ONE_PIECE
     },
     Talk {
         shows: "a rest without a line end is a line",
         rest: 1,
-        replies: &[ATTACHED, ACCEPTED, HELD, MALFORMED],
+        told: &[
+            ATTACHED,
+            ACCEPTED,
+            HELD,
+            MALFORMED,
+            ENDED,
+            "3 at 1000",
+            "1 at 1000",
+        ],
         ..ONE_PIECE
     },
 ];
 
 /// Reads, writes and readings of the clock that fail.
-const FAULTS: [Talk; 10] = [
+const FAULTS: &[Talk] = &[
     Talk {
         shows: "the second of three reads fails",
         piece: Piece::Line,
-        read: 2,
-        replies: &[ATTACHED],
-        calls: &[(1, 1000), (1, 1000)],
-        end: "ReadFault",
-        left: 128,
+        fails: Fails {
+            read: 2,
+            ..NONE_FAILS
+        },
+        told: &[
+            ATTACHED,
+            "ReadFault; bytes left: 128; a is free",
+            "1 at 1000",
+            "1 at 1000",
+        ],
         ..ONE_PIECE
     },
     Talk {
         shows: "the first read fails",
-        read: 1,
-        replies: &[],
-        calls: &[],
-        end: "ReadFault",
-        left: 158,
+        fails: Fails {
+            read: 1,
+            ..NONE_FAILS
+        },
+        told: &["ReadFault; bytes left: 158; a is free"],
         ..ONE_PIECE
     },
     Talk {
         shows: "the first write fails, and all are done",
-        write: 1,
-        replies: &[],
-        end: "WriteFault",
+        fails: Fails {
+            write: 1,
+            ..NONE_FAILS
+        },
+        told: &[
+            "WriteFault; bytes left: 0; a is free",
+            "3 at 1000",
+            "1 at 1000",
+        ],
         ..ONE_PIECE
     },
     Talk {
         shows: "the second write fails, and all are done",
-        write: 2,
-        replies: &[ATTACHED],
-        end: "WriteFault",
+        fails: Fails {
+            write: 2,
+            ..NONE_FAILS
+        },
+        told: &[
+            ATTACHED,
+            "WriteFault; bytes left: 0; a is free",
+            "3 at 1000",
+            "1 at 1000",
+        ],
         ..ONE_PIECE
     },
     Talk {
         shows: "the third write fails, and all are done",
-        write: 3,
-        replies: &[ATTACHED, ACCEPTED],
-        end: "WriteFault",
+        fails: Fails {
+            write: 3,
+            ..NONE_FAILS
+        },
+        told: &[
+            ATTACHED,
+            ACCEPTED,
+            "WriteFault; bytes left: 0; a is free",
+            "3 at 1000",
+            "1 at 1000",
+        ],
+        ..ONE_PIECE
+    },
+    Talk {
+        shows: "the second write fails, and the line behind is not read",
+        piece: Piece::Line,
+        fails: Fails {
+            write: 2,
+            ..NONE_FAILS
+        },
+        told: &[
+            ATTACHED,
+            "WriteFault; bytes left: 36; a is free",
+            "1 at 1000",
+            "1 at 1000",
+            "1 at 1000",
+        ],
         ..ONE_PIECE
     },
     Talk {
         shows: "a reply to a line that asks nothing fails",
         lines: &["{}", READ],
-        write: 1,
-        replies: &[],
-        calls: &[],
-        end: "WriteFault",
+        fails: Fails {
+            write: 1,
+            ..NONE_FAILS
+        },
+        told: &["WriteFault; bytes left: 0; a is free"],
         ..ONE_PIECE
     },
     Talk {
         shows: "the first reading fails, and nothing is called",
-        reading: 1,
-        replies: &[],
-        calls: &[],
-        end: "ClockFault",
+        fails: Fails {
+            reading: 1,
+            ..NONE_FAILS
+        },
+        told: &["ClockFault; bytes left: 0; a is free"],
         ..ONE_PIECE
     },
     Talk {
         shows: "the second reading fails, and what is held is done",
-        reading: 2,
-        replies: &[ATTACHED],
-        calls: &[(1, 1000), (1, 1000)],
-        end: "ClockFault",
+        fails: Fails {
+            reading: 2,
+            ..NONE_FAILS
+        },
+        told: &[
+            ATTACHED,
+            "ClockFault; bytes left: 0; a is free",
+            "1 at 1000",
+            "1 at 1000",
+        ],
         ..ONE_PIECE
     },
     Talk {
         shows: "the third reading fails, and what is held is done",
-        reading: 3,
-        replies: &[ATTACHED, ACCEPTED],
-        calls: &[(2, 1000), (1, 1000)],
-        end: "ClockFault",
+        fails: Fails {
+            reading: 3,
+            ..NONE_FAILS
+        },
+        told: &[
+            ATTACHED,
+            ACCEPTED,
+            "ClockFault; bytes left: 0; a is free",
+            "2 at 1000",
+            "1 at 1000",
+        ],
+        ..ONE_PIECE
+    },
+    Talk {
+        shows: "the second reading fails, for a line that came alone",
+        piece: Piece::Line,
+        fails: Fails {
+            reading: 2,
+            ..NONE_FAILS
+        },
+        told: &[
+            ATTACHED,
+            "ClockFault; bytes left: 36; a is free",
+            "1 at 1000",
+            "1 at 1000",
+        ],
         ..ONE_PIECE
     },
     Talk {
         shows: "a clock that failed goes before a write that did",
-        write: 1,
-        reading: 3,
-        replies: &[],
-        calls: &[(2, 1000), (1, 1000)],
-        end: "ClockFault",
+        fails: Fails {
+            write: 1,
+            reading: 3,
+            ..NONE_FAILS
+        },
+        told: &[
+            "ClockFault; bytes left: 0; a is free",
+            "2 at 1000",
+            "1 at 1000",
+        ],
         ..ONE_PIECE
     },
 ];
 
 /// A disk that fails, and memory that is wanting.
-const MACHINES: [Talk; 6] = [
+const MACHINES: &[Talk] = &[
     Talk {
         shows: "no memory for the second of three",
-        machine: Machine {
-            good_calls: ALL,
-            fed: 1,
-        },
-        replies: &[ATTACHED, MEMORY, FREE],
-        calls: &[(3, 1000), (1, 1000), (1, 1000)],
+        machine: Machine { fed: 1, ..GOOD },
+        told: &[
+            ATTACHED,
+            MEMORY,
+            FREE,
+            ENDED,
+            "3 at 1000",
+            "1 at 1000",
+            "1 at 1000",
+        ],
         ..ONE_PIECE
     },
     Talk {
         shows: "no memory for an attach, so that nobody is lost",
         lines: &[ATTACH, READ],
-        machine: Machine {
-            good_calls: ALL,
-            fed: 0,
-        },
-        replies: &[MEMORY, FREE],
-        calls: &[(2, 1000), (1, 1000)],
+        machine: Machine { fed: 0, ..GOOD },
+        told: &[MEMORY, FREE, ENDED, "2 at 1000", "1 at 1000"],
         ..ONE_PIECE
     },
     Talk {
         shows: "the disk fails, and nothing more is said",
         machine: Machine {
             good_calls: 0,
-            fed: ALL,
+            ..GOOD
         },
-        replies: &[STOPPED],
-        calls: &[],
-        end: "DiskFault",
+        told: &[STOPPED, "DiskFault; bytes left: 0; a is not free"],
         ..ONE_PIECE
     },
     Talk {
@@ -336,11 +455,9 @@ const MACHINES: [Talk; 6] = [
         machine: Machine {
             good_calls: 0,
             fed: ALL,
+            broken: true,
         },
-        broken: true,
-        replies: &[STOPPED],
-        calls: &[],
-        end: "Stopped",
+        told: &[STOPPED, "Stopped; bytes left: 0; a is not free"],
         ..ONE_PIECE
     },
     Talk {
@@ -348,34 +465,113 @@ const MACHINES: [Talk; 6] = [
         piece: Piece::Line,
         machine: Machine {
             good_calls: 2,
-            fed: ALL,
+            ..GOOD
         },
-        replies: &[ATTACHED, ACCEPTED, STOPPED],
-        calls: &[(1, 1000), (1, 1000)],
-        end: "DiskFault",
+        told: &[
+            ATTACHED,
+            ACCEPTED,
+            STOPPED,
+            "DiskFault; bytes left: 0; a is not free",
+            "1 at 1000",
+            "1 at 1000",
+        ],
         ..ONE_PIECE
     },
     Talk {
         shows: "the disk fails where the process is told to be lost",
         machine: Machine {
             good_calls: 1,
-            fed: ALL,
+            ..GOOD
         },
-        calls: &[(3, 1000)],
-        end: "DiskFault",
+        told: &[
+            ATTACHED,
+            ACCEPTED,
+            HELD,
+            "DiskFault; bytes left: 0; a is not free",
+            "3 at 1000",
+        ],
         ..ONE_PIECE
     },
 ];
 
-/// What ended a session, in words.
-fn end_told(alloc: Global, end: &SessionEnd) -> Result<String, Fail> {
-    match end {
-        SessionEnd::Watch { name, from } => {
-            let name = std::str::from_utf8(name.bytes())?;
-            Ok(format!(in alloc; "Watch {name} from {from}")?)
+/// A connection that is to be served.
+#[derive(Drop)]
+struct Talking<'a> {
+    alloc: Global,
+    broken: bool,
+    connection: Connection<'a>,
+}
+
+/// How a session ended, and whether its process may then be attached by another.
+#[derive(Drop)]
+struct Talked {
+    end: SessionEnd,
+    free: bool,
+}
+
+impl Trial for Talking<'_> {
+    /// Nothing, where what comes before it did not go as it is to.
+    type Told = Option<Talked>;
+
+    fn run<G: Desk>(
+        &mut self,
+        catalogue: &Catalogue,
+        desk: &G,
+        pass: &mut G::Pass,
+    ) -> Option<Talked> {
+        let alloc = self.alloc;
+        if !prepare(alloc, catalogue, desk, pass, &[], self.broken) {
+            return None;
         }
-        other => Ok(format!(in alloc; "{other:?}")?),
+        let end = serve_connection(
+            alloc,
+            desk,
+            pass,
+            catalogue,
+            SessionId(1),
+            &mut self.connection.source,
+            &mut self.connection.sink,
+            &mut self.connection.clock,
+        );
+        let free = is_line_done(alloc, catalogue, desk, pass, ATTACH_AGAIN);
+        Some(Talked { end, free })
     }
+}
+
+/// Tells of each call of session 1.
+fn tell_calls(text: &mut String, taken: &[Taken]) -> Result<(), AllocError> {
+    for call in taken {
+        if call.session == SessionId(1) {
+            writeln!(text, "{} at {}", call.commands, call.moment)?;
+        }
+    }
+    Ok(())
+}
+
+/// Tells how a session ended.
+fn tell_talked(text: &mut String, talked: &Option<Talked>, left: usize) -> Result<(), AllocError> {
+    let Some(Talked { end, free }) = talked else {
+        return text.push_str("not prepared\n");
+    };
+    match end {
+        SessionEnd::Watch { name, from } => write!(text, "watches {name} from {from}")?,
+        end => write!(text, "{end:?}")?,
+    }
+    let free = if *free { "free" } else { "not free" };
+    writeln!(text, "; bytes left: {left}; a is {free}")
+}
+
+/// Tells what went out, how the session ended and what was called.
+fn tell(
+    alloc: Global,
+    connection: &Connection<'_>,
+    talked: &Option<Talked>,
+    taken: &[Taken],
+) -> Result<String, Fail> {
+    let mut text = String::from_str(alloc, std::str::from_utf8(connection.sink.taken())?)?;
+    tell_talked(&mut text, talked, connection.source.left().len())?;
+    tell_calls(&mut text, taken)?;
+    Ok(text)
 }
 
 /// The bytes that come.
@@ -387,108 +583,45 @@ fn input(alloc: Global, talk: &Talk) -> Result<String, AllocError> {
     Ok(text)
 }
 
-/// Whether the process `a` is attached to no session, unless the disk has failed.
-fn is_free<G: Desk>(rt: &impl Abort, desk: &G, pass: &mut G::Pass) -> bool
-    requires own { G.owns desk.now pass.old }
-    ensures own { G.owns desk.now pass.new }
-    ensures parts { G.parts pass.new ≡ G.parts pass.old }
-{
-    let attach = Command::Attach {
-        name: process_a(rt),
-    };
-    match answer(desk, pass, SessionId(9), &attach, 1000) {
-        None | Some(Answer::Attached { .. }) => true,
-        Some(_) => false,
-    }
-}
-
-/// Serves the connection, and compares what goes out and how it ends.
-fn serve<R: Abort, G: Desk>(
+/// Serves a text over a machine of its own.
+fn serve<R: Wait + Sync>(
     rt: &R,
     alloc: Global,
     catalogue: &Catalogue,
-    desk: &G,
-    pass: &mut G::Pass,
     talk: &Talk,
-) -> Result<(), Fail>
-    requires own { G.owns desk.now pass.old }
-    requires plant { actuators catalogue.now ≡ G.plant desk.now }
-    ensures own { G.owns desk.now pass.new }
-    ensures parts { G.parts pass.new ≡ G.parts pass.old }
-{
-    let text = input(alloc, talk)?;
-    let mut source = Pieces::new(text.as_bytes(), talk.piece, call(alloc, talk.read)?);
-    let mut sink = BytesSink::new(alloc, call(alloc, talk.write)?)?;
-    let mut clock = ListClock::new(
+    text: &str,
+) -> Result<String, Fail> {
+    let connection = Connection::new(alloc, text, talk.piece, talk.moments, talk.fails)?;
+    let Machine {
+        good_calls,
+        fed,
+        broken,
+    } = talk.machine;
+    let mut talking = Talking {
         alloc,
-        moments(alloc, talk.moments)?,
-        call(alloc, talk.reading)?,
-    )?;
-    if talk.broken {
-        let early = answer(desk, pass, SessionId(2), &Command::Tick, 0);
-        assert!(rt; early.is_none(), "{}", talk.shows);
-    }
-    let end = serve_connection(
-        alloc,
-        desk,
-        pass,
-        catalogue,
-        SessionId(1),
-        &mut source,
-        &mut sink,
-        &mut clock,
-    );
-    let replies = joined(alloc, talk.replies)?;
-    assert_eq!(rt; sink.taken(), replies.as_bytes(), "{}", talk.shows);
-    assert_eq!(rt; end_told(alloc, &end)?.as_str(), talk.end, "{}", talk.shows);
-    assert_eq!(rt; source.left().len(), talk.left, "{}", talk.shows);
-    assert!(rt; is_free(rt, desk, pass), "{}", talk.shows);
-    Ok(())
+        broken,
+        connection,
+    };
+    let (talked, taken) = run_trial(rt, alloc, catalogue, good_calls, fed, &mut talking)?;
+    tell(alloc, &talking.connection, &talked, taken.slice())
 }
 
-/// Compares the calls of session 1.
-fn compare_calls(rt: &impl Abort, alloc: Global, taken: &[Taken], talk: &Talk) -> Result<(), Fail> {
-    let mut calls = Vec::new(alloc);
-    for call in taken {
-        if call.session == SessionId(1) {
-            calls.push((call.commands, call.moment))?;
-        }
-    }
-    assert_eq!(rt; calls.as_slice(), talk.calls, "{}", talk.shows);
-    Ok(())
-}
-
-/// Serves each of these connections, over a machine of its own.
+/// Serves each of these connections, and compares what is told.
 fn serve_all<R: Abort + Wait + Sync>(rt: &R, alloc: Global, talks: &[Talk]) -> Result<(), Fail> {
+    let catalogue = Catalogue::read(alloc, THREE_POINTS.as_bytes())?;
     for talk in talks {
-        let (catalogue, keeper) = three_points(alloc, talk.machine)?;
-        let Ok((manager, mut pass)) = Manager::new(rt, alloc, keeper, 1) else {
-            return Err(Fail::new("no memory"));
-        };
-        let served = serve(rt, alloc, &catalogue, &manager, &mut pass, talk);
-        let keeper = manager.close(pass);
-        served?;
-        compare_calls(rt, alloc, keeper.taken(), talk)?;
+        let text = input(alloc, talk)?;
+        let told = serve(rt, alloc, &catalogue, talk, text.as_str())?;
+        compare(rt, alloc, told.as_str(), talk.told, talk.shows)?;
     }
     Ok(())
 }
 
 #[test]
-fn lines_are_served_however_they_come(rt: HostRuntime) -> Result<(), Fail> {
-    serve_all(&rt, rt.alloc(), &PIECES)
-}
-
-#[test]
-fn lines_that_are_no_commands_are_answered(rt: HostRuntime) -> Result<(), Fail> {
-    serve_all(&rt, rt.alloc(), &OTHER_LINES)
-}
-
-#[test]
-fn faults_outside_end_a_connection(rt: HostRuntime) -> Result<(), Fail> {
-    serve_all(&rt, rt.alloc(), &FAULTS)
-}
-
-#[test]
-fn a_failing_machine_is_told(rt: HostRuntime) -> Result<(), Fail> {
-    serve_all(&rt, rt.alloc(), &MACHINES)
+fn connections_are_served_as_it_was_worked_out(rt: HostRuntime) -> Result<(), Fail> {
+    let alloc = rt.alloc();
+    serve_all(&rt, alloc, PIECES)?;
+    serve_all(&rt, alloc, OTHER_LINES)?;
+    serve_all(&rt, alloc, FAULTS)?;
+    serve_all(&rt, alloc, MACHINES)
 }

@@ -3,24 +3,27 @@
 ghost use Rattle.std.specs.Prelude.{◌≡◌};
 ghost use Rattle.boss_model.specs.Catalogue.{actuators};
 
-use crate::machine::{ALL, GOOD, Machine, answer, call, has_done, moments, three_points};
+use crate::asking::{ALL, GOOD, Machine, prepare};
+use crate::outside::Own;
+use crate::texts::{compare, tell_end};
 use boss_expiry::{WorkEnd, expire};
-use boss_model::{Command, SessionId};
+use boss_model::{NoMemory, SessionId};
 use boss_points::Catalogue;
-use boss_shared::{Desk, Manager};
-use boss_shared_keeper::Taken;
-use boss_workers::{ListClock, TurnWaiter, Waiter};
-use std::alloc::Global;
-use std::process::Abort;
+use boss_shared::Desk;
+use boss_shared_keeper::{Taken, Trial, run_trial};
+use boss_trials::THREE_POINTS;
+use std::alloc::{AllocError, Global};
+use std::sync::Wait;
 use std::test::Fail;
 
 /// A lease of a minute, which ends at 61000.
-const LEASE: [&str; 2] = [
+const LEASE: &[&str] = &[
     r#"{"op":"attach","process":"a"}"#,
     r#"{"at":1000,"op":"submit","writes":[{"point":"ahu1.damper","value":45000,"priority":8,"lease":60000}]}"#,
 ];
 
-/// Turns behind the lease, what fails, and what they leave.
+/// Turns behind the lease, what fails, and what is told of them: the moment of each tick in which the disk does not fail, and the
+/// machine's own after it; and how they end.
 #[derive(Drop)]
 struct Ticks {
     shows: &'static str,
@@ -28,16 +31,10 @@ struct Ticks {
     /// The number of the reading of the clock that fails, from 1; 0 is none.
     reading: u64,
     machine: Machine,
-    /// Whether a tick before has met a fault of the disk.
-    broken: bool,
     turns: u64,
     /// How many pauses say that the worker is to go on.
     going: u64,
-    /// The moment of each tick in which the disk does not fail, and the machine's own after it.
-    ticks: &'static [(u64, u64)],
-    pauses: u64,
-    closed: bool,
-    end: WorkEnd,
+    told: &'static [&'static str],
 }
 
 const THREE_TURNS: Ticks = Ticks {
@@ -45,62 +42,75 @@ const THREE_TURNS: Ticks = Ticks {
     moments: &[60_999, 61_000, 61_000],
     reading: 0,
     machine: GOOD,
-    broken: false,
     turns: 3,
     going: 8,
-    ticks: &[(60_999, 1000), (61_000, 61_000), (61_000, 61_000)],
-    pauses: 3,
-    closed: false,
-    end: WorkEnd::Finished,
+    told: &[
+        "tick at 60999, now 1000",
+        "tick at 61000, now 61000",
+        "tick at 61000, now 61000",
+        "Finished; pauses: 3",
+    ],
 };
 
-const RUNS: [Ticks; 9] = [
+const RUNS: &[Ticks] = &[
     THREE_TURNS,
     Ticks {
         shows: "a moment before the machine's own lets no time pass",
         moments: &[61_000, 500, 500],
-        ticks: &[(61_000, 61_000), (500, 61_000), (500, 61_000)],
+        told: &[
+            "tick at 61000, now 61000",
+            "tick at 500, now 61000",
+            "tick at 500, now 61000",
+            "Finished; pauses: 3",
+        ],
         ..THREE_TURNS
     },
     Ticks {
         shows: "no turn",
         turns: 0,
-        ticks: &[],
-        pauses: 0,
+        told: &["Finished; pauses: 0"],
+        ..THREE_TURNS
+    },
+    Ticks {
+        shows: "the first reading fails",
+        reading: 1,
+        told: &["ClockFault; pauses: 0"],
         ..THREE_TURNS
     },
     Ticks {
         shows: "the second reading fails",
         reading: 2,
-        ticks: &[(60_999, 1000)],
-        pauses: 1,
-        end: WorkEnd::ClockFault,
+        told: &["tick at 60999, now 1000", "ClockFault; pauses: 1"],
         ..THREE_TURNS
     },
     Ticks {
         shows: "the second pause closes",
         going: 1,
-        ticks: &[(60_999, 1000), (61_000, 61_000)],
-        pauses: 2,
-        closed: true,
-        end: WorkEnd::Closed,
+        told: &[
+            "tick at 60999, now 1000",
+            "tick at 61000, now 61000",
+            "Closed; pauses: 2; told to end",
+        ],
         ..THREE_TURNS
     },
     Ticks {
         shows: "the last pause closes",
         going: 2,
-        closed: true,
+        told: &[
+            "tick at 60999, now 1000",
+            "tick at 61000, now 61000",
+            "tick at 61000, now 61000",
+            "Finished; pauses: 3; told to end",
+        ],
         ..THREE_TURNS
     },
     Ticks {
         shows: "the disk fails at the second tick",
         machine: Machine {
             good_calls: 3,
-            fed: ALL,
+            ..GOOD
         },
-        ticks: &[(60_999, 1000)],
-        pauses: 1,
-        end: WorkEnd::DiskFault,
+        told: &["tick at 60999, now 1000", "DiskFault; pauses: 1"],
         ..THREE_TURNS
     },
     Ticks {
@@ -108,86 +118,103 @@ const RUNS: [Ticks; 9] = [
         machine: Machine {
             good_calls: 2,
             fed: ALL,
+            broken: true,
         },
-        broken: true,
-        ticks: &[],
-        pauses: 0,
-        end: WorkEnd::Stopped,
+        told: &["Stopped; pauses: 0"],
         ..THREE_TURNS
     },
     Ticks {
         shows: "no memory is wanted",
-        machine: Machine {
-            good_calls: ALL,
-            fed: 2,
-        },
+        machine: Machine { fed: 2, ..GOOD },
         ..THREE_TURNS
     },
 ];
 
-/// Takes the turns, and compares how they end.
-fn let_pass<R: Abort, G: Desk>(
+/// Turns that are to be taken.
+#[derive(Drop)]
+struct Ticking<'a> {
+    alloc: Global,
+    run: &'a Ticks,
+    own: Own,
+}
+
+impl Trial for Ticking<'_> {
+    /// How they ended, unless what comes before them did not go as it is to.
+    type Told = Option<WorkEnd>;
+
+    fn run<G: Desk>(
+        &mut self,
+        catalogue: &Catalogue,
+        desk: &G,
+        pass: &mut G::Pass,
+    ) -> Option<WorkEnd> {
+        let alloc = self.alloc;
+        if !prepare(alloc, catalogue, desk, pass, LEASE, self.run.machine.broken) {
+            return None;
+        }
+        Some(expire(
+            desk,
+            pass,
+            &mut self.own.clock,
+            &mut self.own.waiter,
+            self.run.turns,
+        ))
+    }
+}
+
+/// The ticks among these calls.
+fn ticks_of(alloc: Global, taken: &[Taken]) -> Result<String, AllocError> {
+    let mut text = String::new(alloc);
+    for call in taken {
+        if call.session == SessionId(0) {
+            let now = call.ticked.unwrap_or(0);
+            writeln!(text, "tick at {}, now {now}", call.moment)?;
+        }
+    }
+    Ok(text)
+}
+
+/// Tells of the ticks and how they ended.
+fn tell(
+    alloc: Global,
+    taken: &[Taken],
+    end: Option<WorkEnd>,
+    own: Own,
+) -> Result<String, NoMemory> {
+    let mut text = ticks_of(alloc, taken)?;
+    match tell_end(alloc, &mut text, end, own.waiter) {
+        Ok(()) => Ok(text),
+        Err(none) => Err(none),
+    }
+}
+
+/// Takes the turns over a machine of their own.
+fn take_turns<R: Wait + Sync>(
     rt: &R,
     alloc: Global,
     catalogue: &Catalogue,
-    desk: &G,
-    pass: &mut G::Pass,
     run: &Ticks,
-) -> Result<(), Fail>
-    requires own { G.owns desk.now pass.old }
-    requires plant { actuators catalogue.now ≡ G.plant desk.now }
-    ensures own { G.owns desk.now pass.new }
-    ensures parts { G.parts pass.new ≡ G.parts pass.old }
-{
-    let mut clock = ListClock::new(
-        alloc,
-        moments(alloc, run.moments)?,
-        call(alloc, run.reading)?,
-    )?;
-    let mut waiter = TurnWaiter::new(alloc, run.going)?;
-    let mut part = waiter.split(alloc)?;
-    assert!(rt;
-        has_done(alloc, catalogue, desk, pass, &LEASE),
-        "{}",
-        run.shows
-    );
-    if run.broken {
-        let early = answer(desk, pass, SessionId(2), &Command::Tick, 1000);
-        assert!(rt; early.is_none(), "{}", run.shows);
+) -> Result<String, NoMemory> {
+    let own = Own::new(alloc, run.moments, run.reading, run.going)?;
+    let mut ticking = Ticking { alloc, run, own };
+    let Machine {
+        good_calls,
+        fed,
+        ..
+    } = run.machine;
+    match run_trial(rt, alloc, catalogue, good_calls, fed, &mut ticking) {
+        Ok((end, taken)) => tell(alloc, taken.slice(), end, ticking.own),
+        Err(none) => Err(none),
     }
-    let end = expire(desk, pass, &mut clock, &mut part, run.turns);
-    assert_eq!(rt; end, run.end, "{}", run.shows);
-    waiter.join(part);
-    let waits = waiter.waits(alloc)?;
-    assert_eq!(rt; waits.len(), 1);
-    assert_eq!(rt; *waits[0], (run.pauses, run.closed), "{}", run.shows);
-    Ok(())
-}
-
-/// Compares the ticks of session 0.
-fn compare_ticks(rt: &impl Abort, alloc: Global, taken: &[Taken], run: &Ticks) -> Result<(), Fail> {
-    let mut ticks = Vec::new(alloc);
-    for call in taken {
-        if call.session == SessionId(0) {
-            ticks.push((call.moment, call.ticked.unwrap_or(0)))?;
-        }
-    }
-    assert_eq!(rt; ticks.as_slice(), run.ticks, "{}", run.shows);
-    Ok(())
 }
 
 #[test]
 fn time_passes_turn_by_turn(rt: HostRuntime) -> Result<(), Fail> {
     let alloc = rt.alloc();
-    for run in &RUNS {
-        let (catalogue, keeper) = three_points(alloc, run.machine)?;
-        let Ok((manager, mut pass)) = Manager::new(&rt, alloc, keeper, 1) else {
-            return Err(Fail::new("no memory"));
-        };
-        let passed = let_pass(&rt, alloc, &catalogue, &manager, &mut pass, run);
-        let keeper = manager.close(pass);
-        passed?;
-        compare_ticks(&rt, alloc, keeper.taken(), run)?;
+    let catalogue = Catalogue::read(alloc, THREE_POINTS.as_bytes())?;
+    for run in RUNS {
+        let told = take_turns(&rt, alloc, &catalogue, run)?;
+        compare(&rt, alloc, told.as_str(), run.told, run.shows)?;
     }
     Ok(())
 }

@@ -1,19 +1,21 @@
 //! Connections that watch a process.
 
-ghost use Rattle.std.specs.Prelude.{◌≡◌, ◌≤◌};
+ghost use Rattle.std.specs.Prelude.{◌≡◌};
 ghost use Rattle.boss_model.specs.Catalogue.{actuators};
 
-use crate::machine::{
-    ALL, GOOD, Machine, answer, call, has_done, joined, moments, process_a, three_points,
-};
-use boss_model::{Command, SessionId};
+use crate::asking::{ALL, GOOD, Machine, is_line_done, prepare};
+use crate::connection::bytes_sink;
+use crate::outside::Own;
+use crate::texts::{compare, joined, tell_end};
+use boss_model::{Name, SessionId};
 use boss_outside::BytesSink;
 use boss_points::Catalogue;
-use boss_shared::{Desk, Manager};
+use boss_shared::Desk;
+use boss_shared_keeper::{Trial, run_trial};
+use boss_trials::THREE_POINTS;
 use boss_watching::{WatchEnd, watch_connection};
-use boss_workers::{ListClock, TurnWaiter, Waiter};
 use std::alloc::{AllocError, Global};
-use std::process::Abort;
+use std::sync::Wait;
 use std::test::Fail;
 
 const ATTACH: &str = r#"{"op":"attach","process":"a"}"#;
@@ -36,29 +38,24 @@ const DONE: &str = r#"{"n":2,"at":2000,"txn":1,"kind":"done"}"#;
 const SUBMIT: &str =
     r#"{"at":1000,"op":"submit","writes":[{"point":"ahu1.damper","value":45000,"priority":8,"lease":60000}]}"#;
 
-/// A connection that watches the process `a`, what fails, and what it is then sent.
+/// A connection that watches the process `a`, what fails, and what is then told: what it is sent, and how it ends.
 #[derive(Drop)]
 struct Watch {
     shows: &'static str,
     lines: &'static [&'static str],
     /// How many more submits the process makes, each of which takes the damper from the one before.
-    submits: u64,
+    submits: u32,
     from: u64,
     idle: u32,
     /// The number of the write and of the reading of the clock that fails, from 1; 0 is none.
     write: u64,
     reading: u64,
     machine: Machine,
-    /// Whether another session has met a fault of the disk before.
-    broken: bool,
     /// How many pauses say that the worker is to go on.
     going: u64,
+    /// The first of those submits of which both notices are told, and the one behind the last.
+    taken: (u32, u32),
     told: &'static [&'static str],
-    /// The numbers of the first and the last of the notices of those submits that are told behind that.
-    range: (u64, u64),
-    pauses: u64,
-    closed: bool,
-    end: WatchEnd,
 }
 
 const FROM_1: Watch = Watch {
@@ -70,131 +67,115 @@ const FROM_1: Watch = Watch {
     write: 0,
     reading: 0,
     machine: GOOD,
-    broken: false,
     going: 8,
-    told: &[ENDED, DONE],
-    range: (1, 0),
-    pauses: 2,
-    closed: false,
-    end: WatchEnd::Idle,
+    taken: (0, 0),
+    told: &[ENDED, DONE, "Idle; pauses: 2"],
 };
 
-const RUNS: [Watch; 18] = [
+const RUNS: &[Watch] = &[
     FROM_1,
     Watch {
         shows: "from the second on",
         from: 2,
-        told: &[DONE],
+        told: &[DONE, "Idle; pauses: 2"],
         ..FROM_1
     },
     Watch {
         shows: "from one that has not come",
         from: 3,
-        told: &[],
+        told: &["Idle; pauses: 2"],
         ..FROM_1
     },
     Watch {
         shows: "a process that is not known yet",
         lines: &[],
-        told: &[],
+        told: &["Idle; pauses: 2"],
         ..FROM_1
     },
     Watch {
         shows: "no turn",
         idle: 0,
-        told: &[],
-        pauses: 0,
+        told: &["Idle; pauses: 0"],
         ..FROM_1
     },
     Watch {
         shows: "more than one call's notices, none twice",
         lines: &[ATTACH],
         submits: 101,
-        told: &[],
-        range: (1, 200),
+        taken: (1, 101),
+        told: &["Idle; pauses: 2"],
         ..FROM_1
     },
     Watch {
         shows: "what came before the last 1,024 is not told, and the numbers show it",
         lines: &[ATTACH],
         submits: 520,
-        told: &[],
-        range: (15, 1038),
+        taken: (8, 520),
+        told: &["Idle; pauses: 2"],
         ..FROM_1
     },
     Watch {
         shows: "from behind the first that is kept",
         lines: &[ATTACH],
         submits: 520,
-        from: 1000,
-        told: &[],
-        range: (1000, 1038),
+        from: 999,
+        taken: (500, 520),
+        told: &["Idle; pauses: 2"],
         ..FROM_1
     },
     Watch {
         shows: "the second pause closes",
         idle: 5,
         going: 1,
-        closed: true,
-        end: WatchEnd::Closed,
+        told: &[ENDED, DONE, "Closed; pauses: 2; told to end"],
         ..FROM_1
     },
     Watch {
         shows: "the last pause closes",
         going: 1,
-        closed: true,
+        told: &[ENDED, DONE, "Idle; pauses: 2; told to end"],
         ..FROM_1
     },
     Watch {
         shows: "the first write fails",
         write: 1,
-        told: &[],
-        pauses: 0,
-        end: WatchEnd::WriteFault,
+        told: &["WriteFault; pauses: 0"],
         ..FROM_1
     },
     Watch {
         shows: "the second write fails",
         write: 2,
-        told: &[ENDED],
-        pauses: 0,
-        end: WatchEnd::WriteFault,
+        told: &[ENDED, "WriteFault; pauses: 0"],
         ..FROM_1
     },
     Watch {
         shows: "the first reading fails",
         reading: 1,
-        told: &[],
-        pauses: 0,
-        end: WatchEnd::ClockFault,
+        told: &["ClockFault; pauses: 0"],
         ..FROM_1
     },
     Watch {
         shows: "the second reading fails, behind what was told",
         reading: 2,
-        pauses: 0,
-        end: WatchEnd::ClockFault,
+        told: &[ENDED, DONE, "ClockFault; pauses: 0"],
         ..FROM_1
     },
     Watch {
         shows: "the disk fails at the second call",
         machine: Machine {
             good_calls: 6,
-            fed: ALL,
+            ..GOOD
         },
-        pauses: 0,
-        end: WatchEnd::DiskFault,
+        told: &[ENDED, DONE, "DiskFault; pauses: 0"],
         ..FROM_1
     },
     Watch {
         shows: "the disk fails at the first call",
         machine: Machine {
             good_calls: 5,
-            fed: ALL,
+            ..GOOD
         },
-        told: &[],
-        pauses: 0,
-        end: WatchEnd::DiskFault,
+        told: &["DiskFault; pauses: 0"],
         ..FROM_1
     },
     Watch {
@@ -202,41 +183,46 @@ const RUNS: [Watch; 18] = [
         machine: Machine {
             good_calls: 5,
             fed: ALL,
+            broken: true,
         },
-        broken: true,
-        told: &[],
-        pauses: 0,
-        end: WatchEnd::Stopped,
+        told: &["Stopped; pauses: 0"],
         ..FROM_1
     },
     Watch {
         shows: "no memory for the second call",
-        machine: Machine {
-            good_calls: ALL,
-            fed: 5,
-        },
-        pauses: 0,
-        end: WatchEnd::NoMemory,
+        machine: Machine { fed: 5, ..GOOD },
+        told: &[ENDED, DONE, "NoMemory; pauses: 0"],
         ..FROM_1
     },
 ];
 
-/// The lines that are sent.
-fn wanted(alloc: Global, run: &Watch) -> Result<String, AllocError> {
-    let mut text = joined(alloc, run.told)?;
-    for number in run.range.0..run.range.1.saturating_add(1) {
-        let txn = number.div_ceil(2);
-        text.push_str(format!(in alloc; "{{\"n\":{number},\"at\":1000,\"txn\":{txn},")?.as_str())?;
-        if number % 2 == 0 {
-            text.push_str("\"kind\":\"done\"}\n")?;
-        } else {
-            text.push_str(
-                "\"kind\":\"ended\",\"point\":\"ahu1.damper\",\"cause\":\"superseded\",",
-            )?;
-            text.push_str(format!(in alloc; "\"by\":{}}}\n", txn.saturating_add(1))?.as_str())?;
-        }
+/// Both notices of each of these transactions, which the next one took the damper from.
+fn taken_notices(alloc: Global, taken: (u32, u32)) -> Result<String, AllocError> {
+    let mut text = String::new(alloc);
+    for txn in taken.0..taken.1 {
+        let done = u64::from(txn) * 2;
+        let ended = done.saturating_sub(1);
+        let by = u64::from(txn) + 1;
+        writeln!(
+            text,
+            "{{\"n\":{ended},\"at\":1000,\"txn\":{txn},\"kind\":\"ended\",\"point\":\"ahu1.damper\",\"cause\":\"superseded\",\"by\":{by}}}"
+        )?;
+        writeln!(
+            text,
+            "{{\"n\":{done},\"at\":1000,\"txn\":{txn},\"kind\":\"done\"}}"
+        )?;
     }
     Ok(text)
+}
+
+/// A connection that is to watch.
+#[derive(Drop)]
+struct Watching<'a> {
+    alloc: Global,
+    run: &'a Watch,
+    process: Name,
+    sink: BytesSink,
+    own: Own,
 }
 
 /// Has so many submits of the process `a` done, and says whether all were.
@@ -245,7 +231,7 @@ fn submit_often<G: Desk>(
     catalogue: &Catalogue,
     desk: &G,
     pass: &mut G::Pass,
-    submits: u64,
+    submits: u32,
 ) -> bool
     requires own { G.owns desk.now pass.old }
     requires plant { actuators catalogue.now ≡ G.plant desk.now }
@@ -253,79 +239,95 @@ fn submit_often<G: Desk>(
     ensures parts { G.parts pass.new ≡ G.parts pass.old }
 {
     for _ in 0..submits {
-        if !has_done(alloc, catalogue, desk, pass, &[SUBMIT]) {
+        if !is_line_done(alloc, catalogue, desk, pass, SUBMIT) {
             return false;
         }
     }
     true
 }
 
-/// Watches, and compares what is sent and how it ends.
-fn watch_process<R: Abort, G: Desk>(
+impl Trial for Watching<'_> {
+    /// How it ended, unless what comes before it did not go as it is to.
+    type Told = Option<WatchEnd>;
+
+    fn run<G: Desk>(
+        &mut self,
+        catalogue: &Catalogue,
+        desk: &G,
+        pass: &mut G::Pass,
+    ) -> Option<WatchEnd> {
+        let alloc = self.alloc;
+        let run = self.run;
+        if !prepare(alloc, catalogue, desk, pass, run.lines, run.machine.broken)
+            || !submit_often(alloc, catalogue, desk, pass, run.submits)
+        {
+            return None;
+        }
+        Some(watch_connection(
+            alloc,
+            desk,
+            pass,
+            catalogue,
+            SessionId(7),
+            &self.process,
+            run.from.max(1),
+            &mut self.sink,
+            &mut self.own.clock,
+            &mut self.own.waiter,
+            run.idle,
+        ))
+    }
+}
+
+/// Tells what was sent, and how it ended.
+fn tell(alloc: Global, sink: &BytesSink, end: Option<WatchEnd>, own: Own) -> Result<String, Fail> {
+    let mut text = String::from_str(alloc, std::str::from_utf8(sink.taken())?)?;
+    tell_end(alloc, &mut text, end, own.waiter)?;
+    Ok(text)
+}
+
+/// Watches over a machine of its own.
+fn watch_over<R: Wait + Sync>(
     rt: &R,
     alloc: Global,
     catalogue: &Catalogue,
-    desk: &G,
-    pass: &mut G::Pass,
     run: &Watch,
-) -> Result<(), Fail>
-    requires own { G.owns desk.now pass.old }
-    requires plant { actuators catalogue.now ≡ G.plant desk.now }
-    ensures own { G.owns desk.now pass.new }
-    ensures parts { G.parts pass.new ≡ G.parts pass.old }
-{
-    let mut sink = BytesSink::new(alloc, call(alloc, run.write)?)?;
-    let mut clock = ListClock::new(alloc, moments(alloc, &[3000])?, call(alloc, run.reading)?)?;
-    let mut waiter = TurnWaiter::new(alloc, run.going)?;
-    let mut part = waiter.split(alloc)?;
-    assert!(rt;
-        has_done(alloc, catalogue, desk, pass, run.lines),
-        "{}",
-        run.shows
-    );
-    assert!(rt;
-        submit_often(alloc, catalogue, desk, pass, run.submits),
-        "{}",
-        run.shows
-    );
-    if run.broken {
-        let early = answer(desk, pass, SessionId(2), &Command::Tick, 3000);
-        assert!(rt; early.is_none(), "{}", run.shows);
-    }
-    let end = watch_connection(
+    process: Name,
+) -> Result<String, Fail> {
+    let own = Own::new(alloc, &[3000], run.reading, run.going)?;
+    let sink = bytes_sink(alloc, run.write)?;
+    let mut watching = Watching {
         alloc,
-        desk,
-        pass,
-        catalogue,
-        SessionId(7),
-        &process_a(rt),
-        run.from.max(1),
-        &mut sink,
-        &mut clock,
-        &mut part,
-        run.idle,
-    );
-    let wanted = wanted(alloc, run)?;
-    assert_eq!(rt; sink.taken(), wanted.as_bytes(), "{}", run.shows);
-    assert_eq!(rt; end, run.end, "{}", run.shows);
-    waiter.join(part);
-    let waits = waiter.waits(alloc)?;
-    assert_eq!(rt; waits.len(), 1);
-    assert_eq!(rt; *waits[0], (run.pauses, run.closed), "{}", run.shows);
-    Ok(())
+        run,
+        process,
+        sink,
+        own,
+    };
+    let Machine {
+        good_calls,
+        fed,
+        ..
+    } = run.machine;
+    let (end, _) = run_trial(rt, alloc, catalogue, good_calls, fed, &mut watching)?;
+    tell(alloc, &watching.sink, end, watching.own)
 }
 
 #[test]
 fn processes_are_watched_as_it_was_worked_out(rt: HostRuntime) -> Result<(), Fail> {
     let alloc = rt.alloc();
-    for run in &RUNS {
-        let (catalogue, keeper) = three_points(alloc, run.machine)?;
-        let Ok((manager, mut pass)) = Manager::new(&rt, alloc, keeper, 1) else {
-            return Err(Fail::new("no memory"));
-        };
-        let watched = watch_process(&rt, alloc, &catalogue, &manager, &mut pass, run);
-        let _ = manager.close(pass);
-        watched?;
+    let catalogue = Catalogue::read(alloc, THREE_POINTS.as_bytes())?;
+    for run in RUNS {
+        let process = Name::new(b"a").ok_or("no name")?;
+        let told = watch_over(&rt, alloc, &catalogue, run, process)?;
+        let notices = taken_notices(alloc, run.taken)?;
+        let rest = told.as_str().strip_prefix(notices.as_str());
+        compare(
+            &rt,
+            alloc,
+            rest.unwrap_or(told.as_str()),
+            run.told,
+            run.shows,
+        )?;
     }
     Ok(())
 }

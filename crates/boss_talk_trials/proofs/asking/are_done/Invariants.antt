@@ -1,5 +1,5 @@
 use Rattle.std.proofs.Common.{◌≡◌}
-use Rattle.boss_talk_trials.proofs.machine.has_done.Given as goal
+use Rattle.boss_talk_trials.proofs.asking.are_done.Given as goal
 
 abbrev pub invariant-loop-line : goal.invariant-loop-line
 invariant-loop-line g l = record {
