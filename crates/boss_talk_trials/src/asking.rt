@@ -64,16 +64,14 @@ pub fn is_line_done<G: Desk>(
     ensures own { G.owns desk.now pass.new }
     ensures parts { G.parts pass.new ≡ G.parts pass.old }
 {
-    match read_request(alloc, catalogue, line.as_bytes(), Form::Script) {
-        Ok(
-            Request {
-                on,
-                at,
-                ask: Ask::Command(command),
-            },
-        ) => is_done(desk, pass, on, &command, at),
-        _ => false,
-    }
+    let Ok(Request { on, at, ask }) = read_request(alloc, catalogue, line.as_bytes(), Form::Script)
+    else {
+        return false;
+    };
+    let Ask::Command(command) = ask else {
+        return false;
+    };
+    is_done(desk, pass, on, &command, at)
 }
 
 /// Has the commands of a script's lines done, up to the first that is not. Says whether all were.

@@ -1,9 +1,15 @@
 //! A connection of a trial.
 
+ghost use Rattle.std.specs.Prelude.{◌≡◌};
+ghost use Rattle.boss_model.specs.Catalogue.{actuators};
+
 use crate::outside::{call, list_clock};
 use crate::pieces::{Piece, Pieces};
-use boss_model::NoMemory;
+use boss_model::{NoMemory, SessionId};
 use boss_outside::BytesSink;
+use boss_points::Catalogue;
+use boss_sessions::{SessionEnd, serve_connection};
+use boss_shared::Desk;
 use boss_workers::ListClock;
 use std::alloc::Global;
 
@@ -48,6 +54,28 @@ impl<'a> Connection<'a> {
             }),
             Err(none) => Err(none),
         }
+    }
+
+    /// Serves the connection as one of this session.
+    pub fn serve<G: Desk>(
+        &mut self,
+        alloc: Global,
+        catalogue: &Catalogue,
+        desk: &G,
+        pass: &mut G::Pass,
+        session: SessionId,
+    ) -> SessionEnd
+        requires own { G.owns desk.now pass.old }
+        requires plant { actuators catalogue.now ≡ G.plant desk.now }
+        ensures own { G.owns desk.now pass.new }
+        ensures parts { G.parts pass.new ≡ G.parts pass.old }
+    {
+        let Connection {
+            source,
+            sink,
+            clock,
+        } = self;
+        serve_connection(alloc, desk, pass, catalogue, session, source, sink, clock)
     }
 }
 

@@ -13,11 +13,11 @@ use boss_expiry::WorkEnd;
 use boss_model::{DriverId, NoMemory, SessionId};
 use boss_outside::{DeviceCall, SimActuators};
 use boss_points::Catalogue;
-use boss_sessions::serve_connection;
 use boss_shared::Desk;
 use boss_shared_keeper::{Trial, run_trial};
 use boss_trials::THREE_POINTS;
 use std::alloc::{AllocError, Global};
+use std::process::Abort;
 use std::sync::Wait;
 use std::test::Fail;
 
@@ -326,16 +326,9 @@ impl Trial for Driving<'_> {
             let devices = &mut self.devices;
             driven.then = take(desk, pass, devices, &mut self.then, run.then.turns);
         }
-        let _ = serve_connection(
-            alloc,
-            desk,
-            pass,
-            catalogue,
-            SessionId(9),
-            &mut self.question.source,
-            &mut self.question.sink,
-            &mut self.question.clock,
-        );
+        let _ = self
+            .question
+            .serve(alloc, catalogue, desk, pass, SessionId(9));
         driven
     }
 }
@@ -350,22 +343,46 @@ fn name_of(point: u32) -> &'static str {
 }
 
 /// Tells of each call of a device.
-fn calls_of(alloc: Global, calls: &[DeviceCall]) -> Result<String, AllocError> {
-    let mut text = String::new(alloc);
+fn tell_calls(text: &mut String, calls: &[DeviceCall]) -> Result<(), AllocError> {
     for call in calls {
         let taken = if call.ok { "ok" } else { "failed" };
         writeln!(text, "{} {} {taken}", name_of(call.point.0), call.value)?;
     }
-    Ok(text)
+    Ok(())
+}
+
+/// Tells how the turns ended.
+fn tell_ends(
+    alloc: Global,
+    text: &mut String,
+    driven: Driven,
+    first: Own,
+    then: Own,
+) -> Result<(), NoMemory> {
+    match tell_end(alloc, text, driven.first, first) {
+        Ok(()) => tell_end(alloc, text, driven.then, then),
+        Err(none) => Err(none),
+    }
 }
 
 /// Tells of the calls, how the turns ended, and what the session was answered.
-fn tell(alloc: Global, driving: Driving<'_>, driven: Driven) -> Result<String, Fail> {
-    let mut text = calls_of(alloc, driving.devices.calls())?;
-    tell_end(alloc, &mut text, driven.first, driving.first.waiter)?;
-    tell_end(alloc, &mut text, driven.then, driving.then.waiter)?;
-    text.push_str(std::str::from_utf8(driving.question.sink.taken())?)?;
-    Ok(text)
+fn tell(
+    alloc: Global,
+    text: &mut String,
+    driving: Driving<'_>,
+    driven: Driven,
+) -> Result<(), Fail> {
+    let Driving {
+        devices,
+        first,
+        then,
+        question,
+        ..
+    } = driving;
+    tell_calls(text, devices.calls())?;
+    tell_ends(alloc, text, driven, first, then)?;
+    text.push_str(std::str::from_utf8(question.sink.taken())?)?;
+    Ok(())
 }
 
 /// The turns of a run, and the question behind them.
@@ -374,7 +391,7 @@ fn ready_to_drive<'a>(
     run: &'a Drive,
     asks: &'a str,
 ) -> Result<Driving<'a>, NoMemory> {
-    let devices = SimActuators::new(alloc, call(alloc, run.write)?)?;
+    let devices = devices_of(alloc, run.write)?;
     let first = own_of(alloc, &run.first)?;
     let then = own_of(alloc, &run.then)?;
     match Connection::new(alloc, asks, Piece::Whole, &[run.at], NONE_FAILS) {
@@ -390,36 +407,57 @@ fn ready_to_drive<'a>(
     }
 }
 
+/// Devices of which the write of this number fails, from 1; 0 is none.
+fn devices_of(alloc: Global, write: u64) -> Result<SimActuators, NoMemory> {
+    SimActuators::new(alloc, call(alloc, write)?)
+}
+
 /// What the turns are taken by.
 fn own_of(alloc: Global, turns: &Turns) -> Result<Own, NoMemory> {
     Own::new(alloc, turns.moments, turns.reading, turns.going)
 }
 
-/// Drives over a machine of its own.
+/// Drives over a machine of its own, and tells of it.
 fn drive_over<R: Wait + Sync>(
     rt: &R,
     alloc: Global,
     catalogue: &Catalogue,
     run: &Drive,
-) -> Result<String, Fail> {
-    let asks = joined(alloc, run.asks)?;
-    let mut driving = ready_to_drive(alloc, run, asks.as_str())?;
+    asks: &str,
+    text: &mut String,
+) -> Result<(), Fail> {
+    let mut driving = ready_to_drive(alloc, run, asks)?;
     let Machine {
         good_calls,
         fed,
         ..
     } = run.machine;
-    let (driven, _) = run_trial(rt, alloc, catalogue, good_calls, fed, &mut driving)?;
-    tell(alloc, driving, driven)
+    match run_trial(rt, alloc, catalogue, good_calls, fed, &mut driving) {
+        Ok((driven, _)) => tell(alloc, text, driving, driven),
+        Err(none) => Err(none.into()),
+    }
+}
+
+/// Drives, and compares what is told.
+fn try_drive<R: Abort + Wait + Sync>(
+    rt: &R,
+    alloc: Global,
+    catalogue: &Catalogue,
+    run: &Drive,
+) -> Result<(), Fail> {
+    let asks = joined(alloc, run.asks)?;
+    let mut told = String::new(alloc);
+    match drive_over(rt, alloc, catalogue, run, asks.as_str(), &mut told) {
+        Ok(()) => compare(rt, alloc, told.as_str(), run.told, run.shows),
+        Err(failed) => Err(failed),
+    }
 }
 
 #[test]
 fn devices_are_driven_as_it_was_worked_out(rt: HostRuntime) -> Result<(), Fail> {
-    let alloc = rt.alloc();
-    let catalogue = Catalogue::read(alloc, THREE_POINTS.as_bytes())?;
+    let catalogue = Catalogue::read(rt.alloc(), THREE_POINTS.as_bytes())?;
     for run in RUNS {
-        let told = drive_over(&rt, alloc, &catalogue, run)?;
-        compare(&rt, alloc, told.as_str(), run.told, run.shows)?;
+        try_drive(&rt, rt.alloc(), &catalogue, run)?;
     }
     Ok(())
 }

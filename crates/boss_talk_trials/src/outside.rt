@@ -54,11 +54,16 @@ impl Own {
     }
 }
 
-/// How many pauses a waiter made, and whether the last one said that the worker is to end.
-pub fn pauses_of(alloc: Global, waiter: TurnWaiter) -> Result<(u64, bool), NoMemory> {
-    let mut all = TurnWaiter::new(alloc, 0)?;
-    all.join(waiter);
-    last_of(alloc, &all)
+/// How many pauses were made, and whether the last one said that the worker is to end.
+pub fn pauses_of(alloc: Global, own: Own) -> Result<(u64, bool), NoMemory> {
+    let Own { waiter, .. } = own;
+    match TurnWaiter::new(alloc, 0) {
+        Ok(mut all) => {
+            all.join(waiter);
+            last_of(alloc, &all)
+        }
+        Err(none) => Err(none),
+    }
 }
 
 /// The pauses of the last part that was taken back.

@@ -9,7 +9,7 @@ use crate::pieces::Piece;
 use crate::texts::{compare, joined};
 use boss_model::SessionId;
 use boss_points::Catalogue;
-use boss_sessions::{SessionEnd, serve_connection};
+use boss_sessions::SessionEnd;
 use boss_shared::Desk;
 use boss_shared_keeper::{Taken, Trial, run_trial};
 use boss_trials::THREE_POINTS;
@@ -523,16 +523,9 @@ impl Trial for Talking<'_> {
         if !prepare(alloc, catalogue, desk, pass, &[], self.broken) {
             return None;
         }
-        let end = serve_connection(
-            alloc,
-            desk,
-            pass,
-            catalogue,
-            SessionId(1),
-            &mut self.connection.source,
-            &mut self.connection.sink,
-            &mut self.connection.clock,
-        );
+        let end = self
+            .connection
+            .serve(alloc, catalogue, desk, pass, SessionId(1));
         let free = is_line_done(alloc, catalogue, desk, pass, ATTACH_AGAIN);
         Some(Talked { end, free })
     }
@@ -563,15 +556,15 @@ fn tell_talked(text: &mut String, talked: &Option<Talked>, left: usize) -> Resul
 
 /// Tells what went out, how the session ended and what was called.
 fn tell(
-    alloc: Global,
+    text: &mut String,
     connection: &Connection<'_>,
     talked: &Option<Talked>,
     taken: &[Taken],
-) -> Result<String, Fail> {
-    let mut text = String::from_str(alloc, std::str::from_utf8(connection.sink.taken())?)?;
-    tell_talked(&mut text, talked, connection.source.left().len())?;
-    tell_calls(&mut text, taken)?;
-    Ok(text)
+) -> Result<(), Fail> {
+    text.push_str(std::str::from_utf8(connection.sink.taken())?)?;
+    tell_talked(text, talked, connection.source.left().len())?;
+    tell_calls(text, taken)?;
+    Ok(())
 }
 
 /// The bytes that come.
@@ -583,15 +576,16 @@ fn input(alloc: Global, talk: &Talk) -> Result<String, AllocError> {
     Ok(text)
 }
 
-/// Serves a text over a machine of its own.
+/// Serves the lines over a machine of its own, and tells of it.
 fn serve<R: Wait + Sync>(
     rt: &R,
     alloc: Global,
     catalogue: &Catalogue,
     talk: &Talk,
-    text: &str,
-) -> Result<String, Fail> {
-    let connection = Connection::new(alloc, text, talk.piece, talk.moments, talk.fails)?;
+    lines: &str,
+    text: &mut String,
+) -> Result<(), Fail> {
+    let connection = Connection::new(alloc, lines, talk.piece, talk.moments, talk.fails)?;
     let Machine {
         good_calls,
         fed,
@@ -602,17 +596,36 @@ fn serve<R: Wait + Sync>(
         broken,
         connection,
     };
-    let (talked, taken) = run_trial(rt, alloc, catalogue, good_calls, fed, &mut talking)?;
-    tell(alloc, &talking.connection, &talked, taken.slice())
+    match run_trial(rt, alloc, catalogue, good_calls, fed, &mut talking) {
+        Ok((talked, taken)) => tell(text, &talking.connection, &talked, taken.slice()),
+        Err(none) => Err(none.into()),
+    }
 }
 
-/// Serves each of these connections, and compares what is told.
-fn serve_all<R: Abort + Wait + Sync>(rt: &R, alloc: Global, talks: &[Talk]) -> Result<(), Fail> {
-    let catalogue = Catalogue::read(alloc, THREE_POINTS.as_bytes())?;
+/// Serves a connection, and compares what is told of it.
+fn try_talk<R: Abort + Wait + Sync>(
+    rt: &R,
+    alloc: Global,
+    catalogue: &Catalogue,
+    talk: &Talk,
+) -> Result<(), Fail> {
+    let lines = input(alloc, talk)?;
+    let mut told = String::new(alloc);
+    match serve(rt, alloc, catalogue, talk, lines.as_str(), &mut told) {
+        Ok(()) => compare(rt, alloc, told.as_str(), talk.told, talk.shows),
+        Err(failed) => Err(failed),
+    }
+}
+
+/// Serves each of these connections.
+fn try_all<R: Abort + Wait + Sync>(
+    rt: &R,
+    alloc: Global,
+    catalogue: &Catalogue,
+    talks: &[Talk],
+) -> Result<(), Fail> {
     for talk in talks {
-        let text = input(alloc, talk)?;
-        let told = serve(rt, alloc, &catalogue, talk, text.as_str())?;
-        compare(rt, alloc, told.as_str(), talk.told, talk.shows)?;
+        try_talk(rt, alloc, catalogue, talk)?;
     }
     Ok(())
 }
@@ -620,8 +633,9 @@ fn serve_all<R: Abort + Wait + Sync>(rt: &R, alloc: Global, talks: &[Talk]) -> R
 #[test]
 fn connections_are_served_as_it_was_worked_out(rt: HostRuntime) -> Result<(), Fail> {
     let alloc = rt.alloc();
-    serve_all(&rt, alloc, PIECES)?;
-    serve_all(&rt, alloc, OTHER_LINES)?;
-    serve_all(&rt, alloc, FAULTS)?;
-    serve_all(&rt, alloc, MACHINES)
+    let catalogue = Catalogue::read(alloc, THREE_POINTS.as_bytes())?;
+    for talks in [PIECES, OTHER_LINES, FAULTS, MACHINES] {
+        try_all(&rt, alloc, &catalogue, talks)?;
+    }
+    Ok(())
 }

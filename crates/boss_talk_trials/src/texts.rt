@@ -1,21 +1,28 @@
 //! What is told of a trial, as lines.
 
-use crate::outside::pauses_of;
+use crate::outside::{Own, pauses_of};
 use boss_model::NoMemory;
-use boss_workers::TurnWaiter;
 use std::alloc::{AllocError, Global};
 use std::fmt::Debug;
 use std::process::Abort;
 use std::test::Fail;
 
-/// Lines, each with its end.
-pub fn joined(alloc: Global, lines: &[&str]) -> Result<String, AllocError> {
-    let mut text = String::new(alloc);
+/// Puts lines at the end of a text.
+fn push_lines(text: &mut String, lines: &[&str]) -> Result<(), AllocError> {
     for line in lines {
         text.push_str(line)?;
         text.push_str("\n")?;
     }
-    Ok(text)
+    Ok(())
+}
+
+/// Lines, each with its end.
+pub fn joined(alloc: Global, lines: &[&str]) -> Result<String, AllocError> {
+    let mut text = String::new(alloc);
+    match push_lines(&mut text, lines) {
+        Ok(()) => Ok(text),
+        Err(none) => Err(none),
+    }
 }
 
 /// Compares what a trial told with the lines that it is to tell.
@@ -36,9 +43,9 @@ pub fn tell_end<E: Debug + Drop>(
     alloc: Global,
     text: &mut String,
     end: Option<E>,
-    waiter: TurnWaiter,
+    own: Own,
 ) -> Result<(), NoMemory> {
-    let (pauses, closed) = pauses_of(alloc, waiter)?;
+    let (pauses, closed) = pauses_of(alloc, own)?;
     let last = if closed { "; told to end" } else { "" };
     match end {
         Some(end) => writeln!(text, "{end:?}; pauses: {pauses}{last}")?,

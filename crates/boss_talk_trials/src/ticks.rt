@@ -13,6 +13,7 @@ use boss_shared::Desk;
 use boss_shared_keeper::{Taken, Trial, run_trial};
 use boss_trials::THREE_POINTS;
 use std::alloc::{AllocError, Global};
+use std::process::Abort;
 use std::sync::Wait;
 use std::test::Fail;
 
@@ -162,39 +163,39 @@ impl Trial for Ticking<'_> {
     }
 }
 
-/// The ticks among these calls.
-fn ticks_of(alloc: Global, taken: &[Taken]) -> Result<String, AllocError> {
-    let mut text = String::new(alloc);
+/// Tells of the ticks among these calls.
+fn tell_ticks(text: &mut String, taken: &[Taken]) -> Result<(), AllocError> {
     for call in taken {
         if call.session == SessionId(0) {
             let now = call.ticked.unwrap_or(0);
             writeln!(text, "tick at {}, now {now}", call.moment)?;
         }
     }
-    Ok(text)
+    Ok(())
 }
 
 /// Tells of the ticks and how they ended.
 fn tell(
     alloc: Global,
+    text: &mut String,
     taken: &[Taken],
     end: Option<WorkEnd>,
     own: Own,
-) -> Result<String, NoMemory> {
-    let mut text = ticks_of(alloc, taken)?;
-    match tell_end(alloc, &mut text, end, own.waiter) {
-        Ok(()) => Ok(text),
-        Err(none) => Err(none),
+) -> Result<(), NoMemory> {
+    match tell_ticks(text, taken) {
+        Ok(()) => tell_end(alloc, text, end, own),
+        Err(none) => Err(none.into()),
     }
 }
 
-/// Takes the turns over a machine of their own.
+/// Takes the turns over a machine of their own, and tells of them.
 fn take_turns<R: Wait + Sync>(
     rt: &R,
     alloc: Global,
     catalogue: &Catalogue,
     run: &Ticks,
-) -> Result<String, NoMemory> {
+    text: &mut String,
+) -> Result<(), NoMemory> {
     let own = Own::new(alloc, run.moments, run.reading, run.going)?;
     let mut ticking = Ticking { alloc, run, own };
     let Machine {
@@ -203,18 +204,30 @@ fn take_turns<R: Wait + Sync>(
         ..
     } = run.machine;
     match run_trial(rt, alloc, catalogue, good_calls, fed, &mut ticking) {
-        Ok((end, taken)) => tell(alloc, taken.slice(), end, ticking.own),
+        Ok((end, taken)) => tell(alloc, text, taken.slice(), end, ticking.own),
         Err(none) => Err(none),
+    }
+}
+
+/// Takes the turns, and compares what is told of them.
+fn try_turns<R: Abort + Wait + Sync>(
+    rt: &R,
+    alloc: Global,
+    catalogue: &Catalogue,
+    run: &Ticks,
+) -> Result<(), Fail> {
+    let mut told = String::new(alloc);
+    match take_turns(rt, alloc, catalogue, run, &mut told) {
+        Ok(()) => compare(rt, alloc, told.as_str(), run.told, run.shows),
+        Err(none) => Err(none.into()),
     }
 }
 
 #[test]
 fn time_passes_turn_by_turn(rt: HostRuntime) -> Result<(), Fail> {
-    let alloc = rt.alloc();
-    let catalogue = Catalogue::read(alloc, THREE_POINTS.as_bytes())?;
+    let catalogue = Catalogue::read(rt.alloc(), THREE_POINTS.as_bytes())?;
     for run in RUNS {
-        let told = take_turns(&rt, alloc, &catalogue, run)?;
-        compare(&rt, alloc, told.as_str(), run.told, run.shows)?;
+        try_turns(&rt, rt.alloc(), &catalogue, run)?;
     }
     Ok(())
 }
