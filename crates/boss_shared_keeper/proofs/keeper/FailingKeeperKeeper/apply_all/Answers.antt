@@ -3,8 +3,8 @@ use Rattle.boss_outside.specs.Counts.{Rose}
 use Rattle.boss_history.specs.History.{run, IsLegal}
 use Rattle.boss_history.specs.Made.{done_by, mark_by, made_by_all}
 use Rattle.boss_history.specs.declared.outcome.Outcome.TheVariants.{DiskFault}
-use Rattle.boss_unkept.proofs.Keepers.{done_keeps}
-use Rattle.boss_unkept.proofs.Steps.{done_none}
+use Rattle.boss_unkept.proofs.Keepers.{done_keeps, made_fine}
+use Rattle.boss_unkept.proofs.Steps.{done_none, done_whole}
 use Rattle.boss_shared_keeper.proofs.Keepers.{fault_keeps, idle_keeps}
 use Rattle.boss_shared_keeper.proofs.keeper.FailingKeeperKeeper.apply_all.Goals as goal
 
@@ -27,8 +27,16 @@ returns-clause-kept c =
     let off = c.if-self.false in
     let on = c.fails.ensures.stopped ∙ c.if-fails.false in
     let same = ap (λ k. k.engine) c.fails.ensures.unkept in
-    let made = made_by_all c.args.session c.args.commands.now c.apply_all.new.answers.items c.apply_all.result.rest in
-    let kept = c.apply_all.ensures.kept in
-    done_keeps _ _ _ _ _ _ c.args.self.now (record { unkept = c.apply_all.new.self; good_calls = c.fails.new.self.good_calls; stopped = c.fails.new.self.stopped }) made off on
-    (kept.same_plant ∙ ap (λ e. e.plant) same) (ap (λ (b : Bool). if b then 1 else 0) (on ∙ sym off)) (sym kept.marked)
-    (subst (λ e. IsLegal e.plant made e.state) same kept.legal) (subst (λ e. c.apply_all.new.self.engine.state ≡ run e.plant made e.state) same (kept.state_is refl)) (inl refl) (λ _ _. tt)
+    let step = c.step_all-outcomes.ensures in
+    let answers = c.step_all-outcomes.new.answers.items in
+    let rest = c.step_all-outcomes.result.rest in
+    let done = c.slice-calls.result.now in
+    let made = done_by c.args.session done answers in
+    let is = ap (λ calls. made_by_all c.args.session calls answers rest) (sym c.slice-calls.ensures) ∙ made_fine c.args.session done answers rest step.no_fault in
+    let kept = done_keeps _ _ _ _ _ _ c.args.self.now c.note.new.self made off (c.note.ensures.stopped ∙ on)
+    (ap (λ k. k.engine.plant) c.note.ensures.unkept ∙ step.plant ∙ ap (λ e. e.plant) same)
+    (ap (λ (b : Bool). if b then 1 else 0) (c.note.ensures.stopped ∙ on ∙ sym off)) (done_whole c.args.session done answers)
+    (subst (λ e. IsLegal e.plant made e.state) same step.legal)
+    (ap (λ k. k.engine.state) c.note.ensures.unkept ∙ subst (λ e. c.step_all-outcomes.new.unkept.engine.state ≡ run e.plant made e.state) same step.state)
+    (inl refl) (λ _ _. tt) in
+    rw is kept
