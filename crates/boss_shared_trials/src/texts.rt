@@ -28,20 +28,22 @@ fn summary(answer: &Answer) -> (&'static str, u64, u64) {
         Answer::Attached { next, .. } => ("attached", *next, 0),
         Answer::Accepted { txn, until } => ("accepted", txn.0, *until),
         Answer::Ticked { now } => ("ticked", *now, 0),
-        Answer::Array { slots, .. } => slot_summary(slots.at[7]),
+        Answer::Array { slots, .. } => slot_summary(&slots.at[7]),
         Answer::Refused(refusal) => refusal_summary(refusal),
         _ => ("another answer", 0, 0),
     }
 }
 
 /// Of the slot of priority 8.
-fn slot_summary(slot: Slot) -> (&'static str, u64, u64) {
+fn slot_summary(slot: &Slot) -> (&'static str, u64, u64) {
     match slot {
-        Slot::Lease {
-            value: 45_000,
-            txn,
-            until,
-        } => ("the damper is held", txn.0, until),
+        Slot::Lease { value, txn, until } => {
+            if *value == 45_000 {
+                ("the damper is held", txn.0, *until)
+            } else {
+                ("the damper is held elsewhere", txn.0, *until)
+            }
+        }
         _ => ("the damper is not held", 0, 0),
     }
 }

@@ -9,7 +9,7 @@ use crate::threads::{DAMPER, read_and_renew, renewal};
 use boss_history::Outcomes;
 use boss_model::{Command, Items, Name, Policy, SessionId, Setting};
 use boss_points::Catalogue;
-use boss_shared::{Desk, Manager};
+use boss_shared::{Desk, Keeper, Manager};
 use boss_shared_keeper::FailingKeeper;
 use boss_trials::THREE_POINTS;
 use std::alloc::Global;
