@@ -1,11 +1,8 @@
 use crate::outside::*;
-use boss_manager::Status;
-use boss_outside::SimActuators;
 use boss_trials::THREE_POINTS;
-use std::alloc::{AllocError, Global};
+use std::alloc::Global;
 use std::process::Abort;
 use std::sync::Wait;
-use std::test::Fail;
 use std::thread::Threads;
 
 // Each script begins with a line `== ..` that says what it shows. A line behind `> ` is asked, and the others are told.
@@ -453,73 +450,86 @@ const BATCHES: &[Batch] = &[
     },
 ];
 
-/// Puts what a script asks behind the one text, and what it tells behind the other.
-fn put_parts(script: &str, asked: &mut String, told: &mut String) -> Result<(), AllocError> {
-    for line in script.split('\n').skip(1) {
-        if let Some(ask) = line.strip_prefix("> ") {
-            asked.push_str(ask)?;
-            asked.push_str("\n")?;
-        } else if !line.is_empty() {
-            told.push_str(line)?;
-            told.push_str("\n")?;
-        }
-    }
-    Ok(())
+/// The points of the first driver, by their numbers.
+const FIRST_POINTS: [&str; 3] = ["ahu1.damper", "lamp", "fan"];
+
+/// A script, what it is to tell, and what its first device is to be called with.
+#[derive(Drop)]
+struct Parts {
+    asked: String,
+    output: String,
+    calls: String,
 }
 
-/// Whether a script tells its text, however its bytes are read, and ends with status 0.
-fn expect<R: Abort + Threads + Wait + Sync>(
+impl Parts {
+    /// Nothing yet.
+    fn new(alloc: Global) -> Parts {
+        Parts {
+            asked: String::new(alloc),
+            output: String::new(alloc),
+            calls: String::new(alloc),
+        }
+    }
+
+    /// Takes the lines of a text, each where it belongs.
+    fn put(&mut self, rt: &impl Abort, text: &str) {
+        for line in text.split('\n') {
+            if let Some(asked) = line.strip_prefix("> ") {
+                writeln!(self.asked, "{asked}").expect(rt, "memory");
+            } else if !line.is_empty() {
+                writeln!(self.output, "{line}").expect(rt, "memory");
+                put_call(rt, &mut self.calls, line);
+            }
+        }
+    }
+}
+
+/// Puts down the call that a line of the output tells of, where it is one of the first driver's device.
+fn put_call(rt: &impl Abort, calls: &mut String, line: &str) {
+    let Some(write) = line.strip_prefix("write field ") else {
+        return;
+    };
+    let (name, call) = write.split_once(' ').expect(rt, "a name");
+    let point = FIRST_POINTS
+        .iter()
+        .position(|point| *point == name)
+        .expect(rt, "a point");
+    writeln!(calls, "{point} {call}").expect(rt, "memory");
+}
+
+/// Runs a script, which has to tell its text and to end with status 0.
+fn expect_script<R: Abort + Threads + Wait + Sync>(
     rt: &R,
     alloc: Global,
     batch: &Batch,
     script: &str,
-) -> Result<(), Fail> {
-    let fails = Fails {
-        device: batch.fails,
-        ..NONE_FAILS
+) {
+    let (shows, lines) = script.split_once('\n').expect(rt, "what it shows");
+    let mut parts = Parts::new(alloc);
+    parts.put(rt, batch.opening);
+    parts.put(rt, lines);
+    let given = Given {
+        words: SCRIPT_WORDS,
+        file: batch.file,
+        input: parts.asked.as_str(),
+        fails: Fails {
+            device: batch.fails,
+            ..NONE_FAILS
+        },
     };
-    let mut asked = String::new(alloc);
-    let mut told = String::from_str(alloc, batch.opening)?;
-    put_parts(script, &mut asked, &mut told)?;
-    let asked = asked.as_bytes();
-    let mut bytewise = Bytewise::new(asked);
-    for outcome in [
-        run(rt, alloc, SCRIPT_WORDS, batch.file, asked, fails)?,
-        run_over(rt, alloc, SCRIPT_WORDS, batch.file, &mut bytewise, fails)?,
-    ] {
-        assert_eq!(rt; outcome.status, Status(0), "{script}");
-        assert_eq!(rt; outcome.sink.taken(), told.as_bytes(), "{script}");
-        let device = outcome.devices.first().ok_or("a device")?;
-        expect_calls(rt, alloc, device, told.as_str())?;
-    }
-    Ok(())
-}
-
-/// Whether the lines of a text that tell of the first driver's calls tell those that its device was made.
-fn expect_calls(
-    rt: &impl Abort,
-    alloc: Global,
-    device: &SimActuators,
-    told: &str,
-) -> Result<(), Fail> {
-    assert!(rt; device.is_whole());
-    let mut calls = String::new(alloc);
-    for line in told.split('\n') {
-        if line.starts_with("write field ") {
-            calls.push_str(line)?;
-            calls.push_str("\n")?;
-        }
-    }
-    assert_eq!(rt; calls_told(alloc, device.calls())?.as_str(), calls.as_str());
-    Ok(())
+    let told = Told {
+        output: parts.output.as_str(),
+        calls: parts.calls.as_str(),
+        status: 0,
+    };
+    expect(rt, alloc, shows, &given, &told);
 }
 
 #[test]
-fn scripts_tell_what_was_worked_out(rt: HostRuntime) -> Result<(), Fail> {
+fn scripts_tell_what_was_worked_out(rt: HostRuntime) {
     for batch in BATCHES {
         for script in batch.scripts.split("\n== ").skip(1) {
-            expect(&rt, rt.alloc(), batch, script)?;
+            expect_script(&rt, rt.alloc(), batch, script);
         }
     }
-    Ok(())
 }
