@@ -1,6 +1,6 @@
 //! A source that holds a text back until a flag is raised, and a sink that raises it.
 
-ghost use Rattle.std.specs.Prelude.{[]};
+ghost use Rattle.std.specs.Prelude.{◌≡◌, []};
 
 use boss_outside::{BytesSink, Failed, Got, Sink, Source};
 use std::sync::atomic::{AtomicBool, Ordering};
@@ -83,13 +83,22 @@ pub struct Raising<'a> {
 }
 
 impl<'a> Raising<'a> {
-    pub fn new(sink: BytesSink, lines: Option<u64>, flag: &'a AtomicBool) -> Self {
+    pub fn new(sink: BytesSink, lines: Option<u64>, flag: &'a AtomicBool) -> Self
+        ensures { result.sink ≡ sink }
+    {
         Raising { sink, lines, flag }
     }
 
     /// All bytes that it took, in order.
     pub fn taken(&self) -> &[u8] {
         self.sink.taken()
+    }
+
+    /// Raises the flag if so many lines have come.
+    fn raise(&self) {
+        if self.lines == Some(lines(self.taken())) {
+            self.flag.store(true, Ordering::SeqCst);
+        }
     }
 }
 
@@ -113,9 +122,7 @@ impl Sink for Raising<'_> {
 
     fn write(&mut self, bytes: &[u8]) -> Result<(), Failed> {
         let written = self.sink.write(bytes);
-        if self.lines == Some(lines(self.sink.taken())) {
-            self.flag.store(true, Ordering::SeqCst);
-        }
+        self.raise();
         written
     }
 }

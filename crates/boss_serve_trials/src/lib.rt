@@ -5,7 +5,13 @@
 #[cfg(test)]
 mod at_once;
 #[cfg(test)]
+mod clocks;
+#[cfg(test)]
+mod connections;
+#[cfg(test)]
 mod held;
+#[cfg(test)]
+mod listening;
 #[cfg(test)]
 mod rows;
 #[cfg(test)]

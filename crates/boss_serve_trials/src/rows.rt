@@ -1,6 +1,7 @@
 //! Servers in memory, whose workers run one after another: those for connections, then time, then the driver.
 
-use crate::stage::{Setting, Talk, run};
+use crate::connections::Talk;
+use crate::stage::{Setting, run};
 use boss_points::Catalogue;
 use boss_trials::THREE_POINTS;
 use std::test::Fail;

@@ -1,15 +1,13 @@
 //! A connection over a socket of this machine, both ends in one process.
 
-ghost use Rattle.std.specs.Prelude.{[]};
-
+use crate::listening::Listening;
 use crate::texts::put;
 use crate::threads::serve_in_threads;
-use boss_model::{NoMemory, SessionId};
-use boss_outside::Failed;
+use boss_model::NoMemory;
 use boss_points::Catalogue;
-use boss_real::{RealHost, RealSink, RealSource};
+use boss_real::RealHost;
 use boss_trials::THREE_POINTS;
-use boss_workers::{Accepted, Host};
+use boss_workers::Host;
 use std::alloc::Global;
 use std::io::{Read, Write};
 use std::net::{Net, Shutdown, TcpListener, TcpStream};
@@ -18,56 +16,6 @@ use std::test::Fail;
 use std::thread::Threads;
 use std::time::Duration;
 use std::{io, time};
-
-/// A host that listens already.
-#[derive(Drop)]
-struct Listening<R> {
-    host: RealHost<R>,
-}
-
-impl<R: Net<Listener = TcpListener, Stream = TcpStream> + Copy + Drop> Host for Listening<R> {
-    type In = RealSource;
-
-    type Out = RealSink;
-
-    ghost sound = { λ listening. Unit {0} };
-
-    ghost tells = { ⊥ };
-
-    ghost served = { λ listening. [] };
-
-    ghost handed = { λ listening. ⟦<RealHost<R> as Host>⟧.handed listening.host };
-
-    ghost share = { λ listening. ⟦<RealHost<R> as Host>⟧.share listening.host };
-
-    ghost away = { λ listening. ⟦<RealHost<R> as Host>⟧.away listening.host };
-
-    ghost faults = { λ listening. ⟦<RealHost<R> as Host>⟧.faults listening.host };
-
-    fn bind(&mut self, _address: &str) -> Result<(), Failed> {
-        Ok(())
-    }
-
-    fn split(&mut self, alloc: Global, connections: u32) -> Result<Self, NoMemory> {
-        match self.host.split(alloc, connections) {
-            Ok(host) => Ok(Listening { host }),
-            Err(none) => Err(none),
-        }
-    }
-
-    fn accept(&mut self) -> Accepted<RealSource, RealSink> {
-        self.host.accept()
-    }
-
-    fn give_back(&mut self, session: SessionId, input: RealSource, output: RealSink) {
-        self.host.give_back(session, input, output);
-    }
-
-    fn join(&mut self, other: Self) {
-        let Listening { host } = other;
-        self.host.join(host);
-    }
-}
 
 const SENT: &[u8] = br#"{"op":"attach","process":"a"}
 {"op":"submit","writes":[{"point":"ahu1.damper","value":45000,"priority":8,"lease":60000}]}

@@ -1,24 +1,18 @@
 //! A server in memory: what it is run on, and what is told of it afterwards.
 
-ghost use Rattle.std.specs.Prelude.{IfOk};
-ghost use Rattle.boss_workers.specs.Hosts.{AreUntouched, IsUntouched};
+ghost use Rattle.std.specs.Prelude.{◌≤◌};
 
-use crate::texts::{put, put_number, tell_end, tell_talk};
+use crate::clocks::{call, list_clock};
+use crate::connections::{Connections, Talk, count, host, tell_talks};
+use crate::texts::{put, put_number, tell_end};
 use boss_manager::{Status, serve_in_memory};
 use boss_model::{Items, NoMemory};
-use boss_outside::{BytesSink, BytesSource, SimActuators, Sink, Source};
+use boss_outside::{BytesSink, BytesSource, SimActuators};
 use boss_points::Catalogue;
 use boss_workers::{Host, ListClock, ListHost, ListSpawner, TurnWaiter};
 use std::alloc::Global;
 use std::sync::Wait;
 use std::thread::Threads;
-
-/// A connection: what it sends, and the number of its read that fails, from 1; 0 is none.
-#[derive(Clone, Copy)]
-pub struct Talk {
-    pub text: &'static str,
-    pub fails: u64,
-}
 
 /// What a server is run on. The numbers of calls that fail are counted from 1; 0 is none.
 #[derive(Clone, Copy)]
@@ -26,7 +20,7 @@ pub struct Setting {
     /// The connections of each worker, in order.
     pub workers: &'static [&'static [Talk]],
     /// What the clock gives, in each of its parts.
-    pub moments: &'static [u64],
+    pub moments: &'static [u32],
     pub clock_fails: u64,
     /// Counted over the bind and, in each part, its accepts.
     pub host_fails: u64,
@@ -37,56 +31,6 @@ pub struct Setting {
     /// Whether there is a device.
     pub device: bool,
     pub sink_fails: u64,
-}
-
-type Connections = ListHost<BytesSource, BytesSink>;
-
-/// The one call of this number.
-fn call(alloc: Global, number: u64) -> Result<Items<u64>, NoMemory> {
-    let mut calls = Items::new(alloc);
-    calls.try_push(number)?;
-    Ok(calls)
-}
-
-/// A connection by which this comes in.
-fn connection(alloc: Global, talk: &Talk) -> Result<(BytesSource, BytesSink), NoMemory>
-    ensures { IfOk result (λ ends. IsUntouched ⟦<BytesSource as Source>⟧ ⟦<BytesSink as Sink>⟧ ends.0 ends.1) }
-{
-    let bytes = Items::from_vec(talk.text.as_bytes().to_vec(alloc)?);
-    let input = BytesSource::new(alloc, bytes, call(alloc, talk.fails)?)?;
-    let output = BytesSink::new(alloc, Items::new(alloc))?;
-    Ok((input, output))
-}
-
-/// The connections of one worker.
-fn part(alloc: Global, talks: &[Talk]) -> Result<Items<(BytesSource, BytesSink)>, NoMemory>
-    ensures { IfOk result (AreUntouched ⟦<BytesSource as Source>⟧ ⟦<BytesSink as Sink>⟧) }
-{
-    let mut part = Items::new(alloc);
-    for talk in talks {
-        part.try_push(connection(alloc, talk)?)?;
-    }
-    Ok(part)
-}
-
-/// The connections of all workers.
-fn host(alloc: Global, setting: &Setting) -> Result<Connections, NoMemory>
-    ensures { IfOk result (λ host. ⟦<ListHost<BytesSource, BytesSink> as Host>⟧.sound host) }
-{
-    let mut parts = Items::new(alloc);
-    for talks in setting.workers {
-        parts.try_push(part(alloc, talks)?)?;
-    }
-    ListHost::new(alloc, parts, call(alloc, setting.host_fails)?)
-}
-
-/// How many connections there are.
-fn count(setting: &Setting) -> u32 {
-    let mut count: u32 = 0;
-    for talks in setting.workers {
-        count = count.saturating_add(talks.len() as u32);
-    }
-    count
 }
 
 /// All that a server stands on but its host.
@@ -107,11 +51,6 @@ fn devices(alloc: Global, setting: &Setting) -> Result<Vec<SimActuators>, NoMemo
     Ok(devices)
 }
 
-fn clock(alloc: Global, setting: &Setting) -> Result<ListClock, NoMemory> {
-    let moments = Items::from_vec(setting.moments.to_vec(alloc)?);
-    ListClock::new(alloc, moments, call(alloc, setting.clock_fails)?)
-}
-
 impl<R> Stage<R> {
     fn new(alloc: Global, setting: &Setting) -> Result<Stage<R>, NoMemory> {
         let spawner = ListSpawner::new(alloc, call(alloc, setting.unstarted)?)?;
@@ -119,13 +58,21 @@ impl<R> Stage<R> {
         let waiter = TurnWaiter::new(alloc, setting.turns)?;
         let devices = devices(alloc, setting)?;
         Ok(Stage {
-            clock: clock(alloc, setting)?,
+            clock: list_clock(alloc, setting.moments, setting.clock_fails)?,
             waiter,
             spawner,
             sink,
             devices,
         })
     }
+}
+
+/// How many workers there are: 1 to 32.
+fn workers(setting: &Setting) -> u32
+    ensures some { 1 ≤ result }
+    ensures few { result ≤ 32 }
+{
+    setting.workers.len().clamp(1, 32) as u32
 }
 
 /// Serves all connections, by as many workers as the setting has.
@@ -144,8 +91,8 @@ fn serve<R: Threads + Wait + Sync>(
         alloc,
         catalogue,
         "here",
-        (setting.workers.len() as u32).clamp(1, 32),
-        count(setting),
+        workers(setting),
+        count(setting.workers),
         &mut stage.sink,
         &mut stage.devices,
         &mut stage.clock,
@@ -181,7 +128,7 @@ pub fn run<R: Threads + Wait + Sync>(
     catalogue: &Catalogue,
     setting: &Setting,
 ) -> Result<String, NoMemory> {
-    match host(alloc, setting) {
+    match host(alloc, setting.workers, setting.host_fails) {
         Ok(mut host) => run_on(rt, alloc, catalogue, setting, &mut host),
         Err(none) => Err(none),
     }
@@ -199,15 +146,8 @@ fn tell<R>(
     tell_talks(&mut text, alloc, host)?;
     tell_pauses(&mut text, alloc, &stage.waiter)?;
     tell_calls(&mut text, alloc, &stage.devices)?;
-    tell_end(&mut text, stage.sink.taken(), status)?;
+    tell_end(&mut text, stage.sink.taken(), status.0)?;
     Ok(text)
-}
-
-fn tell_talks(text: &mut String, alloc: Global, host: &Connections) -> Result<(), NoMemory> {
-    for ended in host.served(alloc)? {
-        tell_talk(text, ended.session, ended.output.taken())?;
-    }
-    Ok(())
 }
 
 fn tell_pauses(text: &mut String, alloc: Global, waiter: &TurnWaiter) -> Result<(), NoMemory> {

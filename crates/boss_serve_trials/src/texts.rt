@@ -1,6 +1,5 @@
 //! What is told of a server, as lines.
 
-use boss_manager::Status;
 use boss_model::{NoMemory, SessionId};
 
 /// Puts these bytes at the end of a text; where they are none, that they are not.
@@ -24,8 +23,8 @@ pub fn tell_talk(text: &mut String, session: SessionId, taken: &[u8]) -> Result<
 }
 
 /// Tells what a server put out, and its status.
-pub fn tell_end(text: &mut String, taken: &[u8], status: Status) -> Result<(), NoMemory> {
+pub fn tell_end(text: &mut String, taken: &[u8], status: u8) -> Result<(), NoMemory> {
     put(text, taken)?;
-    put_number(text, "status ", u64::from(status.0))?;
+    put_number(text, "status ", u64::from(status))?;
     put(text, b"\n")
 }

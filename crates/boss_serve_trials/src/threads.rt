@@ -2,6 +2,7 @@
 
 ghost use Rattle.std.specs.Prelude.{◌≤◌};
 
+use crate::clocks::list_clock;
 use crate::texts::tell_end;
 use boss_manager::{Status, serve_in_memory};
 use boss_model::{Items, NoMemory};
@@ -13,13 +14,6 @@ use std::alloc::Global;
 use std::sync::Wait;
 use std::thread::Threads;
 use std::time;
-
-/// A clock that tells 1,000 always.
-fn still_clock(alloc: Global) -> Result<ListClock, NoMemory> {
-    let mut moments = Items::new(alloc);
-    moments.try_push(1_000)?;
-    ListClock::new(alloc, moments, Items::new(alloc))
-}
 
 /// Serves so many connections of a host by so many workers, without a device.
 fn serve<R: Threads + Wait + time::Clock + Copy + Drop + Send + Sync, H: Host + Send>(
@@ -83,7 +77,7 @@ where
     ensures sound { H.sound host.new }
 {
     let mut sink = BytesSink::new(alloc, Items::new(alloc))?;
-    let mut clock = still_clock(alloc)?;
+    let mut clock = list_clock(alloc, &[1_000], 0)?;
     let status = serve(
         rt,
         alloc,
@@ -94,5 +88,5 @@ where
         &mut sink,
         &mut clock,
     )?;
-    tell_end(text, sink.taken(), status)
+    tell_end(text, sink.taken(), status.0)
 }
