@@ -43,12 +43,26 @@ struct Stage<R> {
     devices: Vec<SimActuators>,
 }
 
-fn devices(alloc: Global, setting: &Setting) -> Result<Vec<SimActuators>, NoMemory> {
-    let mut devices = Vec::new(alloc);
-    if setting.device {
-        devices.push(SimActuators::new(alloc, Items::new(alloc))?)?;
+/// A list of this item alone.
+fn only<T: Drop>(alloc: Global, item: T) -> Result<Vec<T>, NoMemory> {
+    let mut all = Vec::new(alloc);
+    all.push(item)?;
+    Ok(all)
+}
+
+fn one_device(alloc: Global) -> Result<Vec<SimActuators>, NoMemory> {
+    match SimActuators::new(alloc, Items::new(alloc)) {
+        Ok(device) => only(alloc, device),
+        Err(none) => Err(none),
     }
-    Ok(devices)
+}
+
+fn devices(alloc: Global, setting: &Setting) -> Result<Vec<SimActuators>, NoMemory> {
+    if setting.device {
+        one_device(alloc)
+    } else {
+        Ok(Vec::new(alloc))
+    }
 }
 
 impl<R> Stage<R> {
