@@ -1,0 +1,198 @@
+// A log that has come to its limit, and the one that is begun behind a kept state.
+ghost use Rattle.std.specs.Prelude.{◌≡◌, ◌≤◌, ◌^◌, false};
+ghost use Rattle.boss_model.specs.Catalogue.{actuators};
+ghost use Rattle.boss_model.specs.Sound.{IsSound};
+ghost use Rattle.boss_scripts.specs.Devices.{HasDevices};
+
+use crate::bytes::{ATTACHED, DIGEST, SHUT, SUBMIT_HEAD, SUBMIT_TAIL, joined, journal};
+use crate::outside::*;
+use boss_disk::MemoryDisk;
+use boss_durable::Durable;
+use boss_lines::Next;
+use boss_manager::Status;
+use boss_opening::open;
+use boss_outside::BytesSink;
+use boss_points::Catalogue;
+use boss_scripts::run_script;
+use std::alloc::Global;
+use std::process::Abort;
+
+/// How many bytes a log may have here, the least that is allowed.
+const LOG_LIMIT: u64 = 131_072;
+
+/// How many submits a log has room for behind an attach: it is begun anew once it has no room for 65,536 bytes more.
+const SUBMITS: u64 = 1_821;
+
+/// What a check tells behind 1,822 submits.
+const AFTER: &str = "events 1823 now 2821 leases 1 pending 0\n";
+
+const ATTACH: &str = "{\"op\":\"attach\",\"process\":\"a\"}\n";
+
+/// What is asked of the last transaction and of the last one that ended.
+const ASKED: &str = "{\"at\":2821,\"op\":\"status\",\"txn\":1822}
+{\"at\":2821,\"op\":\"notices\",\"process\":\"a\",\"from\":3641,\"max\":4}
+";
+
+/// Behind 1,822 submits, each of which supersedes the one before it, with two notices.
+const ANSWERED: &str =
+    "{\"ok\":\"status\",\"txn\":1822,\"owner\":\"a\",\"stage\":\"run\",\"live\":1,\"pending\":0}
+{\"ok\":\"notices\",\"first\":2619,\"next\":3643,\"list\":[{\"n\":3641,\"at\":2821,\"txn\":1821,\"kind\":\"ended\",\"point\":\"ahu1.damper\",\"cause\":\"superseded\",\"by\":1822},{\"n\":3642,\"at\":2821,\"txn\":1821,\"kind\":\"done\"}]}
+";
+
+/// The same behind an opening, which tells each device its value anew.
+const ANSWERED_AGAIN: &str = "write field ahu1.damper 45000 ok
+write field lamp 0 ok
+write field fan 1 ok
+{\"ok\":\"status\",\"txn\":1822,\"owner\":\"a\",\"stage\":\"run\",\"live\":1,\"pending\":0}
+{\"ok\":\"notices\",\"first\":2619,\"next\":3643,\"list\":[{\"n\":3641,\"at\":2821,\"txn\":1821,\"kind\":\"ended\",\"point\":\"ahu1.damper\",\"cause\":\"superseded\",\"by\":1822},{\"n\":3642,\"at\":2821,\"txn\":1821,\"kind\":\"done\"}]}
+";
+
+/// An attach at 0, and so many submits, a millisecond after one another from 1000 on.
+fn submits(rt: &impl Abort, alloc: Global, count: u64) -> String
+    requires { count ≤ 2 ^ 32 }
+{
+    let mut text = String::from_str(alloc, ATTACH).expect(rt, "memory");
+    for place in 0..count {
+        let moment = 1000 + place;
+        let line = format!(in alloc;
+            "{{\"at\":{moment},\"op\":\"submit\",\"writes\":[{{\"point\":\"ahu1.damper\",\"value\":45000,\"priority\":8,\"lease\":60000}}]}}\n"
+        );
+        text.push_str(line.expect(rt, "memory").as_str())
+            .expect(rt, "memory");
+    }
+    text
+}
+
+/// The record of a submit at a moment.
+fn submitted(rt: &impl Abort, alloc: Global, moment: u64) -> Vec<u8> {
+    joined(
+        rt,
+        alloc,
+        &[SUBMIT_HEAD, &moment.to_be_bytes(), SUBMIT_TAIL],
+    )
+}
+
+/// The journal of the attach and as many submits as there is room for.
+fn full_log(rt: &impl Abort, alloc: Global) -> Vec<u8> {
+    let mut bytes = journal(rt, alloc, b"\x02", DIGEST, &[ATTACHED]);
+    for place in 0..SUBMITS {
+        let record = submitted(rt, alloc, 1000 + place);
+        bytes.extend_from_slice(&record).expect(rt, "memory");
+    }
+    bytes.push(0).expect(rt, "memory");
+    bytes
+}
+
+/// What a script left whose log has the least limit.
+#[derive(Drop)]
+struct Left {
+    sink: BytesSink,
+    generation: u64,
+    disks: Pair,
+}
+
+/// Runs a script over two disks whose log has the least limit.
+fn run_limited(
+    rt: &impl Abort,
+    alloc: Global,
+    catalogue: &Catalogue,
+    disks: Pair,
+    text: &str,
+) -> Left
+    requires { HasDevices 1 (actuators catalogue.now) }
+{
+    let (first, second) = disks;
+    match open(alloc, catalogue, first, second, LOG_LIMIT) {
+        Ok(durable) => run_on(rt, alloc, catalogue, durable, text),
+        Err((disks, _)) => Left {
+            sink: sink(rt, alloc, 0),
+            generation: 0,
+            disks,
+        },
+    }
+}
+
+fn run_on(
+    rt: &impl Abort,
+    alloc: Global,
+    catalogue: &Catalogue,
+    durable: Durable<MemoryDisk>,
+    text: &str,
+) -> Left
+    requires plant { durable.engine.plant ≡ actuators catalogue.now }
+    requires going { durable.disks.stopped ≡ false }
+    requires sound { IsSound durable.engine.plant durable.engine.state }
+    requires devices { HasDevices 1 (actuators catalogue.now) }
+{
+    let mut source = source_of(rt, alloc, text);
+    let (mut sink, mut devices) = (sink(rt, alloc, 0), device(rt, alloc, 0));
+    let mut durable = durable;
+    let end = run_script(
+        alloc,
+        catalogue,
+        &mut durable,
+        &mut source,
+        &mut sink,
+        &mut devices,
+    );
+    assert!(rt; end == Ok(Next::Finish));
+    let generation = durable.generation();
+    Left {
+        sink,
+        generation,
+        disks: durable.close(),
+    }
+}
+
+/// As many submits as there is room for leave a log that is full, and nothing on the other disk.
+#[test]
+fn a_log_is_filled_up(rt: HostRuntime) {
+    let alloc = rt.alloc();
+    let catalogue = three_points(&rt, alloc);
+    let full = full_log(&rt, alloc);
+    assert!(&rt; full.len() == 41 + 16 + 36 * 1_821 + 1);
+    let text = submits(&rt, alloc, SUBMITS);
+    let disks = pair(&rt, alloc, &[], &[]);
+    let left = run_limited(&rt, alloc, &catalogue, disks, text.as_str());
+    assert!(&rt; left.generation == 0);
+    let (first, second) = left.disks;
+    expect_bytes(&rt, first, &full);
+    expect_bytes(&rt, second, &[]);
+}
+
+/// The second disk has generation 1, with 1,822 events before it, and behind its state the record of the last submit.
+fn expect_second(rt: &impl Abort, alloc: Global, bytes: &[u8]) {
+    let numbers: &[u8] = b"\0\0\0\0\0\0\0\x01\0\0\0\0\0\0\x07\x1e";
+    let heading = joined(rt, alloc, &[b"BOSSSNAP\x02", DIGEST, numbers]);
+    assert!(rt; bytes.starts_with(&heading));
+    let record = joined(rt, alloc, &[&submitted(rt, alloc, 2_821), SHUT]);
+    assert!(rt; bytes.ends_with(&record));
+}
+
+/// The submit behind a full log begins a new one behind a kept state of what came before, and what was answered is answered again.
+#[test]
+fn a_new_log_begins_behind_a_kept_state(rt: HostRuntime) {
+    let alloc = rt.alloc();
+    let catalogue = three_points(&rt, alloc);
+    let mut text = submits(&rt, alloc, SUBMITS + 1);
+    text.push_str(ASKED).expect(&rt, "memory");
+    let disks = pair(&rt, alloc, &[], &[]);
+    let left = run_limited(&rt, alloc, &catalogue, disks, text.as_str());
+    assert!(&rt; left.generation == 1);
+    assert!(&rt; left.sink.taken().ends_with(ANSWERED.as_bytes()));
+    let (first, second) = left.disks;
+    let (first, second) = (first.into_bytes(), second.into_bytes());
+    assert!(&rt; first.slice() == full_log(&rt, alloc).as_slice());
+    expect_second(&rt, alloc, second.slice());
+    let disks = pair(&rt, alloc, first.slice(), second.slice());
+    let disks = expect_run(
+        &rt,
+        alloc,
+        &catalogue,
+        disks,
+        ASKED,
+        Status::DONE,
+        ANSWERED_AGAIN,
+    );
+    expect_check(&rt, alloc, &catalogue, disks, Status::DONE, AFTER);
+}
