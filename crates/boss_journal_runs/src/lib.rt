@@ -7,6 +7,8 @@ mod bytes;
 #[cfg(test)]
 mod faults;
 #[cfg(test)]
+mod limited;
+#[cfg(test)]
 mod outside;
 #[cfg(test)]
 mod records;
@@ -14,6 +16,8 @@ mod records;
 mod refusals;
 #[cfg(test)]
 mod rotation;
+#[cfg(test)]
+mod rotation_stops;
 #[cfg(test)]
 mod stops;
 #[cfg(test)]

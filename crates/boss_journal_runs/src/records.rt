@@ -7,15 +7,13 @@ ghost use Rattle.boss_model.specs.declared.state.Actuator.{Actuator};
 ghost use Rattle.boss_model.specs.Sound.{IsAllowed};
 
 use crate::bytes::{DIGEST, SHUT, SUBMIT_TAIL, joined, journal};
+use crate::limited::LOG_LIMIT;
 use crate::outside::*;
 use boss_model::{Answer, Command, Items, Name, PointId, Policy, SessionId, Setting, Txn};
 use boss_opening::open;
 use boss_points::Catalogue;
 use std::alloc::Global;
 use std::process::Abort;
-
-/// How many bytes a log may have here, the least that is allowed.
-const LOG_LIMIT: u64 = 131_072;
 
 /// The process `a` is attached, holds the damper at 45 for a minute, at priority 8, and renews its lease 14 times.
 fn command(rt: &impl Abort, alloc: Global, place: u64) -> Command

@@ -1,24 +1,12 @@
 // A log that has come to its limit, and the one that is begun behind a kept state.
-ghost use Rattle.std.specs.Prelude.{◌≡◌, ◌≤◌, ◌^◌, false};
-ghost use Rattle.boss_model.specs.Catalogue.{actuators};
-ghost use Rattle.boss_model.specs.Sound.{IsSound};
-ghost use Rattle.boss_scripts.specs.Devices.{HasDevices};
+ghost use Rattle.std.specs.Prelude.{◌≤◌, ◌^◌};
 
 use crate::bytes::{ATTACHED, DIGEST, SHUT, SUBMIT_HEAD, SUBMIT_TAIL, joined, journal};
+use crate::limited::run_limited;
 use crate::outside::*;
-use boss_disk::MemoryDisk;
-use boss_durable::Durable;
-use boss_lines::Next;
 use boss_manager::Status;
-use boss_opening::open;
-use boss_outside::BytesSink;
-use boss_points::Catalogue;
-use boss_scripts::run_script;
 use std::alloc::Global;
 use std::process::Abort;
-
-/// How many bytes a log may have here, the least that is allowed.
-const LOG_LIMIT: u64 = 131_072;
 
 /// How many submits a log has room for behind an attach: it is begun anew once it has no room for 65,536 bytes more.
 const SUBMITS: u64 = 1_821;
@@ -81,67 +69,6 @@ fn full_log(rt: &impl Abort, alloc: Global) -> Vec<u8> {
     }
     bytes.push(0).expect(rt, "memory");
     bytes
-}
-
-/// What a script left whose log has the least limit.
-#[derive(Drop)]
-struct Left {
-    sink: BytesSink,
-    generation: u64,
-    disks: Pair,
-}
-
-/// Runs a script over two disks whose log has the least limit.
-fn run_limited(
-    rt: &impl Abort,
-    alloc: Global,
-    catalogue: &Catalogue,
-    disks: Pair,
-    text: &str,
-) -> Left
-    requires { HasDevices 1 (actuators catalogue.now) }
-{
-    let (first, second) = disks;
-    match open(alloc, catalogue, first, second, LOG_LIMIT) {
-        Ok(durable) => run_on(rt, alloc, catalogue, durable, text),
-        Err((disks, _)) => Left {
-            sink: sink(rt, alloc, 0),
-            generation: 0,
-            disks,
-        },
-    }
-}
-
-fn run_on(
-    rt: &impl Abort,
-    alloc: Global,
-    catalogue: &Catalogue,
-    durable: Durable<MemoryDisk>,
-    text: &str,
-) -> Left
-    requires plant { durable.engine.plant ≡ actuators catalogue.now }
-    requires going { durable.disks.stopped ≡ false }
-    requires sound { IsSound durable.engine.plant durable.engine.state }
-    requires devices { HasDevices 1 (actuators catalogue.now) }
-{
-    let mut source = source_of(rt, alloc, text);
-    let (mut sink, mut devices) = (sink(rt, alloc, 0), device(rt, alloc, 0));
-    let mut durable = durable;
-    let end = run_script(
-        alloc,
-        catalogue,
-        &mut durable,
-        &mut source,
-        &mut sink,
-        &mut devices,
-    );
-    assert!(rt; end == Ok(Next::Finish));
-    let generation = durable.generation();
-    Left {
-        sink,
-        generation,
-        disks: durable.close(),
-    }
 }
 
 /// As many submits as there is room for leave a log that is full, and nothing on the other disk.
