@@ -71,22 +71,6 @@ fn full_log(rt: &impl Abort, alloc: Global) -> Vec<u8> {
     bytes
 }
 
-/// As many submits as there is room for leave a log that is full, and nothing on the other disk.
-#[test]
-fn a_log_is_filled_up(rt: HostRuntime) {
-    let alloc = rt.alloc();
-    let catalogue = three_points(&rt, alloc);
-    let full = full_log(&rt, alloc);
-    assert!(&rt; full.len() == 41 + 16 + 36 * 1_821 + 1);
-    let text = submits(&rt, alloc, SUBMITS);
-    let disks = pair(&rt, alloc, &[], &[]);
-    let left = run_limited(&rt, alloc, &catalogue, disks, text.as_str());
-    assert!(&rt; left.generation == 0);
-    let (first, second) = left.disks;
-    expect_bytes(&rt, first, &full);
-    expect_bytes(&rt, second, &[]);
-}
-
 /// The second disk has generation 1, with 1,822 events before it, and behind its state the record of the last submit.
 fn expect_second(rt: &impl Abort, alloc: Global, bytes: &[u8]) {
     let numbers: &[u8] = b"\0\0\0\0\0\0\0\x01\0\0\0\0\0\0\x07\x1e";
@@ -109,7 +93,9 @@ fn a_new_log_begins_behind_a_kept_state(rt: HostRuntime) {
     assert!(&rt; left.sink.taken().ends_with(ANSWERED.as_bytes()));
     let (first, second) = left.disks;
     let (first, second) = (first.into_bytes(), second.into_bytes());
-    assert!(&rt; first.slice() == full_log(&rt, alloc).as_slice());
+    let full = full_log(&rt, alloc);
+    assert!(&rt; full.len() == 41 + 16 + 36 * 1_821 + 1);
+    assert!(&rt; first.slice() == full.as_slice());
     expect_second(&rt, alloc, second.slice());
     let disks = pair(&rt, alloc, first.slice(), second.slice());
     let disks = expect_run(

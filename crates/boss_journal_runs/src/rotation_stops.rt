@@ -16,7 +16,8 @@ const SUBMITS: usize = 182;
 const ATTACH: &str = "{\"op\":\"attach\",\"process\":\"a\"}\n";
 
 /// All at one moment, so that each supersedes the one before it.
-const SUBMIT: &str = "{\"at\":1000,\"op\":\"submit\",\"writes\":[{\"point\":\"ahu1.damper\",\"value\":45000,\"priority\":8,\"lease\":60000,\"revert\":[[1,1000],[2,1000],[3,1000],[4,1000],[5,1000],[6,1000],[7,1000],[8,1000]]},{\"point\":\"lamp\",\"value\":1,\"priority\":8,\"lease\":60000,\"revert\":[[0,1000],[1,1000],[0,1000],[1,1000],[0,1000],[1,1000],[0,1000],[1,1000]]},{\"point\":\"fan\",\"value\":2,\"priority\":8,\"lease\":60000,\"revert\":[[1,1000],[2,1000],[3,1000],[1,1000],[2,1000],[3,1000],[1,1000],[2,1000]]}]}\n";
+const SUBMIT: &str =
+    "{\"at\":1000,\"op\":\"submit\",\"writes\":[{\"point\":\"ahu1.damper\",\"value\":45000,\"priority\":8,\"lease\":60000,\"revert\":[[1,1000],[2,1000],[3,1000],[4,1000],[5,1000],[6,1000],[7,1000],[8,1000]]},{\"point\":\"lamp\",\"value\":1,\"priority\":8,\"lease\":60000,\"revert\":[[0,1000],[1,1000],[0,1000],[1,1000],[0,1000],[1,1000],[0,1000],[1,1000]]},{\"point\":\"fan\",\"value\":2,\"priority\":8,\"lease\":60000,\"revert\":[[1,1000],[2,1000],[3,1000],[1,1000],[2,1000],[3,1000],[1,1000],[2,1000]]}]}\n";
 
 /// What is told of an attach and two submits over the full log: where it was not opened, where the disk that the second submit begins
 /// a new log on failed meanwhile, and where both were accepted. Each of the submits before, but the last, was superseded in three
@@ -45,6 +46,7 @@ const ANSWERED: [&str; 3] = [
     "events 184 now 1000 leases 3 pending 0\n",
     "events 185 now 1000 leases 3 pending 0\n",
 ];
+
 const UNDER_WAY: [&str; 3] = [
     "events 183 now 1000 leases 3 pending 0\n",
     "events 185 now 1000 leases 3 pending 0\n",
@@ -118,13 +120,7 @@ fn run_beside(
 }
 
 /// All calls behind so many come to nothing; and the next one alone, behind which none is made. Whether the run came to its end.
-fn try_calls(
-    rt: &impl Abort,
-    alloc: Global,
-    catalogue: &Catalogue,
-    full: &[u8],
-    calls: u64,
-) -> bool
+fn try_calls(rt: &impl Abort, alloc: Global, catalogue: &Catalogue, full: &[u8], calls: u64) -> bool
     requires { HasDevices 1 (actuators catalogue.now) }
 {
     let stopped = run_beside(rt, alloc, catalogue, full, Trouble::Stops(calls));
