@@ -1,10 +1,13 @@
 // A log that has come to its limit, and the one that is begun behind a kept state.
 ghost use Rattle.std.specs.Prelude.{◌≤◌, ◌^◌};
+ghost use Rattle.boss_model.specs.Catalogue.{actuators};
+ghost use Rattle.boss_scripts.specs.Devices.{HasDevices};
 
 use crate::bytes::{ATTACHED, DIGEST, SHUT, SUBMIT_HEAD, SUBMIT_TAIL, joined, journal};
 use crate::limited::run_limited;
 use crate::outside::*;
 use boss_manager::Status;
+use boss_points::Catalogue;
 use std::alloc::Global;
 use std::process::Abort;
 
@@ -60,10 +63,12 @@ fn submitted(rt: &impl Abort, alloc: Global, moment: u64) -> Vec<u8> {
     )
 }
 
-/// The journal of the attach and as many submits as there is room for.
-fn full_log(rt: &impl Abort, alloc: Global) -> Vec<u8> {
+/// The journal of the attach and so many submits.
+pub fn log_of(rt: &impl Abort, alloc: Global, submits: u64) -> Vec<u8>
+    requires { submits ≤ 2 ^ 32 }
+{
     let mut bytes = journal(rt, alloc, b"\x02", DIGEST, &[ATTACHED]);
-    for place in 0..SUBMITS {
+    for place in 0..submits {
         let record = submitted(rt, alloc, 1000 + place);
         bytes.extend_from_slice(&record).expect(rt, "memory");
     }
@@ -80,6 +85,29 @@ fn expect_second(rt: &impl Abort, alloc: Global, bytes: &[u8]) {
     assert!(rt; bytes.ends_with(&record));
 }
 
+/// The first disk has the full log, and the second the new one; and an opening answers what was answered before.
+fn expect_again(rt: &impl Abort, alloc: Global, catalogue: &Catalogue, disks: Pair)
+    requires { HasDevices 1 (actuators catalogue.now) }
+{
+    let (first, second) = disks;
+    let (log, new) = (first.into_bytes(), second.into_bytes());
+    let full = log_of(rt, alloc, SUBMITS);
+    assert!(rt; full.len() == 41 + 16 + 36 * 1_821 + 1);
+    assert!(rt; log.slice() == full.as_slice());
+    expect_second(rt, alloc, new.slice());
+    let disks = pair(rt, alloc, log.slice(), new.slice());
+    let disks = expect_run(
+        rt,
+        alloc,
+        catalogue,
+        disks,
+        ASKED,
+        Status::DONE,
+        ANSWERED_AGAIN,
+    );
+    expect_check(rt, alloc, catalogue, disks, Status::DONE, AFTER);
+}
+
 /// The submit behind a full log begins a new one behind a kept state of what came before, and what was answered is answered again.
 #[test]
 fn a_new_log_begins_behind_a_kept_state(rt: HostRuntime) {
@@ -91,21 +119,5 @@ fn a_new_log_begins_behind_a_kept_state(rt: HostRuntime) {
     let left = run_limited(&rt, alloc, &catalogue, disks, text.as_str());
     assert!(&rt; left.generation == 1);
     assert!(&rt; left.sink.taken().ends_with(ANSWERED.as_bytes()));
-    let (first, second) = left.disks;
-    let (first, second) = (first.into_bytes(), second.into_bytes());
-    let full = full_log(&rt, alloc);
-    assert!(&rt; full.len() == 41 + 16 + 36 * 1_821 + 1);
-    assert!(&rt; first.slice() == full.as_slice());
-    expect_second(&rt, alloc, second.slice());
-    let disks = pair(&rt, alloc, first.slice(), second.slice());
-    let disks = expect_run(
-        &rt,
-        alloc,
-        &catalogue,
-        disks,
-        ASKED,
-        Status::DONE,
-        ANSWERED_AGAIN,
-    );
-    expect_check(&rt, alloc, &catalogue, disks, Status::DONE, AFTER);
+    expect_again(&rt, alloc, &catalogue, left.disks);
 }

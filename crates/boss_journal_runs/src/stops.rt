@@ -181,7 +181,8 @@ fn expect_append(rt: &impl Abort, alloc: Global, catalogue: &Catalogue, calls: u
         );
         let ran = run(rt, alloc, catalogue, disks, INPUT);
         let left = images(rt, alloc, &ran.disks, (pick, 0));
-        expect_check(rt, alloc, catalogue, left, Status::DONE, HELD[events]);
+        let held = HELD[events.min(2)];
+        expect_check(rt, alloc, catalogue, left, Status::DONE, held);
     }
 }
 
