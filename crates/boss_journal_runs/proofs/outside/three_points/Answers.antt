@@ -1,4 +1,4 @@
-use Rattle.std.proofs.Common.{◌≡◌, ◌≤◌, ◌+◌, List, [], cond, drop, length, ap, sym, ◌∙◌, Some, arith}
+use Rattle.std.proofs.Common.{◌≡◌, ◌+◌, List, [], cond, drop, length, ap, sym, ◌∙◌, Some, arith}
 use Rattle.std.proofs.Math.Seq.{drop-length}
 use Rattle.std.specs.List.{position_from}
 use Rattle.boss_model.specs.Catalogue.{Point}
