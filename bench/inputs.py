@@ -104,12 +104,12 @@ def submits(count, points):
     return lines.lines
 
 
-def full(points):
-    """Submits that take every slot of a plant, each of 32 writes with eight steps behind them, by 256 processes in turn."""
+def full(points, rounds=1):
+    """Submits that take every slot of a plant, so many times over, each of 32 writes with eight steps behind them, by 256 processes in turn."""
     lines = Lines(points, 1)
     for session in range(1, 257):
         lines.ask("attach", process=f"q{session}", on=session)
-    slots = [(point, level) for level in PRIORITIES for point in range(points)]
+    slots = [(point, level) for level in PRIORITIES for point in range(points)] * rounds
     for place in range(0, len(slots), 32):
         writes = [lines.write(*slot, 600_000_000, 8) for slot in slots[place:place + 32]]
         lines.ask("submit", writes=writes, on=1 + place // 32 % 256)

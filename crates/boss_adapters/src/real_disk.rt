@@ -12,12 +12,16 @@ use std::io::{self, ErrorKind};
 use std::os::unix::fs::FileExt;
 use std::path::Path;
 
-/// A file of this machine. Where there is none under its name, the first write makes it, and no other call does.
+/// A file of this machine. Where there is none under its name, the first write makes it, and no other call does. One that is there is
+/// opened to be read, and to be written only at the first write, cut or sync: who looks at a file needs no leave to change it, and who
+/// means to change it finds out at the sync with which it begins.
 #[derive(Drop)]
 pub struct RealDisk {
     rt: HostRuntime,
     name: String,
     file: Option<File>,
+    /// The file is opened to be written too.
+    is_writable: bool,
     /// The folder has the name for good.
     is_named: bool,
     /// A sync failed. The system may have forgotten what it could not keep, so that a later sync would tell nothing.
@@ -26,19 +30,20 @@ pub struct RealDisk {
 }
 
 impl RealDisk {
-    /// The file under this name, to be read and written. Anything else that stands there is refused.
+    /// The file under this name. Anything else that stands there is refused.
     pub fn open(rt: HostRuntime, alloc: Global, name: &str) -> io::Result<RealDisk>
         ensures { IfOk result (λ disk. ⟦<RealDisk as Disk>⟧.faults disk ≡ 0) }
     {
         let file = if is_missing(&rt, name)? {
             None
         } else {
-            Some(open_file(&rt, name, false)?)
+            Some(open_file(&rt, name, Purpose::Read)?)
         };
         Ok(RealDisk {
             rt,
             name: String::from_str(alloc, name)?,
             file,
+            is_writable: false,
             is_named: false,
             is_lost: false,
             faults: 0,
@@ -83,18 +88,31 @@ impl RealDisk {
         }
     }
 
+    /// Opens the file to be written too, where there is one.
+    fn open_to_write(&mut self) -> io::Result<()>
+        ensures { self.new.faults ≡ self.old.faults }
+    {
+        if self.file.is_none() || self.is_writable {
+            return Ok(());
+        }
+        self.file = Some(open_file(&self.rt, self.name.as_str(), Purpose::Write)?);
+        self.is_writable = true;
+        Ok(())
+    }
+
     /// Makes the file, where there is none.
     fn make(&mut self) -> io::Result<()>
         ensures { self.new.faults ≡ self.old.faults }
     {
         if self.file.is_some() {
-            return Ok(());
+            return self.open_to_write();
         }
-        let file = open_file(&self.rt, self.name.as_str(), true)?;
+        let file = open_file(&self.rt, self.name.as_str(), Purpose::Make)?;
         if file.metadata()?.len() > 0 {
             return Err(ErrorKind::AlreadyExists.into());
         }
         self.file = Some(file);
+        self.is_writable = true;
         Ok(())
     }
 
@@ -115,20 +133,24 @@ impl RealDisk {
     }
 
     /// Drops all bytes from this place on. No file grows.
-    fn drop_from(&self, size: u64) -> io::Result<()> {
-        let Some(file) = &self.file else {
+    fn drop_from(&mut self, size: u64) -> io::Result<()>
+        ensures { self.new.faults ≡ self.old.faults }
+    {
+        if self.size()? <= size {
             return Ok(());
-        };
-        if size < file.metadata()?.len() {
-            file.set_len(size)?;
         }
-        Ok(())
+        self.open_to_write()?;
+        match &self.file {
+            Some(file) => file.set_len(size),
+            None => Ok(()),
+        }
     }
 
     /// Has the system keep the bytes and the length, and once also the name in its folder.
     fn keep(&mut self) -> io::Result<()>
         ensures { self.new.faults ≡ self.old.faults }
     {
+        self.open_to_write()?;
         let Some(file) = &self.file else {
             return Ok(());
         };
@@ -165,10 +187,22 @@ fn is_missing(rt: &HostRuntime, name: &str) -> io::Result<bool> {
     }
 }
 
-/// The file under a name, to be read and written, which is made where it may be and there is none.
-fn open_file(rt: &HostRuntime, name: &str, may_make: bool) -> io::Result<File> {
+/// What a file is opened for, besides reading.
+enum Purpose {
+    Read,
+    Write,
+    Make,
+}
+
+/// The file under a name. It is made only for that purpose, where there is none.
+fn open_file(rt: &HostRuntime, name: &str, purpose: Purpose) -> io::Result<File> {
+    let (may_write, may_make) = match purpose {
+        Purpose::Read => (false, false),
+        Purpose::Write => (true, false),
+        Purpose::Make => (true, true),
+    };
     let mut how = OpenOptions::new();
-    how.read(true).write(true).create(may_make);
+    how.read(true).write(may_write).create(may_make);
     let file = how.open(rt, name)?;
     if !file.metadata()?.is_file() {
         return Err(ErrorKind::InvalidInput.into());

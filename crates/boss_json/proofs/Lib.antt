@@ -1,4 +1,5 @@
 pub mod Datas
+pub mod Digits
 pub mod Found
 pub mod Lines
 pub mod Views

@@ -1,12 +1,27 @@
-ghost use Rattle.std.specs.Prelude.{◌≡◌, ◌==◌, ◌<◌, true, false, is_some, length, slice_index, IsTrue};
+ghost use Rattle.std.specs.Prelude.{◌≡◌, ◌==◌, ◌^◌, ◌<◌, true, false, is_some, length, slice_index, IfSome, IsTrue};
 ghost use Rattle.std.specs.Option.{option_and_then};
+ghost use Rattle.std.specs.Str.Parse.{digits_value, IsNumeral};
 ghost use Rattle.serde_json.specs.Find.{as_i64};
 ghost use Rattle.serde_json.specs.Read.{number_from, number_of};
 
 use fast_float::Numeral;
 
+/// A number below this one has room for a digit more.
+const ROOMY: u64 = 100_000_000_000_000_000;
+
 /// The number that a text writes, if it is a whole one that fits 64 bits with a sign. A fraction, an exponent and `-0` are none.
+#[tactic(auto, using(crate::proofs::Digits::whole_digits))]
 pub(crate) fn whole_number(text: &str) -> Option<i64>
+    ensures { result ≡ option_and_then as_i64 (number_of text.now) }
+{
+    match few_digits(text.as_bytes()) {
+        Some(number) => Some(number as i64),
+        None => scanned_number(text),
+    }
+}
+
+/// The same of any text, cut into the parts of a numeral.
+fn scanned_number(text: &str) -> Option<i64>
     ensures { result ≡ option_and_then as_i64 (number_of text.now) }
 {
     let (negative, numeral) = signed(text);
@@ -18,7 +33,15 @@ pub(crate) fn whole_number(text: &str) -> Option<i64>
 }
 
 /// Whether the number that a text writes is not too large for a float.
+#[tactic(auto, using(crate::proofs::Digits::digits_in_range))]
 pub(crate) fn is_in_range(text: &str) -> bool
+    ensures { result ≡ is_some (number_of text.now) }
+{
+    few_digits(text.as_bytes()).is_some() || is_scanned_in_range(text)
+}
+
+/// The same of any text, cut into the parts of a numeral.
+fn is_scanned_in_range(text: &str) -> bool
     ensures { result ≡ is_some (number_of text.now) }
 {
     let (negative, numeral) = signed(text);
@@ -27,6 +50,27 @@ pub(crate) fn is_in_range(text: &str) -> bool
     } else {
         is_from_in_range(&numeral)
     }
+}
+
+/// The number that bytes write which are at most 18 digits, and nothing else.
+fn few_digits(bytes: &[u8]) -> Option<u64>
+    ensures digits { IfSome result (λ _. IsNumeral 10 bytes.now) }
+    ensures value { IfSome result (λ number. (number ≡ digits_value 10 bytes.now) × (number < 10 ^ 18)) }
+{
+    if bytes.is_empty() {
+        return None;
+    }
+    let mut number = 0;
+    for byte in bytes {
+        if *byte < b'0' || b'9' < *byte {
+            return None;
+        }
+        if number >= ROOMY {
+            return None;
+        }
+        number = number * 10 + u64::from(*byte - b'0');
+    }
+    Some(number)
 }
 
 /// Whether a number has a minus, and what stands behind it.

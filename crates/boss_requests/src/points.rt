@@ -1,8 +1,10 @@
-ghost use Rattle.std.specs.Prelude.{◌≡◌, ◌≤◌, ◌<◌, is_some, length, map, All, IfOk};
+ghost use Rattle.std.specs.Prelude.{◌≡◌, ◌≤◌, ◌<◌, true, false, is_some, length, map, All, IfOk};
 ghost use Rattle.std.specs.List.{list_all};
 ghost use Rattle.serde_json.specs.Find.{as_str};
+ghost use Rattle.boss_model.specs.declared.answer.Refusal.TheVariants.{Malformed};
 ghost use Rattle.boss_model.specs.Limits.{most_writes};
 ghost use Rattle.boss_wire.specs.Requests.{each_from, point_at, points_of};
+ghost use Rattle.boss_requests.specs.declared.refusal.ReadRefusal.TheVariants.{Refused};
 ghost use Rattle.boss_requests.specs.Given.{Gives};
 ghost use Rattle.boss_requests.specs.Seen.{point_in};
 
@@ -39,13 +41,21 @@ pub(crate) fn points_named<V: JsonValue>(
     ensures known { IfOk result (λ points. All (λ point. point < length catalogue.now.points) points) }
     ensures few { IfOk result (λ points. length points ≤ most_writes) }
 {
-    if !are_texts(values) {
-        return Err(MALFORMED);
+    match known_points(alloc, catalogue, values) {
+        Ok(points) => Ok(points),
+        Err(why) => Err(why_no_points(values, why)),
     }
-    known_points(alloc, catalogue, values)
 }
 
-/// The points that values name, once each of them is known to be a text.
+/// What is wrong with values that name no known points: that one of them is no text, or else what was found first.
+fn why_no_points<V: JsonValue>(values: &[V], first: ReadRefusal) -> ReadRefusal
+    ensures malformed { list_all (λ value. is_some (as_str (V.meaning value))) values.now ≡ false → result ≡ Refused Malformed }
+    ensures first { list_all (λ value. is_some (as_str (V.meaning value))) values.now ≡ true → result ≡ first }
+{
+    if are_texts(values) { first } else { MALFORMED }
+}
+
+/// The points that values name, or what is wrong with the first of them that is no text or names none.
 fn known_points<V: JsonValue>(
     alloc: Global,
     catalogue: &Catalogue,

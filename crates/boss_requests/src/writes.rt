@@ -1,8 +1,10 @@
-ghost use Rattle.std.specs.Prelude.{◌≡◌, ◌≤◌, ◌<◌, [], codes, is_some, length, map, All, IfOk};
+ghost use Rattle.std.specs.Prelude.{◌≡◌, ◌≤◌, ◌<◌, true, false, [], codes, is_some, length, map, All, IfOk};
 ghost use Rattle.std.specs.List.{list_all};
+ghost use Rattle.boss_model.specs.declared.answer.Refusal.TheVariants.{Malformed};
 ghost use Rattle.boss_model.specs.Limits.{most_writes};
 ghost use Rattle.boss_wire.specs.Keys.{all_of, step, steps, under_or, write};
 ghost use Rattle.boss_wire.specs.Requests.{each_from, formed, settings_of};
+ghost use Rattle.boss_requests.specs.declared.refusal.ReadRefusal.TheVariants.{Refused};
 ghost use Rattle.boss_requests.specs.Given.{Gives};
 ghost use Rattle.boss_requests.specs.Seen.{setting_in};
 
@@ -26,13 +28,22 @@ pub(crate) fn settings_in<V: JsonValue>(
     ensures known { IfOk result (λ settings. All (λ setting. setting.point < length catalogue.now.points) settings) }
     ensures count { IfOk result (λ settings. length settings ≡ length values.now) }
 {
-    if !are_writes(values) {
-        return Err(MALFORMED);
+    match known_settings(alloc, catalogue, values) {
+        Ok(settings) => Ok(settings),
+        Err(why) => Err(why_no_settings(values, why)),
     }
-    known_settings(alloc, catalogue, values)
 }
 
-/// The writes that values spell, once each is known to spell one.
+/// What is wrong with values that are no writes of known points: that one of them spells no write, or else what was found
+/// first.
+fn why_no_settings<V: JsonValue>(values: &[V], first: ReadRefusal) -> ReadRefusal
+    ensures malformed { list_all (λ value. is_some (write (V.meaning value))) values.now ≡ false → result ≡ Refused Malformed }
+    ensures first { list_all (λ value. is_some (write (V.meaning value))) values.now ≡ true → result ≡ first }
+{
+    if are_writes(values) { first } else { MALFORMED }
+}
+
+/// The writes that values spell, or what is wrong with the first of them that is no write of a known point.
 fn known_settings<V: JsonValue>(
     alloc: Global,
     catalogue: &Catalogue,

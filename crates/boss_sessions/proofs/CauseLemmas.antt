@@ -1,5 +1,5 @@
 -- Which count rose, by the end of a session.
-use Rattle.std.proofs.Common.{◌≡◌, ℕ, Bool, true, false, Some, Result, Ok, Err, refl}
+use Rattle.std.proofs.Common.{◌≡◌, ℕ, Bool, true, Some, Result, Ok, Err, refl}
 use Rattle.boss_outside.specs.Counts.{Rose, HasCause}
 use Rattle.boss_hearing.specs.declared.heard.Heard.{Heard}
 use Rattle.boss_hearing.specs.declared.heard.Heard.TheVariants as heard
@@ -9,7 +9,7 @@ use Rattle.boss_sessions.specs.declared.end.SessionEnd.{SessionEnd}
 use Rattle.boss_sessions.specs.declared.end.SessionEnd.TheVariants as end
 use Rattle.boss_sessions.specs.declared.halt.Halt.{Halt}
 use Rattle.boss_sessions.specs.declared.halt.Halt.TheVariants as halt
-use Rattle.boss_sessions.specs.Ends.{end_at, end_behind, is_stop_end, ReadCause, WriteCause, ClockCause, DiskCause}
+use Rattle.boss_sessions.specs.Ends.{end_at, end_behind, ReadCause, WriteCause, ClockCause, DiskCause}
 
 pub read-at : (before now : ℕ) (why : Halt) (h : Heard) → SourceCause before now h → ReadCause before now (Some (end_at why h))
 read-at before now halt.Stopped h cause = tt
@@ -135,40 +135,3 @@ disk-then first before now end.ClockFault whole at = λ is. whole (at is)
 disk-then first before now end.TooLong whole at = λ is. whole (at is)
 disk-then first before now end.Limit whole at = λ is. whole (at is)
 disk-then first before now end.NoMemory whole at = λ is. whole (at is)
-
--- a disk that failed leaves the other counts open
-pub stop-read : (before now : ℕ) (e : SessionEnd) → is_stop_end e ≡ true → ReadCause before now (Some e)
-stop-read before now end.Stopped is = tt
-stop-read before now end.DiskFault is = tt
-stop-read before now end.End is = absurd (let no : false ≡ true = is in cc)
-stop-read before now (end.Watch name from) is = absurd (let no : false ≡ true = is in cc)
-stop-read before now end.ReadFault is = absurd (let no : false ≡ true = is in cc)
-stop-read before now end.WriteFault is = tt
-stop-read before now end.ClockFault is = absurd (let no : false ≡ true = is in cc)
-stop-read before now end.TooLong is = absurd (let no : false ≡ true = is in cc)
-stop-read before now end.Limit is = absurd (let no : false ≡ true = is in cc)
-stop-read before now end.NoMemory is = absurd (let no : false ≡ true = is in cc)
-
-pub stop-write : (before now : ℕ) (e : SessionEnd) → is_stop_end e ≡ true → WriteCause before now (Some e)
-stop-write before now end.Stopped is = tt
-stop-write before now end.DiskFault is = tt
-stop-write before now end.End is = absurd (let no : false ≡ true = is in cc)
-stop-write before now (end.Watch name from) is = absurd (let no : false ≡ true = is in cc)
-stop-write before now end.ReadFault is = absurd (let no : false ≡ true = is in cc)
-stop-write before now end.WriteFault is = absurd (let no : false ≡ true = is in cc)
-stop-write before now end.ClockFault is = tt
-stop-write before now end.TooLong is = absurd (let no : false ≡ true = is in cc)
-stop-write before now end.Limit is = absurd (let no : false ≡ true = is in cc)
-stop-write before now end.NoMemory is = absurd (let no : false ≡ true = is in cc)
-
-pub stop-clock : (before now : ℕ) (e : SessionEnd) → is_stop_end e ≡ true → ClockCause before now (Some e)
-stop-clock before now end.Stopped is = tt
-stop-clock before now end.DiskFault is = tt
-stop-clock before now end.End is = absurd (let no : false ≡ true = is in cc)
-stop-clock before now (end.Watch name from) is = absurd (let no : false ≡ true = is in cc)
-stop-clock before now end.ReadFault is = absurd (let no : false ≡ true = is in cc)
-stop-clock before now end.WriteFault is = absurd (let no : false ≡ true = is in cc)
-stop-clock before now end.ClockFault is = absurd (let no : false ≡ true = is in cc)
-stop-clock before now end.TooLong is = absurd (let no : false ≡ true = is in cc)
-stop-clock before now end.Limit is = absurd (let no : false ≡ true = is in cc)
-stop-clock before now end.NoMemory is = absurd (let no : false ≡ true = is in cc)

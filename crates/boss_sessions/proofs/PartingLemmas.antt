@@ -1,36 +1,50 @@
 -- What the last call of a session leaves of its end.
-use Rattle.std.proofs.Common.{◌≡◌, ◌⊎◌, inl, inr, ℕ, Bool, true, false, List, [], ◌∷◌, ◌++◌, ap, Option, Some, None, refl, sym, ◌∙◌, subst, append-nil}
+use Rattle.std.proofs.Common.{◌≡◌, ◌⊎◌, inl, inr, ℕ, Bool, true, false, ◌||◌, List, [], ◌∷◌, ◌++◌, ap, Option, Some, None, refl, sym, ◌∙◌, subst, append-nil}
+use Rattle.std.proofs.lemmas.List.{append_cancel_left}
+use mathlib.Core.List.{IsPrefix}
 use Rattle.boss_model.specs.declared.answer.Answer.{Answer}
 use Rattle.boss_model.specs.Limits.{most_lines}
-use Rattle.boss_model.specs.declared.command.Command.{Command}
 use Rattle.boss_model.specs.declared.command.Command.TheVariants as command
 use Rattle.boss_history.specs.declared.entry.Entry.{Entry}
 use Rattle.boss_history.specs.declared.entry.Entry.TheVariants.{Did, Broke}
-use Rattle.boss_history.specs.History.{deeds}
+use Rattle.boss_history.specs.declared.outcome.Outcome.{Outcome}
+use Rattle.boss_history.specs.declared.outcome.Outcome.TheVariants as came
+use Rattle.boss_history.specs.History.{deeds, is_broken}
+use Rattle.boss_history.specs.Made.{made_by}
+use Rattle.boss_history.proofs.Going.{broken_append}
 use Rattle.boss_hearing.specs.Places.{Place}
 use Rattle.boss_lanes.proofs.Choices.{deeds-append}
-use Rattle.boss_talks.specs.Speech.{Speech}
+use Rattle.boss_shared.specs.Calls.{is_stopped}
+use Rattle.boss_talks.specs.Speech.{of_answer, of_memory, of_stop, Speech, Exchange, unread, refused, called, attaches_by, attached_in, deeds_in, parting_of}
 use Rattle.boss_talks.specs.Talks.{standing}
 use Rattle.boss_sessions.specs.declared.end.SessionEnd.{SessionEnd}
 use Rattle.boss_sessions.specs.declared.end.SessionEnd.TheVariants as end
 use Rattle.boss_sessions.specs.Connected.{Connected}
 use Rattle.boss_sessions.specs.Ends.{is_stop_end, ReadCause, WriteCause, ClockCause, DiskCause}
-use Rattle.boss_sessions.specs.Parting.{LeavesAs, Parts}
+use Rattle.boss_sessions.specs.Parting.{LeavesBy, Parts, attached_among, BreaksAtLast, FailsLast}
 use Rattle.boss_sessions.specs.Rounds.{Ended}
-use Rattle.boss_sessions.proofs.CauseLemmas.{stop-read, stop-write, stop-clock}
+use Rattle.boss_sessions.proofs.ReplyLemmas.{memory-attaches, stop-attaches}
 use Rattle.boss_sessions.proofs.SessionLemmas.{connected-of}
 
-pub parts-read : (before now : ℕ) (parting : Option Answer) (broken : Bool) (e e' : SessionEnd) → LeavesAs parting broken e e' → ReadCause before now (Some e) → ReadCause before now (Some e')
-parts-read before now (Some given) broken e e' leaves cause = subst (λ x. ReadCause before now (Some x)) (sym leaves.0) cause
-parts-read before now None broken e e' leaves cause = stop-read before now e' leaves.0
+-- ---- causes
 
-pub parts-write : (before now : ℕ) (parting : Option Answer) (broken : Bool) (e e' : SessionEnd) → LeavesAs parting broken e e' → WriteCause before now (Some e) → WriteCause before now (Some e')
-parts-write before now (Some given) broken e e' leaves cause = subst (λ x. WriteCause before now (Some x)) (sym leaves.0) cause
-parts-write before now None broken e e' leaves cause = stop-write before now e' leaves.0
+pub parts-read : (before now : ℕ) (outcome : Outcome) (broken : Bool) (e e' : SessionEnd) → LeavesBy outcome broken e e' → ReadCause before now (Some e) → ReadCause before now (Some e')
+parts-read before now (came.Done given) broken e e' leaves cause = subst (λ x. ReadCause before now (Some x)) (sym leaves.0) cause
+parts-read before now came.Stopped broken e e' leaves cause = subst (λ x. ReadCause before now (Some x)) (sym leaves.0) tt
+parts-read before now came.DiskFault broken e e' leaves cause = subst (λ x. ReadCause before now (Some x)) (sym leaves.0) tt
+parts-read before now came.NoMemory broken e e' leaves cause = absurd leaves
 
-pub parts-clock : (before now : ℕ) (parting : Option Answer) (broken : Bool) (e e' : SessionEnd) → LeavesAs parting broken e e' → ClockCause before now (Some e) → ClockCause before now (Some e')
-parts-clock before now (Some given) broken e e' leaves cause = subst (λ x. ClockCause before now (Some x)) (sym leaves.0) cause
-parts-clock before now None broken e e' leaves cause = stop-clock before now e' leaves.0
+pub parts-write : (before now : ℕ) (outcome : Outcome) (broken : Bool) (e e' : SessionEnd) → LeavesBy outcome broken e e' → WriteCause before now (Some e) → WriteCause before now (Some e')
+parts-write before now (came.Done given) broken e e' leaves cause = subst (λ x. WriteCause before now (Some x)) (sym leaves.0) cause
+parts-write before now came.Stopped broken e e' leaves cause = subst (λ x. WriteCause before now (Some x)) (sym leaves.0) tt
+parts-write before now came.DiskFault broken e e' leaves cause = subst (λ x. WriteCause before now (Some x)) (sym leaves.0) tt
+parts-write before now came.NoMemory broken e e' leaves cause = absurd leaves
+
+pub parts-clock : (before now : ℕ) (outcome : Outcome) (broken : Bool) (e e' : SessionEnd) → LeavesBy outcome broken e e' → ClockCause before now (Some e) → ClockCause before now (Some e')
+parts-clock before now (came.Done given) broken e e' leaves cause = subst (λ x. ClockCause before now (Some x)) (sym leaves.0) cause
+parts-clock before now came.Stopped broken e e' leaves cause = subst (λ x. ClockCause before now (Some x)) (sym leaves.0) tt
+parts-clock before now came.DiskFault broken e e' leaves cause = subst (λ x. ClockCause before now (Some x)) (sym leaves.0) tt
+parts-clock before now came.NoMemory broken e e' leaves cause = absurd leaves
 
 whole-disk : (before : Bool) (now : Bool) (e : SessionEnd) → now ≡ false → is_stop_end e ≡ false → DiskCause before now (Some e)
 whole-disk before now end.Stopped is calm = absurd (let other : true ≡ false = calm in cc)
@@ -44,29 +58,95 @@ whole-disk before now end.TooLong is calm = λ stops. absurd (let other : true �
 whole-disk before now end.Limit is calm = λ stops. absurd (let other : true ≡ false = sym stops ∙ is in cc)
 whole-disk before now end.NoMemory is calm = λ stops. absurd (let other : true ≡ false = sym stops ∙ is in cc)
 
-stop-disk : (before now : Bool) (e : SessionEnd) → now ≡ true → is_stop_end e ≡ true → DiskCause before now (Some e)
-stop-disk before now end.Stopped is stops = is
-stop-disk before now end.DiskFault is stops = is
-stop-disk before now end.End is stops = absurd (let other : false ≡ true = stops in cc)
-stop-disk before now (end.Watch name from) is stops = absurd (let other : false ≡ true = stops in cc)
-stop-disk before now end.ReadFault is stops = absurd (let other : false ≡ true = stops in cc)
-stop-disk before now end.WriteFault is stops = absurd (let other : false ≡ true = stops in cc)
-stop-disk before now end.ClockFault is stops = absurd (let other : false ≡ true = stops in cc)
-stop-disk before now end.TooLong is stops = absurd (let other : false ≡ true = stops in cc)
-stop-disk before now end.Limit is stops = absurd (let other : false ≡ true = stops in cc)
-stop-disk before now end.NoMemory is stops = absurd (let other : false ≡ true = stops in cc)
+-- the disk had not failed, so the end does not say so
+going-at : (before was : Bool) (e : SessionEnd) → DiskCause before was (Some e) → was ≡ false → is_stop_end e ≡ false
+going-at before was end.Stopped cause is = absurd (let other : true ≡ false = sym cause ∙ is in cc)
+going-at before was end.DiskFault cause is = absurd (let other : true ≡ false = sym cause ∙ is in cc)
+going-at before was end.End cause is = refl
+going-at before was (end.Watch name from) cause is = refl
+going-at before was end.ReadFault cause is = refl
+going-at before was end.WriteFault cause is = refl
+going-at before was end.ClockFault cause is = refl
+going-at before was end.TooLong cause is = refl
+going-at before was end.Limit cause is = refl
+going-at before was end.NoMemory cause is = refl
 
-pub parts-disk : (before broken : Bool) (parting : Option Answer) (e e' : SessionEnd) → LeavesAs parting broken e e' → is_stop_end e ≡ false → DiskCause before broken (Some e')
-parts-disk before broken (Some given) e e' leaves going = subst (λ x. DiskCause before broken (Some x)) (sym leaves.0) (whole-disk before broken e leaves.1 going)
-parts-disk before broken None e e' leaves going = stop-disk before broken e' leaves.1 leaves.0
+-- a call that was answered found a disk that had not failed
+whole-before : (was : Bool) (given : Answer) → (was ≡ true → came.Done given ≡ came.Stopped) → was ≡ false
+whole-before false given stood = refl
+whole-before true given stood = absurd (let other : came.Done given ≡ came.Stopped = stood refl in cc)
 
-parts-same : (parting : Option Answer) (broken : Bool) (e e' : SessionEnd) → LeavesAs parting broken e e' → (e' ≡ e) ⊎ (is_stop_end e' ≡ true)
-parts-same (Some given) broken e e' leaves = inl leaves.0
-parts-same None broken e e' leaves = inr leaves.0
+pub parts-disk : (before was broken : Bool) (outcome : Outcome) (e e' : SessionEnd) → (was ≡ true → outcome ≡ came.Stopped) → LeavesBy outcome broken e e' → DiskCause before was (Some e) →
+    DiskCause before broken (Some e')
+parts-disk before was broken (came.Done given) e e' stood leaves cause =
+    subst (λ x. DiskCause before broken (Some x)) (sym leaves.0) (whole-disk before broken e leaves.1 (going-at before was e cause (whole-before was given stood)))
+parts-disk before was broken came.Stopped e e' stood leaves cause = subst (λ x. DiskCause before broken (Some x)) (sym leaves.0) leaves.1
+parts-disk before was broken came.DiskFault e e' stood leaves cause = subst (λ x. DiskCause before broken (Some x)) (sym leaves.0) leaves.1
+parts-disk before was broken came.NoMemory e e' stood leaves cause = absurd leaves
 
-parts-stop : (parting : Option Answer) (broken : Bool) (e e' : SessionEnd) → LeavesAs parting broken e e' → parting ≡ None → is_stop_end e' ≡ true
-parts-stop (Some given) broken e e' leaves none = cc
-parts-stop None broken e e' leaves none = leaves.0
+-- ---- the talk
+
+abbrev answer_in : Outcome → Option Answer
+answer_in (came.Done given) = Some given
+answer_in came.Stopped = None
+answer_in came.DiskFault = None
+answer_in came.NoMemory = None
+
+parting-deeds : (session moment : ℕ) (own own' : List Entry) (outcome : Outcome) → own' ≡ own ++ made_by session command.Gone moment outcome →
+    deeds own' ≡ deeds own ++ parting_of session moment (answer_in outcome)
+parting-deeds session moment own own' (came.Done given) is = ap deeds is ∙ deeds-append own (Did session command.Gone moment given ∷ [])
+parting-deeds session moment own own' came.Stopped is = ap deeds is ∙ deeds-append own []
+parting-deeds session moment own own' came.DiskFault is = ap deeds is ∙ deeds-append own (Broke session ((command.Gone, moment) ∷ []) ∷ [])
+parting-deeds session moment own own' came.NoMemory is = ap deeds is ∙ deeds-append own []
+
+parts-same : (outcome : Outcome) (broken : Bool) (e e' : SessionEnd) → LeavesBy outcome broken e e' → (e' ≡ e) ⊎ (is_stop_end e' ≡ true)
+parts-same (came.Done given) broken e e' leaves = inl leaves.0
+parts-same came.Stopped broken e e' leaves = inr (ap is_stop_end leaves.0)
+parts-same came.DiskFault broken e e' leaves = inr (ap is_stop_end leaves.0)
+parts-same came.NoMemory broken e e' leaves = absurd leaves
+
+parts-stop : (outcome : Outcome) (broken : Bool) (e e' : SessionEnd) → LeavesBy outcome broken e e' → answer_in outcome ≡ None → is_stop_end e' ≡ true
+parts-stop (came.Done given) broken e e' leaves none = cc
+parts-stop came.Stopped broken e e' leaves none = ap is_stop_end leaves.0
+parts-stop came.DiskFault broken e e' leaves none = ap is_stop_end leaves.0
+parts-stop came.NoMemory broken e e' leaves none = absurd leaves
+
+-- ---- the end where an attach was accepted
+
+attached-deeds : (session : ℕ) (talk : List Exchange) → attached_among (deeds_in session talk) ≡ attached_in talk
+attached-deeds session [] = refl
+attached-deeds session (unread line ∷ talk) = attached-deeds session talk
+attached-deeds session (refused line why ∷ talk) = attached-deeds session talk
+attached-deeds session (called line asked moment (of_answer given) ∷ talk) = ap (λ rest. attaches_by asked (of_answer given) || rest) (attached-deeds session talk)
+attached-deeds session (called line asked moment of_memory ∷ talk) = attached-deeds session talk ∙ ap (λ b. b || attached_in talk) (sym (memory-attaches asked))
+attached-deeds session (called line asked moment of_stop ∷ talk) = attached-deeds session talk ∙ ap (λ b. b || attached_in talk) (sym (stop-attaches asked))
+
+fails-where : (session : ℕ) (own own' : List Entry) (e : SessionEnd) →
+    (e ≡ end.DiskFault → (more : List Entry) → deeds own' ≡ deeds own ++ more → attached_among more ≡ true → BreaksAtLast session own') → FailsLast session own own' e
+fails-where session own own' end.DiskFault says = says refl
+fails-where session own own' end.Stopped says = tt
+fails-where session own own' end.End says = tt
+fails-where session own own' (end.Watch name from) says = tt
+fails-where session own own' end.ReadFault says = tt
+fails-where session own own' end.WriteFault says = tt
+fails-where session own own' end.ClockFault says = tt
+fails-where session own own' end.TooLong says = tt
+fails-where session own own' end.Limit says = tt
+fails-where session own own' end.NoMemory says = tt
+
+-- the disk failed in the last call, or before it
+pub parts-fails : (session moment : ℕ) (first own own' : List Entry) (before was broken : Bool) (outcome : Outcome) (e e' : SessionEnd) →
+    own' ≡ own ++ made_by session command.Gone moment outcome → (was ≡ true → outcome ≡ came.Stopped) → LeavesBy outcome broken e e' → DiskCause before was (Some e) →
+    FailsLast session first own' e'
+parts-fails session moment first own own' before was broken (came.Done given) e e' grew stood leaves cause =
+    let going : is_stop_end e ≡ false = going-at before was e cause (whole-before was given stood) in
+    fails-where session first own' e' (λ is more deed attached. absurd (let other : true ≡ false = sym (ap is_stop_end (sym leaves.0 ∙ is)) ∙ going in cc))
+parts-fails session moment first own own' before was broken came.Stopped e e' grew stood leaves cause = subst (λ x. FailsLast session first own' x) (sym leaves.0) tt
+parts-fails session moment first own own' before was broken came.DiskFault e e' grew stood leaves cause =
+    subst (λ x. FailsLast session first own' x) (sym leaves.0) (λ more deed attached. (own, moment, grew))
+parts-fails session moment first own own' before was broken came.NoMemory e e' grew stood leaves cause = absurd leaves
+
+-- ---- a session that ended
 
 module _ (speech : Speech) (number : ℕ) (heeds tells ticks : Type 0) (place place' : Place) (own : List Entry) (taken : List ℕ) (faults : ℕ) (given : List ℕ) (attached : Bool) (last : ℕ)
     (own' : List Entry) (taken' : List ℕ) (faults' : ℕ) (given' : List ℕ) (attached' : Bool) (last' : ℕ) (e : SessionEnd)
@@ -77,39 +157,42 @@ module _ (speech : Speech) (number : ℕ) (heeds tells ticks : Type 0) (place pl
       (subst (λ t. Ended speech number heeds tells ticks false place place' (standing own taken faults given t last) (standing own' taken' faults' given' attached' last') e) fresh ended)
 
   -- without a last call
-  pub connected-whole : (attached' ≡ true → is_stop_end e ≡ true) →
+  pub connected-whole : attached' ≡ false →
       Connected speech number heeds tells ticks place.left place'.left (standing own taken faults given false 0) (standing own' taken' faults' given' false 0) e
-  connected-whole stopped = connected-of speech number heeds tells ticks place place' (standing own taken faults given false 0) (standing own' taken' faults' given' attached' last')
-      (standing own' taken' faults' given' false 0) None e e empty count refl refl anew (sym (append-nil (deeds own'))) refl refl refl (λ is. refl) (λ is none. stopped is) (inl refl)
+  connected-whole apart = connected-of speech number heeds tells ticks place place' (standing own taken faults given false 0) (standing own' taken' faults' given' attached' last')
+      (standing own' taken' faults' given' false 0) None e e empty count refl refl anew (sym (append-nil (deeds own'))) refl refl refl (λ is. refl)
+      (λ is none. absurd (let other : true ≡ false = sym is ∙ apart in cc)) (inl refl)
+
+  pub fails-whole : attached' ≡ false → FailsLast number own own' e
+  fails-whole apart = fails-where number own own' e (λ is more grew among.
+      let stops = anew.stops in
+      let same : deeds_in number stops.talk ≡ more = append_cancel_left (deeds own) (deeds_in number stops.talk) more (sym stops.grew ∙ grew) in
+      absurd (let other : false ≡ true = sym apart ∙ stops.attached ∙ sym (attached-deeds number stops.talk) ∙ ap attached_among same ∙ among in cc))
 
   -- with it
-  pub connected-parted : (own'' : List Entry) (broken : Bool) (e' : SessionEnd) → attached' ≡ true → Parts number last' own' own'' broken e e' →
+  pub connected-parted : (own'' : List Entry) (was broken : Bool) (e' : SessionEnd) → attached' ≡ true → Parts number last' own' own'' was broken e e' →
       Connected speech number heeds tells ticks place.left place'.left (standing own taken faults given false 0) (standing own'' taken' faults' given' false 0) e'
-  connected-parted own'' broken e' is parts = connected-of speech number heeds tells ticks place place' (standing own taken faults given false 0) (standing own' taken' faults' given' attached' last')
-      (standing own'' taken' faults' given' false 0) parts.parting e e' empty count refl refl anew parts.grew refl refl refl
-      (λ no. absurd (let other : true ≡ false = sym is ∙ no in cc)) (λ yes none. parts-stop parts.parting broken e e' parts.leaves none) (parts-same parts.parting broken e e' parts.leaves)
+  connected-parted own'' was broken e' is parts = connected-of speech number heeds tells ticks place place' (standing own taken faults given false 0) (standing own' taken' faults' given' attached' last')
+      (standing own'' taken' faults' given' false 0) (answer_in parts.outcome) e e' empty count refl refl anew (parting-deeds number last' own' own'' parts.outcome parts.grew) refl refl refl
+      (λ no. absurd (let other : true ≡ false = sym is ∙ no in cc)) (λ yes none. parts-stop parts.outcome broken e e' parts.leaves none) (parts-same parts.outcome broken e e' parts.leaves)
 
 -- ---- the call that tells it
 
-pub parts-done : (session moment : ℕ) (own own' : List Entry) (broken : Bool) (e e' : SessionEnd) (given : Answer) → own' ≡ own ++ Did session command.Gone moment given ∷ [] → broken ≡ false → e' ≡ e →
-    Parts session moment own own' broken e e'
-parts-done session moment own own' broken e e' given is whole same = record {
-  parting = Some given;
-  grew = ap deeds is ∙ deeds-append own (Did session command.Gone moment given ∷ []);
-  leaves = (same, whole);
-}
+broken-longer : (xs zs : List Entry) → IsPrefix xs zs → is_broken xs ≡ true → is_broken zs ≡ true
+broken-longer xs zs prefix is = ap is_broken (sym prefix.1) ∙ broken_append xs prefix.0 ∙ ap (λ b. b || is_broken prefix.0) is
 
-pub parts-stopped : (session moment : ℕ) (own own' : List Entry) (broken : Bool) (e e' : SessionEnd) → own' ≡ own ++ [] → broken ≡ true → is_stop_end e' ≡ true → Parts session moment own own' broken e e'
-parts-stopped session moment own own' broken e e' is failed stops = record {
-  parting = None;
-  grew = ap deeds is ∙ deeds-append own [];
-  leaves = (stops, failed);
-}
+-- behind a mark that was seen it is answered that the disk had failed
+stopped-behind : (seen before : List Entry) (outcome : Outcome) → IsPrefix seen before → is_stopped outcome ≡ is_broken before → is_broken seen ≡ true → outcome ≡ came.Stopped
+stopped-behind seen before (came.Done given) prefix is broken = absurd (let other : false ≡ true = is ∙ broken-longer seen before prefix broken in cc)
+stopped-behind seen before came.Stopped prefix is broken = refl
+stopped-behind seen before came.DiskFault prefix is broken = absurd (let other : false ≡ true = is ∙ broken-longer seen before prefix broken in cc)
+stopped-behind seen before came.NoMemory prefix is broken = absurd (let other : false ≡ true = is ∙ broken-longer seen before prefix broken in cc)
 
-pub parts-fault : (session moment : ℕ) (own own' : List Entry) (broken : Bool) (e e' : SessionEnd) (calls : List (Command × ℕ)) → own' ≡ own ++ Broke session calls ∷ [] → broken ≡ true → is_stop_end e' ≡ true →
-    Parts session moment own own' broken e e'
-parts-fault session moment own own' broken e e' calls is failed stops = record {
-  parting = None;
-  grew = ap deeds is ∙ deeds-append own (Broke session calls ∷ []);
-  leaves = (stops, failed);
+pub parts-of : (session moment : ℕ) (own own' seen before : List Entry) (broken : Bool) (outcome : Outcome) (e e' : SessionEnd) → IsPrefix seen before →
+    own' ≡ own ++ made_by session command.Gone moment outcome → is_stopped outcome ≡ is_broken before → LeavesBy outcome broken e e' → Parts session moment own own' (is_broken seen) broken e e'
+parts-of session moment own own' seen before broken outcome e e' prefix grew stopped leaves = record {
+  outcome = outcome;
+  grew = grew;
+  stood = stopped-behind seen before outcome prefix stopped;
+  leaves = leaves;
 }

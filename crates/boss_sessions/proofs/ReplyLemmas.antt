@@ -78,7 +78,7 @@ deeds-append session (call ∷ calls) (x ∷ xs) ys = ap (λ rest. entry_of sess
 
 -- ---- an attach
 
-memory-attaches : (asked : Command) → attaches_by asked of_memory ≡ false
+pub memory-attaches : (asked : Command) → attaches_by asked of_memory ≡ false
 memory-attaches (command.Attach name) = refl
 memory-attaches (command.Submit writes policy seq) = refl
 memory-attaches (command.Renew txn length points seq) = refl
@@ -92,7 +92,7 @@ memory-attaches (command.Array point) = refl
 memory-attaches (command.Status txn) = refl
 memory-attaches (command.Notices name from most) = refl
 
-stop-attaches : (asked : Command) → attaches_by asked of_stop ≡ false
+pub stop-attaches : (asked : Command) → attaches_by asked of_stop ≡ false
 stop-attaches (command.Attach name) = refl
 stop-attaches (command.Submit writes policy seq) = refl
 stop-attaches (command.Renew txn length points seq) = refl

@@ -9,8 +9,8 @@ use boss_history::Outcome;
 use boss_model::{Command, SessionId};
 use boss_shared::Desk;
 
-/// Tells that the session's process is lost, at a moment in milliseconds, and gives why the session ended then: as it did, or
-/// because the disk has failed.
+/// Tells that the session's process is lost, at a moment in milliseconds, and gives why the session ends then: as it had, where
+/// this was done, and else by what came of it.
 pub(crate) fn part<G: Desk>(
     desk: &G,
     pass: &mut G::Pass,
@@ -23,7 +23,7 @@ pub(crate) fn part<G: Desk>(
     ensures own { G.owns desk.now pass.new }
     ensures parts { G.parts pass.new ≡ G.parts pass.old }
     ensures parted { Parts session moment (entries_at (G.seen pass.old) (G.mine pass.old)) (entries_at (G.seen pass.new) (G.mine pass.new))
-        (is_broken (G.seen pass.new)) end result }
+        (is_broken (G.seen pass.old)) (is_broken (G.seen pass.new)) end result }
 {
     match desk.call(pass, session, &Command::Gone, moment) {
         Outcome::Done { .. } => end,

@@ -6,7 +6,8 @@ ghost use Rattle.boss_hearing.specs.Speaking.{speech_of};
 ghost use Rattle.boss_lock.specs.Places.{entries_at};
 ghost use Rattle.boss_talks.specs.Talks.{standing};
 ghost use Rattle.boss_sessions.specs.Connected.{Connected};
-ghost use Rattle.boss_sessions.specs.Ends.{is_stop_end, ReadCause, WriteCause, ClockCause, DiskCause};
+ghost use Rattle.boss_sessions.specs.Ends.{ReadCause, WriteCause, ClockCause, DiskCause};
+ghost use Rattle.boss_sessions.specs.Parting.{FailsLast};
 ghost use Rattle.boss_sessions.specs.Rounds.{Ended, HasRoom};
 
 use crate::SessionEnd;
@@ -25,7 +26,8 @@ use std::alloc::Global;
 /// Each line that is not blank has one reply, in order: a request that of its command, which is done once, at the moment that the
 /// clock gave for it; another line why it is refused; and one for which there was no memory is told so, and changes nothing.
 /// Requests that have come together are done in one call. Where an attach was accepted, the last call tells that the process is
-/// lost, at the last moment that the clock gave, unless the disk has failed; where it fails in this call, that is the end.
+/// lost, at the last moment that the clock gave, and where it is not answered, its outcome is the end: Stopped where the disk had
+/// failed before it, also in a call of this session, and DiskFault where it failed in it.
 pub fn serve_connection<G: Desk, S: Source, K: Sink, C: Clock>(
     alloc: Global,
     desk: &G,
@@ -49,6 +51,7 @@ pub fn serve_connection<G: Desk, S: Source, K: Sink, C: Clock>(
     ensures written { WriteCause (K.faults sink.old) (K.faults sink.new) (Some result) }
     ensures clocked { ClockCause (C.faults clock.old) (C.faults clock.new) (Some result) }
     ensures kept { DiskCause (is_broken (G.seen pass.old)) (is_broken (G.seen pass.new)) (Some result) }
+    ensures last { FailsLast session (entries_at (G.seen pass.old) (G.mine pass.old)) (entries_at (G.seen pass.new) (G.mine pass.new)) result }
 {
     let Ok(mut state) = Session::new(alloc) else {
         return SessionEnd::NoMemory;
@@ -56,7 +59,7 @@ pub fn serve_connection<G: Desk, S: Source, K: Sink, C: Clock>(
     let end = talk(
         alloc, catalogue, desk, pass, session, &mut state, source, sink, clock,
     );
-    if !state.attached || is_stop(&end) {
+    if !state.attached {
         return end;
     }
     part(desk, pass, session, state.last, end)
@@ -100,11 +103,4 @@ fn talk<G: Desk, S: Source, K: Sink, C: Clock>(
             return end;
         }
     }
-}
-
-/// Whether the disk has failed.
-fn is_stop(end: &SessionEnd) -> bool
-    ensures { result ≡ is_stop_end end.now }
-{
-    matches!(end, SessionEnd::Stopped | SessionEnd::DiskFault)
 }

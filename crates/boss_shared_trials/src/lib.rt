@@ -2,6 +2,8 @@
 #![tactic(auto)]
 
 #[cfg(test)]
+mod texts;
+#[cfg(test)]
 mod threads;
 #[cfg(test)]
 mod trials;

@@ -1,21 +1,20 @@
-ghost use Rattle.std.specs.Prelude.{◌≡◌, ◌≤◌, ◌<◌, ◌^◌, false, List, length, IfOk};
+ghost use Rattle.std.specs.Prelude.{◌≡◌, ◌≤◌, ◌<◌, false, List, length};
 ghost use Rattle.std.specs.List.{AllByRecursion};
 ghost use Rattle.boss_model.specs.declared.state.Actuator.{Actuator};
 ghost use Rattle.boss_model.specs.Sound.{IsAllowed, IsSound};
 ghost use Rattle.boss_history.specs.History.{MayCall};
 
+use crate::texts::{tell, tell_answer, tell_outcome};
 use crate::threads::{DAMPER, read_and_renew, renewal};
-use boss_history::Outcome;
-use boss_model::{
-    Answer, Cause, Command, Items, Name, Policy, Refusal, SessionId, Setting, Slot, Txn,
-};
+use boss_history::Outcomes;
+use boss_model::{Command, Items, Name, Policy, SessionId, Setting};
 use boss_points::Catalogue;
 use boss_shared::{Desk, Keeper, Manager};
 use boss_shared_keeper::FailingKeeper;
 use boss_trials::THREE_POINTS;
 use std::alloc::Global;
 use std::process::Abort;
-use std::test::Fail;
+use std::sync::Wait;
 use std::thread::Threads;
 
 /// The damper at 45 for a minute.
@@ -61,46 +60,80 @@ fn batch(rt: &impl Abort, alloc: Global) -> Items<(Command, u64)>
     commands
 }
 
-/// What session 1 is answered, if the command is done.
-fn answer<G: Desk>(desk: &G, pass: &mut G::Pass, command: &Command, moment: u64) -> Option<Answer>
+/// Asks as this session, and tells what came of it.
+fn ask<G: Desk>(
+    rt: &impl Abort,
+    desk: &G,
+    pass: &mut G::Pass,
+    session: SessionId,
+    command: &Command,
+    moment: u64,
+    told: &mut String,
+)
     requires own { G.owns desk.now pass.old }
     requires may { MayCall (G.plant desk.now) (command.now, moment) }
     ensures own { G.owns desk.now pass.new }
     ensures parts { G.parts pass.new ≡ G.parts pass.old }
 {
-    match desk.call(pass, SessionId(1), command, moment) {
-        Outcome::Done { answer } => Some(answer),
-        _ => None,
-    }
+    let outcome = desk.call(pass, session, command, moment);
+    tell_outcome(rt, told, &outcome);
 }
 
-/// The slot of priority 8, of an array.
-fn held_slot(answer: &Answer) -> Option<Slot> {
-    match answer {
-        Answer::Array { slots, .. } => Some(slots.at[7]),
-        _ => None,
-    }
-}
-
-/// The slot of priority 8 of the damper.
-fn slot<G: Desk>(desk: &G, pass: &mut G::Pass, moment: u64) -> Option<Slot>
+/// Asks several commands at once as this session, and tells what came of them.
+fn ask_all<G: Desk>(
+    rt: &impl Abort,
+    alloc: Global,
+    desk: &G,
+    pass: &mut G::Pass,
+    session: SessionId,
+    commands: &Items<(Command, u64)>,
+    told: &mut String,
+)
     requires own { G.owns desk.now pass.old }
-    requires moment { moment ≤ 2 ^ 60 }
+    requires some { 1 ≤ length commands.now }
+    requires few { length commands.now ≤ 16 }
+    requires may { AllByRecursion (MayCall (G.plant desk.now)) commands.now }
+    ensures own { G.owns desk.now pass.new }
+    ensures parts { G.parts pass.new ≡ G.parts pass.old }
+{
+    let mut answers = Vec::with_capacity(alloc, 16).expect(rt, "memory");
+    let Outcomes { done, rest } = desk.call_all(pass, session, commands, &mut answers);
+    for answer in &answers {
+        tell_answer(rt, told, answer);
+    }
+    tell(rt, told, "done", done as u64, 0);
+    if let Some(rest) = &rest {
+        tell_outcome(rt, told, rest);
+    }
+}
+
+/// An attach and a submit.
+fn hold_damper<G: Desk>(
+    rt: &impl Abort,
+    alloc: Global,
+    desk: &G,
+    pass: &mut G::Pass,
+    told: &mut String,
+)
+    requires own { G.owns desk.now pass.old }
     requires point { 0 < length (G.plant desk.now) }
     ensures own { G.owns desk.now pass.new }
     ensures parts { G.parts pass.new ≡ G.parts pass.old }
 {
-    let answer = answer(desk, pass, &Command::Array { point: DAMPER }, moment)?;
-    held_slot(&answer)
+    let attach = attach(rt);
+    let submit = submit(rt, alloc);
+    ask(rt, desk, pass, SessionId(1), &attach, 1000, told);
+    ask(rt, desk, pass, SessionId(1), &submit, 1000, told);
 }
 
 /// Two threads read and renew, over what an attach and a submit made. Then the lease lasts as long as the last renewal says, and
 /// a renewal behind the tick that ended it is refused.
-fn tell_of_two_threads<R: Abort + Threads, G: Desk + Sync>(
+fn ask_in_two_threads<R: Abort + Threads, G: Desk + Sync>(
     rt: &R,
     alloc: Global,
     desk: &G,
     mut pass: G::Pass,
+    told: &mut String,
 ) -> G::Pass
 where
     G::Pass: Send,
@@ -110,150 +143,161 @@ where
     ensures own { G.owns desk.now result }
     ensures parts { G.parts result ≡ G.parts pass }
 {
-    let attach = attach(rt);
-    let submit = submit(rt, alloc);
-    let attached = answer(desk, &mut pass, &attach, 1000).expect(rt, "an attach");
-    assert!(rt; matches!(attached, Answer::Attached { next: 1, .. }));
-    let accepted = answer(desk, &mut pass, &submit, 1000).expect(rt, "a submit");
-    assert!(rt;
-        matches!(
-            accepted,
-            Answer::Accepted {
-                txn: Txn(1),
-                until: 61_000
-            }
-        )
-    );
+    hold_damper(rt, alloc, desk, &mut pass, told);
     let (mut pass, all) = read_and_renew(rt, alloc, desk, pass);
     assert!(rt; all);
-    assert_eq!(rt;
-        slot(desk, &mut pass, 2000),
-        Some(Slot::Lease {
-            value: 45_000,
-            txn: Txn(1),
-            until: 62_000
-        })
+    let array = Command::Array { point: DAMPER };
+    ask(rt, desk, &mut pass, SessionId(1), &array, 2000, told);
+    ask(
+        rt,
+        desk,
+        &mut pass,
+        SessionId(1),
+        &Command::Tick,
+        62_000,
+        told,
     );
-    let ticked = answer(desk, &mut pass, &Command::Tick, 62_000).expect(rt, "a tick");
-    assert!(rt; matches!(ticked, Answer::Ticked { now: 62_000 }));
-    let refused = answer(desk, &mut pass, &renewal(alloc), 62_000).expect(rt, "a renewal");
-    assert!(rt;
-        matches!(
-            refused,
-            Answer::Refused(Refusal::Ended {
-                cause: Cause::Expired,
-                at: 62_000,
-                moment: 62_000
-            })
-        )
-    );
+    let renewal = renewal(alloc);
+    ask(rt, desk, &mut pass, SessionId(1), &renewal, 62_000, told);
     pass
 }
 
-/// Several commands at once are answered in order.
-fn tell_of_a_batch<R: Abort, G: Desk>(rt: &R, alloc: Global, desk: &G, pass: &mut G::Pass)
+/// The disk fails in the second call. It is told so, and then all are told that nothing more is done.
+fn ask_over_a_failing_disk<G: Desk>(
+    rt: &impl Abort,
+    alloc: Global,
+    desk: &G,
+    pass: &mut G::Pass,
+    told: &mut String,
+)
     requires own { G.owns desk.now pass.old }
     requires point { 0 < length (G.plant desk.now) }
     ensures own { G.owns desk.now pass.new }
     ensures parts { G.parts pass.new ≡ G.parts pass.old }
 {
+    hold_damper(rt, alloc, desk, pass, told);
+    ask(rt, desk, pass, SessionId(2), &Command::Tick, 1000, told);
     let commands = batch(rt, alloc);
-    let mut answers = Vec::with_capacity(alloc, 3).expect(rt, "memory");
-    let outcomes = desk.call_all(pass, SessionId(1), &commands, &mut answers);
-    assert_eq!(rt; outcomes.done, 3);
-    assert!(rt; outcomes.rest.is_none());
-    assert_eq!(rt; answers.len(), 3);
-    assert!(rt; matches!(answers[0], Answer::Attached { next: 1, .. }));
-    assert!(rt;
-        matches!(
-            answers[1],
-            Answer::Accepted {
-                txn: Txn(1),
-                until: 61_000
-            }
-        )
-    );
-    assert_eq!(rt;
-        held_slot(&answers[2]),
-        Some(Slot::Lease {
-            value: 45_000,
-            txn: Txn(1),
-            until: 61_000
-        })
-    );
+    ask_all(rt, alloc, desk, pass, SessionId(2), &commands, told);
 }
 
-/// Where the disk fails in the second call, it is told so, and then all are told that nothing more is done.
-fn tell_of_a_failing_disk<R: Abort, G: Desk>(rt: &R, alloc: Global, desk: &G, pass: &mut G::Pass)
-    requires own { G.owns desk.now pass.old }
+/// What is asked of a machine.
+#[derive(Clone, Copy)]
+enum Asked {
+    InTwoThreads,
+    AtOnce,
+    OverAFailingDisk,
+}
+
+/// Asks this of a machine.
+fn ask_for<R: Abort + Threads, G: Desk + Sync>(
+    rt: &R,
+    alloc: Global,
+    desk: &G,
+    mut pass: G::Pass,
+    asked: Asked,
+    told: &mut String,
+) -> G::Pass
+where
+    G::Pass: Send,
+    requires own { G.owns desk.now pass }
+    requires two_parts { 2 ≤ G.parts pass }
     requires point { 0 < length (G.plant desk.now) }
-    ensures own { G.owns desk.now pass.new }
-    ensures parts { G.parts pass.new ≡ G.parts pass.old }
+    ensures own { G.owns desk.now result }
+    ensures parts { G.parts result ≡ G.parts pass }
 {
-    let attach = attach(rt);
-    let submit = submit(rt, alloc);
-    let first = desk.call(pass, SessionId(1), &attach, 1000);
-    assert!(rt; matches!(first, Outcome::Done { .. }));
-    let second = desk.call(pass, SessionId(1), &submit, 1000);
-    assert!(rt; matches!(second, Outcome::DiskFault));
-    let third = desk.call(pass, SessionId(2), &Command::Tick, 1000);
-    assert!(rt; matches!(third, Outcome::Stopped));
-    let mut commands = Items::new(alloc);
-    commands
-        .try_push((Command::Tick, 1000))
-        .expect(rt, "memory");
-    let mut answers = Vec::with_capacity(alloc, 1).expect(rt, "memory");
-    let outcomes = desk.call_all(pass, SessionId(2), &commands, &mut answers);
-    assert_eq!(rt; outcomes.done, 0);
-    assert!(rt; matches!(outcomes.rest, Some(Outcome::Stopped)));
-    assert!(rt; answers.is_empty());
+    match asked {
+        Asked::InTwoThreads => ask_in_two_threads(rt, alloc, desk, pass, told),
+        Asked::AtOnce => {
+            let commands = batch(rt, alloc);
+            ask_all(rt, alloc, desk, &mut pass, SessionId(1), &commands, told);
+            pass
+        }
+        Asked::OverAFailingDisk => {
+            ask_over_a_failing_disk(rt, alloc, desk, &mut pass, told);
+            pass
+        }
+    }
+}
+
+/// Asks this of a machine of a keeper before anything was done, and gives what is told.
+fn told_of<R: Abort + Threads + Wait + Sync>(
+    rt: &R,
+    alloc: Global,
+    keeper: FailingKeeper,
+    asked: Asked,
+) -> String
+    requires points { 0 < length keeper.unkept.engine.plant }
+    requires sound { IsSound keeper.unkept.engine.plant keeper.unkept.engine.state }
+    requires running { keeper.stopped ≡ false }
+{
+    let mut told = String::new(alloc);
+    match Manager::new(rt, alloc, keeper, 2) {
+        Ok((manager, pass)) => {
+            let pass = ask_for(rt, alloc, &manager, pass, asked, &mut told);
+            let keeper = manager.close(pass);
+            if keeper.has_stopped() {
+                told.push_str("stopped\n").expect(rt, "memory");
+            }
+            told
+        }
+        Err(_) => rt.panic("no memory"),
+    }
 }
 
 /// An engine of three points whose disk fails in the call after so many good ones.
-fn three_points(alloc: Global, good_calls: u64) -> Result<FailingKeeper, Fail>
-    ensures points { IfOk result (λ keeper. 0 < length keeper.unkept.engine.plant) }
-    ensures sound { IfOk result (λ keeper. IsSound keeper.unkept.engine.plant keeper.unkept.engine.state) }
-    ensures running { IfOk result (λ keeper. keeper.stopped ≡ false) }
+fn three_points(rt: &impl Abort, alloc: Global, good_calls: u64) -> FailingKeeper
+    ensures points { 0 < length result.unkept.engine.plant }
+    ensures sound { IsSound result.unkept.engine.plant result.unkept.engine.state }
+    ensures running { result.stopped ≡ false }
 {
-    let catalogue = Catalogue::read(alloc, THREE_POINTS.as_bytes())?;
+    let catalogue = Catalogue::read(alloc, THREE_POINTS.as_bytes()).expect(rt, "a catalogue");
     if catalogue.count() != 3 {
-        return Err(Fail::new("there are three points"));
+        rt.panic("three points");
     }
-    Ok(FailingKeeper::new(alloc, &catalogue, good_calls)?)
+    FailingKeeper::new(alloc, &catalogue, good_calls).expect(rt, "memory")
 }
 
-#[test]
-fn two_threads_share_one_history(rt: HostRuntime) -> Result<(), Fail> {
-    let keeper = three_points(rt.alloc(), 10_000)?;
-    let Ok((manager, pass)) = Manager::new(&rt, rt.alloc(), keeper, 2) else {
-        return Err(Fail::new("no memory"));
-    };
-    let pass = tell_of_two_threads(&rt, rt.alloc(), &manager, pass);
-    let keeper = manager.close(pass);
-    assert!(&rt; !keeper.has_stopped());
-    Ok(())
-}
+/// What is asked, how many calls the disk is good for, and what is told.
+const ROWS: [(Asked, u64, &str); 3] = [
+    (
+        Asked::InTwoThreads,
+        10_000,
+        "attached: 1 0
+accepted: 1 61000
+the damper is held: 1 62000
+ticked: 62000 0
+refused, for the lease expired: 62000 62000
+",
+    ),
+    (
+        Asked::AtOnce,
+        1,
+        "attached: 1 0
+accepted: 1 61000
+the damper is held: 1 61000
+done: 3 0
+",
+    ),
+    (
+        Asked::OverAFailingDisk,
+        1,
+        "attached: 1 0
+the disk failed: 0 0
+it has stopped: 0 0
+done: 0 0
+it has stopped: 0 0
+stopped
+",
+    ),
+];
 
 #[test]
-fn several_commands_are_answered_at_once(rt: HostRuntime) -> Result<(), Fail> {
-    let keeper = three_points(rt.alloc(), 1)?;
-    let Ok((manager, mut pass)) = Manager::new(&rt, rt.alloc(), keeper, 1) else {
-        return Err(Fail::new("no memory"));
-    };
-    tell_of_a_batch(&rt, rt.alloc(), &manager, &mut pass);
-    let keeper = manager.close(pass);
-    assert!(&rt; !keeper.has_stopped());
-    Ok(())
-}
-
-#[test]
-fn after_a_disk_fault_nothing_is_done(rt: HostRuntime) -> Result<(), Fail> {
-    let keeper = three_points(rt.alloc(), 1)?;
-    let Ok((manager, mut pass)) = Manager::new(&rt, rt.alloc(), keeper, 1) else {
-        return Err(Fail::new("no memory"));
-    };
-    tell_of_a_failing_disk(&rt, rt.alloc(), &manager, &mut pass);
-    let keeper = manager.close(pass);
-    assert!(&rt; keeper.has_stopped());
-    Ok(())
+fn callers_share_one_machine(rt: HostRuntime) {
+    let alloc = rt.alloc();
+    for (asked, good_calls, wanted) in ROWS {
+        let keeper = three_points(&rt, alloc, good_calls);
+        let told = told_of(&rt, alloc, keeper, asked);
+        assert_eq!(&rt; told.as_str(), wanted);
+    }
 }

@@ -471,7 +471,7 @@ const MACHINES: &[Talk] = &[
             ATTACHED,
             ACCEPTED,
             STOPPED,
-            "DiskFault; bytes left: 0; a is not free",
+            "Stopped; bytes left: 0; a is not free",
             "1 at 1000",
             "1 at 1000",
         ],

@@ -1,7 +1,9 @@
 use crate::outside::*;
-use boss_manager::Status;
 use boss_trials::THREE_POINTS;
-use std::test::Fail;
+use std::alloc::Global;
+use std::process::Abort;
+use std::sync::Wait;
+use std::thread::Threads;
 
 /// A run of the program over these words, this file and this input, and all that it tells.
 struct Ending {
@@ -13,8 +15,8 @@ struct Ending {
     fails: Fails,
     status: u8,
     output: &'static str,
-    /// How many calls the first device is made.
-    calls: usize,
+    /// The calls that the first device is made.
+    calls: &'static str,
 }
 
 /// A run that ends before a line is read and a device called.
@@ -26,14 +28,14 @@ const EARLY: Ending = Ending {
     fails: NONE_FAILS,
     status: 2,
     output: "usage\n",
-    calls: 0,
+    calls: "",
 };
 
 /// A run that ends at a fault behind the opening.
 const LATE: Ending = Ending {
     status: 6,
     output: OPENING,
-    calls: 3,
+    calls: OPENING_CALLS,
     ..EARLY
 };
 
@@ -154,7 +156,7 @@ const ENDINGS: &[Ending] = &[
         },
         status: 7,
         output: "",
-        calls: 1,
+        calls: "0 20000 ok\n",
         ..LATE
     },
     Ending {
@@ -213,7 +215,7 @@ const ENDINGS: &[Ending] = &[
         input: "",
         status: 0,
         output: "",
-        calls: 0,
+        calls: "",
         ..LATE
     },
     Ending {
@@ -224,7 +226,7 @@ const ENDINGS: &[Ending] = &[
         output: "write east frost_limit -5 ok
 {\"ok\":\"read\",\"point\":\"frost_limit\",\"value\":-5,\"from\":\"default\",\"mark\":\"settled\"}
 ",
-        calls: 1,
+        calls: "0 -5 ok\n",
         ..LATE
     },
     Ending {
@@ -237,7 +239,7 @@ point=[
         input: "",
         status: 0,
         output: "write east fan 2 ok\nwrite west lamp 1 ok\n",
-        calls: 1,
+        calls: "1 2 ok\n",
         ..LATE
     },
 ];
@@ -252,54 +254,70 @@ write field fan 1 ok
 {\"ok\":\"attached\",\"process\":\"a\",\"next\":1}
 ";
 
-#[test]
-fn a_run_has_its_status(rt: HostRuntime) -> Result<(), Fail> {
-    for ending in ENDINGS {
-        let shows = ending.shows;
-        let input = ending.input.as_bytes();
-        let outcome = run(
-            &rt,
-            rt.alloc(),
-            ending.words,
-            ending.file,
-            input,
-            ending.fails,
-        )?;
-        assert_eq!(&rt; outcome.status, Status(ending.status), "{shows}");
-        assert_eq!(&rt; outcome.sink.taken(), ending.output.as_bytes(), "{shows}");
-        let device = outcome.devices.first().ok_or("a device")?;
-        assert!(&rt; device.is_whole(), "{shows}");
-        assert_eq!(&rt; device.calls().len(), ending.calls, "{shows}");
+/// The calls of the device at the opening.
+const OPENING_CALLS: &str = "0 20000 ok\n1 0 ok\n2 1 ok\n";
+
+/// Generated loads. Each transaction is accepted and renewed six times, and none is refused. Behind the writes of the 40 defaults each
+/// transaction but the last makes three: its value, that of its reversion, and the default again; the last one is live at the end, and
+/// makes one.
+const LOADS: &[Ending] = &[
+    Ending {
+        shows: "one transaction",
+        words: "load 1 0",
+        status: 0,
+        output: "load accepted 1 renewed 6 refused 0 notices 0 writes 41 now 168000 last 30000\n",
+        ..EARLY
+    },
+    Ending {
+        shows: "500 transactions",
+        words: "load 500 7",
+        status: 0,
+        output: "load accepted 500 renewed 3000 refused 0 notices 1497 writes 1538 now 84000000 last 81733\n",
+        ..EARLY
+    },
+    Ending {
+        shows: "10,000 transactions",
+        words: "load 10000 7",
+        status: 0,
+        output: "load accepted 10000 renewed 60000 refused 0 notices 29997 writes 30038 now 1680000000 last 70979\n",
+        ..EARLY
+    },
+    Ending {
+        shows: "a summary that cannot be written",
+        words: "load 1 0",
+        fails: Fails {
+            sink: 1,
+            ..NONE_FAILS
+        },
+        status: 7,
+        output: "",
+        ..EARLY
+    },
+];
+
+fn expect_each<R: Abort + Threads + Wait + Sync>(rt: &R, alloc: Global, endings: &[Ending]) {
+    for ending in endings {
+        let given = Given {
+            words: ending.words,
+            file: ending.file,
+            input: ending.input,
+            fails: ending.fails,
+        };
+        let told = Told {
+            output: ending.output,
+            calls: ending.calls,
+            status: ending.status,
+        };
+        expect(rt, alloc, ending.shows, &given, &told);
     }
-    Ok(())
 }
 
-/// Nothing behind a line that is too long is read.
 #[test]
-fn a_line_too_long_ends_a_script(rt: HostRuntime) -> Result<(), Fail> {
-    for (blanks, status, last) in [
-        (
-            65_535,
-            0,
-            "{\"ok\":\"attached\",\"process\":\"a\",\"next\":1}\n",
-        ),
-        (65_536, 13, "{\"error\":\"too-long\"}\n"),
-    ] {
-        let mut input = Vec::new(rt.alloc());
-        input.resize(blanks, b' ')?;
-        input.push(b'\n')?;
-        input.extend_from_slice(ATTACH.as_bytes())?;
-        let outcome = run(
-            &rt,
-            rt.alloc(),
-            SCRIPT_WORDS,
-            THREE_POINTS,
-            &input,
-            NONE_FAILS,
-        )?;
-        assert_eq!(&rt; outcome.status, Status(status));
-        let told = outcome.sink.taken().strip_prefix(OPENING.as_bytes());
-        assert_eq!(&rt; told.ok_or("the opening")?, last.as_bytes());
-    }
-    Ok(())
+fn a_run_has_its_status(rt: HostRuntime) {
+    expect_each(&rt, rt.alloc(), ENDINGS);
+}
+
+#[test]
+fn a_load_is_summed_up(rt: HostRuntime) {
+    expect_each(&rt, rt.alloc(), LOADS);
 }

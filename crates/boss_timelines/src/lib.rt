@@ -1,15 +1,11 @@
-//! Trials of the whole transaction manager: worked scripts, byte for byte, the statuses of runs that end early, the bounds of
-//! what is kept, and what the drivers are told to write.
+//! Trials of the whole transaction manager: worked scripts, byte for byte, the statuses of runs that end early, generated loads, and the
+//! bounds of what is kept.
 #![tactic(auto)]
 
-#[cfg(test)]
-mod drivers;
 #[cfg(test)]
 mod endings;
 #[cfg(test)]
 mod limits;
-#[cfg(test)]
-mod load;
 #[cfg(test)]
 mod outside;
 #[cfg(test)]

@@ -1,16 +1,16 @@
-//! What is outside of the program in a trial.
+//! What is outside of the program in a trial, and what a run of it tells.
 
-ghost use Rattle.std.specs.Prelude.{IfOk, IsTrue};
+ghost use Rattle.std.specs.Prelude.{IsTrue};
 ghost use Rattle.boss_files.specs.Shelf.{have_distinct_names};
 
 use boss_files::MemoryFiles;
 use boss_manager::{Status, boss};
 use boss_model::Items;
-use boss_outside::{BytesSink, BytesSource, DeviceCall, Got, SimActuators, Source};
+use boss_outside::{BytesSink, BytesSource, SimActuators};
 use boss_workers::{ListClock, ListHost, ListSpawner, TurnWaiter};
-use std::alloc::{AllocError, Global};
+use std::alloc::Global;
+use std::process::Abort;
 use std::sync::Wait;
-use std::test::Fail;
 use std::thread::Threads;
 
 /// The words of a script with its journal in memory.
@@ -32,113 +32,89 @@ pub const NONE_FAILS: Fails = Fails {
     device: 0,
 };
 
-/// What a run of the program left.
-#[derive(Drop)]
-pub struct Outcome {
-    pub status: Status,
-    pub sink: BytesSink,
-    pub devices: Vec<SimActuators>,
+/// What a run of the program is given.
+#[derive(Clone, Copy)]
+pub struct Given<'a> {
+    pub words: &'a str,
+    /// What the file `site.toml` holds.
+    pub file: &'a str,
+    pub input: &'a str,
+    pub fails: Fails,
 }
 
-/// Gives one byte a read.
-#[derive(Drop)]
-pub struct Bytewise<'a> {
-    text: &'a [u8],
-    given: usize,
+/// What a run of the program is to tell.
+#[derive(Clone, Copy)]
+pub struct Told<'a> {
+    pub output: &'a str,
+    /// The calls that the first device is made, as lines: the number of the point, the value, and what came of it.
+    pub calls: &'a str,
+    pub status: u8,
 }
 
-impl<'a> Bytewise<'a> {
-    pub fn new(text: &'a [u8]) -> Self {
-        Bytewise { text, given: 0 }
-    }
-}
-
-impl Source for Bytewise<'_> {
-    ghost use Rattle.std.specs.Prelude.{[]};
-
-    ghost tells = { ⊥ };
-
-    ghost left = { λ source. [] };
-
-    ghost held = { λ source. [] };
-
-    ghost faults = { λ source. 0 };
-
-    fn read(&mut self, into: &mut [u8]) -> Got {
-        let Some(byte) = self.text.get(self.given) else {
-            return Got::Finish;
-        };
-        into[0] = *byte;
-        self.given = self.given.saturating_add(1);
-        Got::Bytes(1)
-    }
-
-    ghost suffix = { λ source tells. absurd tells };
+/// Runs the program, and compares all that it tells.
+pub fn expect<R: Abort + Threads + Wait + Sync>(
+    rt: &R,
+    alloc: Global,
+    shows: &str,
+    given: &Given,
+    told: &Told,
+) {
+    let wanted = format!(in alloc; "{}{}status {}\n", told.output, told.calls, told.status).expect(
+        rt, "memory",
+    );
+    assert_eq!(rt; run(rt, alloc, given).as_str(), wanted.as_str(), "{shows}");
 }
 
 /// Runs the program on these words with one file, `site.toml`, with this input, and with sixteen devices, of which the first
-/// may fail.
-pub fn run<R: Threads + Wait + Sync>(
-    rt: &R,
-    alloc: Global,
-    words: &str,
-    file: &str,
-    input: &[u8],
-    fails: Fails,
-) -> Result<Outcome, Fail> {
-    let mut source = BytesSource::new(alloc, bytes(alloc, input)?, call(alloc, fails.source)?)?;
-    run_over(rt, alloc, words, file, &mut source, fails)
-}
-
-/// The same over any source.
-pub fn run_over<R: Threads + Wait + Sync, S: Source>(
-    rt: &R,
-    alloc: Global,
-    words: &str,
-    file: &str,
-    source: &mut S,
-    fails: Fails,
-) -> Result<Outcome, Fail> {
-    let words = words_of(alloc, words)?;
-    let mut files = MemoryFiles::new(alloc, one_file(alloc, file)?, call(alloc, fails.files)?)?;
-    let mut sink = BytesSink::new(alloc, call(alloc, fails.sink)?)?;
-    let mut devices = sixteen_devices(alloc, fails.device)?;
+/// may fail, and gives all that it tells as one text.
+fn run<R: Abort + Threads + Wait + Sync>(rt: &R, alloc: Global, given: &Given) -> String {
+    let words = words_of(rt, alloc, given.words);
+    let Fails {
+        files,
+        source,
+        sink,
+        device,
+    } = given.fails;
+    let mut files = one_file(rt, alloc, given.file, files);
+    let mut source = source_of(rt, alloc, given.input, source);
+    let mut sink = BytesSink::new(alloc, call(rt, alloc, sink)).expect(rt, "memory");
+    let mut devices = sixteen_devices(rt, alloc, device);
     let status = alone(
         rt,
         alloc,
         &words,
         &mut files,
-        source,
+        &mut source,
         &mut sink,
         &mut devices,
-    )?;
-    Ok(Outcome {
-        status,
-        sink,
-        devices,
-    })
+    );
+    tell(rt, alloc, &sink, &devices, status)
 }
 
 /// Runs the program with a host that has no connection, a clock that tells 0, a waiter that closes at once, and a spawner that starts
 /// every task.
-fn alone<R: Threads + Wait + Sync, S: Source>(
+fn alone<R: Abort + Threads + Wait + Sync>(
     rt: &R,
     alloc: Global,
     words: &Vec<String>,
     files: &mut MemoryFiles,
-    source: &mut S,
+    source: &mut BytesSource,
     sink: &mut BytesSink,
     devices: &mut Vec<SimActuators>,
-) -> Result<Status, Fail> {
-    let mut clock = ListClock::new(alloc, Items::new(alloc), Items::new(alloc))?;
+) -> Status {
+    let mut clock = ListClock::new(alloc, Items::new(alloc), Items::new(alloc)).expect(
+        rt, "memory",
+    );
     let mut host: ListHost<BytesSource, BytesSink> = ListHost::new(
         alloc,
         Items::new(alloc),
         Items::new(alloc),
-    )?;
-    let mut waiter = TurnWaiter::new(alloc, 0)?;
-    let mut spawner: ListSpawner<R> = ListSpawner::new(alloc, Items::new(alloc))?;
-    Ok(boss(
+    ).expect(rt, "memory");
+    let mut waiter = TurnWaiter::new(alloc, 0).expect(rt, "memory");
+    let mut spawner: ListSpawner<R> = ListSpawner::new(alloc, Items::new(alloc)).expect(
+        rt, "memory",
+    );
+    boss(
         rt,
         alloc,
         words,
@@ -150,61 +126,83 @@ fn alone<R: Threads + Wait + Sync, S: Source>(
         &mut host,
         &mut waiter,
         &mut spawner,
-    ))
+    )
 }
 
 /// The words of a text, which blanks part. An empty text has none.
-fn words_of(alloc: Global, text: &str) -> Result<Vec<String>, AllocError> {
+fn words_of(rt: &impl Abort, alloc: Global, text: &str) -> Vec<String> {
     let mut words = Vec::new(alloc);
     for word in text.split(' ') {
         if !word.is_empty() {
-            words.push(String::from_str(alloc, word)?)?;
+            let word = String::from_str(alloc, word).expect(rt, "memory");
+            words.push(word).expect(rt, "memory");
         }
     }
-    Ok(words)
+    words
+}
+
+/// The file `site.toml` alone, with this text.
+fn one_file(rt: &impl Abort, alloc: Global, text: &str, fails: u64) -> MemoryFiles {
+    let files = shelf(rt, alloc, text);
+    MemoryFiles::new(alloc, files, call(rt, alloc, fails)).expect(rt, "memory")
+}
+
+fn shelf(rt: &impl Abort, alloc: Global, text: &str) -> Items<(Items<u8>, Items<u8>)>
+    ensures { IsTrue (have_distinct_names result) }
+{
+    let name = bytes(rt, alloc, "site.toml");
+    let text = bytes(rt, alloc, text);
+    let mut files = Vec::new(alloc);
+    files.push((name, text)).expect(rt, "memory");
+    Items::from_vec(files)
+}
+
+fn source_of(rt: &impl Abort, alloc: Global, text: &str, fails: u64) -> BytesSource {
+    let text = bytes(rt, alloc, text);
+    BytesSource::new(alloc, text, call(rt, alloc, fails)).expect(rt, "memory")
 }
 
 /// Sixteen devices, of which the first fails the call of this number.
-fn sixteen_devices(alloc: Global, fails: u64) -> Result<Vec<SimActuators>, Fail> {
+fn sixteen_devices(rt: &impl Abort, alloc: Global, fails: u64) -> Vec<SimActuators> {
     let mut devices = Vec::new(alloc);
-    devices.push(SimActuators::new(alloc, call(alloc, fails)?)?)?;
-    for _ in 1..16 {
-        devices.push(SimActuators::new(alloc, Items::new(alloc))?)?;
+    for fails in [fails, 0, 0, 0, 0, 0, 0, 0, 0, 0, 0, 0, 0, 0, 0, 0] {
+        let device = SimActuators::new(alloc, call(rt, alloc, fails)).expect(rt, "memory");
+        devices.push(device).expect(rt, "memory");
     }
-    Ok(devices)
+    devices
 }
 
-fn one_file(alloc: Global, text: &str) -> Result<Items<(Items<u8>, Items<u8>)>, AllocError>
-    ensures { IfOk result (λ files. IsTrue (have_distinct_names files)) }
-{
-    let file = (bytes(alloc, b"site.toml")?, bytes(alloc, text.as_bytes())?);
-    let mut files = Vec::new(alloc);
-    files.push(file)?;
-    Ok(Items::from_vec(files))
-}
-
-fn bytes(alloc: Global, text: &[u8]) -> Result<Items<u8>, AllocError> {
-    Ok(Items::from_vec(text.to_vec(alloc)?))
+fn bytes(rt: &impl Abort, alloc: Global, text: &str) -> Items<u8> {
+    Items::from_vec(text.as_bytes().to_vec(alloc).expect(rt, "memory"))
 }
 
 /// The one call of this number.
-fn call(alloc: Global, number: u64) -> Result<Items<u64>, AllocError> {
-    let mut calls = Vec::new(alloc);
-    calls.push(number)?;
-    Ok(Items::from_vec(calls))
+fn call(rt: &impl Abort, alloc: Global, number: u64) -> Items<u64> {
+    let mut calls = Items::new(alloc);
+    calls.try_push(number).expect(rt, "memory");
+    calls
 }
 
-/// What tells of calls of the device of the three points, as lines.
-pub fn calls_told(alloc: Global, calls: &[DeviceCall]) -> Result<String, Fail> {
+/// The output, the calls of the first device, and the status.
+fn tell(
+    rt: &impl Abort,
+    alloc: Global,
+    sink: &BytesSink,
+    devices: &Vec<SimActuators>,
+    status: Status,
+) -> String {
     let mut text = String::new(alloc);
-    for call in calls {
-        let name = match call.point.0 {
-            0 => "ahu1.damper",
-            1 => "lamp",
-            _ => "fan",
-        };
+    let output = str::from_utf8(sink.taken()).expect(rt, "a text");
+    text.push_str(output).expect(rt, "memory");
+    tell_calls(rt, &mut text, devices.first().expect(rt, "a device"));
+    writeln!(text, "status {}", status.0).expect(rt, "memory");
+    text
+}
+
+fn tell_calls(rt: &impl Abort, text: &mut String, device: &SimActuators) {
+    assert!(rt; device.is_whole());
+    for call in device.calls() {
         let result = if call.ok { "ok" } else { "failed" };
-        text.push_str(format!(in alloc; "write field {name} {} {result}\n", call.value)?.as_str())?;
+        writeln!(text, "{} {} {result}", call.point.0, call.value).expect(rt, "memory");
     }
-    Ok(text)
 }

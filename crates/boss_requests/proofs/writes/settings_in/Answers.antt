@@ -1,19 +1,18 @@
-use Rattle.std.proofs.Common.{◌≡◌, is_some, map, true, sym, ◌∙◌, subst}
-use Rattle.boss_wire.specs.Keys.{all_of, write}
+use Rattle.std.proofs.Common.{map, ◌∙◌}
+use Rattle.boss_wire.specs.Keys.{write}
 use Rattle.boss_wire.specs.Requests.{setting_at}
-use Rattle.boss_requests.specs.Given.{Gives}
-use Rattle.boss_requests.proofs.Each.{all_read, both-passes, both-fails}
+use Rattle.boss_requests.proofs.Each.{all_read, both-asks, both-told}
 use Rattle.boss_requests.proofs.writes.settings_in.Goals as goal
 
-pub returns-then-not-are_writes-clause-settings : goal.returns-then-not-are_writes-clause-settings
-returns-then-not-are_writes-clause-settings g c =
-    let see = g.V.JsonValue.meaning in
-    let values = c.args.values.now in
-    both-fails write (setting_at c.args.catalogue.now) 0 (map see values) (sym (all_read see write values) ∙ sym c.are_writes.ensures ∙ c.if-not-are_writes.true)
+pub returns-in-Ok-clause-settings : goal.returns-in-Ok-clause-settings
+returns-in-Ok-clause-settings g c =
+    both-asks write (setting_at c.args.catalogue.now) 0 (map g.V.JsonValue.meaning c.args.values.now) c.in-Ok.settings c.in-Ok.ensures.settings
 
-pub returns-clause-settings : goal.returns-clause-settings
-returns-clause-settings g c =
+pub returns-in-Err-clause-settings : goal.returns-in-Err-clause-settings
+returns-in-Err-clause-settings g c =
     let see = g.V.JsonValue.meaning in
-    let values = c.args.values.now in
-    let passes : is_some (all_of write (map see values)) ≡ true = sym (all_read see write values) ∙ sym c.are_writes.ensures ∙ c.if-not-are_writes.false in
-    subst (Gives (λ settings. settings) c.known_settings.result) (both-passes write (setting_at c.args.catalogue.now) 0 (map see values) passes) c.known_settings.ensures.settings
+    let each = all_read see write c.args.values.now in
+    both-told write (setting_at c.args.catalogue.now) 0 (map see c.args.values.now) c.in-Err.why c.why_no_settings.result
+    c.in-Err.ensures.settings
+    (λ fails. c.why_no_settings.ensures.malformed (each ∙ fails))
+    (λ passes. c.why_no_settings.ensures.first (each ∙ passes))

@@ -1,12 +1,14 @@
-use Rattle.std.proofs.Common.{ap}
-use Rattle.boss_sessions.specs.Ends.{is_stop_end}
-use Rattle.boss_sessions.proofs.PartingLemmas.{parts-done, parts-fault, parts-stopped}
+use Rattle.boss_history.specs.declared.outcome.Outcome.TheVariants.{Done, Stopped, DiskFault}
+use Rattle.boss_sessions.proofs.PartingLemmas.{parts-of}
 use Rattle.boss_sessions.proofs.parting.part.Goals as goal
 use Rattle.boss_sessions.proofs.parting.part.Goals.{in-Done, in-Stopped, in-DiskFault}
 
 pub returns-clause-parted : goal.returns-clause-parted
 returns-clause-parted g c = elim c.match-call.branch [
-  | in-Done w ↦ parts-done _ _ _ _ _ _ _ w.in-Done.answer w.in-Done.ensures.turn.entries w.in-Done.ensures.failed w.result-is
-  | in-Stopped w ↦ parts-stopped _ _ _ _ _ _ _ w.in-Stopped.ensures.turn.entries w.in-Stopped.ensures.failed (ap is_stop_end w.result-is)
-  | in-DiskFault w ↦ parts-fault _ _ _ _ _ _ _ _ w.in-DiskFault.ensures.turn.entries w.in-DiskFault.ensures.failed (ap is_stop_end w.result-is)
+  | in-Done w ↦ parts-of _ _ _ _ (g.G.Desk.seen c.args.pass.now) w.in-Done.ensures.turn.before _ (Done w.in-Done.answer) _ _ w.in-Done.ensures.turn.goes_on w.in-Done.ensures.turn.entries
+      w.in-Done.ensures.turn.stopped_is (w.result-is, w.in-Done.ensures.failed)
+  | in-Stopped w ↦ parts-of _ _ _ _ (g.G.Desk.seen c.args.pass.now) w.in-Stopped.ensures.turn.before _ Stopped _ _ w.in-Stopped.ensures.turn.goes_on w.in-Stopped.ensures.turn.entries
+      w.in-Stopped.ensures.turn.stopped_is (w.result-is, w.in-Stopped.ensures.failed)
+  | in-DiskFault w ↦ parts-of _ _ _ _ (g.G.Desk.seen c.args.pass.now) w.in-DiskFault.ensures.turn.before _ DiskFault _ _ w.in-DiskFault.ensures.turn.goes_on w.in-DiskFault.ensures.turn.entries
+      w.in-DiskFault.ensures.turn.stopped_is (w.result-is, w.in-DiskFault.ensures.failed)
 ]

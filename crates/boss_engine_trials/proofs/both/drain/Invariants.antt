@@ -1,0 +1,8 @@
+use Rattle.std.proofs.Common.{◌≡◌}
+use Rattle.boss_model.specs.Catalogue.{actuators}
+use Rattle.boss_engine_trials.proofs.both.drain.Given as goal
+
+abbrev pub invariant-loop : goal.invariant-loop
+invariant-loop l = record {
+  plant : l.engine.plant ≡ actuators l.catalogue;
+}

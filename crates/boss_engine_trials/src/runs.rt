@@ -1,0 +1,137 @@
+ghost use Rattle.std.specs.Prelude.{◌≡◌, ◌<◌};
+ghost use Rattle.boss_model.specs.Catalogue.{actuators};
+
+use crate::calls::{answer, expect_alike, expect_same};
+use crate::plants::plant_of_the_day;
+use boss_engine::Engine;
+use boss_load::load_script;
+use boss_model::{Kept, NoMemory};
+use boss_points::Catalogue;
+use std::alloc::Global;
+use std::process::Abort;
+use std::test::Fail;
+
+/// One of the engines stops behind each so many lines.
+const PART: u32 = 701;
+
+/// The day goes so many times as fast: about 120 slots are held at once, and transactions cut the reversions of others.
+const PACE: u64 = 300;
+
+/// With how many lines a script begins that attach processes.
+const ATTACHES: usize = 6;
+
+/// What is asked behind each stop.
+const QUESTIONS: &str = r#"{"op":"array","point":"p0"}
+{"op":"array","point":"p19"}
+{"op":"array","point":"p39"}
+{"op":"status","txn":1}
+{"op":"status","txn":100}
+{"op":"status","txn":300}
+{"op":"status","txn":500}
+{"op":"notices","process":"q1","max":64}
+{"op":"notices","process":"q2","from":60,"max":64}
+{"op":"notices","process":"q3","from":120,"max":64}
+{"op":"notices","process":"q6","from":180,"max":64}"#;
+
+/// The engine stops: another goes on in its place from what was kept of it.
+fn stop<R: Abort>(
+    rt: &R,
+    alloc: Global,
+    catalogue: &Catalogue,
+    engine: &mut Engine,
+) -> Result<(), NoMemory>
+    requires { engine.old.plant ≡ actuators catalogue.now }
+    ensures { engine.new.plant ≡ actuators catalogue.now }
+{
+    let kept = engine.keep(alloc)?;
+    go_on(rt, alloc, catalogue, engine, &kept)
+}
+
+/// An engine is replaced by one that goes on from what was kept.
+fn go_on<R: Abort>(
+    rt: &R,
+    alloc: Global,
+    catalogue: &Catalogue,
+    engine: &mut Engine,
+    kept: &Kept,
+) -> Result<(), NoMemory>
+    requires { engine.old.plant ≡ actuators catalogue.now }
+    ensures { engine.new.plant ≡ actuators catalogue.now }
+{
+    match Engine::restore(alloc, catalogue, kept) {
+        Ok(restored) => *engine = restored,
+        Err(_) => panic!(rt; "what was kept is not sound"),
+    }
+    Ok(())
+}
+
+/// The processes come back to an engine, by the lines with which a script begins.
+fn attach_all(
+    alloc: Global,
+    catalogue: &Catalogue,
+    engine: &mut Engine,
+    script: &str,
+) -> Result<(), NoMemory>
+    requires { engine.old.plant ≡ actuators catalogue.now }
+    ensures { engine.new.plant ≡ actuators catalogue.now }
+{
+    for line in script.split('\n').take(ATTACHES) {
+        answer(alloc, catalogue, engine, line, PACE)?;
+    }
+    Ok(())
+}
+
+/// An engine that stopped answers as one that did not.
+fn stop_beside<R: Abort>(
+    rt: &R,
+    alloc: Global,
+    catalogue: &Catalogue,
+    engine: &mut Engine,
+    stopped: &mut Engine,
+    script: &str,
+) -> Result<(), NoMemory>
+    requires plant { engine.old.plant ≡ actuators catalogue.now }
+    requires stopped { stopped.old.plant ≡ actuators catalogue.now }
+    ensures plant { engine.new.plant ≡ actuators catalogue.now }
+    ensures stopped { stopped.new.plant ≡ actuators catalogue.now }
+{
+    stop(rt, alloc, catalogue, stopped)?;
+    attach_all(alloc, catalogue, stopped, script)?;
+    expect_alike(rt, alloc, catalogue, engine, stopped, QUESTIONS)
+}
+
+/// Two engines answer alike what a script asks, though one of them stops again and again.
+fn run<R: Abort>(
+    rt: &R,
+    alloc: Global,
+    catalogue: &Catalogue,
+    engine: &mut Engine,
+    stopped: &mut Engine,
+    script: &str,
+) -> Result<(), NoMemory>
+    requires plant { engine.old.plant ≡ actuators catalogue.now }
+    requires stopped { stopped.old.plant ≡ actuators catalogue.now }
+{
+    let mut lines = 0_u32;
+    for line in script.split('\n') {
+        expect_same(rt, alloc, catalogue, engine, stopped, line, PACE)?;
+        lines = lines.saturating_add(1);
+        if lines % PART == 0 {
+            stop_beside(rt, alloc, catalogue, engine, stopped, script)?;
+        }
+    }
+    Ok(())
+}
+
+/// A generated day of 500 transactions goes as if an engine had not stopped.
+#[test]
+fn a_day_goes_on_from_what_was_kept(rt: HostRuntime) -> Result<(), Fail> {
+    let alloc = rt.alloc();
+    let catalogue = plant_of_the_day(alloc)?;
+    let script = load_script(alloc, 500, 7)?;
+    let script = str::from_utf8(script.slice()).map_err(|_| Fail::new("no text"))?;
+    let mut engine = Engine::new(alloc, &catalogue)?;
+    let mut stopped = Engine::new(alloc, &catalogue)?;
+    run(&rt, alloc, &catalogue, &mut engine, &mut stopped, script)?;
+    Ok(())
+}

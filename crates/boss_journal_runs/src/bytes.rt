@@ -1,0 +1,62 @@
+// The bytes of journals of the three points, as the format has them by their places.
+use std::alloc::Global;
+use std::process::Abort;
+
+/// SHA-256 of the canonical text of the three points.
+pub const DIGEST: &[u8; 32] =
+    b"\xaa\xf2Ot\xf7Tn\xc5\xb6Q\x86D\xb7\x91\xc1o&i\xc8s\x80vd5\xde-\x82\xa7\xa6\x10\xd0Y";
+
+/// The record of an attach of `a` at 0: an open gate, 11 bytes, the event.
+pub const ATTACHED: &[u8] = b"\x01\0\0\0\x0b\x01\0\0\0\0\0\0\0\0\x01a";
+
+/// An open gate, 31 bytes, and the tag of a submit.
+pub const SUBMIT_HEAD: &[u8] = b"\x01\0\0\0\x1f\x02";
+
+/// Behind the moment of a submit: by process 0, which aborts, the damper at 45 for a minute, at priority 8.
+pub const SUBMIT_TAIL: &[u8] = b"\0\0\0\x01\0\0\0\0\0\0\0\0\0\0\xaf\xc8\x08\0\0\xea\x60\0";
+
+/// A gate that is shut.
+pub const SHUT: &[u8] = b"\0";
+
+/// The moment 1000.
+pub const AT_1000: &[u8] = b"\0\0\0\0\0\0\x03\xe8";
+
+/// What outlasts a stop behind the attach and a submit at 1000, in version 2: the moment 1000, the next transaction 2, a process `a`
+/// without notices and without a kept reply, transaction 1 with one live part, none done, the lease until 61000, and no reversion.
+const STATE: &[u8] =
+    b"\0\0\0\0\0\0\x03\xe8\0\0\0\0\0\0\0\x02\0\x01\x01a\0\0\0\0\0\0\0\0\0\0\0\0\0\0\x01\0\0\0\0\0\0\0\x01\0\0\0\x01\0\0\0\0\x08\0\0\0\0\0\0\x01\0\0\0\0\0\0\0\x01\0\0\0\0\0\0\x08\0\0\0\0\0\0\xaf\xc8\0\0\0\0\0\0\xee\x48\0\0\0\0\0\0";
+
+/// These bytes behind one another.
+pub fn joined(rt: &impl Abort, alloc: Global, parts: &[&[u8]]) -> Vec<u8> {
+    let mut bytes = Vec::new(alloc);
+    for part in parts {
+        bytes.extend_from_slice(part).expect(rt, "memory");
+    }
+    bytes
+}
+
+/// The journal of the attach and the submit: 94 bytes, in version 2.
+pub fn worked(rt: &impl Abort, alloc: Global) -> Vec<u8> {
+    let log = [ATTACHED, SUBMIT_HEAD, AT_1000, SUBMIT_TAIL, SHUT];
+    journal(rt, alloc, b"\x02", DIGEST, &log)
+}
+
+/// A journal of this version and digest, and what stands behind its heading.
+pub fn journal(
+    rt: &impl Abort,
+    alloc: Global,
+    version: &[u8; 1],
+    digest: &[u8; 32],
+    log: &[&[u8]],
+) -> Vec<u8> {
+    let mut bytes = joined(rt, alloc, &[b"BOSSJRNL", version, digest]);
+    let log = joined(rt, alloc, log);
+    bytes.extend_from_slice(&log).expect(rt, "memory");
+    bytes
+}
+
+/// The disk of the state behind the attach and the submit: generation 1, two events before it, and a shut gate. 162 bytes.
+pub fn kept(rt: &impl Abort, alloc: Global) -> Vec<u8> {
+    let numbers: &[u8] = b"\0\0\0\0\0\0\0\x01\0\0\0\0\0\0\0\x02\0\0\0\0\0\0\0\x60";
+    joined(rt, alloc, &[b"BOSSSNAP\x02", DIGEST, numbers, STATE, SHUT])
+}

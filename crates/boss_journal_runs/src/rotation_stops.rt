@@ -1,0 +1,139 @@
+// A new log that is begun on a disk that stops or fails at each of its calls, and what is opened of all that a crash may leave.
+ghost use Rattle.boss_model.specs.Catalogue.{actuators};
+ghost use Rattle.boss_scripts.specs.Devices.{HasDevices};
+
+use crate::limited::{Left, run_limited};
+use crate::outside::*;
+use crate::rotation::log_of;
+use boss_points::Catalogue;
+use std::alloc::Global;
+use std::process::Abort;
+
+/// So many submits leave a log that has room for one record more: an attach has 16 bytes there, and a submit 36. A new log begins
+/// where less than 65,536 bytes of 131,072 are left, and 16 + 1,820 * 36 = 65,536.
+const SUBMITS: u64 = 1_820;
+
+/// The first of the submits has its record behind the others, the second behind a new log's kept state; the read asks for nothing of
+/// a disk.
+const MORE: &str = "{\"op\":\"attach\",\"process\":\"a\"}
+{\"at\":2820,\"op\":\"submit\",\"writes\":[{\"point\":\"ahu1.damper\",\"value\":45000,\"priority\":8,\"lease\":60000}]}
+{\"at\":2821,\"op\":\"submit\",\"writes\":[{\"point\":\"ahu1.damper\",\"value\":45000,\"priority\":8,\"lease\":60000}]}
+{\"at\":2821,\"op\":\"read\",\"point\":\"lamp\"}
+";
+
+/// What is told of them: where the pair was not opened, where the disk of the new log failed behind the first submit, and where both
+/// were accepted. Each submit before them, but the last, was superseded with two notices: 1,819 * 2.
+const TOLD: [&str; 3] = [
+    "",
+    "write field ahu1.damper 45000 ok
+write field lamp 0 ok
+write field fan 1 ok
+{\"ok\":\"attached\",\"process\":\"a\",\"next\":3639}
+{\"ok\":\"accepted\",\"txn\":1821,\"until\":62820}
+{\"error\":\"stopped\"}
+{\"error\":\"stopped\"}
+",
+    "write field ahu1.damper 45000 ok
+write field lamp 0 ok
+write field fan 1 ok
+{\"ok\":\"attached\",\"process\":\"a\",\"next\":3639}
+{\"ok\":\"accepted\",\"txn\":1821,\"until\":62820}
+{\"ok\":\"accepted\",\"txn\":1822,\"until\":62821}
+{\"ok\":\"read\",\"point\":\"lamp\",\"value\":0,\"from\":\"default\",\"mark\":\"settled\"}
+",
+];
+
+/// What a check tells behind each of them where nothing more was done.
+const ANSWERED: [&str; 3] = [
+    "events 1821 now 2819 leases 1 pending 0\n",
+    "events 1822 now 2820 leases 1 pending 0\n",
+    "events 1823 now 2821 leases 1 pending 0\n",
+];
+
+/// And where the submit that failed was done.
+const UNDER_WAY: [&str; 3] = [
+    "events 1821 now 2819 leases 1 pending 0\n",
+    "events 1823 now 2821 leases 1 pending 0\n",
+    "events 1823 now 2821 leases 1 pending 0\n",
+];
+
+/// The ways in which bytes that a crash may change are picked.
+const PICKS: [u64; 4] = [0, 1, 2, 5];
+
+/// More calls than are made of the disk that the new log begins on.
+const MANY: u64 = 60;
+
+/// The place of the text among those that may be told.
+fn place_of(rt: &impl Abort, told: &[u8]) -> usize {
+    for place in 0..3usize {
+        if told == TOLD[place].as_bytes() {
+            return place;
+        }
+    }
+    rt.panic("what a run may tell")
+}
+
+/// Looks at all that a crash may leave behind the text of this place.
+fn look(rt: &impl Abort, alloc: Global, catalogue: &Catalogue, disks: &Pair, place: usize) {
+    let (answered, under_way) = (ANSWERED[place.min(2)], UNDER_WAY[place.min(2)]);
+    for pick in PICKS {
+        let left = images(rt, alloc, disks, (0, pick));
+        let (_, sink) = check(rt, alloc, catalogue, left);
+        let told = sink.taken();
+        assert!(rt; told == answered.as_bytes() || told == under_way.as_bytes());
+    }
+}
+
+/// Attaches, submits twice and reads, over a log that has room for one record more, beside a disk with a trouble.
+fn run_beside(
+    rt: &impl Abort,
+    alloc: Global,
+    catalogue: &Catalogue,
+    log: &[u8],
+    trouble: Trouble,
+) -> Left
+    requires { HasDevices 1 (actuators catalogue.now) }
+{
+    let disks = (
+        disk(rt, alloc, log, Trouble::None),
+        disk(rt, alloc, &[], trouble),
+    );
+    run_limited(rt, alloc, catalogue, disks, MORE)
+}
+
+/// All calls behind so many come to nothing; and the next one alone, behind which none is made. Whether the run came to its end.
+fn try_calls(rt: &impl Abort, alloc: Global, catalogue: &Catalogue, log: &[u8], calls: u64) -> bool
+    requires { HasDevices 1 (actuators catalogue.now) }
+{
+    let stopped = run_beside(rt, alloc, catalogue, log, Trouble::Stops(calls));
+    let place = place_of(rt, stopped.sink.taken());
+    look(rt, alloc, catalogue, &stopped.disks, place);
+    let next = Trouble::Fails(calls.saturating_add(1));
+    let failed = run_beside(rt, alloc, catalogue, log, next);
+    assert!(rt; failed.sink.taken() == stopped.sink.taken());
+    expect_same(rt, alloc, &stopped.disks, &failed.disks);
+    place == 2
+}
+
+/// Whether a crash leaves the same of two pairs, whether what was not synced stays or goes.
+fn expect_same(rt: &impl Abort, alloc: Global, one: &Pair, other: &Pair) {
+    for pick in 0..2u64 {
+        let (_, one) = images(rt, alloc, one, (pick, pick));
+        let (_, other) = images(rt, alloc, other, (pick, pick));
+        assert!(rt; one.into_bytes().slice() == other.into_bytes().slice());
+    }
+}
+
+#[test]
+fn nothing_is_lost_while_a_new_log_begins(rt: HostRuntime) {
+    let alloc = rt.alloc();
+    let catalogue = three_points(&rt, alloc);
+    let log = log_of(&rt, alloc, SUBMITS);
+    assert!(&rt; log.len() == 41 + 65_536 + 1);
+    for calls in 0..MANY {
+        if try_calls(&rt, alloc, &catalogue, log.as_slice(), calls) {
+            return;
+        }
+    }
+    rt.panic("a new log that begins");
+}
