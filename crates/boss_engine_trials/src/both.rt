@@ -3,7 +3,7 @@ ghost use Rattle.boss_model.specs.Catalogue.{actuators};
 ghost use Rattle.boss_model.specs.Limits.{last_moment};
 ghost use Rattle.boss_model.specs.Sound.{IsAllowed};
 
-use crate::calls::call_of;
+use crate::calls::{call_of, first_engine};
 use crate::plants::{plant, plant_of_the_day};
 use boss_engine::Engine;
 use boss_load::load_script;
@@ -11,10 +11,9 @@ use boss_model::{Actuator, Answer, Command, NoMemory, PointId, SessionId};
 use boss_plain::Plain;
 use boss_points::Catalogue;
 use boss_runs::Call;
-use boss_worked::{BATCHES, Batch};
+use boss_worked::BATCHES;
 use std::alloc::Global;
 use std::process::Abort;
-use std::test::Fail;
 
 /// How often drivers ask at most behind a line.
 const MOST_ASKED: u32 = 1_000;
@@ -184,8 +183,9 @@ fn expect_alike<R: Abort>(
 ) -> Result<(), NoMemory>
     requires { 0 < pace }
 {
-    let mut engine = Engine::new(alloc, catalogue)?;
-    let mut plain = Plain::new(alloc, actuators_of(alloc, catalogue)?)?;
+    let actuators = actuators_of(alloc, catalogue).expect(rt, "memory");
+    let mut plain = Plain::new(alloc, actuators).expect(rt, "memory");
+    let mut engine = first_engine(rt, alloc, catalogue);
     let mut devices = Devices { fails, made: 0 };
     ask_all(
         rt,
@@ -218,32 +218,24 @@ fn expect_day_alike<R: Abort>(
 
 /// The worked timelines.
 #[test]
-fn timelines_go_as_in_plain_lists(rt: HostRuntime) -> Result<(), Fail> {
-    for Batch {
-        file,
-        fails,
-        scripts,
-        ..
-    } in BATCHES {
-        let catalogue = plant(rt.alloc(), file.as_bytes())?;
-        for script in scripts.split("\n== ") {
-            expect_alike(&rt, rt.alloc(), &catalogue, script, *fails, 1)?;
+fn timelines_go_as_in_plain_lists(rt: HostRuntime) {
+    for batch in BATCHES {
+        let catalogue = plant(&rt, rt.alloc(), batch.file.as_bytes());
+        for script in batch.scripts.split("\n== ") {
+            expect_alike(&rt, rt.alloc(), &catalogue, script, batch.fails, 1).expect(&rt, "memory");
         }
     }
-    Ok(())
 }
 
 /// A generated day of 500 transactions, one after another. Then the first 160 of them 300 times as fast, so that about 120 slots are
 /// held at once and transactions cut the reversions of others; and 400 times as fast, so that they supersede the leases of others. A
 /// device fails once in each, in a lease.
 #[test]
-fn a_day_goes_as_in_plain_lists(rt: HostRuntime) -> Result<(), Fail> {
+fn a_day_goes_as_in_plain_lists(rt: HostRuntime) {
     let alloc = rt.alloc();
-    let catalogue = plant_of_the_day(alloc)?;
-    let day = load_script(alloc, 500, 7)?;
-    expect_day_alike(&rt, alloc, &catalogue, day.slice(), 1)?;
-    let morning = load_script(alloc, 160, 7)?;
-    expect_day_alike(&rt, alloc, &catalogue, morning.slice(), 300)?;
-    expect_day_alike(&rt, alloc, &catalogue, morning.slice(), 400)?;
-    Ok(())
+    let catalogue = plant_of_the_day(&rt, alloc);
+    for (count, pace) in [(500, 1), (160, 300), (160, 400)] {
+        let day = load_script(alloc, count, 7).expect(&rt, "memory");
+        expect_day_alike(&rt, alloc, &catalogue, day.slice(), pace).expect(&rt, "memory");
+    }
 }

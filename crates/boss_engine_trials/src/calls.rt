@@ -14,6 +14,13 @@ use boss_wire::{Ask, Form, Request};
 use std::alloc::Global;
 use std::process::Abort;
 
+/// An engine in its first state.
+pub fn first_engine(rt: &impl Abort, alloc: Global, catalogue: &Catalogue) -> Engine
+    ensures { result.plant ≡ actuators catalogue.now }
+{
+    Engine::new(alloc, catalogue).expect(rt, "memory")
+}
+
 /// What a line asks, at a moment that is so many times as early; none where it spells no command.
 pub fn call_of(
     alloc: Global,
@@ -26,19 +33,19 @@ pub fn call_of(
     ensures allowed { IfOk result (λ call. IfSome call (λ call. IsAllowed (actuators catalogue.now) call.command)) }
 {
     match read_request(alloc, catalogue, line.as_bytes(), Form::Script) {
-        Ok(
-            Request {
-                on,
-                at,
-                ask: Ask::Command(command),
-            },
-        ) => Ok(Some(Call {
-            session: on,
-            command,
-            moment: (at / pace).min(LAST_MOMENT),
-        })),
+        Ok(request) => {
+            let Request { on, at, ask } = request;
+            match ask {
+                Ask::Command(command) => Ok(Some(Call {
+                    session: on,
+                    command,
+                    moment: (at / pace).min(LAST_MOMENT),
+                })),
+                Ask::Watch { .. } => Ok(None),
+            }
+        }
         Err(ReadRefusal::NoMemory) => Err(NoMemory),
-        _ => Ok(None),
+        Err(ReadRefusal::Refused(_)) => Ok(None),
     }
 }
 

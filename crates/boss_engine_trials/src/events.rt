@@ -6,7 +6,7 @@ ghost use Rattle.boss_model.specs.Plants.{IsPlant};
 ghost use Rattle.boss_model.specs.Sound.{IsAllowed, IsSound};
 ghost use Rattle.boss_spelled.specs.Ranges.{IsSpelled};
 
-use crate::calls::{answer, call_of, expect_alike};
+use crate::calls::{answer, call_of, expect_alike, first_engine};
 use crate::plants::plant;
 use boss_engine::Engine;
 use boss_model::{Act, Command, DriverId, Effect, Event, NoMemory, ProcId, SessionId};
@@ -15,7 +15,6 @@ use boss_runs::Call;
 use boss_trials::THREE_POINTS;
 use std::alloc::Global;
 use std::process::Abort;
-use std::test::Fail;
 
 /// What is asked in turn, each line behind the kind of its event. Numbered requests are among them. The driver asks for a want by
 /// `next`, and reports by `fan` that this point's device did not take its second version.
@@ -283,14 +282,26 @@ fn expect_all_again<R: Abort>(
 }
 
 /// The engine that is given the events alone knows the numbers of requests too.
+fn expect_numbers_again<R: Abort>(
+    rt: &R,
+    alloc: Global,
+    catalogue: &Catalogue,
+    engine: &mut Engine,
+    other: &mut Engine,
+) -> Result<(), NoMemory>
+    requires plant { engine.old.plant ≡ actuators catalogue.now }
+    requires other { other.old.plant ≡ actuators catalogue.now }
+{
+    expect_all_again(rt, alloc, catalogue, engine, other)?;
+    answer(alloc, catalogue, other, ATTACH, 1)?;
+    expect_alike(rt, alloc, catalogue, engine, other, NUMBERED)
+}
+
 #[test]
-fn events_do_the_same_again(rt: HostRuntime) -> Result<(), Fail> {
+fn events_do_the_same_again(rt: HostRuntime) {
     let alloc = rt.alloc();
-    let catalogue = plant(alloc, THREE_POINTS.as_bytes())?;
-    let mut engine = Engine::new(alloc, &catalogue)?;
-    let mut other = Engine::new(alloc, &catalogue)?;
-    expect_all_again(&rt, alloc, &catalogue, &mut engine, &mut other)?;
-    answer(alloc, &catalogue, &mut other, ATTACH, 1)?;
-    expect_alike(&rt, alloc, &catalogue, &mut engine, &mut other, NUMBERED)?;
-    Ok(())
+    let catalogue = plant(&rt, alloc, THREE_POINTS.as_bytes());
+    let mut engine = first_engine(&rt, alloc, &catalogue);
+    let mut other = first_engine(&rt, alloc, &catalogue);
+    expect_numbers_again(&rt, alloc, &catalogue, &mut engine, &mut other).expect(&rt, "memory");
 }

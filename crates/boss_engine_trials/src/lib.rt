@@ -1,13 +1,11 @@
 //! Trials of the engine: that it answers as a machine of plain lists does, that its events do the same again, that a run goes on
-//! from what was kept of it, which kept states are sound, what a driver is told, and how many comparisons a timer takes.
+//! from what was kept of it, which kept states are sound, and how many comparisons a timer takes.
 #![tactic(auto)]
 
 #[cfg(test)]
 mod both;
 #[cfg(test)]
 mod calls;
-#[cfg(test)]
-mod drivers;
 #[cfg(test)]
 mod events;
 #[cfg(test)]

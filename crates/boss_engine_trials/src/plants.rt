@@ -3,18 +3,15 @@
 use boss_load::load_catalogue;
 use boss_points::Catalogue;
 use std::alloc::Global;
-use std::test::Fail;
+use std::process::Abort;
 
 /// The catalogue that a file spells.
-pub fn plant(alloc: Global, file: &[u8]) -> Result<Catalogue, Fail> {
-    match Catalogue::read(alloc, file) {
-        Ok(catalogue) => Ok(catalogue),
-        Err(_) => Err(Fail::new("no catalogue")),
-    }
+pub fn plant(rt: &impl Abort, alloc: Global, file: &[u8]) -> Catalogue {
+    Catalogue::read(alloc, file).expect(rt, "a catalogue")
 }
 
 /// The catalogue of the generated day.
-pub fn plant_of_the_day(alloc: Global) -> Result<Catalogue, Fail> {
-    let file = load_catalogue(alloc)?;
-    plant(alloc, file.slice())
+pub fn plant_of_the_day(rt: &impl Abort, alloc: Global) -> Catalogue {
+    let file = load_catalogue(alloc).expect(rt, "memory");
+    plant(rt, alloc, file.slice())
 }

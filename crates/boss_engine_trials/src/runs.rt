@@ -1,7 +1,7 @@
 ghost use Rattle.std.specs.Prelude.{◌≡◌, ◌<◌};
 ghost use Rattle.boss_model.specs.Catalogue.{actuators};
 
-use crate::calls::{answer, expect_alike, expect_same};
+use crate::calls::{answer, expect_alike, expect_same, first_engine};
 use crate::plants::plant_of_the_day;
 use boss_engine::Engine;
 use boss_load::load_script;
@@ -9,7 +9,6 @@ use boss_model::{Kept, NoMemory};
 use boss_points::Catalogue;
 use std::alloc::Global;
 use std::process::Abort;
-use std::test::Fail;
 
 /// One of the engines stops behind each so many lines.
 const PART: u32 = 701;
@@ -123,15 +122,19 @@ fn run<R: Abort>(
     Ok(())
 }
 
+/// The same of two engines in their first state.
+fn run_beside<R: Abort>(rt: &R, alloc: Global, catalogue: &Catalogue, script: &[u8]) {
+    let script = str::from_utf8(script).expect(rt, "a text");
+    let mut engine = first_engine(rt, alloc, catalogue);
+    let mut stopped = first_engine(rt, alloc, catalogue);
+    run(rt, alloc, catalogue, &mut engine, &mut stopped, script).expect(rt, "memory");
+}
+
 /// A generated day of 500 transactions goes as if an engine had not stopped.
 #[test]
-fn a_day_goes_on_from_what_was_kept(rt: HostRuntime) -> Result<(), Fail> {
+fn a_day_goes_on_from_what_was_kept(rt: HostRuntime) {
     let alloc = rt.alloc();
-    let catalogue = plant_of_the_day(alloc)?;
-    let script = load_script(alloc, 500, 7)?;
-    let script = str::from_utf8(script.slice()).map_err(|_| Fail::new("no text"))?;
-    let mut engine = Engine::new(alloc, &catalogue)?;
-    let mut stopped = Engine::new(alloc, &catalogue)?;
-    run(&rt, alloc, &catalogue, &mut engine, &mut stopped, script)?;
-    Ok(())
+    let catalogue = plant_of_the_day(&rt, alloc);
+    let script = load_script(alloc, 500, 7).expect(&rt, "memory");
+    run_beside(&rt, alloc, &catalogue, script.slice());
 }

@@ -1,14 +1,13 @@
 ghost use Rattle.std.specs.Prelude.{◌≡◌};
 ghost use Rattle.boss_model.specs.Catalogue.{actuators};
 
-use crate::calls::answer;
+use crate::calls::{answer, first_engine};
 use crate::plants::plant;
 use boss_engine::{Engine, RestoreRefusal};
 use boss_model::{Kept, NoMemory, Txn};
 use boss_points::Catalogue;
 use boss_trials::THREE_POINTS;
 use std::alloc::Global;
-use std::test::Fail;
 
 /// Transaction 1 is reverting from 2000 to 102000, 2 is done, and 3 holds two slots, the first of them until 63000.
 const ASKED: &str = r#"{"op":"attach","process":"a"}
@@ -117,14 +116,13 @@ fn carry_out(
 }
 
 #[test]
-fn a_state_is_sound_or_not(rt: HostRuntime) -> Result<(), Fail> {
+fn a_state_is_sound_or_not(rt: HostRuntime) {
     let alloc = rt.alloc();
-    let catalogue = plant(alloc, THREE_POINTS.as_bytes())?;
-    let mut engine = Engine::new(alloc, &catalogue)?;
-    carry_out(alloc, &catalogue, &mut engine, ASKED)?;
+    let catalogue = plant(&rt, alloc, THREE_POINTS.as_bytes());
+    let mut engine = first_engine(&rt, alloc, &catalogue);
+    carry_out(alloc, &catalogue, &mut engine, ASKED).expect(&rt, "memory");
     for (name, wanted, change) in CASES {
-        let sound = is_sound(alloc, &catalogue, &engine, *change)?;
+        let sound = is_sound(alloc, &catalogue, &engine, *change).expect(&rt, "memory");
         assert!(&rt; sound == *wanted, "{name}");
     }
-    Ok(())
 }

@@ -35,15 +35,23 @@ fn set_counted<L: Ledger>(timers: &mut Timers, slot: u32, moment: u64, blank: Bl
     set_one_of_a_thousand(timers, slot, moment, &mut steps);
 }
 
+fn set(timers: &mut Timers, slot: u32, moment: u64)
+    requires capacity { length timers.old ≡ 1000 }
+    requires slot { slot < 1000 }
+    ensures { length timers.new ≡ 1000 }
+{
+    set_counted::<Brand>(timers, slot, moment, Blank::new(1));
+}
+
 /// A thousand timers are set, each to go off before those that were set before it; then the last is put off.
 #[test]
 fn each_of_a_thousand_timers_is_set(rt: HostRuntime) -> Result<(), Fail> {
     let mut timers = Timers::new(rt.alloc(), 1_000)?;
     for slot in 0..1_000 {
-        set_counted::<Brand>(&mut timers, slot, 5_000 - u64::from(slot), Blank::new(1));
+        set(&mut timers, slot, 5_000 - u64::from(slot));
     }
     assert!(&rt; timers.first() == Some((999, 4_001)));
-    set_counted::<Brand>(&mut timers, 999, 9_000, Blank::new(1));
+    set(&mut timers, 999, 9_000);
     assert!(&rt; timers.first() == Some((998, 4_002)));
     Ok(())
 }

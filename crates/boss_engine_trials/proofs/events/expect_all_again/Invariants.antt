@@ -3,7 +3,7 @@ use Rattle.boss_model.specs.Catalogue.{actuators}
 use Rattle.boss_engine_trials.proofs.events.expect_all_again.Given as goal
 
 abbrev pub invariant-loop-wanted : goal.invariant-loop-wanted
-invariant-loop-wanted l = record {
+invariant-loop-wanted g l = record {
   plant : l.engine.plant ≡ actuators l.catalogue;
   other : l.other.plant ≡ actuators l.catalogue;
 }
