@@ -2,6 +2,7 @@
 //! serde_json, which is the definition; [`ValueReader`] makes a tree over the line's own bytes, and keeps its room from line to line.
 #![tactic(auto)]
 
+mod compact;
 mod number;
 mod plain;
 mod range;

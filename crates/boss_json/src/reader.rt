@@ -2,6 +2,7 @@ ghost use Rattle.boss_json.specs.Read.{Reads};
 ghost use Rattle.boss_json.specs.Trees.{view};
 
 use crate::Unread;
+use crate::compact::compact_value;
 use crate::range::all_in_range;
 use json::{Error, Reader, Scratch, Value};
 use simdutf8::basic::from_utf8;
@@ -46,10 +47,13 @@ impl fmt::Debug for ValueReader {
     }
 }
 
-/// The value that a text is.
+/// The value that a text is. Most lines are spelled compactly, and cost less so; all others are read in the general way.
 fn value_of<'a>(alloc: Global, text: &'a str, scratch: &'a mut Scratch) -> Result<Value<'a>, Unread>
     ensures { Reads view text.now result }
 {
+    if let Some(value) = compact_value(alloc, text) {
+        return Ok(value);
+    }
     let Ok(mut reader) = Reader::new(text, scratch) else {
         return Err(Unread::NoMemory);
     };

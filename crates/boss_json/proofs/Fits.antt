@@ -1,0 +1,65 @@
+-- What is read compactly of an array or an object fits as far as it was read, and a whole text that fits is read as its value.
+use Rattle.std.proofs.Common.{◌≡◌, ℕ, ◌-◌, ◌<◌, ◌≤◌, true, List, [], ◌∷◌, ◌++◌, Some, is_some, refl, sym, ap, ◌∙◌, arith, append-nil}
+use Rattle.std.proofs.lemmas.Bool.{and_from, and_parts}
+use Rattle.std.specs.Borrow.{Bor}
+use Rattle.json.specs.Json as json
+use Rattle.json.specs.Json.{Json, number, string, array, object, Items, no_items, item, Members, no_members, member}
+use Rattle.json.specs.Lex.{tokens}
+use Rattle.json.specs.Print.{IsNumber}
+use Rattle.json.specs.Tree.{json_tokens}
+use Rattle.json.specs.Value.{value_view, items_view, members_view}
+use Rattle.json.specs.declared.value.Value.{Value}
+use Rattle.json.proofs.Printed.Tokens.{tokens-print}
+use Rattle.json.proofs.Printed.Trees.{value-json_tokens, ArePrintable-json_tokens}
+use Rattle.serde_json.specs.Read.{number_of, read}
+use Rattle.boss_json.specs.Compact.{text_of, IsFit}
+use Rattle.boss_json.specs.Trees.{data_of}
+use Rattle.boss_json.proofs.Datas.{read-value}
+
+pub IsFit-number : (n : ℕ) (s : List ℕ) → IsNumber s → is_some (number_of s) ≡ true → IsFit n (number s)
+IsFit-number n s is fits = record { numbers = is; fits = fits; nests = omega arith }
+
+pub IsFit-string : (n : ℕ) (s : List ℕ) → IsFit n (string s)
+IsFit-string n s = record { numbers = tt; fits = refl; nests = omega arith }
+
+pub IsFit-no_items : (n : ℕ) → 0 < n → IsFit n (array no_items)
+IsFit-no_items n some = record { numbers = tt; fits = refl; nests = omega arith }
+
+pub IsFit-no_members : (n : ℕ) → 0 < n → IsFit n (object no_members)
+IsFit-no_members n some = record { numbers = tt; fits = refl; nests = omega arith }
+
+with_item : (n : ℕ) (j : Json) (js : Items) → IsFit (n - 1) j → IsFit n (array js) → IsFit n (array (item j js))
+with_item n j js one more = record { numbers = (one.numbers, more.numbers); fits = and_from _ _ one.fits more.fits; nests = omega (arith, one.nests, more.nests) }
+
+with_member : (n : ℕ) (k : List ℕ) (j : Json) (ms : Members) → IsFit (n - 1) j → IsFit n (object ms) → IsFit n (object (member k j ms))
+with_member n k j ms one more = record { numbers = (one.numbers, more.numbers); fits = and_from _ _ one.fits more.fits; nests = omega (arith, one.nests, more.nests) }
+
+first_item : (n : ℕ) (j : Json) (js : Items) → IsFit n (array (item j js)) → IsFit (n - 1) j
+first_item n j js fit = record { numbers = fit.numbers.0; fits = (and_parts _ _ fit.fits).0; nests = omega (arith, fit.nests) }
+
+later_items : (n : ℕ) (j : Json) (js : Items) → IsFit n (array (item j js)) → IsFit n (array js)
+later_items n j js fit = record { numbers = fit.numbers.1; fits = (and_parts _ _ fit.fits).1; nests = omega (arith, fit.nests) }
+
+first_member : (n : ℕ) (k : List ℕ) (j : Json) (ms : Members) → IsFit n (object (member k j ms)) → IsFit (n - 1) j
+first_member n k j ms fit = record { numbers = fit.numbers.0; fits = (and_parts _ _ fit.fits).0; nests = omega (arith, fit.nests) }
+
+later_members : (n : ℕ) (k : List ℕ) (j : Json) (ms : Members) → IsFit n (object (member k j ms)) → IsFit n (object ms)
+later_members n k j ms fit = record { numbers = fit.numbers.1; fits = (and_parts _ _ fit.fits).1; nests = omega (arith, fit.nests) }
+
+pub IsFit-one_more_item : {A : Type 0} (n : ℕ) (values : List (Value A)) (value : Value A) → IsFit n (array (items_view values)) → IsFit (n - 1) (value_view value)
+    → IsFit n (array (items_view (values ++ value ∷ [])))
+IsFit-one_more_item n [] value so_far fit = with_item n (value_view value) no_items fit so_far
+IsFit-one_more_item n (v ∷ values) value so_far fit =
+    with_item n (value_view v) _ (first_item n (value_view v) _ so_far) (IsFit-one_more_item n values value (later_items n (value_view v) _ so_far) fit)
+
+pub IsFit-one_more_member : {A : Type 0} (n : ℕ) (members : List (Bor (List ℕ) × Value A)) (m : Bor (List ℕ) × Value A) → IsFit n (object (members_view members)) → IsFit (n - 1) (value_view m.1)
+    → IsFit n (object (members_view (members ++ m ∷ [])))
+IsFit-one_more_member n [] m so_far fit = with_member n m.0.now (value_view m.1) no_members fit so_far
+IsFit-one_more_member n (l ∷ members) m so_far fit =
+    with_member n l.0.now (value_view l.1) _ (first_member n l.0.now (value_view l.1) _ so_far) (IsFit-one_more_member n members m (later_members n l.0.now (value_view l.1) _ so_far) fit)
+
+-- what is printed is read back
+pub read-text_of : (text : List ℕ) (n : ℕ) (j : Json) → n ≤ 127 → IsFit n j → text ≡ text_of j → read text ≡ Some (data_of j)
+read-text_of text n j few fit is =
+    let printed : tokens text ≡ json_tokens j ++ [] = ap tokens is ∙ tokens-print (json_tokens j) (ArePrintable-json_tokens j fit.numbers) ∙ sym (append-nil (json_tokens j)) in
+    read-value text j (ap (json.value 127) printed ∙ value-json_tokens j 127 [] (omega (arith, fit.nests))) fit.fits

@@ -1,0 +1,150 @@
+-- The text of an array or an object is its parts one after another, with a comma before each but the first.
+use Rattle.std.proofs.Common.{◌≡◌, ℕ, Bool, true, false, cond, ◌==◌, ◌&&◌, List, [], ◌∷◌, ◌++◌, length, fold, refl, sym, ap, ◌∙◌, append_assoc, append-nil}
+use Rattle.std.proofs.lemmas.List.Sums.{fold-append}
+use Rattle.std.proofs.lemmas.Grind.{flat_map-append}
+use Rattle.std.specs.List.{flat_map}
+use Rattle.std.specs.Borrow.{Bor}
+use Rattle.json.specs.Token.{Token, key, begin_array, end_array, begin_object, end_object}
+use Rattle.json.specs.Json.{Json, null, boolean, number, string, array, object, Items, no_items, item, Members, no_members, member}
+use Rattle.json.specs.Print.{quoted, token_text, begins, ends, separator, print_from, print}
+use Rattle.json.specs.Tree.{json_tokens, items_tokens, members_tokens}
+use Rattle.json.specs.Value.{value_view, items_view, members_view}
+use Rattle.json.specs.declared.value.Value.{Value}
+use Rattle.json.proofs.Printed.Tokens.{print_from_push, print_from-append}
+use Rattle.boss_json.specs.Compact.{text_of}
+
+abbrev ends_after : Bool → List Token → Bool
+ends_after c ts = fold (λ _ t. ends t) c ts
+
+-- what these tokens print as is set off by a comma from a value before it, and ends a value
+record IsPart (ts : List Token) : Type 0 where
+  comma : (c : Bool) → print_from c ts ≡ cond c (44 ∷ []) [] ++ print ts
+  ends : (c : Bool) → ends_after c ts ≡ true
+
+comma_before : (t : Token) (ts : List Token) → begins t ≡ true → (c : Bool) → print_from c (t ∷ ts) ≡ cond c (44 ∷ []) [] ++ print (t ∷ ts)
+unfolding print_from
+comma_before t ts is true = ap (λ b. cond b (44 ∷ []) [] ++ (token_text t ++ print_from (ends t) ts)) is
+comma_before t ts is false = refl
+
+items_end : (js : Items) (c : Bool) → ends_after c (items_tokens js) ≡ true
+items_end no_items c = refl
+items_end (item j js) c = fold-append (λ _ t. ends t) c (json_tokens j) (items_tokens js) ∙ items_end js _
+
+members_end : (ms : Members) (c : Bool) → ends_after c (members_tokens ms) ≡ true
+members_end no_members c = refl
+members_end (member k j ms) c = fold-append (λ _ t. ends t) false (json_tokens j) (members_tokens ms) ∙ members_end ms _
+
+value_ends : (j : Json) (c : Bool) → ends_after c (json_tokens j) ≡ true
+value_ends null c = refl
+value_ends (boolean b) c = refl
+value_ends (number s) c = refl
+value_ends (string s) c = refl
+value_ends (array js) c = items_end js false
+value_ends (object ms) c = members_end ms false
+
+IsPart-value : (j : Json) → IsPart (json_tokens j)
+IsPart-value null = record { comma = comma_before _ _ refl; ends = value_ends null }
+IsPart-value (boolean b) = record { comma = comma_before _ _ refl; ends = value_ends (boolean b) }
+IsPart-value (number s) = record { comma = comma_before _ _ refl; ends = value_ends (number s) }
+IsPart-value (string s) = record { comma = comma_before _ _ refl; ends = value_ends (string s) }
+IsPart-value (array js) = record { comma = comma_before _ _ refl; ends = value_ends (array js) }
+IsPart-value (object ms) = record { comma = comma_before _ _ refl; ends = value_ends (object ms) }
+
+IsPart-member : (k : List ℕ) (j : Json) → IsPart (key k ∷ json_tokens j)
+IsPart-member k j = record { comma = comma_before (key k) (json_tokens j) refl; ends = λ c. value_ends j false }
+
+-- ---- parts in a row
+
+module _ {X : Type 0} (part : X → List Token) (is : (x : X) → IsPart (part x)) where
+  end_after_more : (xs : List X) → ends_after true (flat_map part xs) ≡ true
+  end_after_more [] = refl
+  end_after_more (x ∷ xs) = fold-append (λ _ t. ends t) true (part x) (flat_map part xs) ∙ ap (λ c. ends_after c (flat_map part xs)) ((is x).ends true) ∙ end_after_more xs
+
+  comma_after : (xs : List X) (is_first : Bool) → is_first ≡ (length xs == 0) → cond (ends_after false (flat_map part xs)) (44 ∷ []) [] ≡ cond is_first [] (44 ∷ [])
+  comma_after [] is_first e = rw e refl
+  comma_after (x ∷ xs) is_first e =
+      let more : ends_after false (flat_map part (x ∷ xs)) ≡ true = fold-append (λ _ t. ends t) false (part x) (flat_map part xs) ∙ ap (λ c. ends_after c (flat_map part xs)) ((is x).ends false) ∙ end_after_more xs in
+      ap (λ c. cond {A = List ℕ} c (44 ∷ []) []) more ∙ ap (λ c. cond {A = List ℕ} c [] (44 ∷ [])) (sym e)
+
+  print_more : (xs : List X) (x : X) (is_first : Bool) → is_first ≡ (length xs == 0)
+      → print (flat_map part (xs ++ x ∷ [])) ≡ print (flat_map part xs) ++ (cond is_first [] (44 ∷ []) ++ print (part x))
+  print_more xs x is_first e =
+      ap print (flat_map-append part xs (x ∷ []) ∙ ap (λ ts. flat_map part xs ++ ts) (append-nil (part x)))
+      ∙ print_from-append false (flat_map part xs) (part x)
+      ∙ ap (λ l. print (flat_map part xs) ++ l) ((is x).comma _ ∙ ap (λ l. l ++ print (part x)) (comma_after xs is_first e))
+
+  -- one part more is read
+  one_more : (xs : List X) (x : X) (is_first : Bool) (all old new : List ℕ) → is_first ≡ (length xs == 0)
+      → all ≡ print (flat_map part xs) ++ old → old ≡ cond is_first [] (44 ∷ []) ++ (print (part x) ++ new) → all ≡ print (flat_map part (xs ++ x ∷ [])) ++ new
+  one_more xs x is_first all old new e so_far next =
+      let before = print (flat_map part xs) in
+      let comma = cond is_first [] (44 ∷ []) in
+      so_far ∙ ap (λ l. before ++ l) (next ∙ sym (append_assoc comma (print (part x)) new)) ∙ sym (append_assoc before (comma ++ print (part x)) new)
+      ∙ ap (λ l. l ++ new) (sym (print_more xs x is_first e))
+
+  no_comma : (c : Bool) (t : Token) → begins t ≡ false → separator c t ≡ []
+  no_comma true t e = ap (λ b. cond {A = List ℕ} b (44 ∷ []) []) e
+  no_comma false t e = refl
+
+  print_close : (xs : List X) (t : Token) → begins t ≡ false → print (flat_map part xs ++ t ∷ []) ≡ print (flat_map part xs) ++ token_text t
+  print_close xs t e = print_from_push false (flat_map part xs) t ∙ ap (λ l. print (flat_map part xs) ++ (l ++ token_text t)) (no_comma _ t e)
+
+-- ---- items
+
+abbrev item_tokens : {A : Type 0} → Value A → List Token
+item_tokens value = json_tokens (value_view value)
+
+-- what is printed of an array's items, without the brackets
+abbrev pub items_text : {A : Type 0} → List (Value A) → List ℕ
+items_text values = print (flat_map item_tokens values)
+
+items_tokens-are : {A : Type 0} (values : List (Value A)) → items_tokens (items_view values) ≡ flat_map item_tokens values ++ end_array ∷ []
+items_tokens-are [] = refl
+items_tokens-are (value ∷ values) = ap (λ ts. item_tokens value ++ ts) (items_tokens-are values) ∙ sym (append_assoc (item_tokens value) _ _)
+
+array_text : {A : Type 0} (values : List (Value A)) → text_of (array (items_view values)) ≡ 91 ∷ (items_text values ++ 93 ∷ [])
+unfolding print_from
+array_text values = ap (λ ts. 91 ∷ print ts) (items_tokens-are values) ∙ ap (λ l. 91 ∷ l) (print_close item_tokens (λ v. IsPart-value (value_view v)) values end_array refl)
+
+pub one_more_item : {A : Type 0} (values : List (Value A)) (value : Value A) (is_first : Bool) (all old new : List ℕ) → is_first ≡ (length values == 0)
+    → all ≡ items_text values ++ old → old ≡ cond is_first [] (44 ∷ []) ++ (text_of (value_view value) ++ new) → all ≡ items_text (values ++ value ∷ []) ++ new
+one_more_item = one_more item_tokens (λ v. IsPart-value (value_view v))
+
+pub whole_array : {A : Type 0} (values : List (Value A)) (all inside rest new : List ℕ) → all ≡ 91 ∷ inside → inside ≡ items_text values ++ rest → rest ≡ 93 ∷ new
+    → all ≡ text_of (array (items_view values)) ++ new
+whole_array values all inside rest new opened read closed =
+    opened ∙ ap (λ l. 91 ∷ l) (read ∙ ap (λ l. items_text values ++ l) closed ∙ sym (append_assoc (items_text values) (93 ∷ []) new)) ∙ ap (λ l. l ++ new) (sym (array_text values))
+
+-- ---- members
+
+abbrev member_tokens : {A : Type 0} → Bor (List ℕ) × Value A → List Token
+member_tokens m = key m.0.now ∷ json_tokens (value_view m.1)
+
+-- what is printed of an object's members, without the braces
+abbrev pub members_text : {A : Type 0} → List (Bor (List ℕ) × Value A) → List ℕ
+members_text members = print (flat_map member_tokens members)
+
+members_tokens-are : {A : Type 0} (members : List (Bor (List ℕ) × Value A)) → members_tokens (members_view members) ≡ flat_map member_tokens members ++ end_object ∷ []
+members_tokens-are [] = refl
+members_tokens-are (m ∷ members) = ap (λ ts. member_tokens m ++ ts) (members_tokens-are members) ∙ sym (append_assoc (member_tokens m) _ _)
+
+object_text : {A : Type 0} (members : List (Bor (List ℕ) × Value A)) → text_of (object (members_view members)) ≡ 123 ∷ (members_text members ++ 125 ∷ [])
+unfolding print_from
+object_text members = ap (λ ts. 123 ∷ print ts) (members_tokens-are members) ∙ ap (λ l. 123 ∷ l) (print_close member_tokens (λ m. IsPart-member m.0.now (value_view m.1)) members end_object refl)
+
+member_text : {A : Type 0} (m : Bor (List ℕ) × Value A) (new : List ℕ) → print (member_tokens m) ++ new ≡ quoted m.0.now ++ (58 ∷ (text_of (value_view m.1) ++ new))
+unfolding print_from
+member_text m new =
+    append_assoc (quoted m.0.now ++ 58 ∷ []) (text_of (value_view m.1)) new ∙ append_assoc (quoted m.0.now) (58 ∷ []) _
+
+pub one_more_member : {A : Type 0} (members : List (Bor (List ℕ) × Value A)) (m : Bor (List ℕ) × Value A) (is_first : Bool) (all old named valued begun new : List ℕ) → is_first ≡ (length members == 0)
+    → all ≡ members_text members ++ old → old ≡ cond is_first [] (44 ∷ []) ++ begun → begun ≡ quoted m.0.now ++ named → named ≡ 58 ∷ valued → valued ≡ text_of (value_view m.1) ++ new
+    → all ≡ members_text (members ++ m ∷ []) ++ new
+one_more_member members m is_first all old named valued begun new e so_far comma name colon value =
+    let here = name ∙ ap (λ l. quoted m.0.now ++ l) (colon ∙ ap (λ l. 58 ∷ l) value) ∙ sym (member_text m new) in
+    one_more member_tokens (λ m. IsPart-member m.0.now (value_view m.1)) members m is_first all old new e so_far (comma ∙ ap (λ l. cond is_first [] (44 ∷ []) ++ l) here)
+
+pub whole_object : {A : Type 0} (members : List (Bor (List ℕ) × Value A)) (all inside rest new : List ℕ) → all ≡ 123 ∷ inside → inside ≡ members_text members ++ rest → rest ≡ 125 ∷ new
+    → all ≡ text_of (object (members_view members)) ++ new
+whole_object members all inside rest new opened read closed =
+    opened ∙ ap (λ l. 123 ∷ l) (read ∙ ap (λ l. members_text members ++ l) closed ∙ sym (append_assoc (members_text members) (125 ∷ []) new)) ∙ ap (λ l. l ++ new) (sym (object_text members))

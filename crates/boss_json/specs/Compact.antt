@@ -1,0 +1,15 @@
+-- What is read compactly: the text is the one that a writer gives for the value, with no space.
+use Rattle.std.specs.Prelude.{◌≡◌, ℕ, ◌≤◌, true, List}
+use Rattle.json.specs.Json.{Json}
+use Rattle.json.specs.Print.{print}
+use Rattle.json.specs.Tree.{json_tokens, depth, HasNumbers}
+use Rattle.boss_json.specs.Trees.{in_range}
+
+abbrev pub text_of : Json → List ℕ
+text_of j = print (json_tokens j)
+
+-- each number is one and in range, and arrays and objects nest no deeper than this
+pub record IsFit (levels : ℕ) (j : Json) : Type 0 where
+  pub numbers : HasNumbers j
+  pub fits : in_range j ≡ true
+  pub nests : depth j ≤ levels
