@@ -3,7 +3,7 @@ use Rattle.std.proofs.Common.{◌≡◌, ℕ, Bool, true, false, ◌&&◌, List,
 use Rattle.json.specs.Json as json
 use Rattle.json.specs.Lex.{tokens}
 use Rattle.json.specs.Token.{Token}
-use Rattle.serde_json.specs.Data.{Num, Data, number, array, object, Items, item, Members, no_members, put}
+use Rattle.serde_json.specs.Data.{Num, Data, number, array, object, item, Members, no_members, put}
 use Rattle.serde_json.specs.Read.{number_of, of_json, of_items, of_members, read}
 use Rattle.boss_json.specs.Trees.{number_data, data_of, items_data, members_data, in_range, items_in_range, members_in_range}
 

@@ -1,32 +1,27 @@
 -- What is read compactly of an array or an object fits as far as it was read, and a whole text that fits is read as its value.
-use Rattle.std.proofs.Common.{◌≡◌, ℕ, ◌-◌, ◌<◌, ◌≤◌, true, List, [], ◌∷◌, ◌++◌, Some, is_some, refl, sym, ap, ◌∙◌, arith, append-nil}
+use Rattle.std.proofs.Common.{◌≡◌, ℕ, ◌-◌, ◌<◌, ◌≤◌, true, false, List, [], ◌∷◌, ◌++◌, length, Some, None, refl, sym, ap, ◌∙◌, subst, arith, append-nil}
 use Rattle.std.proofs.lemmas.Bool.{and_from, and_parts}
 use Rattle.std.specs.Borrow.{Bor}
 use Rattle.json.specs.Json as json
 use Rattle.json.specs.Json.{Json, number, string, array, object, Items, no_items, item, Members, no_members, member}
 use Rattle.json.specs.Lex.{tokens}
-use Rattle.json.specs.Print.{IsNumber}
+use Rattle.json.specs.Print.{print_from}
 use Rattle.json.specs.Tree.{json_tokens}
 use Rattle.json.specs.Value.{value_view, items_view, members_view}
+use Rattle.json.specs.Word.{after_number}
 use Rattle.json.specs.declared.value.Value.{Value}
 use Rattle.json.proofs.Printed.Tokens.{tokens-print}
 use Rattle.json.proofs.Printed.Trees.{value-json_tokens, ArePrintable-json_tokens}
-use Rattle.serde_json.specs.Read.{number_of, read}
+use Rattle.serde_json.specs.Read.{read}
 use Rattle.boss_json.specs.Compact.{text_of, IsFit}
 use Rattle.boss_json.specs.Trees.{data_of}
 use Rattle.boss_json.proofs.Datas.{read-value}
 
-pub IsFit-number : (n : ℕ) (s : List ℕ) → IsNumber s → is_some (number_of s) ≡ true → IsFit n (number s)
-IsFit-number n s is fits = record { numbers = is; fits = fits; nests = omega arith }
+pub IsFit-no_items : {A : Type 0} (n : ℕ) (values : List (Value A)) → 0 < n → values ≡ [] → IsFit n (array (items_view values))
+IsFit-no_items n values some none = subst (λ vs. IsFit n (array (items_view vs))) (sym none) (record { numbers = tt; fits = refl; nests = omega arith })
 
-pub IsFit-string : (n : ℕ) (s : List ℕ) → IsFit n (string s)
-IsFit-string n s = record { numbers = tt; fits = refl; nests = omega arith }
-
-pub IsFit-no_items : (n : ℕ) → 0 < n → IsFit n (array no_items)
-IsFit-no_items n some = record { numbers = tt; fits = refl; nests = omega arith }
-
-pub IsFit-no_members : (n : ℕ) → 0 < n → IsFit n (object no_members)
-IsFit-no_members n some = record { numbers = tt; fits = refl; nests = omega arith }
+pub IsFit-no_members : {A : Type 0} (n : ℕ) (members : List (Bor (List ℕ) × Value A)) → 0 < n → members ≡ [] → IsFit n (object (members_view members))
+IsFit-no_members n members some none = subst (λ ms. IsFit n (object (members_view ms))) (sym none) (record { numbers = tt; fits = refl; nests = omega arith })
 
 with_item : (n : ℕ) (j : Json) (js : Items) → IsFit (n - 1) j → IsFit n (array js) → IsFit n (array (item j js))
 with_item n j js one more = record { numbers = (one.numbers, more.numbers); fits = and_from _ _ one.fits more.fits; nests = omega (arith, one.nests, more.nests) }
@@ -57,6 +52,18 @@ pub IsFit-one_more_member : {A : Type 0} (n : ℕ) (members : List (Bor (List �
 IsFit-one_more_member n [] m so_far fit = with_member n m.0.now (value_view m.1) no_members fit so_far
 IsFit-one_more_member n (l ∷ members) m so_far fit =
     with_member n l.0.now (value_view l.1) _ (first_member n l.0.now (value_view l.1) _ so_far) (IsFit-one_more_member n members m (later_members n l.0.now (value_view l.1) _ so_far) fit)
+
+-- a value takes some text
+pub some_text : (n : ℕ) (j : Json) → IsFit n j → 0 < length (text_of j)
+unfolding print_from after_number
+some_text n json.null fit = omega arith
+some_text n (json.boolean true) fit = omega arith
+some_text n (json.boolean false) fit = omega arith
+some_text n (number []) fit = let never : None ≡ Some [] = fit.numbers in cc
+some_text n (number (d ∷ ds)) fit = omega arith
+some_text n (string s) fit = omega arith
+some_text n (array js) fit = omega arith
+some_text n (object ms) fit = omega arith
 
 -- what is printed is read back
 pub read-text_of : (text : List ℕ) (n : ℕ) (j : Json) → n ≤ 127 → IsFit n j → text ≡ text_of j → read text ≡ Some (data_of j)

@@ -1,12 +1,13 @@
 -- The text of an array or an object is its parts one after another, with a comma before each but the first.
-use Rattle.std.proofs.Common.{◌≡◌, ℕ, Bool, true, false, cond, ◌==◌, ◌&&◌, List, [], ◌∷◌, ◌++◌, length, fold, refl, sym, ap, ◌∙◌, append_assoc, append-nil}
+use Rattle.std.proofs.Common.{◌≡◌, ℕ, suc, Bool, true, false, cond, ◌<◌, ◌==◌, List, [], ◌∷◌, ◌++◌, length, fold, refl, sym, ap, ◌∙◌, arith, append_assoc, append-nil, length-append}
+use Rattle.std.proofs.lemmas.Bool.{ne_eqb}
 use Rattle.std.proofs.lemmas.List.Sums.{fold-append}
 use Rattle.std.proofs.lemmas.Grind.{flat_map-append}
 use Rattle.std.specs.List.{flat_map}
 use Rattle.std.specs.Borrow.{Bor}
-use Rattle.json.specs.Token.{Token, key, begin_array, end_array, begin_object, end_object}
+use Rattle.json.specs.Token.{Token, key, end_array, end_object}
 use Rattle.json.specs.Json.{Json, null, boolean, number, string, array, object, Items, no_items, item, Members, no_members, member}
-use Rattle.json.specs.Print.{quoted, token_text, begins, ends, separator, print_from, print}
+use Rattle.json.specs.Print.{escape, quoted, token_text, begins, ends, separator, print_from, print}
 use Rattle.json.specs.Tree.{json_tokens, items_tokens, members_tokens}
 use Rattle.json.specs.Value.{value_view, items_view, members_view}
 use Rattle.json.specs.declared.value.Value.{Value}
@@ -53,6 +54,14 @@ IsPart-value (object ms) = record { comma = comma_before _ _ refl; ends = value_
 IsPart-member : (k : List ℕ) (j : Json) → IsPart (key k ∷ json_tokens j)
 IsPart-member k j = record { comma = comma_before (key k) (json_tokens j) refl; ends = λ c. value_ends j false }
 
+pub text_of-string : (s : List ℕ) → text_of (string s) ≡ quoted s
+unfolding print_from
+text_of-string s = append-nil (quoted s)
+
+pub text_of-number : (s : List ℕ) → text_of (number s) ≡ s
+unfolding print_from
+text_of-number s = append-nil s
+
 -- ---- parts in a row
 
 module _ {X : Type 0} (part : X → List Token) (is : (x : X) → IsPart (part x)) where
@@ -60,11 +69,11 @@ module _ {X : Type 0} (part : X → List Token) (is : (x : X) → IsPart (part x
   end_after_more [] = refl
   end_after_more (x ∷ xs) = fold-append (λ _ t. ends t) true (part x) (flat_map part xs) ∙ ap (λ c. ends_after c (flat_map part xs)) ((is x).ends true) ∙ end_after_more xs
 
-  comma_after : (xs : List X) (is_first : Bool) → is_first ≡ (length xs == 0) → cond (ends_after false (flat_map part xs)) (44 ∷ []) [] ≡ cond is_first [] (44 ∷ [])
+  comma_after : (xs : List X) (is_first : Bool) → is_first ≡ (length xs == 0) → cond {A = List ℕ} (ends_after false (flat_map part xs)) (44 ∷ []) [] ≡ cond is_first [] (44 ∷ [])
   comma_after [] is_first e = rw e refl
   comma_after (x ∷ xs) is_first e =
       let more : ends_after false (flat_map part (x ∷ xs)) ≡ true = fold-append (λ _ t. ends t) false (part x) (flat_map part xs) ∙ ap (λ c. ends_after c (flat_map part xs)) ((is x).ends false) ∙ end_after_more xs in
-      ap (λ c. cond {A = List ℕ} c (44 ∷ []) []) more ∙ ap (λ c. cond {A = List ℕ} c [] (44 ∷ [])) (sym e)
+      ap (λ c. cond {A = List ℕ} c (44 ∷ []) []) more ∙ sym (ap (λ c. cond {A = List ℕ} c [] (44 ∷ [])) (e ∙ ne_eqb (suc (length xs)) 0 (λ none. omega arith)))
 
   print_more : (xs : List X) (x : X) (is_first : Bool) → is_first ≡ (length xs == 0)
       → print (flat_map part (xs ++ x ∷ [])) ≡ print (flat_map part xs) ++ (cond is_first [] (44 ∷ []) ++ print (part x))
@@ -106,9 +115,18 @@ array_text : {A : Type 0} (values : List (Value A)) → text_of (array (items_vi
 unfolding print_from
 array_text values = ap (λ ts. 91 ∷ print ts) (items_tokens-are values) ∙ ap (λ l. 91 ∷ l) (print_close item_tokens (λ v. IsPart-value (value_view v)) values end_array refl)
 
-pub one_more_item : {A : Type 0} (values : List (Value A)) (value : Value A) (is_first : Bool) (all old new : List ℕ) → is_first ≡ (length values == 0)
-    → all ≡ items_text values ++ old → old ≡ cond is_first [] (44 ∷ []) ++ (text_of (value_view value) ++ new) → all ≡ items_text (values ++ value ∷ []) ++ new
-one_more_item = one_more item_tokens (λ v. IsPart-value (value_view v))
+pub no_items_yet : {A : Type 0} (values : List (Value A)) (rest : List ℕ) → values ≡ [] → rest ≡ items_text values ++ rest
+unfolding print_from
+no_items_yet values rest none = rw none refl
+
+pub one_more_item : {A : Type 0} (values : List (Value A)) (value : Value A) (is_first : Bool) (all old begun new : List ℕ) → is_first ≡ (length values == 0)
+    → all ≡ items_text values ++ old → old ≡ cond is_first [] (44 ∷ []) ++ begun → begun ≡ text_of (value_view value) ++ new → all ≡ items_text (values ++ value ∷ []) ++ new
+one_more_item values value is_first all old begun new e so_far comma read =
+    one_more item_tokens (λ v. IsPart-value (value_view v)) values value is_first all old new e so_far (comma ∙ ap (λ l. cond is_first [] (44 ∷ []) ++ l) read)
+
+pub less_by_item : (is_first : Bool) (text old begun new : List ℕ) → 0 < length text → old ≡ cond is_first [] (44 ∷ []) ++ begun → begun ≡ text ++ new → length new < length old
+less_by_item is_first text old begun new some comma read =
+    omega (arith, ap length comma, ap length read, length-append (cond is_first [] (44 ∷ [])) begun, length-append text new)
 
 pub whole_array : {A : Type 0} (values : List (Value A)) (all inside rest new : List ℕ) → all ≡ 91 ∷ inside → inside ≡ items_text values ++ rest → rest ≡ 93 ∷ new
     → all ≡ text_of (array (items_view values)) ++ new
@@ -137,12 +155,21 @@ unfolding print_from
 member_text m new =
     append_assoc (quoted m.0.now ++ 58 ∷ []) (text_of (value_view m.1)) new ∙ append_assoc (quoted m.0.now) (58 ∷ []) _
 
-pub one_more_member : {A : Type 0} (members : List (Bor (List ℕ) × Value A)) (m : Bor (List ℕ) × Value A) (is_first : Bool) (all old named valued begun new : List ℕ) → is_first ≡ (length members == 0)
+pub no_members_yet : {A : Type 0} (members : List (Bor (List ℕ) × Value A)) (rest : List ℕ) → members ≡ [] → rest ≡ members_text members ++ rest
+unfolding print_from
+no_members_yet members rest none = rw none refl
+
+pub one_more_member : {A : Type 0} (members : List (Bor (List ℕ) × Value A)) (m : Bor (List ℕ) × Value A) (is_first : Bool) (all old begun named valued new : List ℕ) → is_first ≡ (length members == 0)
     → all ≡ members_text members ++ old → old ≡ cond is_first [] (44 ∷ []) ++ begun → begun ≡ quoted m.0.now ++ named → named ≡ 58 ∷ valued → valued ≡ text_of (value_view m.1) ++ new
     → all ≡ members_text (members ++ m ∷ []) ++ new
-one_more_member members m is_first all old named valued begun new e so_far comma name colon value =
+one_more_member members m is_first all old begun named valued new e so_far comma name colon value =
     let here = name ∙ ap (λ l. quoted m.0.now ++ l) (colon ∙ ap (λ l. 58 ∷ l) value) ∙ sym (member_text m new) in
     one_more member_tokens (λ m. IsPart-member m.0.now (value_view m.1)) members m is_first all old new e so_far (comma ∙ ap (λ l. cond is_first [] (44 ∷ []) ++ l) here)
+
+pub less_by_member : (is_first : Bool) (k text old begun named valued new : List ℕ) → old ≡ cond is_first [] (44 ∷ []) ++ begun → begun ≡ quoted k ++ named → named ≡ 58 ∷ valued → valued ≡ text ++ new
+    → length new < length old
+less_by_member is_first k text old begun named valued new comma name colon value =
+    omega (arith, ap length comma, ap length name, ap length colon, ap length value, length-append (cond is_first [] (44 ∷ [])) begun, length-append (escape k ++ 34 ∷ []) named, length-append text new)
 
 pub whole_object : {A : Type 0} (members : List (Bor (List ℕ) × Value A)) (all inside rest new : List ℕ) → all ≡ 123 ∷ inside → inside ≡ members_text members ++ rest → rest ≡ 125 ∷ new
     → all ≡ text_of (object (members_view members)) ++ new

@@ -1,5 +1,5 @@
 -- A plain string is spelled as it stands, and few digits are a number in range.
-use Rattle.std.proofs.Common.{◌≡◌, ℕ, zero, suc, ◌+◌, ◌-◌, ◌<◌, ◌≤◌, Bool, true, false, cond, ◌==◌, List, [], ◌∷◌, ◌++◌, length, get_or, take, drop, Some, None, is_some, option_and_then, refl, sym, ap, ◌∙◌, subst, arith, append_assoc}
+use Rattle.std.proofs.Common.{◌≡◌, ℕ, suc, ◌+◌, ◌-◌, ◌<◌, ◌≤◌, Bool, true, false, cond, ◌==◌, List, [], ◌∷◌, ◌++◌, length, get_or, take, drop, Some, None, option_and_then, refl, sym, ap, ◌∙◌, subst, arith, append_assoc}
 use Rattle.std.proofs.Math.Nat.{lt_of_not-le}
 use Rattle.std.proofs.lemmas.Bool.{ne_eqb, eqb-true, le-leb, and_from}
 use Rattle.std.proofs.lemmas.List.{drop_more, drop-drop, take-append-drop, length-take, length-drop, get_or-take, get_or-drop, get_or_past, drop_all}
@@ -10,11 +10,12 @@ use Rattle.std.specs.Int.{IsInRange}
 use Rattle.std.specs.List.{prefix_len}
 use Rattle.std.specs.Str.{IsCharBoundary, IsUtf8}
 use Rattle.std.specs.Str.Parse.{digits_value}
+use Rattle.json.specs.Json.{number}
 use Rattle.json.specs.Print.{escape, quoted, IsNumber}
 use Rattle.json.specs.Word.{head, after_digits, after_whole, after_fraction, after_exponent, after_number}
 use Rattle.json.specs.Written.{PlainBetween}
 use Rattle.json.proofs.Printed.Plain.{escape_on_plain}
-use Rattle.serde_json.specs.Read.{number_of}
+use Rattle.boss_json.specs.Compact.{IsFit}
 use Rattle.boss_json.proofs.Digits.{digits_in_range}
 
 -- the bytes from i up to j
@@ -76,8 +77,7 @@ whole_by : (zero : Bool) (d : ℕ) (ds : List ℕ) → (zero ≡ true → d ≡ 
     → (cond zero (Some ds) (after_digits (d ∷ ds)) ≡ Some []) × ((d == 45) ≡ false)
 whole_by true d ds is h all alone = (ap Some (empty ds (omega (arith, alone (is refl)))), ne_eqb d 45 (λ e. omega (arith, is refl)))
 whole_by false d ds is h all alone =
-    let past : drop (suc (length ds)) (d ∷ ds) ≡ [] = drop_all (suc (length ds)) (d ∷ ds) (omega arith) in
-    (
+    let past : drop (suc (length ds)) (d ∷ ds) ≡ [] = drop_all (suc (length ds)) (d ∷ ds) (omega arith) in (
       ap (λ n. cond (n == 0) None (Some (drop n (d ∷ ds)))) all ∙ ap (λ b. cond b None (Some (drop (suc (length ds)) (d ∷ ds)))) (ne_eqb (suc (length ds)) 0 (λ e. omega arith)) ∙ ap Some past,
       ne_eqb d 45 (λ e. omega (arith, h 0 (omega arith))),
     )
@@ -99,16 +99,17 @@ behind_digits d i j utf8 some all =
     let there : j - 1 + 1 ≡ j = omega arith in
     subst (IsCharBoundary d) there (IsCharBoundary-after_ascii d (j - 1) utf8 (within d (j - 1) (omega arith)) (omega arith))
 
-pub few_digits : (d : List ℕ) (i j : ℕ) → i < j → j - i ≤ 18 → ((k : ℕ) → i ≤ k → k < j → IsInRange 48 57 (get_or d k 0)) → (get_or d i 0 ≡ 48 → j - i ≡ 1)
-    → IsNumber (between i j d) × (is_some (number_of (between i j d)) ≡ true)
+pub few_digits : (d : List ℕ) (i j : ℕ) → i < j → j - i ≤ 18 → ((k : ℕ) → i ≤ k → k < j → IsInRange 48 57 (get_or d k 0)) → (get_or d i 0 ≡ 48 → j - i ≡ 1) → IsFit 0 (number (between i j d))
 few_digits d i j some few all alone =
     let ds = between i j d in
     let last = all (j - 1) (omega arith) (omega arith) in
     let inside = within d (j - 1) (omega arith) in
     let size = length-between d i j (omega arith) in
     let digits = digits_between d i j all (omega arith) in
-    let first = byte_between d i j 0 (omega arith) in
-    (
-      IsNumber-digits ds digits (omega arith) (λ zero. omega (arith, alone (omega arith))),
-      digits_in_range ds (omega arith, own.to ds digits) (digits_value_short own ds 18 digits (omega arith)),
-    )
+    let start : i + 0 ≡ i = omega arith in
+    let first = byte_between d i j 0 (omega arith) ∙ ap (λ k. get_or d k 0) start in
+    record {
+      numbers = IsNumber-digits ds digits (omega arith) (λ zero. omega (arith, alone (sym first ∙ zero)));
+      fits = digits_in_range ds (omega arith, own.to ds digits) (digits_value_short own ds 18 digits (omega arith));
+      nests = omega arith;
+    }

@@ -1,11 +1,11 @@
-ghost use Rattle.std.specs.Prelude.{◌≡◌, ◌≤◌, ◌<◌, ℕ, ◌∷◌, ◌++◌, [], Some, true, cond, is_some, slice_index, IfSome, IsTrue};
-ghost use Rattle.std.specs.Bool.{MatchBool};
+ghost use Rattle.std.specs.Prelude.{◌≡◌, ◌≤◌, ◌<◌, ℕ, ◌∷◌, ◌++◌, [], Some, true, cond, slice_index, IfSome, IsTrue};
+ghost use Rattle.std.specs.Bool.{MatchBool, OnTrue};
 ghost use Rattle.std.specs.Int.{IsInRange};
-ghost use Rattle.json.specs.Json.{array, object};
-ghost use Rattle.json.specs.Print.{quoted, IsNumber};
+ghost use Rattle.json.specs.Json.{array, number, object};
+ghost use Rattle.json.specs.Print.{quoted};
 ghost use Rattle.json.specs.Value.{items_view, members_view, value_view};
 ghost use Rattle.json.specs.Written.{PlainBetween};
-ghost use Rattle.serde_json.specs.Read.{number_of, read};
+ghost use Rattle.serde_json.specs.Read.{read};
 ghost use Rattle.boss_json.specs.Compact.{text_of, IsFit};
 ghost use Rattle.boss_json.specs.Trees.{view};
 
@@ -144,8 +144,7 @@ impl<'a> Rest<'a> {
     #[inline(always)]
     fn digits(&mut self) -> Option<&'a str>
         ensures text { IfSome result (λ digits. self.old ≡ digits.now ++ self.new) }
-        ensures number { IfSome result (λ digits. IsNumber digits.now) }
-        ensures in_range { IfSome result (λ digits. is_some (number_of digits.now) ≡ true) }
+        ensures fit { IfSome result (λ digits. IsFit 0 (number digits.now)) }
     {
         let text = self.text;
         let bytes = text.as_bytes();
@@ -165,7 +164,7 @@ impl<'a> Rest<'a> {
     /// Takes the comma that stands before each item or member but the first, and says whether that could be done.
     #[inline(always)]
     fn takes_comma(&mut self, is_first: bool) -> bool
-        ensures { IsTrue result → self.old ≡ cond is_first [] (44 ∷ []) ++ self.new }
+        ensures { OnTrue result (self.old ≡ cond is_first [] (44 ∷ []) ++ self.new) }
     {
         is_first || self.takes(b',')
     }
