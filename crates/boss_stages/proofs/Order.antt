@@ -9,6 +9,7 @@ use Rattle.std.proofs.lemmas.Bool.{cases_Bool, cases_lt}
 use Rattle.std.proofs.lemmas.Bool.Decides.{nat_tests}
 use Rattle.std.proofs.lemmas.Cmp.{ranked}
 use Rattle.std.proofs.lemmas.Grind.{common_steps}
+use Rattle.std.proofs.lemmas.List.{get_or_default}
 use Rattle.std.proofs.lemmas.Option.{slice_get_read}
 use Rattle.boss_model.specs.declared.notice.Cause.{Cause}
 use Rattle.boss_stages.specs.Stages.{Tracked, number, with_end, without_reversion, kept_as, changed, without, AllAbove, Rising}
@@ -126,15 +127,21 @@ module _ (all : List Tracked) (rising : Rising all) (txn : ℕ) where
   apart : (kept : Tracked) → number kept ≢ txn → is_of txn kept ≡ false
   apart kept differs = grind (arith, common_steps)
 
+  -- where one of this number stands, the first of this number stands
+  pub position-stands : (place : ℕ) → place < length all → ((d : Tracked) → number (get_or all place d) ≡ txn) → position_from (is_of txn) 0 all ≡ Some place
+  position-stands place inside own = position-IsFirst (is_of txn) all place (record {
+    within = inside;
+    passes = λ d. grind (arith, common_steps, own d);
+    before = λ other d less. apart (get_or all other d) (λ same. omega (arith, Rising-less all rising other place d less inside, own d));
+  })
+
+  pub position-read : (place : ℕ) (kept : Tracked) → place < length all → kept ≡ get_or all place kept → number kept ≡ txn → position_from (is_of txn) 0 all ≡ Some place
+  position-read place kept inside read own = position-stands place inside (λ d. ap number (get_or_default all place d kept inside ∙ sym read) ∙ own)
+
   pub searched : (r : Result ℕ ℕ) (len : ℕ) → len ≡ length all → IsSearchInRange r len → IsBinarySearchResult (λ kept. nat_cmp (number kept) txn) all r → position_from (is_of txn) 0 all ≡ result_ok r
   searched (Ok place) len is within equal =
-      let own : (d : Tracked) → number (get_or all place d) ≡ txn = λ d. ranked _ txn _ (sym (equal d)) in
       let inside : place < length all = rw (← is) within in
-      position-IsFirst (is_of txn) all place (record {
-        within = inside;
-        passes = λ d. grind (arith, common_steps, own d);
-        before = λ other d less. apart (get_or all other d) (λ same. omega (arith, Rising-less all rising other place d less inside, own d));
-      })
+      position-stands place inside (λ d. ranked _ txn _ (sym (equal d)))
   searched (Err gap) len is within parted = position-AllFail (is_of txn) all fail
     where
       fail : AllFail (is_of txn) all

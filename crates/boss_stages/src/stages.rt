@@ -1,4 +1,4 @@
-ghost use Rattle.std.specs.Prelude.{◌≡◌, ◌+◌, ◌<◌, ◌≤◌, ◌==◌, ◌∷◌, [], ◌++◌, true, length, map, option_copied, option_and_then, slice_get, All, IfOk, IfSome, OnOk, OnErr};
+ghost use Rattle.std.specs.Prelude.{◌≡◌, ◌+◌, ◌<◌, ◌≤◌, ◌==◌, ◌∷◌, [], ◌++◌, true, length, map, option_copied, option_and_then, slice_get, Some, All, IfOk, IfSome, IsTrue, OnOk, OnErr};
 ghost use Rattle.std.specs.List.{position_from, remove};
 ghost use Rattle.std.specs.Option.{option_map};
 ghost use Rattle.std.specs.VecDeque.{deque_capacity};
@@ -23,6 +23,8 @@ use std::marker::Model;
 pub struct Stages {
     transactions: VecDeque<Transaction>,
     done: HeapCircularBuffer<Txn>,
+    /// Where the transaction stood that changed last: it is mostly asked for once more.
+    recent: usize,
 }
 
 impl Model for Stages {
@@ -47,6 +49,7 @@ impl Stages {
         Ok(Stages {
             transactions: VecDeque::with_capacity(alloc, capacity as usize + DONE_KEPT)?,
             done: HeapCircularBuffer::with_capacity(alloc, DONE_KEPT)?,
+            recent: 0,
         })
     }
 
@@ -107,6 +110,7 @@ impl Stages {
         let Some(place) = self.place_of(txn) else {
             return;
         };
+        self.recent = place;
         self.transactions[place].end_lease(point, cause, at, reverts);
         self.finish_if_over(txn);
     }
@@ -120,6 +124,7 @@ impl Stages {
         let Some(place) = self.place_of(txn) else {
             return;
         };
+        self.recent = place;
         self.transactions[place].end_reversion(point);
         self.finish_if_over(txn);
     }
@@ -174,8 +179,48 @@ impl Stages {
         }
     }
 
-    /// The place of the transaction of this number, which a binary search finds.
+    /// The place of the transaction of this number: that of the one that changed last, or the one that the number makes likely,
+    /// or else one that a binary search finds.
     fn place_of(&self, txn: Txn) -> Option<usize>
+        ensures place { result ≡ position_from (λ kept. number kept == txn) 0 self.now.kept }
+        ensures within { IfSome result (λ place. place < length self.now.kept) }
+    {
+        if self.stands_at(self.recent, txn) {
+            return Some(self.recent);
+        }
+        let likely = self.likely_place(txn);
+        if self.stands_at(likely, txn) {
+            return Some(likely);
+        }
+        self.searched_place(txn)
+    }
+
+    /// Whether the transaction of this number stands at the place.
+    fn stands_at(&self, place: usize, txn: Txn) -> bool
+        ensures { IsTrue result → (place < length self.now.kept) × (position_from (λ kept. number kept == txn) 0 self.now.kept ≡ Some place) }
+    {
+        match self.transactions.get(place) {
+            Some(transaction) => transaction.number() == txn.0,
+            None => false,
+        }
+    }
+
+    /// Where the transaction of this number stands if all behind it are kept: as far from the end as its number is from the last.
+    fn likely_place(&self, txn: Txn) -> usize {
+        match self.transactions.back() {
+            Some(last) => {
+                let behind = last.number().saturating_sub(txn.0);
+                self.transactions
+                    .len()
+                    .saturating_sub(behind as usize)
+                    .saturating_sub(1)
+            }
+            None => 0,
+        }
+    }
+
+    /// The place of the transaction of this number, which a binary search finds.
+    fn searched_place(&self, txn: Txn) -> Option<usize>
         ensures place { result ≡ position_from (λ kept. number kept == txn) 0 self.now.kept }
         ensures within { IfSome result (λ place. place < length self.now.kept) }
     {

@@ -2,7 +2,7 @@ use Rattle.std.proofs.Common.{◌≡◌, length, deque_len, rules, sym, ◌∙�
 use Rattle.std.proofs.lemmas.List.Sorted.{answers_always}
 use Rattle.boss_stages.specs.Stages.{number}
 use Rattle.boss_stages.proofs.Order.{searched}
-use Rattle.boss_stages.proofs.stages.Stages.place_of.Goals as goal
+use Rattle.boss_stages.proofs.stages.Stages.searched_place.Goals as goal
 
 pub returns-clause-place : goal.returns-clause-place
 returns-clause-place c =
