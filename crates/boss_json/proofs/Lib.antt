@@ -5,4 +5,5 @@ pub mod Found
 pub mod Lines
 pub mod Printed
 pub mod Spelled
+pub mod Stops
 pub mod Views

@@ -1,8 +1,10 @@
-ghost use Rattle.std.specs.Prelude.{◌≡◌, ◌≤◌, ◌<◌, ℕ, ◌∷◌, ◌++◌, [], Some, true, cond, slice_index, IfSome, IsTrue};
+ghost use Rattle.std.specs.Prelude.{◌≡◌, ◌≤◌, ◌<◌, ℕ, ◌∷◌, ◌++◌, [], Some, true, cond, slice_index, length, map, IfSome, IsTrue};
 ghost use Rattle.std.specs.Bool.{MatchBool, OnTrue};
 ghost use Rattle.std.specs.Int.{IsInRange};
+ghost use Rattle.std.specs.Simd.Lanes.{mask_l};
 ghost use Rattle.json.specs.Json.{array, number, object};
 ghost use Rattle.json.specs.Print.{quoted};
+ghost use Rattle.json.specs.Run.{is_stop};
 ghost use Rattle.json.specs.Value.{items_view, members_view, value_view};
 ghost use Rattle.json.specs.Written.{PlainBetween};
 ghost use Rattle.serde_json.specs.Read.{read};
@@ -12,6 +14,7 @@ ghost use Rattle.boss_json.specs.Trees.{view};
 use json::Value;
 use std::alloc::Global;
 use std::marker::Model;
+use std::simd::prelude::*;
 
 /// How deep arrays and objects may nest.
 const MOST_LEVELS: usize = 8;
@@ -206,6 +209,34 @@ fn byte_at(text: &[u8], place: usize) -> u8
 /// Where the bytes end that stand for themselves in a string: at a quote, a backslash, a control character or the end.
 #[inline(always)]
 fn plain_end(text: &[u8], start: usize) -> usize
+    requires { start ≤ length text.now }
+    ensures after { start ≤ result }
+    ensures plain { PlainBetween text.now start result }
+{
+    let mut end = start;
+    while text.len() - end >= 8 {
+        let stops = stops(u8x8::from_slice(&text[end..]));
+        if stops != 0 {
+            return end + stops.trailing_zeros() as usize;
+        }
+        end += 8;
+    }
+    plain_end_slowly(text, end)
+}
+
+/// The bytes of eight that end plain text, as bits.
+#[inline(always)]
+fn stops(bytes: u8x8) -> u64
+    ensures { result ≡ mask_l (map is_stop bytes) }
+{
+    (bytes.simd_eq(u8x8::splat(b'"'))
+        | bytes.simd_eq(u8x8::splat(b'\\'))
+        | bytes.simd_lt(u8x8::splat(b' '))).to_bitmask()
+}
+
+/// The same as `plain_end`, a byte at a time.
+#[inline(always)]
+fn plain_end_slowly(text: &[u8], start: usize) -> usize
     ensures after { start ≤ result }
     ensures plain { PlainBetween text.now start result }
 {

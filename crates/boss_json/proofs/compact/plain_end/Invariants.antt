@@ -5,6 +5,7 @@ use Rattle.boss_json.proofs.compact.plain_end.Given as goal
 abbrev pub invariant-loop-end : goal.invariant-loop-end
 invariant-loop-end l = record {
   after : l.start ≤ l.end;
+  within : l.end ≤ length l.text;
   plain : PlainBetween l.text l.start l.end;
 }
 
