@@ -49,4 +49,4 @@ pub plain_through : (d : List ℕ) (i n : ℕ) → i + n ≤ length d → mask_l
 plain_through d i n room none k after before = ap not (none_from_empty_mask is_stop d i n 0 room none k after before)
 
 pub plain_on : (d : List ℕ) (i j k : ℕ) → PlainBetween d i j → PlainBetween d j k → PlainBetween d i k
-plain_on d i j k first second at after before = elim (cases_lt at j) [ | inl early ↦ first at after early | inr late ↦ second at late before ]
+plain_on d i j k first second at after before = elim (cases_lt at j) [ inl early ↦ first at after early | inr late ↦ second at late before ]

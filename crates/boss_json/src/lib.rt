@@ -3,6 +3,7 @@
 #![tactic(auto)]
 
 mod compact;
+mod member;
 mod number;
 mod plain;
 mod range;

@@ -1,6 +1,7 @@
 ghost use Rattle.boss_json.specs.Trees.{view};
 
 use crate::JsonValue;
+use crate::member::member_under;
 use crate::number::whole_number;
 use json::Value;
 
@@ -8,7 +9,11 @@ impl<'a> JsonValue for Value<'a> {
     ghost meaning = { view };
 
     fn under(&self, key: &str) -> Option<&Value<'a>> {
-        self.get(key)
+        if let Value::Object(members) = self {
+            member_under(members, key)
+        } else {
+            None
+        }
     }
 
     #[tactic(auto, using(crate::proofs::Views::as_str_data))]

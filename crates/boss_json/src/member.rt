@@ -1,0 +1,43 @@
+ghost use Rattle.std.specs.Prelude.{◌≡◌, false, bytes_eq, option_map, length, IsFalse};
+ghost use Rattle.json.specs.Find.{get_member};
+ghost use Rattle.json.specs.Value.{members_view, value_view};
+
+use json::Value;
+
+/// What stands under a key of an object's members; of equal keys the last counts.
+pub(crate) fn member_under<'v, 'a>(
+    members: &'v Vec<(&'a str, Value<'a>)>,
+    key: &str,
+) -> Option<&'v Value<'a>>
+    ensures { option_map (λ value. value_view value.now) result ≡ get_member key.now (members_view members.now.items) }
+{
+    let mut left = members.len();
+    while left > 0 {
+        left -= 1;
+        let member = &members[left];
+        if is_key(member.0, key) {
+            return Some(&member.1);
+        }
+    }
+    None
+}
+
+/// Whether a text is this key. Nearly all others show that by their length, or at one of their ends.
+#[inline(always)]
+fn is_key(text: &str, key: &str) -> bool
+    ensures { result ≡ bytes_eq text.now key.now }
+{
+    text.len() == key.len() && has_ends_of(text.as_bytes(), key.as_bytes()) && text == key
+}
+
+/// Whether the first and the last byte are those of the other text, which is as long.
+#[inline(always)]
+fn has_ends_of(bytes: &[u8], other: &[u8]) -> bool
+    requires { length bytes.now ≡ length other.now }
+    ensures { IsFalse result → bytes_eq bytes.now other.now ≡ false }
+{
+    match bytes.len() {
+        0 => true,
+        count => bytes[0] == other[0] && bytes[count - 1] == other[count - 1],
+    }
+}
