@@ -1,5 +1,5 @@
 -- Where plain text stops, seen several bytes at a time through the mask of those that end it.
-use Rattle.std.proofs.Common.{◌≡◌, ℕ, ◌+◌, ◌-◌, ◌%◌, ◌^◌, ◌<◌, ◌≤◌, ltb, leb, eqb, Bool, true, false, cond, not, ◌||◌, List, [], ◌∷◌, map, length, drop, get_or, replicate, bit_or, inl, inr, refl, sym, ap, ap₂, ◌∙◌, arith}
+use Rattle.std.proofs.Common.{◌≡◌, ℕ, ◌+◌, ◌-◌, ◌%◌, ◌^◌, ◌<◌, ◌≤◌, ltb, eqb, Bool, true, false, cond, not, ◌||◌, List, [], ◌∷◌, map, length, drop, get_or, replicate, bit_or, inl, inr, refl, sym, ap, ap₂, ◌∙◌, arith}
 use Rattle.std.proofs.lemmas.Bool.{cases_lt}
 use Rattle.std.proofs.lemmas.List.{length-map, get_or-take, get_or-drop}
 use Rattle.std.proofs.lemmas.List.Sums.{prefix_len-le-length, prefix_len_passes}
@@ -49,4 +49,4 @@ pub plain_through : (d : List ℕ) (i n : ℕ) → i + n ≤ length d → mask_l
 plain_through d i n room none k after before = ap not (none_from_empty_mask is_stop d i n 0 room none k after before)
 
 pub plain_on : (d : List ℕ) (i j k : ℕ) → PlainBetween d i j → PlainBetween d j k → PlainBetween d i k
-plain_on d i j k first second at after before = elim (cases_lt at j) [ | inl early ↦ first at after early | inr late ↦ second at late before ]
+plain_on d i j k first second at after before = elim (cases_lt at j) [ inl early ↦ first at after early | inr late ↦ second at late before ]
