@@ -69,7 +69,7 @@ fn put_attached(into: &mut Buffer, name: &Name, next: u64)
 {
     write_quoted(into, b"{\"ok\":\"attached\",\"process\":", name);
     write_number(into, b",\"next\":", next);
-    into.extend(b"}");
+    into.push(b'}');
 }
 
 /// A transaction behind its key, and the least moment at which one of its leases ends.
@@ -80,7 +80,7 @@ fn put_until(into: &mut Buffer, key: &[u8], txn: Txn, until: u64)
 {
     write_txn(into, key, txn);
     write_number(into, b",\"until\":", until);
-    into.extend(b"}");
+    into.push(b'}');
 }
 
 /// The live leases of the transaction ended at this moment.
@@ -91,7 +91,7 @@ fn put_cancelled(into: &mut Buffer, txn: Txn, at: u64)
 {
     write_txn(into, b"{\"ok\":\"cancelled\",\"txn\":", txn);
     write_number(into, b",\"at\":", at);
-    into.extend(b"}");
+    into.push(b'}');
 }
 
 /// What a driver's device is to be set to.
@@ -105,7 +105,7 @@ fn put_want(into: &mut Buffer, catalogue: &Catalogue, point: PointId, version: u
     write_point(into, b"{\"ok\":\"want\",\"point\":", catalogue, point);
     write_number(into, b",\"version\":", version);
     write_signed(into, b",\"value\":", value);
-    into.extend(b"}");
+    into.push(b'}');
 }
 
 /// The value that a point is to have.
@@ -129,7 +129,7 @@ fn put_reading(
     write_basis(into, basis);
     into.extend(b",\"mark\":");
     into.extend(mark_name(mark));
-    into.extend(b"}");
+    into.push(b'}');
 }
 
 /// The default and the slots of a point.
@@ -169,7 +169,7 @@ fn put_status(into: &mut Buffer, txn: Txn, owner: &Name, stage: Stage, live: u64
     into.extend(stage_name(stage));
     write_number(into, b",\"live\":", live);
     write_number(into, b",\"pending\":", pending);
-    into.extend(b"}");
+    into.push(b'}');
 }
 
 /// Notices of a process, the least number that is kept, and the number to ask from next.

@@ -63,7 +63,7 @@ fn put_notice(into: &mut Buffer, catalogue: &Catalogue, notice: &Notice)
     write_txn(into, b",\"txn\":", notice.txn);
     into.extend(b",\"kind\":");
     put_what(into, catalogue, notice.what);
-    into.extend(b"}");
+    into.push(b'}');
 }
 
 /// The kind of a notice, and what it tells beside.

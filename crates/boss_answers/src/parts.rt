@@ -22,7 +22,7 @@ pub(crate) fn write_last(into: &mut Buffer, key: &[u8], number: u64)
     ensures { PutsAtMost (length key.now + 21) into.old into.new (key.now ++ decimal number ++ codes "}") }
 {
     write_number(into, key, number);
-    into.extend(b"}");
+    into.push(b'}');
 }
 
 /// A transaction behind its key.

@@ -44,7 +44,7 @@ fn put_placed(into: &mut Buffer, error: &[u8], index: u32)
     into.extend(b"{\"error\":\"");
     into.extend(error);
     write_number(into, b"\",\"index\":", u64::from(index));
-    into.extend(b"}");
+    into.push(b'}');
 }
 
 /// A lease that was to be renewed has ended.
@@ -58,7 +58,7 @@ fn put_ended(into: &mut Buffer, cause: Cause, at: u64, moment: u64)
     write_cause(into, cause);
     write_number(into, b",\"at\":", at);
     write_number(into, b",\"moment\":", moment);
-    into.extend(b"}");
+    into.push(b'}');
 }
 
 /// The session holds the process of this name.
@@ -67,5 +67,5 @@ fn put_already(into: &mut Buffer, name: &Name)
     ensures { PutsAtMost 160 into.old into.new (codes "{\"error\":\"already\",\"process\":" ++ quoted name.now ++ codes "}") }
 {
     write_quoted(into, b"{\"error\":\"already\",\"process\":", name);
-    into.extend(b"}");
+    into.push(b'}');
 }

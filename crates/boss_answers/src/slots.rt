@@ -59,5 +59,5 @@ fn put_held(into: &mut Buffer, value: i64, txn: Txn, key: &[u8], moment: u64)
     write_signed(into, b"{\"value\":", value);
     write_txn(into, b",\"txn\":", txn);
     write_number(into, key, moment);
-    into.extend(b"}");
+    into.push(b'}');
 }

@@ -45,9 +45,7 @@ impl Buffer {
         requires { length self.old.bytes + length bytes.now ≤ self.old.capacity }
         ensures { self.new ≡ record self.old { bytes = self.old.bytes ++ bytes.now } }
     {
-        for byte in bytes {
-            self.push(*byte);
-        }
+        let _in_room = self.bytes.extend_from_slice(bytes);
     }
 
     /// Takes all bytes out. The room stays.

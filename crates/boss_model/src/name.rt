@@ -11,7 +11,8 @@ use std::marker::Model;
 /// A contract sees it as the list of its bytes.
 #[derive(Debug, Drop)]
 pub struct Name {
-    length: u8,
+    // A whole word, so that names are moved word by word, also as parts of commands and answers.
+    length: usize,
     bytes: [u8; LONGEST_NAME],
 }
 
@@ -37,7 +38,7 @@ impl Name {
             return None;
         }
         Some(Name {
-            length: bytes.len() as u8,
+            length: bytes.len(),
             bytes: padded(bytes),
         })
     }
@@ -47,7 +48,7 @@ impl Name {
         ensures value { result.now ≡ self.now }
         ensures form { is_name self.now ≡ true }
     {
-        &self.bytes[..self.length as usize]
+        &self.bytes[..self.length]
     }
 
     /// The same name once more. No memory is taken.

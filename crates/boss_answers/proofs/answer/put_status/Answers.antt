@@ -8,4 +8,4 @@ returns c =
     let stage = puts_both (puts_both owner (puts c.extend.ensures)) (puts c.extend-2.ensures) in
     let live = puts_keyed (codes ",\"live\":") _ stage c.write_number.ensures in
     let pending = puts_keyed (codes ",\"pending\":") _ live c.write_number-2.ensures in
-    rw (sym c.stage_name.ensures.text) (puts_within (puts_both pending (puts c.extend-3.ensures)) (omega (arith, c.stage_name.ensures.short)))
+    rw (sym c.stage_name.ensures.text) (puts_within (puts_both pending (puts c.push.ensures)) (omega (arith, c.stage_name.ensures.short)))

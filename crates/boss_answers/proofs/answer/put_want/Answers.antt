@@ -11,4 +11,4 @@ returns c =
     let signed = simp to_z-of_z at c.write_signed.ensures in
     let version = puts_keyed (codes ",\"version\":") _ c.write_point.ensures c.write_number.ensures in
     let value = puts_keyed (codes ",\"value\":") _ version signed in
-    puts_within (puts_both value (puts c.extend.ensures)) (omega arith)
+    puts_within (puts_both value (puts c.push.ensures)) (omega arith)

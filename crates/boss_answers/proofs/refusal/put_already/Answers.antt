@@ -4,4 +4,4 @@ use Rattle.boss_answers.proofs.refusal.put_already.Goals as goal
 
 pub returns : goal.returns
 returns c =
-    puts_within (puts_both c.write_quoted.ensures (puts c.extend.ensures)) (omega arith)
+    puts_within (puts_both c.write_quoted.ensures (puts c.push.ensures)) (omega arith)

@@ -7,4 +7,4 @@ returns c =
     let cause = puts_both (puts c.extend.ensures) c.write_cause.ensures in
     let at = puts_keyed (codes ",\"at\":") _ cause c.write_number.ensures in
     let moment = puts_keyed (codes ",\"moment\":") _ at c.write_number-2.ensures in
-    puts_within (puts_both moment (puts c.extend-2.ensures)) (omega arith)
+    puts_within (puts_both moment (puts c.push.ensures)) (omega arith)
