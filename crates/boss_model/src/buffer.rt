@@ -8,19 +8,19 @@ use std::marker::Model;
 /// Bytes that are gathered in a room of fixed size, which is taken once.
 #[derive(Debug, Drop)]
 pub struct Buffer {
-    bytes: Vec<u8>,
-    capacity: u32,
+    room: Vec<u8>,
+    length: usize,
 }
 
 impl Model for Buffer {
-    ghost use Rattle.std.specs.Prelude.{◌≤◌, vec_len, vec_capacity};
+    ghost use Rattle.std.specs.Prelude.{◌≤◌, take, vec_len};
     ghost use Rattle.boss_model.specs.Held.{Held};
 
     ghost Value = { Held };
 
-    ghost view = { λ b. record { bytes = b.bytes.items; capacity = b.capacity } };
+    ghost view = { λ b. record { bytes = take b.length b.room.items; capacity = vec_len b.room } };
 
-    ghost invariant = { λ b. (vec_len b.bytes ≤ b.capacity) × (b.capacity ≤ vec_capacity b.bytes) };
+    ghost invariant = { λ b. b.length ≤ vec_len b.room };
 }
 
 impl Buffer {
@@ -28,8 +28,8 @@ impl Buffer {
     pub fn new(alloc: Global, capacity: u32) -> Result<Buffer, NoMemory>
         ensures { IfOk result (λ buffer. buffer ≡ record { bytes = []; capacity = capacity }) }
     {
-        let bytes = Vec::with_capacity(alloc, capacity as usize)?;
-        Ok(Buffer { bytes, capacity })
+        let room = Vec::from_elem(alloc, 0, capacity as usize)?;
+        Ok(Buffer { room, length: 0 })
     }
 
     /// One byte more, at the end.
@@ -37,7 +37,8 @@ impl Buffer {
         requires { length self.old.bytes < self.old.capacity }
         ensures { self.new ≡ record self.old { bytes = self.old.bytes ++ byte ∷ [] } }
     {
-        self.bytes.push_reserved(byte);
+        self.room[self.length] = byte;
+        self.length += 1;
     }
 
     /// These bytes more, at the end.
@@ -45,20 +46,22 @@ impl Buffer {
         requires { length self.old.bytes + length bytes.now ≤ self.old.capacity }
         ensures { self.new ≡ record self.old { bytes = self.old.bytes ++ bytes.now } }
     {
-        let _in_room = self.bytes.extend_from_slice(bytes);
+        let end = self.length + bytes.len();
+        self.room[self.length..end].copy_from_slice(bytes);
+        self.length = end;
     }
 
     /// Takes all bytes out. The room stays.
     pub fn clear(&mut self)
         ensures { self.new ≡ record self.old { bytes = [] } }
     {
-        self.bytes.clear();
+        self.length = 0;
     }
 
     /// The bytes so far.
     pub fn bytes(&self) -> &[u8]
         ensures { result.now ≡ self.now.bytes }
     {
-        self.bytes.as_slice()
+        &self.room[..self.length]
     }
 }
