@@ -1,4 +1,4 @@
--- What is read compactly: the text is the one that a writer gives for the value, with no space.
+-- The text that a value is written as, with no space, and which values are read compactly.
 use Rattle.std.specs.Prelude.{◌≡◌, ℕ, ◌≤◌, true, List}
 use Rattle.json.specs.Json.{Json}
 use Rattle.json.specs.Print.{print}

@@ -22,6 +22,9 @@ const MOST_LEVELS: usize = 8;
 /// A number of at most this many digits is in range.
 const MOST_DIGITS: usize = 18;
 
+/// Room for the items that most arrays have.
+const FEW_ITEMS: usize = 4;
+
 /// Room for the members that most objects have.
 const FEW_MEMBERS: usize = 8;
 
@@ -81,7 +84,9 @@ impl<'a> Rest<'a> {
         if levels == 0 || !self.takes(b'[') {
             return None;
         }
-        let mut items = Vec::new(alloc);
+        let Ok(mut items) = Vec::with_capacity(alloc, FEW_ITEMS) else {
+            return None;
+        };
         while !self.takes(b']') {
             if !self.takes_comma(items.is_empty()) {
                 return None;

@@ -22,8 +22,8 @@ value-returns-in_ok-digits-in_default-clause-text t c =
 
 pub items-loop-alloc-init : goal.items-loop-alloc-init
 items-loop-alloc-init t c = record {
-  text = no_items_yet c.new-items.result.items c.takes.new.self c.new-items.ensures.items;
-  fit = IsFit-no_items c.args.levels c.new-items.result.items (omega arith) c.new-items.ensures.items;
+  text = no_items_yet c.in-Ok.items.items c.takes.new.self c.in-Ok.ensures.items;
+  fit = IsFit-no_items c.args.levels c.in-Ok.items.items (omega arith) c.in-Ok.ensures.items;
 }
 
 pub items-loop-alloc-smaller : goal.items-loop-alloc-smaller
