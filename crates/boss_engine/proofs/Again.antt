@@ -17,7 +17,7 @@ use Rattle.boss_model.specs.Acts.{act_on, by_number, enrol_if, if_did, is_known_
 use Rattle.boss_model.specs.Ends.{cancel_refused, end_leases, is_of}
 use Rattle.boss_model.specs.Limits.{last_moment, most_processes}
 use Rattle.boss_model.specs.Outcomes.{did, unless}
-use Rattle.boss_model.specs.Processes.{enrol_unless, enrolled, is_full, process_named}
+use Rattle.boss_model.specs.Processes.{enrol_unless, enrolled, is_full}
 use Rattle.boss_model.specs.Renew.{renew, renew_refused, renewed}
 use Rattle.boss_model.specs.Submit.{first_until, granted, submit, submit_refused, submitted}
 use Rattle.boss_model.specs.Replies.{answer_of, is_repeat, once}

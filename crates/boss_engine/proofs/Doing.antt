@@ -1,5 +1,5 @@
 -- What commands that are not refused leave.
-use Rattle.std.proofs.Common.{◌≡◌, ℕ, ℤ, ◌+◌, ◌<◌, ◌==◌, nat_lt, List, [], ◌∷◌, ◌++◌, length, filter, map, Bool, true, false, not, ◌&&◌, ◌||◌, if◌then◌else◌, Option, Some, None, unsigned_abs, refl, ap, ◌∙◌, arith}
+use Rattle.std.proofs.Common.{◌≡◌, ℕ, ℤ, ◌<◌, ◌==◌, nat_lt, List, [], ◌∷◌, ◌++◌, length, filter, Bool, true, false, not, ◌&&◌, ◌||◌, if◌then◌else◌, Option, Some, None, refl, ap, ◌∙◌, arith}
 use Rattle.std.specs.Prelude.{slice_get}
 use Rattle.std.proofs.lemmas.Bool.Decides.{nat_tests}
 use Rattle.boss_model.specs.declared.answer.Answer.TheVariants as answer
@@ -13,12 +13,10 @@ use Rattle.boss_model.specs.declared.state.Lease.{Lease}
 use Rattle.boss_model.specs.Ends.{end_leases, fault, faulted, is_of, is_owned_by, lost}
 use Rattle.boss_model.specs.Happenings.{tell}
 use Rattle.boss_model.specs.Machine.{act, after}
-use Rattle.boss_model.specs.Outcomes.{did}
 use Rattle.boss_model.specs.Processes.{attach_refused, attached_too, enrol, enrol_unless, next_notice, number_of, process_named, process_of}
 use Rattle.boss_model.specs.Renew.{renewed, renew_refused}
 use Rattle.boss_model.specs.Sound.{IsSoundPersistent}
 use Rattle.boss_model.specs.State.{Persistent, Process, State}
-use Rattle.boss_model.specs.Replies.{once}
 use Rattle.boss_model.specs.Target.{in_force}
 use Rattle.boss_policy.specs.Decision.{decision}
 use Rattle.boss_policy.specs.declared.Decision.TheVariants.{EndAll, Mark, Tell}

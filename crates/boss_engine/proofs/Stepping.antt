@@ -28,6 +28,13 @@ use Rattle.boss_soundness.proofs.StepSound.{passed-sound, step-sound}
 use Rattle.boss_dues.specs.Playing.{IsPlayable}
 use Rattle.boss_lasting.proofs.Current.{all-current, commanded-acted}
 use Rattle.boss_lasting.proofs.Playable.{all-playable}
+use Rattle.boss_holdings.specs.Held.{is_touched}
+use Rattle.boss_lasting.specs.Lasting.{persistent_of}
+use Rattle.boss_engine.specs.declared.done.Deed.{Deed}
+use Rattle.boss_engine.specs.declared.machine.Machine.{Machine}
+use Rattle.boss_engine.specs.Deeds.{IsDone}
+use Rattle.boss_engine.specs.Inside.{HasPlaces, state_of}
+use Rattle.boss_engine.specs.Replies.{IsTellable, told}
 use Rattle.boss_engine.proofs.Waiting.{length-settled}
 
 -- a command concerns the same process whatever the devices were told
@@ -108,3 +115,20 @@ module _ (plant : List Actuator) (session : ℕ) (c : Command) (m n : ℕ) (s : 
       let reached : end ≡ (tick_to k s.persistent).now = is-end ∙ ap (λ t. t.persistent.now) passed ∙ ap (λ x. (tick_to x s.persistent).now) at in
       (λ i. cond (flag i) (effect.Whole (at i) (whose i)) (cond (not (reached i == is-before i)) (effect.Tick (reached i)) effect.Unchanged))
       ∙ sym (step-flags plant s session c m sound allowed small)
+
+  -- a command that acted once time had passed was carried out
+  pub carried-out : (m : Machine) (deed : Deed) → told (persistent_of m.lasting) deed.done.reply ≡ (act plant session n c p).answer → IsTellable plant (persistent_of m.lasting) deed.done.reply →
+      deed.done.changed ≡ changes plant session n c p → deed.owner ≡ concerned c session p → deed.passed ≡ p.persistent.now → state_of m ≡ (act plant session n c p).state → HasPlaces plant m →
+      ((k : ℕ) → is_touched m.lasting.holdings k ≡ false → (default : ℤ) (moment : ℕ) →
+      value_of default moment (in_force (persistent_of m.lasting).leases k) (playing (persistent_of m.lasting).pending k) ≡ value_of default moment (in_force p.persistent.leases k) (playing p.persistent.pending k)) →
+      IsDone plant session c n s m deed
+  carried-out m deed is-answer tellable is-changed is-owner is-passed is-state places shows = record {
+    answer = is-answer ∙ ap (λ t. (act plant session n c t).answer) passed;
+    tellable = tellable;
+    changed = is-changed ∙ ap (changes plant session n c) passed;
+    owner = is-owner ∙ ap (concerned c session) passed;
+    passed = is-passed ∙ ap (λ (t : State). t.persistent.now) passed;
+    state = is-state ∙ ap (λ t. (act plant session n c t).state) passed;
+    places = places;
+    current = λ k within left. acted-current (state_of m) is-state k within (shows k left);
+  }

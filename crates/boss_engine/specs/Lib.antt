@@ -1,6 +1,8 @@
 pub mod Again
+pub mod Deeds
 pub mod Inside
 pub mod Ready
+pub mod Replies
 pub mod Running
 pub mod Settling
 pub mod Waiting

@@ -22,6 +22,7 @@ ghost use Rattle.boss_lasting.specs.Lasting.{IsSomeSubmit, IsSubmit, persistent_
 ghost use Rattle.boss_effects.specs.Changes.{changes, failure_changes, may_be_told, renewal_changes};
 ghost use Rattle.boss_books.specs.Passed.{IsPassed};
 ghost use Rattle.boss_dues.specs.Playing.{IsPlayable};
+ghost use Rattle.boss_engine.specs.Replies.{IsTellable, told};
 ghost use Rattle.boss_engine.specs.Ready.{CanTakeOn, HasRoomFor, IsReadyToAttach, IsReadyToList, IsReadyToSubmit};
 ghost use Rattle.boss_lasting.specs.Replying.{renewed_until, with_reply};
 ghost use Rattle.boss_lasting.specs.Showing.{ShowsAsBefore};
@@ -29,17 +30,18 @@ ghost use Rattle.boss_lasting.specs.Showing.{ShowsAsBefore};
 use crate::done::Done;
 use crate::machine::Machine;
 use crate::ready::Ready;
+use crate::reply::{Reading, Reply};
 use boss_books::{Happening, Telling};
 use boss_lasting::{
-    Which, attach, basis_of, cancel_refused, detach, first_until, notices, process_of,
-    renew_refused, slots_of, target_of,
+    Decision, Which, attach, basis_of, cancel_refused, detach, first_until, process_of,
+    renew_refused, target_of,
 };
 use boss_marks::Reported;
 use boss_model::{
-    Acceptance, Actuator, Answer, Cause, DriverId, Lease, Name, PointId, ProcId, Refusal,
-    SessionId, Txn, What,
+    Acceptance, Actuator, Cause, DriverId, Lease, Name, PointId, ProcId, Refusal, SessionId, Txn,
+    What,
 };
-use boss_policy::{Decision, on_fault};
+use boss_policy::{Decision as Policing, on_fault};
 use boss_stages::Transaction;
 
 /// A process that has this name, and whether it was taken on with it.
@@ -56,7 +58,8 @@ impl Machine {
         requires can_run { (plant : List Actuator) × CanRun plant self.old }
         requires moment { self.old.lasting.holdings.now ≤ n }
         requires ready { IsReadyToAttach session name.now ready (state_of self.old) }
-        ensures answer { (plant : List Actuator) → result.answer ≡ (act plant session n (command.Attach name.now) (state_of self.old)).answer }
+        ensures tellable { (plant : List Actuator) → IsTellable plant (persistent_of self.new.lasting) result.reply }
+        ensures answer { (plant : List Actuator) → told (persistent_of self.new.lasting) result.reply ≡ (act plant session n (command.Attach name.now) (state_of self.old)).answer }
         ensures state { (plant : List Actuator) → state_of self.new ≡ (act plant session n (command.Attach name.now) (state_of self.old)).state }
         ensures changed { (plant : List Actuator) → result.changed ≡ changes plant session n (command.Attach name.now) (state_of self.old) }
         ensures places { (plant : List Actuator) → HasPlaces plant self.old → HasPlaces plant self.new }
@@ -68,7 +71,7 @@ impl Machine {
         let entrant = self.process_for(name, n, ready);
         attach(&mut self.attached, session, entrant.process);
         Done {
-            answer: Answer::Attached {
+            reply: Reply::Attached {
                 name: name.copied(),
                 next: self.lasting.processes.next_notice(entrant.process),
             },
@@ -109,9 +112,10 @@ impl Machine {
         requires moment { (self.old.lasting.holdings.now ≤ n) × (n ≤ last_moment) }
         requires ready { (plant : List Actuator) × CanAct plant self.old × (session : ℕ) × (writes : List Setting) × (policy : Policy) × (1 ≤ length writes) × IsReadyToSubmit plant (process_of self.old.attached.items session) writes policy seq n ready (state_of self.old) }
         requires room { HasRoomFor ready self.old }
+        ensures tellable { (plant : List Actuator) → IsTellable plant (persistent_of self.new.lasting) result.reply }
         ensures answer { (plant : List Actuator) (session : ℕ) (writes : List Setting) (policy : Policy) → 1 ≤ length writes →
             IsReadyToSubmit plant (process_of self.old.attached.items session) writes policy seq n ready (state_of self.old) →
-            result.answer ≡ (act plant session n (command.Submit writes policy seq) (state_of self.old)).answer }
+            told (persistent_of self.new.lasting) result.reply ≡ (act plant session n (command.Submit writes policy seq) (state_of self.old)).answer }
         ensures state { (plant : List Actuator) (session : ℕ) (writes : List Setting) (policy : Policy) → 1 ≤ length writes →
             IsReadyToSubmit plant (process_of self.old.attached.items session) writes policy seq n ready (state_of self.old) →
             state_of self.new ≡ (act plant session n (command.Submit writes policy seq) (state_of self.old)).state }
@@ -125,24 +129,23 @@ impl Machine {
             Ready::Submit {
                 transaction,
                 leases,
-            } => Done {
-                answer: self.begin(transaction, leases, seq, n),
-                changed: true,
-            },
-            Ready::Decided(decision) => Done::unchanged(decision.answer()),
+            } => {
+                let txn = Txn(self.lasting.next_txn);
+                let until = self.begin(transaction, leases, seq, n);
+                let accepted = Acceptance::Accepted { txn, until };
+                Done {
+                    reply: Reply::Decided(Decision::Again(accepted)),
+                    changed: true,
+                }
+            }
+            Ready::Decided(decision) => Done::unchanged(Reply::Decided(decision)),
             Ready::Refused(why) => Done::refused(why),
             _ => unreachable!(),
         }
     }
 
-    /// The same of a transaction that is not refused.
-    pub fn begin(
-        &mut self,
-        transaction: Transaction,
-        leases: Vec<Lease>,
-        seq: u64,
-        n: u64,
-    ) -> Answer
+    /// The same of a transaction that is not refused. Gives the first moment at which one of the leases ends.
+    pub fn begin(&mut self, transaction: Transaction, leases: Vec<Lease>, seq: u64, n: u64) -> u64
         requires can_act { (plant : List Actuator) × CanAct plant self.old }
         requires moment { self.old.lasting.holdings.now ≤ n }
         requires begun { IsSomeSubmit n transaction leases.items (persistent_of self.old.lasting) }
@@ -150,7 +153,7 @@ impl Machine {
         requires apart { AreApart leases.items }
         requires next { self.old.lasting.next_txn < last_number }
         requires room { length self.old.lasting.stages.kept < self.old.lasting.stages.room }
-        ensures answer { result ≡ answer.Accepted self.old.lasting.next_txn (first_until leases.items) }
+        ensures until { result ≡ first_until leases.items }
         ensures after { (owner : ℕ) (policy : Policy) (writes : List Setting) →
             IsSubmit n transaction leases.items (persistent_of self.old.lasting) owner policy writes →
             persistent_of self.new.lasting ≡ with_reply owner seq (acceptance.Accepted self.old.lasting.next_txn (first_until leases.items)) (submitted owner policy writes n (persistent_of self.old.lasting)) }
@@ -159,12 +162,14 @@ impl Machine {
         ensures untouched { ShowsAsBefore self.old.lasting.holdings self.new.lasting.holdings }
     {
         let owner = transaction.owner();
-        let acceptance = Acceptance::Accepted {
+        let until = first_until(&leases);
+        let accepted = Acceptance::Accepted {
             txn: Txn(self.lasting.next_txn),
-            until: first_until(&leases),
+            until,
         };
         self.lasting.submit(transaction, leases, n, &mut self.told);
-        self.lasting.processes.accept(owner, seq, acceptance)
+        self.lasting.processes.accept(owner, seq, accepted);
+        until
     }
 
     /// Leases of a transaction last longer. `seq` is the number of the request, 0 for none.
@@ -180,7 +185,8 @@ impl Machine {
         requires can_act { (plant : List Actuator) × CanAct plant self.old }
         requires moment { (self.old.lasting.holdings.now ≤ n) × (n ≤ last_moment) }
         requires points { length points.now ≤ most_writes }
-        ensures answer { (plant : List Actuator) → result.answer ≡ (act plant session n (command.Renew txn duration points.now seq) (state_of self.old)).answer }
+        ensures tellable { (plant : List Actuator) → IsTellable plant (persistent_of self.new.lasting) result.reply }
+        ensures answer { (plant : List Actuator) → told (persistent_of self.new.lasting) result.reply ≡ (act plant session n (command.Renew txn duration points.now seq) (state_of self.old)).answer }
         ensures state { (plant : List Actuator) → state_of self.new ≡ (act plant session n (command.Renew txn duration points.now seq) (state_of self.old)).state }
         ensures changed { (plant : List Actuator) → result.changed ≡ changes plant session n (command.Renew txn duration points.now seq) (state_of self.old) }
         ensures places { (plant : List Actuator) → HasPlaces plant self.old → HasPlaces plant self.new }
@@ -189,8 +195,8 @@ impl Machine {
         let Some(owner) = process_of(&self.attached, session) else {
             return Done::refused(Refusal::NotAttached);
         };
-        if let Some(answer) = self.lasting.processes.decided(owner, seq) {
-            return Done::unchanged(answer);
+        if let Some(decision) = self.lasting.processes.decision(owner, seq) {
+            return Done::unchanged(Reply::Decided(decision));
         }
         if let Some(why) = renew_refused(&self.lasting, owner, txn, duration, points, n) {
             return Done::refused(why);
@@ -212,7 +218,8 @@ impl Machine {
         requires moment { (self.old.lasting.holdings.now ≤ n) × (n ≤ last_moment) }
         requires points { length points.now ≤ most_writes }
         requires passed { renew_refused owner txn duration points.now n (persistent_of self.old.lasting) ≡ None }
-        ensures answer { result.answer ≡ answer.Renewed txn (renewed_until txn duration points.now n (persistent_of self.old.lasting)) }
+        ensures tellable { (plant : List Actuator) → IsTellable plant (persistent_of self.new.lasting) result.reply }
+        ensures answer { told (persistent_of self.new.lasting) result.reply ≡ answer.Renewed txn (renewed_until txn duration points.now n (persistent_of self.old.lasting)) }
         ensures changed { result.changed ≡ renewal_changes n txn duration points.now seq (persistent_of self.old.lasting) }
         ensures after { persistent_of self.new.lasting ≡ with_reply owner seq
             (acceptance.Renewed txn (renewed_until txn duration points.now n (persistent_of self.old.lasting)))
@@ -225,12 +232,13 @@ impl Machine {
         let later = self.lasting.holdings.now() != n;
         let extended = self.lasting.extend(txn, points, until);
         self.lasting.holdings.reach(n);
-        let acceptance = Acceptance::Renewed {
+        let renewed = Acceptance::Renewed {
             txn,
             until: extended.first_until,
         };
+        self.lasting.processes.accept(owner, seq, renewed);
         Done {
-            answer: self.lasting.processes.accept(owner, seq, acceptance),
+            reply: Reply::Decided(Decision::Again(renewed)),
             changed: 0 < seq || later || extended.longer,
         }
     }
@@ -240,7 +248,8 @@ impl Machine {
         requires can_act { (plant : List Actuator) × CanAct plant self.old }
         requires passed { IsPassed n (persistent_of self.old.lasting) }
         requires moment { (self.old.lasting.holdings.now ≤ n) × (n ≤ last_moment) }
-        ensures answer { (plant : List Actuator) → result.answer ≡ (act plant session n (command.Cancel txn seq) (state_of self.old)).answer }
+        ensures tellable { (plant : List Actuator) → IsTellable plant (persistent_of self.new.lasting) result.reply }
+        ensures answer { (plant : List Actuator) → told (persistent_of self.new.lasting) result.reply ≡ (act plant session n (command.Cancel txn seq) (state_of self.old)).answer }
         ensures state { (plant : List Actuator) → state_of self.new ≡ (act plant session n (command.Cancel txn seq) (state_of self.old)).state }
         ensures changed { (plant : List Actuator) → result.changed ≡ changes plant session n (command.Cancel txn seq) (state_of self.old) }
         ensures places { (plant : List Actuator) → HasPlaces plant self.old → HasPlaces plant self.new }
@@ -249,25 +258,26 @@ impl Machine {
         let Some(owner) = process_of(&self.attached, session) else {
             return Done::refused(Refusal::NotAttached);
         };
-        if let Some(answer) = self.lasting.processes.decided(owner, seq) {
-            return Done::unchanged(answer);
+        if let Some(decision) = self.lasting.processes.decision(owner, seq) {
+            return Done::unchanged(Reply::Decided(decision));
         }
         if let Some(why) = cancel_refused(&self.lasting, owner, txn) {
             return Done::refused(why);
         }
+        self.cancel_for(owner, txn, seq, n);
+        let cancelled = Acceptance::Cancelled { txn, at: n };
         Done {
-            answer: self.cancel_for(owner, txn, seq, n),
+            reply: Reply::Decided(Decision::Again(cancelled)),
             changed: true,
         }
     }
 
     /// The same for a process, of a cancel that is not refused.
-    pub fn cancel_for(&mut self, owner: ProcId, txn: Txn, seq: u64, n: u64) -> Answer
+    pub fn cancel_for(&mut self, owner: ProcId, txn: Txn, seq: u64, n: u64)
         requires can_act { (plant : List Actuator) × CanAct plant self.old }
         requires passed { IsPassed n (persistent_of self.old.lasting) }
         requires moment { (self.old.lasting.holdings.now ≤ n) × (n ≤ last_moment) }
         requires allowed { cancel_refused owner txn (persistent_of self.old.lasting) ≡ None }
-        ensures answer { result ≡ answer.Cancelled txn n }
         ensures after { persistent_of self.new.lasting ≡ with_reply owner seq (acceptance.Cancelled txn n)
             (end_leases (is_of txn) cause.Cancelled n [] (persistent_of self.old.lasting)) }
         ensures others { (self.new.marks ≡ self.old.marks) × (self.new.attached ≡ self.old.attached) }
@@ -281,8 +291,8 @@ impl Machine {
             n,
             &mut self.told,
         );
-        let acceptance = Acceptance::Cancelled { txn, at: n };
-        self.lasting.processes.accept(owner, seq, acceptance)
+        let cancelled = Acceptance::Cancelled { txn, at: n };
+        self.lasting.processes.accept(owner, seq, cancelled);
     }
 
     /// The session's process is lost: its live leases end, and the session no longer holds it.
@@ -290,7 +300,8 @@ impl Machine {
         requires can_act { (plant : List Actuator) × CanAct plant self.old }
         requires passed { IsPassed n (persistent_of self.old.lasting) }
         requires moment { (self.old.lasting.holdings.now ≤ n) × (n ≤ last_moment) }
-        ensures answer { (plant : List Actuator) → result.answer ≡ (act plant session n (command.Gone) (state_of self.old)).answer }
+        ensures tellable { (plant : List Actuator) → IsTellable plant (persistent_of self.new.lasting) result.reply }
+        ensures answer { (plant : List Actuator) → told (persistent_of self.new.lasting) result.reply ≡ (act plant session n (command.Gone) (state_of self.old)).answer }
         ensures state { (plant : List Actuator) → state_of self.new ≡ (act plant session n (command.Gone) (state_of self.old)).state }
         ensures changed { (plant : List Actuator) → result.changed ≡ changes plant session n (command.Gone) (state_of self.old) }
         ensures places { (plant : List Actuator) → HasPlaces plant self.old → HasPlaces plant self.new }
@@ -302,7 +313,7 @@ impl Machine {
         let ended = self.lose(owner, n);
         detach(&mut self.attached, session);
         Done {
-            answer: Answer::Gone { ended },
+            reply: Reply::Gone { ended },
             changed: 0 < ended,
         }
     }
@@ -329,19 +340,16 @@ impl Machine {
     }
 
     /// Hands a driver's first want out.
-    pub fn next(&mut self, driver: DriverId) -> Answer
-        ensures answer { (plant : List Actuator) (session n : ℕ) → HasPlaces plant self.old → result ≡ (act plant session n (command.Next driver) (state_of self.old)).answer }
+    pub fn next(&mut self, driver: DriverId) -> Reply
+        ensures tellable { (plant : List Actuator) → IsTellable plant (persistent_of self.new.lasting) result }
+        ensures answer { (plant : List Actuator) (session n : ℕ) → HasPlaces plant self.old → told (persistent_of self.new.lasting) result ≡ (act plant session n (command.Next driver) (state_of self.old)).answer }
         ensures state { (plant : List Actuator) (session n : ℕ) → HasPlaces plant self.old → state_of self.new ≡ (act plant session n (command.Next driver) (state_of self.old)).state }
         ensures places { (plant : List Actuator) → HasPlaces plant self.old → HasPlaces plant self.new }
         ensures untouched { ShowsAsBefore self.old.lasting.holdings self.new.lasting.holdings }
     {
         match self.marks.next(driver) {
-            Some(want) => Answer::Want {
-                point: want.point,
-                version: want.version,
-                value: want.value,
-            },
-            None => Answer::Nothing,
+            Some(want) => Reply::Want(want),
+            None => Reply::Nothing,
         }
     }
 
@@ -350,7 +358,8 @@ impl Machine {
         requires can_act { (plant : List Actuator) × CanAct plant self.old × (point < length plant) }
         requires passed { IsPassed n (persistent_of self.old.lasting) }
         requires moment { (self.old.lasting.holdings.now ≤ n) × (n ≤ last_moment) }
-        ensures answer { (plant : List Actuator) (session : ℕ) → HasPlaces plant self.old → result.answer ≡ (act plant session n (command.Report point version ok) (state_of self.old)).answer }
+        ensures tellable { (plant : List Actuator) → IsTellable plant (persistent_of self.new.lasting) result.reply }
+        ensures answer { (plant : List Actuator) (session : ℕ) → HasPlaces plant self.old → told (persistent_of self.new.lasting) result.reply ≡ (act plant session n (command.Report point version ok) (state_of self.old)).answer }
         ensures state { (plant : List Actuator) (session : ℕ) → HasPlaces plant self.old → state_of self.new ≡ (act plant session n (command.Report point version ok) (state_of self.old)).state }
         ensures changed { (plant : List Actuator) (session : ℕ) → HasPlaces plant self.old → result.changed ≡ changes plant session n (command.Report point version ok) (state_of self.old) }
         ensures places { (plant : List Actuator) → HasPlaces plant self.old → HasPlaces plant self.new }
@@ -358,11 +367,11 @@ impl Machine {
     {
         let reported = self.marks.report(point, version, ok, n);
         if reported == Reported::Old {
-            return Done::unchanged(Answer::Noted { current: false });
+            return Done::unchanged(Reply::Noted { current: false });
         }
         Done {
             changed: self.follow_up(point, reported == Reported::FirstFailure, n),
-            answer: Answer::Noted { current: true },
+            reply: Reply::Noted { current: true },
         }
     }
 
@@ -379,17 +388,20 @@ impl Machine {
         ensures places { (plant : List Actuator) → HasPlaces plant self.old → HasPlaces plant self.new }
         ensures untouched { ShowsAsBefore self.old.lasting.holdings self.new.lasting.holdings }
     {
+        if !first {
+            return false;
+        }
         let Some(lease) = self.lasting.in_force(point) else {
             return false;
         };
         let happened = fault_of(lease, n);
         match on_fault(Some(lease.policy), first) {
-            Decision::EndAll => {
+            Policing::EndAll => {
                 self.abort(happened, n);
                 true
             }
-            Decision::Tell => self.tell(happened, n),
-            Decision::Mark => false,
+            Policing::Tell => self.tell(happened, n),
+            Policing::Mark => false,
         }
     }
 
@@ -435,30 +447,19 @@ impl Machine {
     }
 
     /// Tells the value that a point is to have.
-    pub fn read(&self, plant: &[Actuator], point: PointId) -> Answer
+    pub fn read(&self, plant: &[Actuator], point: PointId) -> Reply
         requires can_run { CanRun plant.now self.now }
         requires point { point < length plant.now }
-        ensures { (session n : ℕ) → result ≡ (act plant.now session n (command.Read point) (state_of self.now)).answer }
+        ensures tellable { (plant : List Actuator) → IsTellable plant (persistent_of self.now.lasting) result }
+        ensures answer { (session n : ℕ) → told (persistent_of self.now.lasting) result ≡ (act plant.now session n (command.Read point) (state_of self.now)).answer }
     {
         let holdings = &self.lasting.holdings;
-        Answer::Reading {
+        Reply::Read(Reading {
             point,
             value: target_of(plant, holdings, point),
             basis: basis_of(holdings, point),
             mark: self.marks.mark(point),
-        }
-    }
-
-    /// Tells the sixteen slots of a point.
-    pub fn array(&self, point: PointId) -> Answer
-        requires point { point < self.now.lasting.holdings.points }
-        requires pending { AllByRecursion IsPlayable self.now.lasting.holdings.pending }
-        ensures { (plant : List Actuator) (session n : ℕ) → result ≡ (act plant session n (command.Array point) (state_of self.now)).answer }
-    {
-        Answer::Array {
-            point,
-            slots: slots_of(&self.lasting.holdings, point),
-        }
+        })
     }
 
     /// Tells notices of the process of this name, or of the session's own.
@@ -469,18 +470,24 @@ impl Machine {
         from: u64,
         max: u64,
         ready: Ready,
-    ) -> Answer
+    ) -> Reply
         requires attached { AllByRecursion (λ attachment. attachment.process < length self.now.lasting.processes) self.now.attached.items }
         requires ready { IsReadyToList name.now (process_of self.now.attached.items session) max ready }
-        ensures { (plant : List Actuator) (n : ℕ) → result ≡ (act plant session n (command.Notices name.now from max) (state_of self.now)).answer }
+        ensures tellable { (plant : List Actuator) → IsTellable plant (persistent_of self.now.lasting) result }
+        ensures answer { (plant : List Actuator) (n : ℕ) → told (persistent_of self.now.lasting) result ≡ (act plant session n (command.Notices name.now from max) (state_of self.now)).answer }
     {
         let process = match name {
             Some(name) => self.lasting.processes.named(name),
             None => process_of(&self.attached, session),
         };
         match ready {
-            Ready::List(list) => notices(&self.lasting, process, from, max, list),
-            Ready::Refused(why) => Answer::Refused(why),
+            Ready::List(list) => Reply::Notices {
+                process,
+                from,
+                max,
+                list,
+            },
+            Ready::Refused(why) => Reply::Refused(why),
             _ => unreachable!(),
         }
     }

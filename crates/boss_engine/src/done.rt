@@ -1,30 +1,40 @@
 ghost use Rattle.std.specs.Prelude.{◌≡◌, false};
-ghost use Rattle.boss_model.specs.declared.answer.Answer.TheVariants as answer;
+ghost use Rattle.boss_engine.specs.declared.reply.Reply.TheVariants as reply;
 
-use boss_model::{Answer, Refusal};
+use crate::reply::Reply;
+use boss_model::{ProcId, Refusal};
 
-/// What a command came to: its answer, and whether it changed what outlasts a stop, beside what time did.
+/// What a command came to, and whether it changed what outlasts a stop, beside what time did.
 #[derive(Drop)]
 pub struct Done {
-    pub answer: Answer,
+    pub reply: Reply,
     pub changed: bool,
 }
 
 impl Done {
     /// The command changed nothing that outlasts a stop.
-    pub fn unchanged(answer: Answer) -> Done
-        ensures { result ≡ record { answer = answer; changed = false } }
+    pub fn unchanged(reply: Reply) -> Done
+        ensures { result ≡ record { reply = reply; changed = false } }
     {
         Done {
-            answer,
+            reply,
             changed: false,
         }
     }
 
     /// The command was refused.
     pub fn refused(why: Refusal) -> Done
-        ensures { result ≡ record { answer = answer.Refused why; changed = false } }
+        ensures { result ≡ record { reply = reply.Refused why; changed = false } }
     {
-        Done::unchanged(Answer::Refused(why))
+        Done::unchanged(Reply::Refused(why))
     }
+}
+
+/// A command that was carried out: what it came to, the process that it concerned, and the moment of the last change before it
+/// acted.
+#[derive(Drop)]
+pub struct Deed {
+    pub done: Done,
+    pub owner: ProcId,
+    pub passed: u64,
 }

@@ -15,9 +15,11 @@ ghost use Rattle.boss_points.specs.Seen.{seen as seen_point};
 ghost use Rattle.boss_spelled.specs.Ranges.{IsSpelled};
 ghost use Rattle.boss_engine.specs.Again.{TakesOn};
 ghost use Rattle.boss_engine.specs.Ready.{MayNeedMemory};
+ghost use Rattle.boss_engine.specs.Replies.{IsTellable, told};
 ghost use Rattle.boss_engine.specs.declared.restoring.RestoreRefusal.TheVariants as refusal;
 
 use crate::machine::Machine;
+use crate::reply::{Reply, answer_of_reading, answer_of_want};
 use crate::restoring::RestoreRefusal;
 use crate::room::Room;
 use boss_model::{
@@ -192,6 +194,34 @@ impl Engine {
 
         ensures answer { IfOk result (λ told. told.0 ≡ (step self.old.plant session command.now moment self.old.state).answer) }
         ensures effect { IfOk result (λ told. told.1 ≡ step_effect self.old.plant session command.now moment self.old.state) }
+        ensures state { IfOk result (λ _. self.new.state ≡ (step self.old.plant session command.now moment self.old.state).state) }
+        ensures sound { IsSound self.new.plant self.new.state }
+        ensures plant { self.new.plant ≡ self.old.plant }
+        ensures err { OnErr result (self.new ≡ self.old) }
+        ensures memory { OnErr result (MayNeedMemory self.old.plant session command.now self.old.state) }
+    {
+        let (reply, effect) = self.advance(session, command, moment)?;
+        match reply {
+            Reply::Want(want) => return Ok((answer_of_want(want), effect)),
+            Reply::Noted { current } => return Ok((Answer::Noted { current }, effect)),
+            Reply::Read(reading) => return Ok((answer_of_reading(reading), effect)),
+            other => Ok((self.machine.answer(other), effect)),
+        }
+    }
+
+    /// The same, with what the command came to in place of its answer. It is a call of its own, so that an answer is made in its place.
+    #[inline(never)]
+    fn advance(
+        &mut self,
+        session: SessionId,
+        command: &Command,
+        moment: u64,
+    ) -> Result<(Reply, Effect), NoMemory>
+        requires moment { moment ≤ last_moment }
+        requires allowed { IsAllowed self.old.plant command.now }
+        ensures answer { IfOk result (λ did. told self.new.state.persistent did.0 ≡ (step self.old.plant session command.now moment self.old.state).answer) }
+        ensures tellable { IfOk result (λ did. IsTellable self.new.plant self.new.state.persistent did.0) }
+        ensures effect { IfOk result (λ did. did.1 ≡ step_effect self.old.plant session command.now moment self.old.state) }
         ensures state { IfOk result (λ _. self.new.state ≡ (step self.old.plant session command.now moment self.old.state).state) }
         ensures sound { IsSound self.new.plant self.new.state }
         ensures plant { self.new.plant ≡ self.old.plant }

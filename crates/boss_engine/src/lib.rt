@@ -11,6 +11,7 @@ mod preparing;
 mod ready;
 mod reopening;
 mod replaying;
+mod reply;
 mod restoring;
 mod room;
 mod settling;

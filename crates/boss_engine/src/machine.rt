@@ -1,4 +1,5 @@
-ghost use Rattle.std.specs.Prelude.{◌≡◌, ◌≤◌, length, map, IfOk, OnOk, OnErr};
+ghost use Rattle.std.specs.Prelude.{◌≡◌, true, false, List, ◌≤◌, length, map, IfOk, OnOk, OnErr};
+ghost use Rattle.boss_model.specs.declared.state.Actuator.{Actuator};
 ghost use Rattle.boss_model.specs.Effects.{step_effect};
 ghost use Rattle.boss_model.specs.Limits.{last_moment, most_points};
 ghost use Rattle.boss_model.specs.Machine.{act, pass_time, step};
@@ -6,22 +7,23 @@ ghost use Rattle.boss_model.specs.Sound.{IsAllowed, IsSound};
 ghost use Rattle.boss_model.specs.Settle.{first_state};
 ghost use Rattle.boss_effects.specs.Changes.{changes};
 ghost use Rattle.boss_engine.specs.declared.ready.Ready.{Ready};
+ghost use Rattle.boss_engine.specs.Deeds.{IsDone, takes_memory};
+ghost use Rattle.boss_engine.specs.Replies.{IsTellable, told};
 ghost use Rattle.boss_engine.specs.Inside.{CanRun, HasPlaces, state_of};
 ghost use Rattle.boss_lasting.specs.Lasting.{persistent_of};
 ghost use Rattle.boss_books.specs.Passed.{IsPassed};
 ghost use Rattle.boss_engine.specs.Ready.{HasRoomFor, IsReadyFor, MayNeedMemory};
 ghost use Rattle.boss_lasting.specs.Showing.{ShowsAsBefore};
 
-use crate::done::Done;
+use crate::done::{Deed, Done};
 use crate::effects::effect_of;
 use crate::ready::Ready;
+use crate::reply::Reply;
 use crate::settling::settle;
 use boss_books::Telling;
-use boss_lasting::{Attachment, Lasting, status};
+use boss_lasting::{Attachment, Lasting};
 use boss_marks::Marks;
-use boss_model::{
-    Actuator, Answer, Command, DriverId, Effect, Items, MOST_PROCESSES, NoMemory, SessionId,
-};
+use boss_model::{Actuator, Command, DriverId, Effect, Items, MOST_PROCESSES, NoMemory, SessionId};
 use std::alloc::Global;
 
 /// The most that one step tells of a point's slots: of each that a lease ended, and that its reversion did.
@@ -62,12 +64,13 @@ impl Machine {
         session: SessionId,
         command: &Command,
         moment: u64,
-    ) -> Result<(Answer, Effect), NoMemory>
+    ) -> Result<(Reply, Effect), NoMemory>
         requires moment { moment ≤ last_moment }
         requires allowed { IsAllowed plant.now command.now }
         requires ready { CanRun plant.now self.old }
-        ensures answer { IfOk result (λ told. told.0 ≡ (step plant.now session command.now moment (state_of self.old)).answer) }
-        ensures effect { IfOk result (λ told. told.1 ≡ step_effect plant.now session command.now moment (state_of self.old)) }
+        ensures tellable { IfOk result (λ did. IsTellable plant.now (persistent_of self.new.lasting) did.0) }
+        ensures answer { IfOk result (λ did. told (persistent_of self.new.lasting) did.0 ≡ (step plant.now session command.now moment (state_of self.old)).answer) }
+        ensures effect { IfOk result (λ did. did.1 ≡ step_effect plant.now session command.now moment (state_of self.old)) }
         ensures state { OnOk result (state_of self.new ≡ (step plant.now session command.now moment (state_of self.old)).state) }
         ensures ready { CanRun plant.now self.new }
         ensures err { OnErr result (state_of self.new ≡ state_of self.old) }
@@ -75,16 +78,85 @@ impl Machine {
     {
         let before = self.lasting.holdings.now();
         let n = before.max(moment);
+        let deed = self.carry_out(plant, session, command, n)?;
+        settle(plant, &mut self.lasting, &mut self.marks);
+        let effect = effect_of(deed.done.changed, n, deed.owner, before, deed.passed);
+        Ok((deed.done.reply, effect))
+    }
+
+    /// Takes the memory that a command needs, lets time pass up to `n`, and lets the command act.
+    fn carry_out(
+        &mut self,
+        plant: &[Actuator],
+        session: SessionId,
+        command: &Command,
+        n: u64,
+    ) -> Result<Deed, NoMemory>
+        requires moment { (self.old.lasting.holdings.now ≤ n) × (n ≤ last_moment) }
+        requires allowed { IsAllowed plant.now command.now }
+        requires ready { CanRun plant.now self.old }
+        ensures deed { IfOk result (λ deed. IsDone plant.now session command.now n (state_of self.old) self.new deed) }
+        ensures places { HasPlaces plant.now self.new }
+        ensures err { OnErr result (state_of self.new ≡ state_of self.old) }
+        ensures memory { OnErr result (MayNeedMemory plant.now session command.now (state_of self.old)) }
+    {
+        if takes_memory(command) {
+            return self.carry_out_ready(plant, session, command, n);
+        }
+        Ok(self.carry_out_plain(plant, session, command, n))
+    }
+
+    /// The same of a command that needs some.
+    fn carry_out_ready(
+        &mut self,
+        plant: &[Actuator],
+        session: SessionId,
+        command: &Command,
+        n: u64,
+    ) -> Result<Deed, NoMemory>
+        requires moment { (self.old.lasting.holdings.now ≤ n) × (n ≤ last_moment) }
+        requires allowed { IsAllowed plant.now command.now }
+        requires ready { CanRun plant.now self.old }
+        requires takes { takes_memory command.now ≡ true }
+        ensures deed { IfOk result (λ deed. IsDone plant.now session command.now n (state_of self.old) self.new deed) }
+        ensures places { HasPlaces plant.now self.new }
+        ensures err { OnErr result (state_of self.new ≡ state_of self.old) }
+        ensures memory { OnErr result (MayNeedMemory plant.now session command.now (state_of self.old)) }
+    {
         let ready = self.make_ready(plant, session, command, n)?;
         self.pass_time(plant, n);
         let passed = self.lasting.holdings.now();
         let owner = self.concerned(session, command);
-        let done = self.act(plant, session, command, n, ready);
-        settle(plant, &mut self.lasting, &mut self.marks);
-        Ok((
-            done.answer,
-            effect_of(done.changed, n, owner, before, passed),
-        ))
+        Ok(Deed {
+            done: self.act_ready(plant, session, command, n, ready),
+            owner,
+            passed,
+        })
+    }
+
+    /// The same of a command that needs none.
+    fn carry_out_plain(
+        &mut self,
+        plant: &[Actuator],
+        session: SessionId,
+        command: &Command,
+        n: u64,
+    ) -> Deed
+        requires moment { (self.old.lasting.holdings.now ≤ n) × (n ≤ last_moment) }
+        requires allowed { IsAllowed plant.now command.now }
+        requires ready { CanRun plant.now self.old }
+        requires takes { takes_memory command.now ≡ false }
+        ensures { IsDone plant.now session command.now n (state_of self.old) self.new result }
+    {
+        self.pass_time(plant, n);
+        let passed = self.lasting.holdings.now();
+        let owner = self.concerned(session, command);
+        let done = self.act(plant, session, command, n);
+        Deed {
+            done,
+            owner,
+            passed,
+        }
     }
 
     /// Lets time pass up to `n`, failed devices be tried again, and the points settle.
@@ -100,8 +172,8 @@ impl Machine {
         settle(plant, &mut self.lasting, &mut self.marks);
     }
 
-    /// Lets a command act at moment `n`.
-    fn act(
+    /// Lets a command act at moment `n` for which this was made ready.
+    fn act_ready(
         &mut self,
         plant: &[Actuator],
         session: SessionId,
@@ -109,13 +181,14 @@ impl Machine {
         n: u64,
         ready: Ready,
     ) -> Done
-        requires passed { IsPassed n (persistent_of self.old.lasting) }
         requires moment { (self.old.lasting.holdings.now ≤ n) × (n ≤ last_moment) }
+        requires takes { takes_memory command.now ≡ true }
         requires allowed { IsAllowed plant.now command.now }
         requires can_run { CanRun plant.now self.old }
         requires ready { IsReadyFor plant.now session command.now n ready (state_of self.old) }
         requires room { HasRoomFor ready self.old }
-        ensures answer { result.answer ≡ (act plant.now session n command.now (state_of self.old)).answer }
+        ensures answer { told (persistent_of self.new.lasting) result.reply ≡ (act plant.now session n command.now (state_of self.old)).answer }
+        ensures tellable { IsTellable plant.now (persistent_of self.new.lasting) result.reply }
         ensures changed { result.changed ≡ changes plant.now session n command.now (state_of self.old) }
         ensures state { state_of self.new ≡ (act plant.now session n command.now (state_of self.old)).state }
         ensures places { HasPlaces plant.now self.new }
@@ -124,6 +197,29 @@ impl Machine {
         match command {
             Command::Attach { name } => self.attach(session, name, n, ready),
             Command::Submit { seq, .. } => self.submit(*seq, n, ready),
+            Command::Notices { name, from, max } => Done {
+                reply: self.notices(session, name, *from, *max, ready),
+                changed: false,
+            },
+            _ => unreachable!(),
+        }
+    }
+
+    /// Lets a command act at moment `n` that needs no memory.
+    fn act(&mut self, plant: &[Actuator], session: SessionId, command: &Command, n: u64) -> Done
+        requires passed { IsPassed n (persistent_of self.old.lasting) }
+        requires moment { (self.old.lasting.holdings.now ≤ n) × (n ≤ last_moment) }
+        requires allowed { IsAllowed plant.now command.now }
+        requires can_run { CanRun plant.now self.old }
+        requires takes { takes_memory command.now ≡ false }
+        ensures answer { told (persistent_of self.new.lasting) result.reply ≡ (act plant.now session n command.now (state_of self.old)).answer }
+        ensures tellable { IsTellable plant.now (persistent_of self.new.lasting) result.reply }
+        ensures changed { result.changed ≡ changes plant.now session n command.now (state_of self.old) }
+        ensures state { state_of self.new ≡ (act plant.now session n command.now (state_of self.old)).state }
+        ensures places { HasPlaces plant.now self.new }
+        ensures untouched { ShowsAsBefore self.old.lasting.holdings self.new.lasting.holdings }
+    {
+        match command {
             Command::Renew {
                 txn,
                 length,
@@ -133,34 +229,41 @@ impl Machine {
             Command::Cancel { txn, seq } => self.cancel(session, *txn, *seq, n),
             Command::Gone => self.gone(session, n),
             Command::Tick => Done {
-                answer: Answer::Ticked {
+                reply: Reply::Ticked {
                     now: self.lasting.holdings.now(),
                 },
                 changed: false,
             },
             Command::Next { driver } => Done {
-                answer: self.next(*driver),
+                reply: self.next(*driver),
                 changed: false,
             },
             Command::Report { point, version, ok } => self.report(*point, *version, *ok, n),
             Command::Read { point } => Done {
-                answer: self.read(plant, *point),
+                reply: self.read(plant, *point),
                 changed: false,
             },
             Command::Array { point } => Done {
-                answer: self.array(*point),
+                reply: Reply::Array { point: *point },
                 changed: false,
             },
             Command::Status { txn } => Done {
-                answer: status(&self.lasting, *txn),
+                reply: Reply::Status { txn: *txn },
                 changed: false,
             },
-            Command::Notices { name, from, max } => Done {
-                answer: self.notices(session, name, *from, *max, ready),
-                changed: false,
-            },
+            _ => unreachable!(),
         }
     }
+}
+
+/// Whether a command may need memory: one that takes on what outlasts it, or makes a list.
+fn takes_memory(command: &Command) -> bool
+    ensures { result ≡ takes_memory command.now }
+{
+    matches!(
+        command,
+        Command::Attach { .. } | Command::Submit { .. } | Command::Notices { .. }
+    )
 }
 
 /// The driver and the default of each point.

@@ -1,14 +1,14 @@
-use Rattle.std.proofs.Common.{◌≡◌, List, Option, is_some, not, ◌&&◌, sym, subst, ap, ap₂, ◌∙◌}
+use Rattle.std.proofs.Common.{◌≡◌, List, is_some, sym, subst, ap, ap₂, ◌∙◌}
 use Rattle.std.specs.Prelude.{unwrap_or}
 use Rattle.std.specs.Option.{option_map_or}
 use Rattle.boss_model.specs.declared.state.Actuator.{Actuator}
 use Rattle.boss_model.specs.Acts.{replay}
 use Rattle.boss_model.specs.Settle.{opened}
 use Rattle.boss_model.specs.Sound.{IsSound}
-use Rattle.boss_model.specs.State.{Persistent, State}
-use Rattle.boss_engine.specs.Inside.{CanAct, HasPlaces, seen_state, state_of}
+use Rattle.boss_model.specs.State.{Persistent}
+use Rattle.boss_engine.specs.Inside.{CanAct, seen_state}
 use Rattle.boss_lasting.specs.Lasting.{persistent_of}
-use Rattle.boss_engine.proofs.Seen.{seen-act, seen-again, seen-persistent, seen-same, seen-still}
+use Rattle.boss_engine.proofs.Seen.{seen-act, seen-again, seen-persistent, seen-still}
 use Rattle.boss_engine.proofs.engine.Engine.replay.Goals as goal
 
 pub replay-requires-clause-can_act : goal.replay-requires-clause-can_act

@@ -1,16 +1,6 @@
-use Rattle.std.proofs.Common.{FitsSigned, w64, rules}
+use Rattle.std.proofs.Common.{refl, FitsSigned, w64, rules}
 use Rattle.std.proofs.lemmas.Int.{to_z-of_z}
-use Rattle.boss_lasting.proofs.Playable.{all-playable}
 use Rattle.boss_engine.proofs.machine.Machine.act.Goals as goal
-
-pub array-requires-clause-pending : goal.array-requires-clause-pending
-array-requires-clause-pending c = all-playable c.args.plant.now _ c.requires.can_run.sound.persistent
-
-pub returns-in-Attach-clause-answer : goal.returns-in-Attach-clause-answer
-returns-in-Attach-clause-answer c = rw c.in-Attach.is (c.attach.ensures.answer c.args.plant.now)
-
-pub returns-in-Attach-clause-state : goal.returns-in-Attach-clause-state
-returns-in-Attach-clause-state c = rw c.in-Attach.is (c.attach.ensures.state c.args.plant.now)
 
 pub returns-in-Renew-clause-answer : goal.returns-in-Renew-clause-answer
 returns-in-Renew-clause-answer c =
@@ -47,16 +37,10 @@ pub returns-in-Report-clause-state : goal.returns-in-Report-clause-state
 returns-in-Report-clause-state c = rw c.in-Report.is (c.report.ensures.state c.args.plant.now c.args.session c.requires.can_run.places)
 
 pub returns-in-Read-clause-answer : goal.returns-in-Read-clause-answer
-returns-in-Read-clause-answer c = rw c.in-Read.is (c.read.ensures c.args.session c.args.n)
+returns-in-Read-clause-answer c = rw c.in-Read.is (c.read.ensures.answer c.args.session c.args.n)
 
 pub returns-in-Array-clause-answer : goal.returns-in-Array-clause-answer
-returns-in-Array-clause-answer c = rw c.in-Array.is (c.array.ensures c.args.plant.now c.args.session c.args.n)
-
-pub returns-in-Notices-clause-answer : goal.returns-in-Notices-clause-answer
-returns-in-Notices-clause-answer c = rw c.in-Notices.is (c.notices.ensures c.args.plant.now c.args.n)
-
-pub returns-in-Attach-clause-changed : goal.returns-in-Attach-clause-changed
-returns-in-Attach-clause-changed c = rw c.in-Attach.is (c.attach.ensures.changed c.args.plant.now)
+returns-in-Array-clause-answer c = rw c.in-Array.is refl
 
 pub returns-in-Cancel-clause-changed : goal.returns-in-Cancel-clause-changed
 returns-in-Cancel-clause-changed c = rw c.in-Cancel.is (c.cancel.ensures.changed c.args.plant.now)
@@ -71,3 +55,21 @@ returns-in-Renew-clause-changed c =
 
 pub returns-in-Report-clause-changed : goal.returns-in-Report-clause-changed
 returns-in-Report-clause-changed c = rw c.in-Report.is (c.report.ensures.changed c.args.plant.now c.args.session c.requires.can_run.places)
+
+pub returns-in-Renew-clause-tellable : goal.returns-in-Renew-clause-tellable
+returns-in-Renew-clause-tellable c = c.renew.ensures.tellable c.args.plant.now
+
+pub returns-in-Cancel-clause-tellable : goal.returns-in-Cancel-clause-tellable
+returns-in-Cancel-clause-tellable c = c.cancel.ensures.tellable c.args.plant.now
+
+pub returns-in-Gone-clause-tellable : goal.returns-in-Gone-clause-tellable
+returns-in-Gone-clause-tellable c = c.gone.ensures.tellable c.args.plant.now
+
+pub returns-in-Next-clause-tellable : goal.returns-in-Next-clause-tellable
+returns-in-Next-clause-tellable c = c.next.ensures.tellable c.args.plant.now
+
+pub returns-in-Report-clause-tellable : goal.returns-in-Report-clause-tellable
+returns-in-Report-clause-tellable c = c.report.ensures.tellable c.args.plant.now
+
+pub returns-in-Read-clause-tellable : goal.returns-in-Read-clause-tellable
+returns-in-Read-clause-tellable c = c.read.ensures.tellable c.args.plant.now

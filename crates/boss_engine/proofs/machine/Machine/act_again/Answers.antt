@@ -6,7 +6,6 @@ use Rattle.boss_model.specs.Ends.{is_owned_by}
 use Rattle.boss_model.specs.Renew.{renew_refused}
 use Rattle.boss_spelled.specs.Ranges.{IsAct}
 use Rattle.boss_engine.specs.declared.machine.Machine.{Machine}
-use Rattle.boss_engine.specs.declared.ready.Ready.{Ready}
 use Rattle.boss_engine.specs.Again.{IsReadyAgain}
 use Rattle.boss_lasting.specs.Lasting.{IsKept, persistent_of}
 use Rattle.boss_engine.proofs.Again.{cancel-made, renew-made, submit-passed}

@@ -11,7 +11,7 @@ returns-clause-after c = λ owner policy writes is.
     let next = c.args.self.now.lasting.next_txn in
     let after = c.submit.new.self in
     let own : c.owner-owner.result ≡ owner = c.owner-owner.ensures ∙ ap (λ t. t.owner) is.recorded in
-    let until : c.first_until.result ≡ first_until c.args.leases.items = c.first_until.ensures ∙ ap first_until c.deref.ensures.value in
+    let until : c.first_until-until.result ≡ first_until c.args.leases.items = c.first_until-until.ensures ∙ ap first_until c.deref.ensures.value in
     let kept : c.accept.new.self ≡ accepted owner seq (acceptance.Accepted next (first_until c.args.leases.items)) after.processes =
     c.accept.ensures.kept ∙ (λ i. accepted (own i) seq (acceptance.Accepted next (until i)) after.processes) in
     (λ i. record (persistent_of after) { processes = kept i })

@@ -1,4 +1,4 @@
-use Rattle.std.proofs.Common.{◌≡◌, [], refl, ap, ◌∙◌}
+use Rattle.std.proofs.Common.{[], refl, ap, ◌∙◌}
 use Rattle.boss_model.specs.declared.kept.Acceptance.TheVariants as acceptance
 use Rattle.boss_lasting.specs.Lasting.{persistent_of}
 use Rattle.boss_lasting.specs.Replying.{with_reply}

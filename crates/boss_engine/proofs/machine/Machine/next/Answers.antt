@@ -1,5 +1,4 @@
-use Rattle.std.proofs.Common.{FitsSigned, w64, rules, Some, None, sym, ap, ◌∙◌}
-use Rattle.std.proofs.lemmas.Int.{to_z-of_z}
+use Rattle.std.proofs.Common.{Some, None, sym, ap, ◌∙◌}
 use Rattle.boss_lasting.specs.Lasting.{persistent_of}
 use Rattle.boss_engine.proofs.Waiting.{next-is}
 use Rattle.boss_engine.proofs.machine.Machine.next.Goals as goal
@@ -7,9 +6,8 @@ use Rattle.boss_engine.proofs.machine.Machine.next.Goals as goal
 pub returns-in-Some-clause-answer : goal.returns-in-Some-clause-answer
 returns-in-Some-clause-answer c = λ plant session n places.
     let m = c.args.self.now in
-    let fits : FitsSigned w64 c.in-Some.want.value = search rules in
     let is = next-is plant (persistent_of m.lasting) m.attached.items m.marks (sym places.drivers) c.args.driver (Some c.in-Some.want) c.next.new.self (sym c.in-Some.is ∙ c.next.ensures.want) c.next.ensures.after in
-    simp to_z-of_z (sym (ap (λ r. r.answer) is))
+    sym (ap (λ r. r.answer) is)
 
 pub returns-in-Some-clause-state : goal.returns-in-Some-clause-state
 returns-in-Some-clause-state c = λ plant session n places.

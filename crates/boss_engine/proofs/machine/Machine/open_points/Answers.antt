@@ -1,7 +1,6 @@
-use Rattle.std.proofs.Common.{◌≡◌, length, map, sym, ap, ◌∙◌, arith}
+use Rattle.std.proofs.Common.{length, ap, ◌∙◌}
 use Rattle.std.proofs.lemmas.List.{length-map}
 use Rattle.boss_lasting.specs.Lasting.{persistent_of}
-use Rattle.boss_engine.proofs.Keeping.{keeps-places}
 use Rattle.boss_lasting.proofs.Playable.{all-playable}
 use Rattle.boss_engine.proofs.machine.Machine.open_points.Goals as goal
 

@@ -1,4 +1,4 @@
-use Rattle.std.proofs.Common.{◌≡◌, ◌∙◌, sym, rules, ap, arith, map, length, refl}
+use Rattle.std.proofs.Common.{◌≡◌, ◌∙◌, sym, rules, ap, arith, map, refl}
 use Rattle.boss_marks.specs.Marks.{opened}
 use Rattle.boss_engine.proofs.Opening.{device_of, drivers-opened}
 use Rattle.boss_engine.proofs.machine.Machine.put_back.Goals as goal

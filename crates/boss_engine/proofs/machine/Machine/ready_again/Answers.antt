@@ -1,7 +1,6 @@
-use Rattle.std.proofs.Common.{◌≡◌, true, None, is_none, ◌&&◌, ◌∙◌, subst, sym}
+use Rattle.std.proofs.Common.{◌≡◌, true, is_none, ◌&&◌, subst, sym}
 use Rattle.std.specs.List.{list_all, AllByRecursion}
 use Rattle.boss_model.specs.declared.event.Act.{Act}
-use Rattle.boss_model.specs.declared.event.Act.TheVariants as act
 use Rattle.boss_model.specs.Acts.{is_known_point, is_known_process}
 use Rattle.boss_model.specs.Submit.{submit_refused}
 use Rattle.boss_effects.specs.Changes.{is_new}

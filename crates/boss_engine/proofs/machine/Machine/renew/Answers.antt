@@ -1,10 +1,11 @@
 use Rattle.std.proofs.Common.{◌≡◌, FitsSigned, w64, Some, None, sym, ap, ◌∙◌}
 use Rattle.std.proofs.lemmas.Int.{to_z-of_z}
+use Rattle.std.specs.Option.{option_map}
 use Rattle.boss_model.specs.Processes.{process_of}
 use Rattle.boss_model.specs.Renew.{renew_refused}
 use Rattle.boss_engine.specs.Inside.{state_of}
 use Rattle.boss_lasting.specs.Lasting.{persistent_of}
-use Rattle.boss_lasting.specs.Replying.{decided}
+use Rattle.boss_lasting.specs.Replying.{decided, decision_answer}
 use Rattle.boss_engine.proofs.Doing.{renew-leaves}
 use Rattle.boss_engine.proofs.machine.Machine.renew.Goals as goal
 
@@ -14,7 +15,7 @@ returns-clause-state c = λ any.
     let owner = c.in-Some.owner in
     let fits : FitsSigned w64 c.args.duration = c.ranges.duration in
     let held : process_of m.attached.items c.args.session ≡ Some owner = sym (c.in-Some.ensures ∙ ap (λ attached. process_of attached c.args.session) c.deref.ensures.value) in
-    let undecided : decided m.lasting.processes owner c.args.seq ≡ None = sym (sym c.in_default-decided.is ∙ c.decided.ensures) in
+    let undecided : decided m.lasting.processes owner c.args.seq ≡ None = sym (ap (option_map decision_answer) (sym c.in_default-decision.is) ∙ c.decision.ensures) in
     let allowed : renew_refused owner c.args.txn c.args.duration c.args.points.now c.args.n (persistent_of m.lasting) ≡ None =
     sym (sym c.in_default-renew_refused.is ∙ (c.renew_refused.ensures ∙ ap (λ z. renew_refused owner c.args.txn z c.args.points.now c.args.n (persistent_of m.lasting)) (to_z-of_z w64 c.args.duration c.ranges.duration))) in
     let after = simp to_z-of_z at c.renew_for.ensures.after in

@@ -27,7 +27,7 @@ returns-clause-answer c =
     let ends = λ (e : Persistent). first_until (filter meant e.leases) in
     let first : c.extend-extended.result.first_until ≡ renewed_until c.args.txn c.args.duration c.args.points.now n d =
     c.extend-extended.ensures.first ∙ ap ends later ∙ sym (ap ends plain) in
-    c.accept.ensures.answer ∙ ap (answer.Renewed c.args.txn) first
+    ap (answer.Renewed c.args.txn) first
 
 pub returns-clause-after : goal.returns-clause-after
 returns-clause-after c =

@@ -4,7 +4,9 @@ use Rattle.boss_model.specs.declared.state.Lease.{Lease}
 use Rattle.boss_model.specs.declared.kept.Acceptance.TheVariants as acceptance
 use Rattle.boss_model.specs.Processes.{process_of}
 use Rattle.boss_model.specs.Submit.{first_until, submitted}
+use Rattle.boss_engine.specs.declared.done.Done.{Done}
 use Rattle.boss_engine.specs.declared.ready.Ready.{Ready}
+use Rattle.boss_engine.specs.Replies.{told}
 use Rattle.boss_holdings.specs.Held.{AreApart}
 use Rattle.boss_engine.specs.Inside.{state_of}
 use Rattle.boss_lasting.specs.Lasting.{persistent_of}
@@ -14,8 +16,8 @@ use Rattle.boss_engine.proofs.Granted.{granted-apart, granted-slots}
 use Rattle.boss_engine.proofs.Submitting.{IsBegun, decided-leaves, decided-unchanged, ready-submit, refused-leaves, refused-unchanged, submit-leaves}
 use Rattle.boss_engine.proofs.machine.Machine.submit.Goals as goal
 
-pub begin-requires-clause-slots : goal.begin-requires-clause-slots
-begin-requires-clause-slots c =
+pub begin-until-requires-clause-slots : goal.begin-until-requires-clause-slots
+begin-until-requires-clause-slots c =
     let ready = c.requires.ready in
     let s = state_of c.args.self.now in
     let begun : IsBegun ready.0 (process_of s.attached ready.2) ready.3 ready.4 c.args.seq c.args.n c.in-Submit.transaction c.in-Submit.leases.items s.persistent =
@@ -26,8 +28,8 @@ begin-requires-clause-slots c =
     (subst (AllByRecursion (λ (lease : Lease). (lease.point < length ready.0) × (1 ≤ lease.priority) × (lease.priority ≤ 16))) (sym begun.is.leased)
     (granted-slots ready.0 begun.owner ready.4 d.next c.args.n ready.3 d begun.passed))
 
-pub begin-requires-clause-apart : goal.begin-requires-clause-apart
-begin-requires-clause-apart c =
+pub begin-until-requires-clause-apart : goal.begin-until-requires-clause-apart
+begin-until-requires-clause-apart c =
     let ready = c.requires.ready in
     let s = state_of c.args.self.now in
     let begun : IsBegun ready.0 (process_of s.attached ready.2) ready.3 ready.4 c.args.seq c.args.n c.in-Submit.transaction c.in-Submit.leases.items s.persistent =
@@ -44,20 +46,20 @@ returns-in-Submit-clause-state c = λ plant session writes policy some is.
     let held = process_of s.attached session in
     let begun = ready-submit plant held writes policy seq n c.in-Submit.transaction c.in-Submit.leases s some
     (subst (λ (given : Ready). IsReadyToSubmit plant held writes policy seq n given s) c.in-Submit.is is) in
-    let after = c.begin.ensures.after begun.owner policy writes begun.is
+    let after = c.begin-until.ensures.after begun.owner policy writes begun.is
     ∙ ap (λ leases. with_reply begun.owner seq (acceptance.Accepted s.persistent.next (first_until leases)) (submitted begun.owner policy writes n s.persistent)) begun.is.leased in
     (λ i. record {
       persistent = after i;
-      attached = (c.begin.ensures.others.1 i).items;
-      proxies = (c.begin.ensures.others.0 i).proxies;
-      wants = (c.begin.ensures.others.0 i).wants;
+      attached = (c.begin-until.ensures.others.1 i).items;
+      proxies = (c.begin-until.ensures.others.0 i).proxies;
+      wants = (c.begin-until.ensures.others.0 i).wants;
     })
     ∙ sym (ap (λ r. r.state) (submit-leaves plant session begun.owner seq n writes policy s begun.own begun.undecided begun.passed))
 
 pub returns-in-Decided-clause-answer : goal.returns-in-Decided-clause-answer
 returns-in-Decided-clause-answer c = λ plant session writes policy some is.
     let s = state_of c.args.self.now in
-    ap (λ d. d.answer) c.unchanged.ensures ∙ c.answer.ensures ∙ sym (ap (λ r. r.answer) (decided-leaves plant session c.args.seq c.args.n writes policy s c.in-Decided.decision
+    ap (λ (d : Done). told s.persistent d.reply) c.unchanged.ensures ∙ sym (ap (λ r. r.answer) (decided-leaves plant session c.args.seq c.args.n writes policy s c.in-Decided.decision
     (subst (λ (given : Ready). IsReadyToSubmit plant (process_of s.attached session) writes policy c.args.seq c.args.n given s) c.in-Decided.is is)))
 
 pub returns-in-Decided-clause-state : goal.returns-in-Decided-clause-state
@@ -69,7 +71,7 @@ returns-in-Decided-clause-state c = λ plant session writes policy some is.
 pub returns-in-Refused-clause-answer : goal.returns-in-Refused-clause-answer
 returns-in-Refused-clause-answer c = λ plant session writes policy some is.
     let s = state_of c.args.self.now in
-    ap (λ d. d.answer) c.refused.ensures ∙ sym (ap (λ r. r.answer) (refused-leaves plant session c.args.seq c.args.n writes policy s c.in-Refused.why
+    ap (λ (d : Done). told s.persistent d.reply) c.refused.ensures ∙ sym (ap (λ r. r.answer) (refused-leaves plant session c.args.seq c.args.n writes policy s c.in-Refused.why
     (subst (λ (given : Ready). IsReadyToSubmit plant (process_of s.attached session) writes policy c.args.seq c.args.n given s) c.in-Refused.is is)))
 
 pub returns-in-Refused-clause-state : goal.returns-in-Refused-clause-state

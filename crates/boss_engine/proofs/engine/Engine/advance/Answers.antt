@@ -1,4 +1,4 @@
-use Rattle.std.proofs.Common.{◌≡◌, List, sym, subst, ap, ap₂, ◌∙◌}
+use Rattle.std.proofs.Common.{◌≡◌, List, sym, subst, ap, ◌∙◌}
 use Rattle.std.proofs.lemmas.Result.{on_err_weaker}
 use Rattle.std.specs.Result.{IfOk}
 use Rattle.boss_model.specs.declared.state.Actuator.{Actuator}
@@ -8,8 +8,10 @@ use Rattle.boss_model.specs.Sound.{IsAllowed, IsSound}
 use Rattle.boss_model.specs.State.{State}
 use Rattle.boss_engine.specs.Inside.{CanAct, CanRun, HasPlaces, seen_state, state_of}
 use Rattle.boss_engine.specs.Ready.{MayNeedMemory}
+use Rattle.boss_engine.specs.Replies.{IsTellable, told}
+use Rattle.boss_lasting.specs.Lasting.{persistent_of}
 use Rattle.boss_engine.proofs.Seen.{seen-act}
-use Rattle.boss_engine.proofs.engine.Engine.step.Goals as goal
+use Rattle.boss_engine.proofs.engine.Engine.advance.Goals as goal
 
 pub open_unless-requires : goal.open_unless-requires
 open_unless-requires c =
@@ -37,14 +39,18 @@ invariant_of-self c =
     let run : CanRun inside.plant.items c.step.new.self = subst (λ (plant : List Actuator). CanRun plant c.step.new.self) c.deref-2.ensures.value c.step.ensures.ready in
     record { sound = run.sound; places = run.places }
 
+pub returns-clause-tellable : goal.returns-clause-tellable
+returns-clause-tellable c =
+    subst (λ (plant : List Actuator). IfOk c.step.result (λ did. IsTellable plant (persistent_of c.step.new.self.lasting) did.0)) c.deref-2.ensures.value c.step.ensures.tellable
+
 pub returns-clause-answer : goal.returns-clause-answer
 returns-clause-answer c =
     let inside = c.self.inside in
     let plant : c.deref-2.result.now ≡ c.args.self.now.plant = c.deref-2.ensures.value ∙ ap (λ r. r.plant) c.self.view_is in
     let state : state_of c.open_unless.new.self ≡ c.args.self.now.state =
     c.open_unless.ensures.state ∙ ap (λ (p : List Actuator). seen_state p inside.machine inside.is_open) c.deref.ensures.value ∙ ap (λ r. r.state) c.self.view_is in
-    subst (λ (s : State). IfOk c.step.result (λ told. told.0 ≡ (step c.args.self.now.plant c.args.session c.args.command.now c.args.moment s).answer)) state
-    (subst (λ (p : List Actuator). IfOk c.step.result (λ told. told.0 ≡ (step p c.args.session c.args.command.now c.args.moment (state_of c.open_unless.new.self)).answer)) plant c.step.ensures.answer)
+    subst (λ (s : State). IfOk c.step.result (λ did. told (persistent_of c.step.new.self.lasting) did.0 ≡ (step c.args.self.now.plant c.args.session c.args.command.now c.args.moment s).answer)) state
+    (subst (λ (p : List Actuator). IfOk c.step.result (λ did. told (persistent_of c.step.new.self.lasting) did.0 ≡ (step p c.args.session c.args.command.now c.args.moment (state_of c.open_unless.new.self)).answer)) plant c.step.ensures.answer)
 
 pub returns-clause-effect : goal.returns-clause-effect
 returns-clause-effect c =
@@ -52,8 +58,8 @@ returns-clause-effect c =
     let plant : c.deref-2.result.now ≡ c.args.self.now.plant = c.deref-2.ensures.value ∙ ap (λ r. r.plant) c.self.view_is in
     let state : state_of c.open_unless.new.self ≡ c.args.self.now.state =
     c.open_unless.ensures.state ∙ ap (λ (p : List Actuator). seen_state p inside.machine inside.is_open) c.deref.ensures.value ∙ ap (λ r. r.state) c.self.view_is in
-    subst (λ (s : State). IfOk c.step.result (λ told. told.1 ≡ step_effect c.args.self.now.plant c.args.session c.args.command.now c.args.moment s)) state
-    (subst (λ (p : List Actuator). IfOk c.step.result (λ told. told.1 ≡ step_effect p c.args.session c.args.command.now c.args.moment (state_of c.open_unless.new.self))) plant c.step.ensures.effect)
+    subst (λ (s : State). IfOk c.step.result (λ did. did.1 ≡ step_effect c.args.self.now.plant c.args.session c.args.command.now c.args.moment s)) state
+    (subst (λ (p : List Actuator). IfOk c.step.result (λ did. did.1 ≡ step_effect p c.args.session c.args.command.now c.args.moment (state_of c.open_unless.new.self))) plant c.step.ensures.effect)
 
 pub returns-clause-state : goal.returns-clause-state
 returns-clause-state c =
@@ -61,8 +67,8 @@ returns-clause-state c =
     let plant : c.deref-2.result.now ≡ c.args.self.now.plant = c.deref-2.ensures.value ∙ ap (λ r. r.plant) c.self.view_is in
     let state : state_of c.open_unless.new.self ≡ c.args.self.now.state =
     c.open_unless.ensures.state ∙ ap (λ (p : List Actuator). seen_state p inside.machine inside.is_open) c.deref.ensures.value ∙ ap (λ r. r.state) c.self.view_is in
-    subst (λ (s : State). IfOk c.step.result (λ told. state_of c.step.new.self ≡ (step c.args.self.now.plant c.args.session c.args.command.now c.args.moment s).state)) state
-    (subst (λ (p : List Actuator). IfOk c.step.result (λ told. state_of c.step.new.self ≡ (step p c.args.session c.args.command.now c.args.moment (state_of c.open_unless.new.self)).state)) plant c.step.ensures.state)
+    subst (λ (s : State). IfOk c.step.result (λ did. state_of c.step.new.self ≡ (step c.args.self.now.plant c.args.session c.args.command.now c.args.moment s).state)) state
+    (subst (λ (p : List Actuator). IfOk c.step.result (λ did. state_of c.step.new.self ≡ (step p c.args.session c.args.command.now c.args.moment (state_of c.open_unless.new.self)).state)) plant c.step.ensures.state)
 
 pub returns-clause-err : goal.returns-clause-err
 returns-clause-err c =

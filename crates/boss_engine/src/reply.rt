@@ -1,0 +1,124 @@
+//! What a command came to, and the answer that it is.
+
+ghost use Rattle.std.specs.Prelude.{◌≡◌, List};
+ghost use Rattle.boss_model.specs.declared.state.Actuator.{Actuator};
+ghost use Rattle.boss_engine.specs.Inside.{CanAct};
+ghost use Rattle.boss_lasting.specs.Lasting.{persistent_of};
+ghost use Rattle.boss_engine.specs.Replies.{IsTellable, told};
+ghost use Rattle.boss_model.specs.declared.answer.Answer.TheVariants as answer;
+
+use crate::machine::Machine;
+use boss_lasting::{Decision, notices, slots_of, status};
+use boss_marks::Want;
+use boss_model::{Answer, Basis, Mark, Name, Notice, PointId, ProcId, Refusal, Txn};
+
+/// The value that a point is to have, what it rests on, and how far the device has come.
+#[derive(Clone, Copy)]
+pub struct Reading {
+    pub point: PointId,
+    pub value: i64,
+    pub basis: Basis,
+    pub mark: Mark,
+}
+
+/// What a command came to, before it is an answer. An answer has room for sixteen slots, and is dear to move: it is made once, in
+/// the end. A list, a point's slots and the stage of a transaction are looked up then.
+#[derive(Drop)]
+pub enum Reply {
+    /// The session holds the process of this name, whose next notice has this number.
+    Attached {
+        name: Name,
+        next: u64,
+    },
+    /// What a submit, a renewal or a cancel came to, or what its number decides.
+    Decided(Decision),
+    /// The process let go this number of live leases.
+    Gone {
+        ended: u64,
+    },
+    /// Time has passed, and this is the moment of the last change.
+    Ticked {
+        now: u64,
+    },
+    /// The driver's device is to be set so.
+    Want(Want),
+    /// The driver has no want.
+    Nothing,
+    /// The report was heard, and was of the version that counts, or was not.
+    Noted {
+        current: bool,
+    },
+    /// The value that the point is to have, what it rests on, and how far the device has come.
+    Read(Reading),
+    /// The slots of the point.
+    Array {
+        point: PointId,
+    },
+    /// How far the transaction has come.
+    Status {
+        txn: Txn,
+    },
+    /// At most so many notices of the process, from this number on, which are put into the list.
+    Notices {
+        process: Option<ProcId>,
+        from: u64,
+        max: u64,
+        list: Vec<Notice>,
+    },
+    /// The command was refused.
+    Refused(Refusal),
+}
+
+impl Machine {
+    /// The answer that a reply is.
+    pub fn answer(&self, reply: Reply) -> Answer
+        requires { (plant : List Actuator) × CanAct plant self.now × IsTellable plant (persistent_of self.now.lasting) reply }
+        ensures { result ≡ told (persistent_of self.now.lasting) reply }
+    {
+        match reply {
+            Reply::Attached { name, next } => Answer::Attached { name, next },
+            Reply::Decided(decision) => decision.answer(),
+            Reply::Gone { ended } => Answer::Gone { ended },
+            Reply::Ticked { now } => Answer::Ticked { now },
+            Reply::Want(want) => answer_of_want(want),
+            Reply::Nothing => Answer::Nothing,
+            Reply::Noted { current } => Answer::Noted { current },
+            Reply::Read(reading) => answer_of_reading(reading),
+            Reply::Array { point } => Answer::Array {
+                point,
+                slots: slots_of(&self.lasting.holdings, point),
+            },
+            Reply::Status { txn } => status(&self.lasting, txn),
+            Reply::Notices {
+                process,
+                from,
+                max,
+                list,
+            } => notices(&self.lasting, process, from, max, list),
+            Reply::Refused(why) => Answer::Refused(why),
+        }
+    }
+}
+
+/// What a driver is answered that has this want.
+pub fn answer_of_want(want: Want) -> Answer
+    ensures { result ≡ answer.Want want.point want.version want.value }
+{
+    Answer::Want {
+        point: want.point,
+        version: want.version,
+        value: want.value,
+    }
+}
+
+/// What is answered where a point is read.
+pub fn answer_of_reading(reading: Reading) -> Answer
+    ensures { result ≡ answer.Reading reading.point reading.value reading.basis reading.mark }
+{
+    Answer::Reading {
+        point: reading.point,
+        value: reading.value,
+        basis: reading.basis,
+        mark: reading.mark,
+    }
+}
