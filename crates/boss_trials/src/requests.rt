@@ -3,40 +3,44 @@ use boss_points::Catalogue;
 use boss_requests::{
     Ask, Form, ReadRefusal, Request, RequestReader, is_blank, read_by, read_request,
 };
-use std::alloc::{AllocError, Global};
-use std::test::Fail;
+use std::alloc::Global;
+use std::process::Abort;
+
+fn three_points(rt: &impl Abort, alloc: Global) -> Catalogue {
+    Catalogue::read(alloc, THREE_POINTS.as_bytes()).expect(rt, "a catalogue")
+}
 
 /// What a line is read as, by itself and by a reader that has read others.
 fn reading(
+    rt: &impl Abort,
     alloc: Global,
     catalogue: &Catalogue,
     form: Form,
     line: &[u8],
     reader: &mut RequestReader,
-) -> Result<String, Fail> {
-    let alone = told(alloc, read_request(alloc, catalogue, line, form))?;
-    let along = told(alloc, read_by(alloc, catalogue, line, form, reader))?;
-    if along.as_str() == alone.as_str() {
-        Ok(along)
-    } else {
-        Ok(format!(in alloc; "{alone} alone, and {along} along others")?)
-    }
+) -> String {
+    let alone = told(rt, alloc, &read_request(alloc, catalogue, line, form));
+    let along = told(rt, alloc, &read_by(alloc, catalogue, line, form, reader));
+    assert_eq!(rt; along.as_str(), alone.as_str());
+    along
 }
 
 /// The session, the moment and what is asked, or why a line is refused.
-fn told(alloc: Global, read: Result<Request, ReadRefusal>) -> Result<String, Fail> {
+fn told(rt: &impl Abort, alloc: Global, read: &Result<Request, ReadRefusal>) -> String {
     match read {
-        Ok(request) => asked(alloc, &request),
-        Err(ReadRefusal::Refused(refusal)) => Ok(format!(in alloc; "{refusal:?}")?),
-        Err(ReadRefusal::NoMemory) => Err("no memory".into()),
+        Ok(request) => asked(rt, alloc, request),
+        Err(ReadRefusal::Refused(refusal)) => format!(in alloc; "{refusal:?}").expect(rt, "memory"),
+        Err(ReadRefusal::NoMemory) => rt.panic("no memory"),
     }
 }
 
-fn asked(alloc: Global, request: &Request) -> Result<String, Fail> {
+fn asked(rt: &impl Abort, alloc: Global, request: &Request) -> String {
     let (on, at) = (request.on.0, request.at);
     match &request.ask {
-        Ask::Command(command) => Ok(format!(in alloc; "{on} {at} {command:?}")?),
-        Ask::Watch { name, from } => Ok(format!(in alloc; "{on} {at} watch {name} from {from}")?),
+        Ask::Command(command) => format!(in alloc; "{on} {at} {command:?}").expect(rt, "memory"),
+        Ask::Watch { name, from } => {
+            format!(in alloc; "{on} {at} watch {name} from {from}").expect(rt, "memory")
+        }
     }
 }
 
@@ -311,32 +315,45 @@ const ENDS: &[(&[u8], &str)] = &[
     (b" {\"op\" : \"tick\"}\r", "1 0 Tick"),
 ];
 
+/// Reads the lines of a group, which have to be read as its first line says.
+fn expect_group(
+    rt: &impl Abort,
+    alloc: Global,
+    catalogue: &Catalogue,
+    form: Form,
+    group: &str,
+    reader: &mut RequestReader,
+) {
+    let (wanted, lines) = group.split_once('\n').expect(rt, "a group");
+    for line in lines.split('\n') {
+        if !line.is_empty() && !line.starts_with('#') {
+            let read = reading(rt, alloc, catalogue, form, line.as_bytes(), reader);
+            assert_eq!(rt; read.as_str(), wanted, "{line}");
+        }
+    }
+}
+
 #[test]
-fn a_line_is_read_as_its_request(rt: HostRuntime) -> Result<(), Fail> {
+fn a_line_is_read_as_its_request(rt: HostRuntime) {
     let alloc = rt.alloc();
-    let catalogue = Catalogue::read(alloc, THREE_POINTS.as_bytes())?;
+    let catalogue = three_points(&rt, alloc);
     let mut reader = RequestReader::new(alloc);
     for (form, table) in TABLES {
         for group in table.split("\n= ").skip(1) {
-            let (wanted, lines) = group.split_once('\n').ok_or("a group")?;
-            for line in lines.split('\n') {
-                if !line.is_empty() && !line.starts_with('#') {
-                    let read = reading(alloc, &catalogue, *form, line.as_bytes(), &mut reader)?;
-                    assert_eq!(rt; read.as_str(), wanted, "{line}");
-                }
-            }
+            expect_group(&rt, alloc, &catalogue, *form, group, &mut reader);
         }
     }
     for (line, wanted) in ENDS {
-        let read = reading(alloc, &catalogue, Form::Script, line, &mut reader)?;
-        assert_eq!(rt; read.as_str(), *wanted, "{line:?}");
+        let read = reading(&rt, alloc, &catalogue, Form::Script, line, &mut reader);
+        assert_eq!(&rt; read.as_str(), *wanted, "{line:?}");
     }
-    Ok(())
 }
+
+type Longest = (&'static str, &'static str, &'static str, &'static str, u32);
 
 /// Lines of as many parts as there may be: what stands in front, a part, what answers each part behind them all, what stands
 /// behind, and how many parts there are.
-const LONGEST: &[(&str, &str, &str, &str, u32)] = &[
+const LONGEST: &[Longest] = &[
     // 32 writes.
     (
         r#"{"op":"submit","writes":[{"point":"lamp","value":1,"lease":1}"#,
@@ -358,51 +375,33 @@ const LONGEST: &[(&str, &str, &str, &str, u32)] = &[
 ];
 
 /// A line of so many parts.
-fn line_of(
-    alloc: Global,
-    front: &str,
-    part: &str,
-    other: &str,
-    back: &str,
-    count: u32,
-) -> Result<String, AllocError> {
-    let mut line = String::from_str(alloc, front)?;
+fn line_of(rt: &impl Abort, alloc: Global, row: &Longest, count: u32) -> String {
+    let (front, part, other, back, _) = row;
+    let mut line = String::from_str(alloc, front).expect(rt, "memory");
     for _ in 0..count {
-        line.push_str(part)?;
+        line.push_str(part).expect(rt, "memory");
     }
     for _ in 0..count {
-        line.push_str(other)?;
+        line.push_str(other).expect(rt, "memory");
     }
-    line.push_str(back)?;
-    Ok(line)
+    line.push_str(back).expect(rt, "memory");
+    line
 }
 
 #[test]
-fn a_line_has_its_bounds(rt: HostRuntime) -> Result<(), Fail> {
+fn a_line_has_its_bounds(rt: HostRuntime) {
     let alloc = rt.alloc();
-    let catalogue = Catalogue::read(alloc, THREE_POINTS.as_bytes())?;
+    let catalogue = three_points(&rt, alloc);
     let mut reader = RequestReader::new(alloc);
-    for (front, part, other, back, most) in LONGEST {
-        let longest = line_of(alloc, front, part, other, back, *most)?;
-        let read = reading(
-            alloc,
-            &catalogue,
-            Form::Script,
-            longest.as_bytes(),
-            &mut reader,
-        )?;
-        assert!(rt; read.starts_with("1 0 "), "{longest}");
-        let longer = line_of(alloc, front, part, other, back, most.saturating_add(1))?;
-        let read = reading(
-            alloc,
-            &catalogue,
-            Form::Script,
-            longer.as_bytes(),
-            &mut reader,
-        )?;
-        assert_eq!(rt; read.as_str(), "Malformed", "{longer}");
+    for row in LONGEST {
+        let most = row.4;
+        for (count, wanted) in [(most, "1 0 "), (most.saturating_add(1), "Malformed")] {
+            let line = line_of(&rt, alloc, row, count);
+            let bytes = line.as_bytes();
+            let read = reading(&rt, alloc, &catalogue, Form::Script, bytes, &mut reader);
+            assert!(&rt; read.starts_with(wanted), "{line}");
+        }
     }
-    Ok(())
 }
 
 #[test]
