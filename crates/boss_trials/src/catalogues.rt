@@ -4,10 +4,9 @@ use boss_points::CatalogueRefusal::{
     BadDefault, BadDriver, BadKind, BadName, Missing, NotToml, SameName, TooLong, TooMany,
     UnknownDriver,
 };
-use boss_points::{Catalogue, CatalogueRefusal, Key};
-use std::alloc::{AllocError, Global};
+use boss_points::{Catalogue, CatalogueRefusal, Key, Point};
+use std::alloc::Global;
 use std::process::Abort;
-use std::test::Fail;
 
 /// What `sha256sum` says of the canonical text of the three points.
 const DIGEST: [u8; 32] = [
@@ -26,18 +25,21 @@ const POINTS: &[(&str, &str)] = &[
 ];
 
 /// Compares a catalogue with the three points.
-fn compare(rt: &impl Abort, alloc: Global, catalogue: &Catalogue) -> Result<(), Fail> {
+fn compare(rt: &impl Abort, alloc: Global, catalogue: &Catalogue) {
     assert!(rt; catalogue.digest() == DIGEST);
     assert_eq!(rt; catalogue.count(), 3);
     for place in 0..catalogue.count() {
-        let (name, told) = POINTS.get(place as usize).ok_or("a point")?;
-        let point = catalogue.point(PointId(place));
-        let read = format!(in alloc; "{:?} {:?} {}", point.driver, point.kind, point.default)?;
+        let (name, told) = POINTS.get(place as usize).expect(rt, "a point");
+        let read = described(rt, alloc, catalogue.point(PointId(place)));
         assert_eq!(rt; read.as_str(), *told);
-        assert!(rt; point.name.bytes() == name.as_bytes());
+        assert!(rt; catalogue.point(PointId(place)).name.bytes() == name.as_bytes());
         assert!(rt; is_at(catalogue, name, place));
     }
-    Ok(())
+}
+
+/// The driver, the kind and the default of a point.
+fn described(rt: &impl Abort, alloc: Global, point: &Point) -> String {
+    format!(in alloc; "{:?} {:?} {}", point.driver, point.kind, point.default).expect(rt, "memory")
 }
 
 /// Whether a name is found at this place.
@@ -49,10 +51,10 @@ fn is_at(catalogue: &Catalogue, name: &str, place: u32) -> bool {
 }
 
 #[test]
-fn reads_three_points(rt: HostRuntime) -> Result<(), Fail> {
+fn reads_three_points(rt: HostRuntime) {
     match Catalogue::read(rt.alloc(), THREE_POINTS.as_bytes()) {
         Ok(catalogue) => compare(&rt, rt.alloc(), &catalogue),
-        Err(_refusal) => Err("three points".into()),
+        Err(_refusal) => rt.panic("three points"),
     }
 }
 
@@ -394,30 +396,29 @@ fn has_4096_points(alloc: Global, file: &[u8]) -> bool {
 }
 
 /// A file of so many binary points, `p0`, `p1` and so on.
-fn points(alloc: Global, count: u32) -> Result<String, AllocError> {
-    let mut file = String::from_str(alloc, "drivers=['f']\n")?;
+fn points(rt: &impl Abort, alloc: Global, count: u32) -> String {
+    let mut file = String::from_str(alloc, "drivers=['f']\n").expect(rt, "memory");
     for number in 0..count {
-        add_point(alloc, &mut file, number)?;
+        add_point(rt, alloc, &mut file, number);
     }
-    Ok(file)
+    file
 }
 
 /// One binary point more at the end of a file.
-fn add_point(alloc: Global, file: &mut String, number: u32) -> Result<(), AllocError> {
+fn add_point(rt: &impl Abort, alloc: Global, file: &mut String, number: u32) {
     let point = format!(in alloc;
         "[[point]]\nname='p{number}'\ndriver='f'\nkind='binary'\ndefault=0\n"
-    )?;
-    file.push_str(point.as_str())
+    ).expect(rt, "memory");
+    file.push_str(point.as_str()).expect(rt, "memory");
 }
 
 #[test]
-fn reads_4096_points_and_no_more(rt: HostRuntime) -> Result<(), Fail> {
+fn reads_4096_points_and_no_more(rt: HostRuntime) {
     let alloc = rt.alloc();
-    let most = points(alloc, 4096)?;
-    assert!(rt; has_4096_points(alloc, most.as_bytes()));
-    let more = points(alloc, 4097)?;
-    assert!(rt; is_refused(alloc, more.as_bytes(), TooMany { count: 4097 }));
-    Ok(())
+    let most = points(&rt, alloc, 4096);
+    assert!(&rt; has_4096_points(alloc, most.as_bytes()));
+    let more = points(&rt, alloc, 4097);
+    assert!(&rt; is_refused(alloc, more.as_bytes(), TooMany { count: 4097 }));
 }
 
 /// Whether a file is accepted with the digest of the three points.
@@ -429,20 +430,19 @@ fn has_three_points(alloc: Global, file: &[u8]) -> bool {
 }
 
 /// The file of the three points, made as long as this by a comment of blanks.
-fn file_of(alloc: Global, length: usize) -> Result<Vec<u8>, AllocError> {
-    let mut file = THREE_POINTS.as_bytes().to_vec(alloc)?;
-    file.push(b'#')?;
-    file.resize(length, b' ')?;
-    Ok(file)
+fn file_of(rt: &impl Abort, alloc: Global, length: usize) -> Vec<u8> {
+    let mut file = THREE_POINTS.as_bytes().to_vec(alloc).expect(rt, "memory");
+    file.push(b'#').expect(rt, "memory");
+    file.resize(length, b' ').expect(rt, "memory");
+    file
 }
 
 #[test]
-fn reads_1048576_bytes_and_no_more(rt: HostRuntime) -> Result<(), Fail> {
+fn reads_1048576_bytes_and_no_more(rt: HostRuntime) {
     let alloc = rt.alloc();
-    let most = file_of(alloc, 1_048_576)?;
-    assert_eq!(rt; most.len(), 1_048_576);
-    assert!(rt; has_three_points(alloc, &most));
-    let more = file_of(alloc, 1_048_577)?;
-    assert!(rt; is_refused(alloc, &more, TooLong { length: 1_048_577 }));
-    Ok(())
+    let most = file_of(&rt, alloc, 1_048_576);
+    assert_eq!(&rt; most.len(), 1_048_576);
+    assert!(&rt; has_three_points(alloc, &most));
+    let more = file_of(&rt, alloc, 1_048_577);
+    assert!(&rt; is_refused(alloc, &more, TooLong { length: 1_048_577 }));
 }

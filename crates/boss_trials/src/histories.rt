@@ -6,7 +6,6 @@ ghost use Rattle.boss_lock.specs.Seats.{IsSeatOf, own_entries};
 use boss_lock::{Made, Ruled, Seat, Stands};
 use std::alloc::Global;
 use std::sync::Wait;
-use std::test::Fail;
 use std::thread::{Threads, join};
 
 #[derive(Drop)]
@@ -116,8 +115,7 @@ fn add_in_two_threads<R: Threads + Wait + Sync>(
 }
 
 #[test]
-fn every_entry_is_in_one_history(rt: HostRuntime) -> Result<(), Fail> {
+fn every_entry_is_in_one_history(rt: HostRuntime) {
     let count = add_in_two_threads(&rt, rt.alloc(), 7, (1, 3), 10_000);
-    assert_eq!(rt; count, Some(40_007));
-    Ok(())
+    assert!(&rt; count == Some(40_007));
 }

@@ -1,9 +1,8 @@
 use boss_lines::{Lines, Next, read_lines};
 use boss_model::Items;
 use boss_outside::{BytesSource, Got, Source};
-use std::alloc::{AllocError, Global};
+use std::alloc::Global;
 use std::process::Abort;
-use std::test::Fail;
 
 /// A source that is cut: a read gives at most so many bytes, and none on both sides of a place.
 #[derive(Drop)]
@@ -71,33 +70,29 @@ impl Source for Pieces<'_> {
 static LONG: [u8; 65_536] = [b'x'; 65_536];
 
 /// The text that a row means: `$` is the end of a line, and `~` stands for the bytes of a longest line.
-fn meant(alloc: Global, row: &str) -> Result<Vec<u8>, AllocError> {
+fn meant(rt: &impl Abort, alloc: Global, row: &str) -> Vec<u8> {
     let mut text = Vec::new(alloc);
     for byte in row.as_bytes() {
         match byte {
-            b'$' => text.push(b'\n')?,
-            b'~' => text.extend_from_slice(&LONG[..65_535])?,
-            byte => text.push(*byte)?,
+            b'$' => text.push(b'\n').expect(rt, "memory"),
+            b'~' => text.extend_from_slice(&LONG[..65_535]).expect(rt, "memory"),
+            byte => text.push(*byte).expect(rt, "memory"),
         }
     }
-    Ok(text)
+    text
 }
 
 /// Puts the lines that a reader gives behind these bytes, each with an end behind it; the answer behind them.
-fn read_all(
-    reader: &mut Lines,
-    source: &mut Pieces,
-    read: &mut Vec<u8>,
-) -> Result<Next, AllocError> {
+fn read_all(rt: &impl Abort, reader: &mut Lines, source: &mut Pieces, read: &mut Vec<u8>) -> Next {
     for _ in 0..=source.text.len() {
         let answer = reader.next(source);
         if answer != Next::Line {
-            return Ok(answer);
+            return answer;
         }
-        read.extend_from_slice(reader.line())?;
-        read.push(b'\n')?;
+        read.extend_from_slice(reader.line()).expect(rt, "memory");
+        read.push(b'\n').expect(rt, "memory");
     }
-    Ok(Next::Line)
+    Next::Line
 }
 
 /// Whether a reader that gave its last answer has no line, and gives the same answer again without one more read.
@@ -108,19 +103,12 @@ fn stays(reader: &mut Lines, source: &mut Pieces, end: Next) -> bool {
 
 /// Whether a reader gives these lines, each with an end behind it, then this answer, and then the same answer again, without
 /// one more read.
-fn expect(
-    rt: &impl Abort,
-    alloc: Global,
-    mut source: Pieces,
-    lines: &[u8],
-    end: Next,
-) -> Result<(), Fail> {
-    let mut reader = Lines::new(alloc)?;
+fn expect(rt: &impl Abort, alloc: Global, mut source: Pieces, lines: &[u8], end: Next) {
+    let mut reader = Lines::new(alloc).expect(rt, "memory");
     let mut read = Vec::new(alloc);
-    let answer = read_all(&mut reader, &mut source, &mut read)?;
+    let answer = read_all(rt, &mut reader, &mut source, &mut read);
     let same = answer == end && read.as_slice() == lines;
     assert!(rt; same && stays(&mut reader, &mut source, end));
-    Ok(())
 }
 
 /// Whether a place is near one of the ends of a text, or beside the end of a line.
@@ -151,22 +139,21 @@ const TEXTS: &[(&str, &str, Next)] = &[
 ];
 
 #[test]
-fn lines_are_the_same_however_the_text_is_cut(rt: HostRuntime) -> Result<(), Fail> {
+fn lines_are_the_same_however_the_text_is_cut(rt: HostRuntime) {
     let alloc = rt.alloc();
     for (text, lines, end) in TEXTS {
-        let text = meant(alloc, text)?;
-        let lines = meant(alloc, lines)?;
+        let text = meant(&rt, alloc, text);
+        let lines = meant(&rt, alloc, lines);
         for most in [usize::MAX, 1, 1_000] {
-            expect(&rt, alloc, Pieces::new(&text, most, 0, 0), &lines, *end)?;
+            expect(&rt, alloc, Pieces::new(&text, most, 0, 0), &lines, *end);
         }
         for place in 0..text.len() {
             if is_near_an_end(&text, place) {
                 let source = Pieces::new(&text, usize::MAX, place, 0);
-                expect(&rt, alloc, source, &lines, *end)?;
+                expect(&rt, alloc, source, &lines, *end);
             }
         }
     }
-    Ok(())
 }
 
 /// Texts that are read in pieces of at most so many bytes, where a read fails: the lines that ended before, and the answer.
@@ -187,29 +174,27 @@ const FAULTS: &[(&str, usize, u64, &str, Next)] = &[
 ];
 
 #[test]
-fn a_fault_comes_behind_the_lines_that_ended(rt: HostRuntime) -> Result<(), Fail> {
+fn a_fault_comes_behind_the_lines_that_ended(rt: HostRuntime) {
     let alloc = rt.alloc();
     for (text, most, fails, lines, end) in FAULTS {
-        let text = meant(alloc, text)?;
-        let lines = meant(alloc, lines)?;
+        let text = meant(&rt, alloc, text);
+        let lines = meant(&rt, alloc, lines);
         expect(
             &rt,
             alloc,
             Pieces::new(&text, *most, 0, *fails),
             &lines,
             *end,
-        )?;
+        );
     }
-    Ok(())
 }
 
 #[test]
-fn a_long_line_is_told_without_one_more_read(rt: HostRuntime) -> Result<(), Fail> {
+fn a_long_line_is_told_without_one_more_read(rt: HostRuntime) {
     let mut source = Pieces::new(&LONG, 1, 0, 0);
-    let mut reader = Lines::new(rt.alloc())?;
+    let mut reader = Lines::new(rt.alloc()).expect(&rt, "memory");
     let answer = reader.next(&mut source);
-    assert!(rt; answer == Next::TooLong && source.reads == 65_536);
-    Ok(())
+    assert!(&rt; answer == Next::TooLong && source.reads == 65_536);
 }
 
 /// Limits, the lines of one text that are read, and what came behind them.
@@ -220,19 +205,18 @@ const LIMITS: &[(u64, &str, Next)] = &[
 ];
 
 #[test]
-fn lines_are_read_up_to_a_limit(rt: HostRuntime) -> Result<(), Fail> {
+fn lines_are_read_up_to_a_limit(rt: HostRuntime) {
     let alloc = rt.alloc();
     for (limit, lines, end) in LIMITS {
-        let text = Items::from_vec(meant(alloc, "a$$bc")?);
-        let mut source = BytesSource::new(alloc, text, Items::new(alloc))?;
-        let read = read_lines(alloc, &mut source, *limit)?;
+        let text = Items::from_vec(meant(&rt, alloc, "a$$bc"));
+        let mut source = BytesSource::new(alloc, text, Items::new(alloc)).expect(&rt, "memory");
+        let read = read_lines(alloc, &mut source, *limit).expect(&rt, "memory");
         let mut told = Vec::new(alloc);
         for line in read.lines.slice() {
-            told.extend_from_slice(line.slice())?;
-            told.push(b'\n')?;
+            told.extend_from_slice(line.slice()).expect(&rt, "memory");
+            told.push(b'\n').expect(&rt, "memory");
         }
-        let lines = meant(alloc, lines)?;
-        assert!(rt; told.as_slice() == lines.as_slice() && read.end == *end);
+        let lines = meant(&rt, alloc, lines);
+        assert!(&rt; told.as_slice() == lines.as_slice() && read.end == *end);
     }
-    Ok(())
 }

@@ -1,10 +1,11 @@
-ghost use Rattle.std.specs.Prelude.{◌≤◌, ◌<◌, ◌^◌, length, IfOk};
+ghost use Rattle.std.specs.Prelude.{◌≤◌, ◌<◌, ◌^◌, length};
 
 use self::Deed::{Looked, Next, Reported, Retried, Settled, Started, Wanting};
 use boss_marks::Marks;
 use boss_model::{DriverId, Items, PointId};
 use std::alloc::Global;
-use std::test::Fail;
+use std::fmt::Debug;
+use std::process::Abort;
 
 const DAMPER: u32 = 0;
 
@@ -110,55 +111,59 @@ const TRIALS: &[&[(Deed, &str)]] = &[
 ];
 
 /// The point at this place of the marks.
-fn known(marks: &Marks, place: u32) -> Result<PointId, Fail>
-    ensures { IfOk result (λ point. point < length marks.now.drivers) }
+fn known(rt: &impl Abort, marks: &Marks, place: u32) -> PointId
+    ensures { result < length marks.now.drivers }
 {
     if place as usize >= marks.count() {
-        return Err("a point".into());
+        rt.panic("a point");
     }
-    Ok(PointId(place))
+    PointId(place)
+}
+
+fn shown<T: Debug>(rt: &impl Abort, alloc: Global, answer: &T) -> String {
+    format!(in alloc; "{answer:?}").expect(rt, "memory")
 }
 
 /// Does this, and tells the answer.
-fn told(alloc: Global, marks: &mut Marks, deed: Deed) -> Result<String, Fail> {
+fn told(rt: &impl Abort, alloc: Global, marks: &mut Marks, deed: Deed) -> String {
     match deed {
         Started(point, target) => {
-            let point = known(marks, point)?;
-            Ok(format!(in alloc; "{:?}", marks.start(point, target))?)
+            let point = known(rt, marks, point);
+            shown(rt, alloc, &marks.start(point, target))
         }
         Settled(point, target) => {
-            let point = known(marks, point)?;
-            Ok(format!(in alloc; "{:?}", marks.settle(point, target))?)
+            let point = known(rt, marks, point);
+            shown(rt, alloc, &marks.settle(point, target))
         }
-        Next(driver) => Ok(format!(in alloc; "{:?}", marks.next(DriverId(driver)))?),
+        Next(driver) => shown(rt, alloc, &marks.next(DriverId(driver))),
         Reported(point, version, ok, n) => {
-            let point = known(marks, point)?;
-            let reported = marks.report(point, version, ok, u64::from(n));
-            Ok(format!(in alloc; "{reported:?}")?)
+            let point = known(rt, marks, point);
+            shown(rt, alloc, &marks.report(point, version, ok, u64::from(n)))
         }
-        Retried(n) => Ok(format!(in alloc; "{:?}", marks.retry_due(u64::from(n)))?),
-        Looked(point) => Ok(format!(in alloc; "{:?}", marks.mark(known(marks, point)?))?),
-        Wanting => Ok(format!(in alloc; "{:?}", marks.wanting())?),
+        Retried(n) => shown(rt, alloc, &marks.retry_due(u64::from(n))),
+        Looked(point) => shown(rt, alloc, &marks.mark(known(rt, marks, point))),
+        Wanting => shown(rt, alloc, &marks.wanting()),
     }
 }
 
+/// The marks of three points, of which the third is on another driver, before anything was done.
+fn three_marks(rt: &impl Abort, alloc: Global) -> Marks {
+    let mut points = Vec::new(alloc);
+    points.push((DriverId(FIELD), 20000)).expect(rt, "memory");
+    points.push((DriverId(FIELD), 0)).expect(rt, "memory");
+    points.push((DriverId(ROOF), 1)).expect(rt, "memory");
+    Marks::new(alloc, &Items::from_vec(points)).expect(rt, "memory")
+}
+
 #[test]
-fn devices_are_wanted_and_marked(rt: HostRuntime) -> Result<(), Fail> {
+fn devices_are_wanted_and_marked(rt: HostRuntime) {
     let alloc = rt.alloc();
     for deeds in TRIALS {
-        let mut points = Vec::new(alloc);
-        points.push((DriverId(FIELD), 20000))?;
-        points.push((DriverId(FIELD), 0))?;
-        points.push((DriverId(ROOF), 1))?;
-        let mut marks = Marks::new(alloc, &Items::from_vec(points))?;
-        assert_eq!(rt; marks.count(), 3);
+        let mut marks = three_marks(&rt, alloc);
+        assert_eq!(&rt; marks.count(), 3);
         for (deed, answer) in *deeds {
-            assert_eq!(rt;
-                told(alloc, &mut marks, *deed)?.as_str(),
-                *answer,
-                "{deed:?}"
-            );
+            let told = told(&rt, alloc, &mut marks, *deed);
+            assert_eq!(&rt; told.as_str(), *answer, "{deed:?}");
         }
     }
-    Ok(())
 }

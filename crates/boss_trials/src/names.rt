@@ -1,5 +1,4 @@
 use boss_model::{Buffer, Items, Name};
-use std::test::Fail;
 
 /// Texts, and whether they are names: the bounds of their length, all kinds of characters, and some that are none.
 const TEXTS: &[(&str, bool)] = &[
@@ -36,8 +35,8 @@ fn a_name_is_its_bytes(rt: HostRuntime) {
 }
 
 #[test]
-fn a_buffer_and_a_list_take_what_they_are_given(rt: HostRuntime) -> Result<(), Fail> {
-    let mut buffer = Buffer::new(rt.alloc(), 2)?;
+fn a_buffer_and_a_list_take_what_they_are_given(rt: HostRuntime) {
+    let mut buffer = Buffer::new(rt.alloc(), 2).expect(&rt, "memory");
     buffer.push(b'o');
     buffer.push(b'k');
     let pushed = buffer.bytes() == b"ok".as_slice();
@@ -45,15 +44,13 @@ fn a_buffer_and_a_list_take_what_they_are_given(rt: HostRuntime) -> Result<(), F
     let cleared = buffer.bytes().is_empty();
     buffer.extend(b"no");
     let extended = buffer.bytes() == b"no".as_slice();
-    assert!(rt; pushed && cleared && extended);
-    Ok(())
+    assert!(&rt; pushed && cleared && extended);
 }
 
 #[test]
-fn a_list_takes_what_it_is_given(rt: HostRuntime) -> Result<(), Fail> {
+fn a_list_takes_what_it_is_given(rt: HostRuntime) {
     let mut items = Items::new(rt.alloc());
     let pushed = items.try_push(7u8).is_ok() && items.slice() == [7].as_slice();
     let taken = items.into_vec();
-    assert!(rt; pushed && taken.as_slice() == [7].as_slice());
-    Ok(())
+    assert!(&rt; pushed && taken.as_slice() == [7].as_slice());
 }

@@ -1,22 +1,22 @@
-ghost use Rattle.std.specs.Prelude.{◌≡◌, IfOk};
+ghost use Rattle.std.specs.Prelude.{◌≡◌};
 
-use boss_model::{Items, NoMemory, PointId};
+use boss_model::{Items, PointId};
 use boss_outside::{
     Actuators, BytesSink, BytesSource, Got, IdleActuators, SimActuators, Sink, Source,
 };
-use std::alloc::{AllocError, Global};
-use std::test::Fail;
+use std::alloc::Global;
+use std::process::Abort;
 
-fn bytes(alloc: Global, text: &str) -> Result<Items<u8>, AllocError>
-    ensures { IfOk result (λ items. items ≡ text.now) }
+fn bytes(rt: &impl Abort, alloc: Global, text: &str) -> Items<u8>
+    ensures { result ≡ text.now }
 {
-    Ok(Items::from_vec(text.as_bytes().to_vec(alloc)?))
+    Items::from_vec(text.as_bytes().to_vec(alloc).expect(rt, "memory"))
 }
 
-fn second_call(alloc: Global) -> Result<Items<u64>, NoMemory> {
+fn second_call(rt: &impl Abort, alloc: Global) -> Items<u64> {
     let mut calls = Items::new(alloc);
-    calls.try_push(2)?;
-    Ok(calls)
+    calls.try_push(2).expect(rt, "memory");
+    calls
 }
 
 /// Whether a read of at most three bytes gives this, and leaves these bytes where there were dots.
@@ -35,12 +35,12 @@ fn gives_hello<S: Source>(source: &mut S) -> bool {
 }
 
 #[test]
-fn source_gives_its_bytes_and_fails_as_planned(rt: HostRuntime) -> Result<(), Fail> {
+fn source_gives_its_bytes_and_fails_as_planned(rt: HostRuntime) {
     let alloc = rt.alloc();
-    let fails = second_call(alloc)?;
-    let mut source = BytesSource::new(alloc, bytes(alloc, "hello")?, fails)?;
-    assert!(rt; gives_hello(&mut source));
-    Ok(())
+    let fails = second_call(&rt, alloc);
+    let text = bytes(&rt, alloc, "hello");
+    let mut source = BytesSource::new(alloc, text, fails).expect(&rt, "memory");
+    assert!(&rt; gives_hello(&mut source));
 }
 
 /// Whether each of three writes is taken.
@@ -52,12 +52,11 @@ fn write_three<K: Sink>(sink: &mut K) -> [bool; 3] {
 }
 
 #[test]
-fn sink_takes_bytes_and_fails_as_planned(rt: HostRuntime) -> Result<(), Fail> {
+fn sink_takes_bytes_and_fails_as_planned(rt: HostRuntime) {
     let alloc = rt.alloc();
-    let mut sink = BytesSink::new(alloc, second_call(alloc)?)?;
+    let mut sink = BytesSink::new(alloc, second_call(&rt, alloc)).expect(&rt, "memory");
     let taken = write_three(&mut sink);
-    assert!(rt; taken == [true, false, true] && sink.taken() == b"abef".as_slice());
-    Ok(())
+    assert!(&rt; taken == [true, false, true] && sink.taken() == b"abef".as_slice());
 }
 
 /// Whether each of three commands is taken.
@@ -82,11 +81,11 @@ fn have_noted(devices: &SimActuators) -> bool {
 }
 
 #[test]
-fn devices_note_each_call_and_fail_as_planned(rt: HostRuntime) -> Result<(), Fail> {
-    let mut devices = SimActuators::new(rt.alloc(), second_call(rt.alloc())?)?;
+fn devices_note_each_call_and_fail_as_planned(rt: HostRuntime) {
+    let alloc = rt.alloc();
+    let mut devices = SimActuators::new(alloc, second_call(&rt, alloc)).expect(&rt, "memory");
     let taken = command_three(&mut devices);
-    assert!(rt; taken == [true, false, true] && have_noted(&devices));
-    Ok(())
+    assert!(&rt; taken == [true, false, true] && have_noted(&devices));
 }
 
 #[test]

@@ -3,40 +3,44 @@ use boss_points::Catalogue;
 use boss_requests::{
     Ask, Form, ReadRefusal, Request, RequestReader, is_blank, read_by, read_request,
 };
-use std::alloc::{AllocError, Global};
-use std::test::Fail;
+use std::alloc::Global;
+use std::process::Abort;
+
+fn three_points(rt: &impl Abort, alloc: Global) -> Catalogue {
+    Catalogue::read(alloc, THREE_POINTS.as_bytes()).expect(rt, "a catalogue")
+}
 
 /// What a line is read as, by itself and by a reader that has read others.
 fn reading(
+    rt: &impl Abort,
     alloc: Global,
     catalogue: &Catalogue,
     form: Form,
     line: &[u8],
     reader: &mut RequestReader,
-) -> Result<String, Fail> {
-    let alone = told(alloc, read_request(alloc, catalogue, line, form))?;
-    let along = told(alloc, read_by(alloc, catalogue, line, form, reader))?;
-    if along.as_str() == alone.as_str() {
-        Ok(along)
-    } else {
-        Ok(format!(in alloc; "{alone} alone, and {along} along others")?)
-    }
+) -> String {
+    let alone = told(rt, alloc, &read_request(alloc, catalogue, line, form));
+    let along = told(rt, alloc, &read_by(alloc, catalogue, line, form, reader));
+    assert_eq!(rt; along.as_str(), alone.as_str());
+    along
 }
 
 /// The session, the moment and what is asked, or why a line is refused.
-fn told(alloc: Global, read: Result<Request, ReadRefusal>) -> Result<String, Fail> {
+fn told(rt: &impl Abort, alloc: Global, read: &Result<Request, ReadRefusal>) -> String {
     match read {
-        Ok(request) => asked(alloc, &request),
-        Err(ReadRefusal::Refused(refusal)) => Ok(format!(in alloc; "{refusal:?}")?),
-        Err(ReadRefusal::NoMemory) => Err("no memory".into()),
+        Ok(request) => asked(rt, alloc, request),
+        Err(ReadRefusal::Refused(refusal)) => format!(in alloc; "{refusal:?}").expect(rt, "memory"),
+        Err(ReadRefusal::NoMemory) => rt.panic("no memory"),
     }
 }
 
-fn asked(alloc: Global, request: &Request) -> Result<String, Fail> {
+fn asked(rt: &impl Abort, alloc: Global, request: &Request) -> String {
     let (on, at) = (request.on.0, request.at);
     match &request.ask {
-        Ask::Command(command) => Ok(format!(in alloc; "{on} {at} {command:?}")?),
-        Ask::Watch { name, from } => Ok(format!(in alloc; "{on} {at} watch {name} from {from}")?),
+        Ask::Command(command) => format!(in alloc; "{on} {at} {command:?}").expect(rt, "memory"),
+        Ask::Watch { name, from } => {
+            format!(in alloc; "{on} {at} watch {name} from {from}").expect(rt, "memory")
+        }
     }
 }
 
@@ -106,6 +110,90 @@ const LINES: &str = r#"
 {"op":"dance","on":0,"at":"soon","op":"tick","on":3,"at":8}
 = 1 8 Tick
 {"at":7,"op":"tick","at":8}
+# Also where one is written by an escape.
+{"at":7,"op":"tick","\u0061t":8}
+{"\u0061t":7,"op":"tick","at":8}
+{"\u0061t":"soon","\u006fp":7,"a\u0074":8,"op":"tic\u006b"}
+= 1 0 Gone
+{"op":"tick","op":"gone"}
+= 1 0 Renew { txn: Txn(8), length: 2, points: Items { items: [] }, seq: 0 }
+{"op":"renew","txn":7,"length":1,"txn":8,"length":2}
+= 1 0 Submit { writes: Items { items: [Setting { point: PointId(1), value: 1, priority: 16, lease: 2, revert: Items { items: [] } }] }, policy: Keep, seq: 0 }
+{"op":"submit","policy":"abort","writes":[7],"policy":"keep","writes":[{"point":"fan","value":3,"lease":1,"point":"lamp","value":1,"lease":2}]}
+
+# Escapes in a name, and in what is asked.
+= 1 0 Read { point: PointId(1) }
+{"op":"read","point":"l\u0061mp"}
+{"op":"re\u0061d","point":"\u006c\u0061\u006D\u0070"}
+= 1 0 Status { txn: Txn(3) }
+{"op":"status","t\u0078n":3}
+
+# Numbers of one digit, of 18 and of 19.
+= 1 0 Cancel { txn: Txn(0), seq: 0 }
+{"op":"cancel","txn":0}
+= 1 0 Cancel { txn: Txn(99999999999999999), seq: 0 }
+{"op":"cancel","txn":99999999999999999}
+= 1 0 Cancel { txn: Txn(999999999999999999), seq: 0 }
+{"op":"cancel","txn":999999999999999999}
+= 1 0 Cancel { txn: Txn(1000000000000000000), seq: 0 }
+{"op":"cancel","txn":1000000000000000000}
+= 1 0 Renew { txn: Txn(7), length: -999999999999999999, points: Items { items: [] }, seq: 0 }
+{"op":"renew","txn":7,"length":-999999999999999999}
+= 1 0 Renew { txn: Txn(7), length: -1000000000000000000, points: Items { items: [] }, seq: 0 }
+{"op":"renew","txn":7,"length":-1000000000000000000}
+= 1 0 Renew { txn: Txn(7), length: -9223372036854775808, points: Items { items: [] }, seq: 0 }
+{"op":"renew","txn":7,"length":-9223372036854775808}
+
+# Values of each kind under keys that are not known.
+= 1 8 Tick
+{"op":"tick","at":8,"x":{},"y":[],"z":""}
+{"x":[{}],"op":"tick","y":{"a":[]},"at":8}
+{"x":true,"op":"tick","y":false,"at":8,"z":null}
+{"x":-0,"op":"tick","y":0.5e-7,"at":8,"z":1E+2}
+{"x":18446744073709551615,"op":"tick","y":99999999999999999999,"at":8,"z":-99999999999999999999}
+{"x":{"op":"gone","at":9},"op":"tick","y":[{"at":"soon"}],"at":8}
+{"":9,"o":"gone","opp":"gone","op":"tick","a":9,"att":9,"at":8}
+# Arrays in arrays.
+{"op":"tick","at":8,"x":[[[[[[[[]]]]]]]]}
+{"op":"tick","at":8,"x":[[[[[[[[[]]]]]]]]]}
+{"op":"tick","at":8,"x":[[[[[[[[[[]]]]]]]]]]}
+{"x":[[[[[[[[7]]]]]]],[]],"op":"tick","at":8}
+{"x":[[[[[[[[[{"at":[]}]]]]]]]]],"op":"tick","at":8}
+{"x":[[[[[[[[[["]]"]]]]]]]]]],"op":"tick","at":8}
+# Texts of more than ASCII has.
+{"op":"tick","at":8,"x":"ü € 𝄞"}
+{"ü":9,"op":"tick","at":8,"€":"𝄞"}
+{"op":"tick","at":8,"x":"~ <> / '"}
+# White space in each place.
+ {"op":"tick","at":8}
+{ "op":"tick","at":8}
+{"op" :"tick","at":8}
+{"op": "tick","at":8}
+{"op":"tick" ,"at":8}
+{"op":"tick", "at":8}
+{"op":"tick","at" :8}
+{"op":"tick","at": 8}
+{"op":"tick","at":8 }
+{"op":"tick","at":8,"x":[ ]}
+{"op":"tick","at":8,"x":{ }}
+  {  "op"  :  "tick"  ,  "at"  :  8  }
+= 1 0 Renew { txn: Txn(7), length: 5, points: Items { items: [PointId(1), PointId(2)] }, seq: 0 }
+{"op":"renew","txn":7,"length":5,"points":["lamp","fan"]}
+{"op":"renew","txn":7,"length":5,"points": ["lamp","fan"]}
+{"op":"renew","txn":7,"length":5,"points":[ "lamp","fan"]}
+{"op":"renew","txn":7,"length":5,"points":["lamp" ,"fan"]}
+{"op":"renew","txn":7,"length":5,"points":["lamp", "fan"]}
+{"op":"renew","txn":7,"length":5,"points":["lamp","fan" ]}
+{"op":"renew","txn":7,"length":5,"points":["lamp","fan"] }
+# Keys in another order, and one more between them.
+{"points":["lamp","fan"],"length":5,"txn":7,"op":"renew"}
+{"length":5,"op":"renew","priority":"8","points":["lamp","fan"],"txn":7}
+= 1 0 Submit { writes: Items { items: [Setting { point: PointId(2), value: 3, priority: 5, lease: 1, revert: Items { items: [Step { value: 2, hold: 30000 }] } }] }, policy: Keep, seq: 9 }
+{"op":"submit","seq":9,"policy":"keep","writes":[{"point":"fan","value":3,"priority":5,"lease":1,"revert":[[2,30000]]}]}
+{"writes":[{"revert":[[2,30000]],"lease":1,"priority":5,"value":3,"point":"fan"}],"policy":"keep","seq":9,"op":"submit"}
+{"op":"submit","seq":9,"policy":"keep","writes":[ {"point":"fan","value":3,"priority":5,"lease":1,"revert":[[2,30000]]} ]}
+{"op":"submit","seq":9,"policy":"keep","writes":[{ "point":"fan","value":3,"priority":5,"lease":1,"revert":[ [ 2 , 30000 ] ] }]}
+{"op":"submit","seq":9,"policy":"keep","writes":[{"point":"fan","x":[],"value":3,"priority":5,"lease":1,"y":{},"revert":[[2,30000]]}]}
 
 = Malformed
 # No JSON, or more than one value.
@@ -116,6 +204,91 @@ tick
 {'op':'tick'}
 {"op":"tick"} {"op":"tick"}
 {"op":"tick","name":"\ud800"}
+# A text behind the value.
+{"op":"tick"}x
+{"op":"tick"}7
+{"op":"tick"}}
+{"op":"tick"}]
+{"op":"tick"},
+{"op":"tick"}""
+{"op":"tick"}{}
+# A comma too many, and one too few.
+{"op":"tick","at":8,}
+{"op":"tick",,"at":8}
+{,"op":"tick"}
+{"op":"tick","x":[1,]}
+{"op":"tick","x":[,1]}
+{"op":"tick","x":[1,,2]}
+{"op":"tick","x":[1 2]}
+{"op":"tick","x":{,}}
+{"op":"tick" "at":8}
+{"op":"tick""at":8}
+{"op":"renew","txn":1,"length":1,"points":["lamp",]}
+{"op":"renew","txn":1,"length":1,"points":["lamp",,"fan"]}
+{"op":"submit","writes":[{"point":"lamp","value":1,"lease":1},]}
+{"op":"submit","writes":[{"point":"lamp","value":1,"lease":1,}]}
+{"op":"submit","writes":[{"point":"lamp","value":1,,"lease":1}]}
+{"op":"submit","writes":[{"point":"lamp","value":1,"lease":1,"revert":[[0,1],]}]}
+{"op":"submit","writes":[{"point":"lamp","value":1,"lease":1,"revert":[[0,1,]]}]}
+# A colon too many, and one too few.
+{"op"::"tick"}
+{"op":"tick":8}
+{"op" "tick"}
+{"op"}
+{"op":}
+{"op":"tick","at"}
+{"op":"tick","at":}
+# A bracket that is missing, or another one.
+{"op":"tick","x":[}
+{"op":"tick","x":[}]
+{"op":"tick","x":[]]}
+{"op":"tick","x":{]}
+{"op":"tick","x":[[[[[[[[]]]]]]]}
+{"op":"tick","x":[[[[[[[[[]]]]]]]]}
+{"op":"tick","x":[[[[[[[[[[]]]]]]]]]]]}
+"op":"tick"}
+["op":"tick"]
+# Quotation marks that are missing.
+{op:"tick"}
+{"op:"tick"}
+{"op":"tick}
+{"op":tick}
+{"op":"tick","x":"a"b"}
+{"op":"tick","x":"\"}
+# Escapes that are none.
+{"op":"tick","x":"\x"}
+{"op":"tick","x":"\u12"}
+{"op":"tick","x":"\u12g4"}
+{"\op":"tick"}
+# Words and numbers that are none.
+{"op":"tick","x":01}
+{"op":"tick","x":-01}
+{"op":"tick","x":00}
+{"op":"tick","x":-}
+{"op":"tick","x":+1}
+{"op":"tick","x":.5}
+{"op":"tick","x":1.}
+{"op":"tick","x":1.e5}
+{"op":"tick","x":1e}
+{"op":"tick","x":1e+}
+{"op":"tick","x":- 1}
+{"op":"tick","x":1 0}
+{"op":"tick","x":0x1}
+{"op":"tick","x":1_000}
+{"op":"tick","x":tru}
+{"op":"tick","x":True}
+{"op":"tick","x":nullx}
+{"op":"tick","x":NaN}
+{"op":"tick","x":-Infinity}
+{"op":"tick","at":01}
+{"op":"tick","at":00}
+{"op":"tick","at":8x}
+{"op":"cancel","txn":01}
+{"op":"cancel","txn":007}
+{"op":"renew","txn":7,"length":-01}
+{"op":"submit","writes":[{"point":"lamp","value":01,"lease":1}]}
+{"op":"submit","writes":[{"point":"lamp","value":1,"lease":060000}]}
+{"op":"submit","writes":[{"point":"lamp","value":1,"lease":1,"revert":[[0,01]]}]}
 # A number that is too great for JSON's reader, also beside what is not known.
 {"op":"tick","x":1e400}
 {"op":"dance","x":1e400}
@@ -125,8 +298,11 @@ null
 "tick"
 ["tick"]
 [{"op":"tick"}]
+[]
+[[[[[[[[]]]]]]]]
 # An `op` that is missing or no text.
 {}
+{ }
 {"OP":"tick"}
 {"op":null}
 {"op":7}
@@ -183,7 +359,17 @@ null
 {"op":"tick","at":1.0}
 {"op":"tick","at":18446744073709551616}
 {"op":"cancel","txn":9223372036854775808}
+{"op":"cancel","txn":9999999999999999999}
+{"op":"cancel","txn":10000000000000000000}
+{"op":"cancel","txn":18446744073709551615}
 {"op":"cancel","txn":18446744073709551616}
+{"op":"cancel","txn":99999999999999999999}
+{"op":"cancel","txn":100000000000000000000}
+{"op":"renew","txn":7,"length":-9223372036854775809}
+{"op":"renew","txn":7,"length":-10000000000000000000}
+{"op":"renew","txn":7,"length":-0}
+{"op":"submit","writes":[{"point":"lamp","value":-0,"lease":1}]}
+{"op":"submit","writes":[{"point":"lamp","value":1,"lease":1,"revert":[[-0,1]]}]}
 {"op":"submit","writes":[{"point":"lamp","value":-9223372036854775809,"lease":1}]}
 {"op":"submit","writes":[{"point":"lamp","value":9223372036854775808,"lease":1}]}
 # A number below 0, and others out of their bounds.
@@ -206,13 +392,19 @@ null
 {"op":"cancel","txn":1,"seq":null}
 {"op":"renew","txn":1,"length":1,"seq":0}
 {"op":"submit","seq":0,"writes":[{"point":"lamp","value":1,"lease":1}]}
-# An array without an item.
+# An array without an item, and an item that has nothing.
 {"op":"submit","writes":[]}
+{"op":"submit","writes":[ ]}
 {"op":"renew","txn":1,"length":1,"points":[]}
+{"op":"submit","writes":[{}]}
+{"op":"submit","writes":[[]]}
+{"op":"submit","writes":[{"point":"lamp","value":1,"lease":1},{}]}
+{"op":"submit","writes":[{"point":"lamp","value":1,"lease":1,"revert":[[]]}]}
 # A process that has no name.
 {"op":"attach","process":""}
 {"op":"attach","process":"A"}
 {"op":"attach","process":"a b"}
+{"op":"attach","process":"ü"}
 {"op":"attach","process":"xxxxxxxxxxxxxxxxxxxxxxxxxxxxxxxxxxxxxxxxxxxxxxxxxxxxxxxxxxxxxxxxx"}
 {"op":"notices","process":"a/b"}
 # Malformed, and of a point that is not known as well.
@@ -225,7 +417,10 @@ null
 {"op":"submit","seq":0,"writes":[{"point":"door","value":1,"lease":1}]}
 # Of two equal keys the last counts.
 {"op":"tick","op":7}
+{"op":"tick","\u006fp":7}
 {"op":"cancel","txn":1,"txn":"1"}
+{"op":"cancel","txn":1,"t\u0078n":"1"}
+{"op":"renew","txn":1,"length":1,"points":["lamp"],"points":[]}
 
 = UnknownOp
 # Nothing that is known.
@@ -233,6 +428,9 @@ null
 {"op":"dance"}
 {"op":"Tick"}
 {"op":"tick "}
+{"op":"t\u0069ck "}
+{"op":"tıck"}
+{"op":"ü"}
 {"op":"next","driver":0}
 {"op":"report"}
 {"op":"watch","process":"a"}
@@ -240,6 +438,7 @@ null
 {"op":"dance","on":0,"at":-1}
 {"op":"watch"}
 {"op":"tick","op":"dance"}
+{"op":"tick","o\u0070":"dance"}
 
 # A name that no point has, and its place.
 = UnknownPoint { index: 0 }
@@ -255,6 +454,9 @@ null
 {"op":"read","point":""}
 {"op":"read","point":"Lamp"}
 {"op":"read","point":"lamp "}
+{"op":"read","point":"l\u0061mp\u0020"}
+{"op":"read","point":"lämp"}
+{"op":"read","point":"\\u006camp"}
 {"op":"read","point":"xxxxxxxxxxxxxxxxxxxxxxxxxxxxxxxxxxxxxxxxxxxxxxxxxxxxxxxxxxxxxxxxx"}
 # What the machine would refuse as well.
 = UnknownPoint { index: 1 }
@@ -267,6 +469,7 @@ const FIRST_LINES: &str = r#"
 {"op":"watch","process":"schedule"}
 = 0 0 watch night.shift_2-b from 9223372036854775807
 {"op":"watch","from":9223372036854775807,"process":"night.shift_2-b","max":7}
+{"op":"watch","from":1,"process":"schedule","\u0066rom":9223372036854775807,"process":"night.shift_2-b"}
 = 0 0 Status { txn: Txn(3) }
 {"op":"status","txn":3}
 # Which session asks, and when, is passed over.
@@ -279,6 +482,9 @@ const FIRST_LINES: &str = r#"
 {"op":"watch","process":null,"from":1}
 {"op":"watch","process":"schedule","from":0}
 {"op":"watch","process":"schedule","from":"1"}
+{"op":"watch","process":"schedule","from":01}
+{"op":"watch","process":"schedule",}
+{"op":"watch","process":"schedule"}}
 {"op":"watch","process":"schedule","from":9223372036854775808}
 = UnknownOp
 {"op":"tick"}
@@ -307,36 +513,91 @@ const TABLES: &[(Form, &str)] = &[
 /// Lines of a script that are no text, or have blanks at their ends, and what they are read as.
 const ENDS: &[(&[u8], &str)] = &[
     (b"", "Malformed"),
+    // No UTF-8: a byte that no text has, one alone of a letter, a letter cut short, one of too many bytes, half of a pair, one past the last.
     (b"{\"op\":\"tick\",\"x\":\"\xff\"}", "Malformed"),
+    (b"{\"op\":\"tick\",\"x\":\"\x80\"}", "Malformed"),
+    (b"{\"op\":\"tick\",\"x\":\"\xc3\"}", "Malformed"),
+    (b"{\"op\":\"tick\",\"x\":\"\xe2\x82\"}", "Malformed"),
+    (b"{\"op\":\"tick\",\"x\":\"\xc1\xbf\"}", "Malformed"),
+    (b"{\"op\":\"tick\",\"x\":\"\xed\xa0\x80\"}", "Malformed"),
+    (b"{\"op\":\"tick\",\"x\":\"\xf4\x90\x80\x80\"}", "Malformed"),
+    (b"{\"\xff\":7,\"op\":\"tick\"}", "Malformed"),
+    (b"{\"op\":\"t\xefck\"}", "Malformed"),
+    (b"{\"op\":\"read\",\"point\":\"lamp\xff\"}", "Malformed"),
+    (b"{\"op\":\"tick\"}\xff", "Malformed"),
+    (b"\xef\xbb\xbf{\"op\":\"tick\"}", "Malformed"),
+    // The same letters as they are to be.
+    (
+        b"{\"op\":\"tick\",\"x\":\"\xc3\xbf \xe2\x82\xac \xf4\x8f\xbf\xbf \x7f\"}",
+        "1 0 Tick",
+    ),
+    (b"{\"op\":\"t\xc3\xafck\"}", "UnknownOp"),
+    (
+        b"{\"op\":\"read\",\"point\":\"lamp\xc3\xbf\"}",
+        "UnknownPoint { index: 0 }",
+    ),
+    // A text has no control character, and only four of all characters are blanks.
+    (b"{\"op\":\"tick\",\"x\":\"\0\"}", "Malformed"),
+    (b"{\"op\":\"tick\",\"x\":\"\x1f\"}", "Malformed"),
+    (b"{\"op\":\"tick\",\"x\":\"a\nb\"}", "Malformed"),
+    (b"{\"op\":\"tick\",\"x\":\"a\tb\"}", "Malformed"),
+    (b"{\"o\tp\":\"tick\"}", "Malformed"),
+    (b"{\"op\":\"tick\"}\0", "Malformed"),
+    (b"{\"op\":\x0b\"tick\"}", "Malformed"),
+    (b"{\x0c\"op\":\"tick\"}", "Malformed"),
+    (b"{\"op\":\xc2\xa0\"tick\"}", "Malformed"),
+    (b"{\r\n\"op\"\t:\r\"tick\"\n}\n", "1 0 Tick"),
+    (b"{\"op\":\"tick\",\"at\":8} ", "1 8 Tick"),
+    (
+        b"\t{\t\"op\"\t:\t\"tick\"\t,\t\"at\"\t:\t8\t}\t",
+        "1 8 Tick",
+    ),
+    (
+        b"{\"op\":\"tick\",\"at\":8,\"x\":[\t[\r]\n,{\t}\r]}\r\n",
+        "1 8 Tick",
+    ),
     (b" {\"op\" : \"tick\"}\r", "1 0 Tick"),
 ];
 
+/// Reads the lines of a group, which have to be read as its first line says.
+fn expect_group(
+    rt: &impl Abort,
+    alloc: Global,
+    catalogue: &Catalogue,
+    form: Form,
+    group: &str,
+    reader: &mut RequestReader,
+) {
+    let (wanted, lines) = group.split_once('\n').expect(rt, "a group");
+    for line in lines.split('\n') {
+        if !line.is_empty() && !line.starts_with('#') {
+            let read = reading(rt, alloc, catalogue, form, line.as_bytes(), reader);
+            assert_eq!(rt; read.as_str(), wanted, "{line}");
+        }
+    }
+}
+
 #[test]
-fn a_line_is_read_as_its_request(rt: HostRuntime) -> Result<(), Fail> {
+fn a_line_is_read_as_its_request(rt: HostRuntime) {
     let alloc = rt.alloc();
-    let catalogue = Catalogue::read(alloc, THREE_POINTS.as_bytes())?;
+    let catalogue = three_points(&rt, alloc);
     let mut reader = RequestReader::new(alloc);
     for (form, table) in TABLES {
         for group in table.split("\n= ").skip(1) {
-            let (wanted, lines) = group.split_once('\n').ok_or("a group")?;
-            for line in lines.split('\n') {
-                if !line.is_empty() && !line.starts_with('#') {
-                    let read = reading(alloc, &catalogue, *form, line.as_bytes(), &mut reader)?;
-                    assert_eq!(rt; read.as_str(), wanted, "{line}");
-                }
-            }
+            expect_group(&rt, alloc, &catalogue, *form, group, &mut reader);
         }
     }
     for (line, wanted) in ENDS {
-        let read = reading(alloc, &catalogue, Form::Script, line, &mut reader)?;
-        assert_eq!(rt; read.as_str(), *wanted, "{line:?}");
+        let read = reading(&rt, alloc, &catalogue, Form::Script, line, &mut reader);
+        assert_eq!(&rt; read.as_str(), *wanted, "{line:?}");
     }
-    Ok(())
 }
+
+type Longest = (&'static str, &'static str, &'static str, &'static str, u32);
 
 /// Lines of as many parts as there may be: what stands in front, a part, what answers each part behind them all, what stands
 /// behind, and how many parts there are.
-const LONGEST: &[(&str, &str, &str, &str, u32)] = &[
+const LONGEST: &[Longest] = &[
     // 32 writes.
     (
         r#"{"op":"submit","writes":[{"point":"lamp","value":1,"lease":1}"#,
@@ -358,51 +619,33 @@ const LONGEST: &[(&str, &str, &str, &str, u32)] = &[
 ];
 
 /// A line of so many parts.
-fn line_of(
-    alloc: Global,
-    front: &str,
-    part: &str,
-    other: &str,
-    back: &str,
-    count: u32,
-) -> Result<String, AllocError> {
-    let mut line = String::from_str(alloc, front)?;
+fn line_of(rt: &impl Abort, alloc: Global, row: &Longest, count: u32) -> String {
+    let (front, part, other, back, _) = row;
+    let mut line = String::from_str(alloc, front).expect(rt, "memory");
     for _ in 0..count {
-        line.push_str(part)?;
+        line.push_str(part).expect(rt, "memory");
     }
     for _ in 0..count {
-        line.push_str(other)?;
+        line.push_str(other).expect(rt, "memory");
     }
-    line.push_str(back)?;
-    Ok(line)
+    line.push_str(back).expect(rt, "memory");
+    line
 }
 
 #[test]
-fn a_line_has_its_bounds(rt: HostRuntime) -> Result<(), Fail> {
+fn a_line_has_its_bounds(rt: HostRuntime) {
     let alloc = rt.alloc();
-    let catalogue = Catalogue::read(alloc, THREE_POINTS.as_bytes())?;
+    let catalogue = three_points(&rt, alloc);
     let mut reader = RequestReader::new(alloc);
-    for (front, part, other, back, most) in LONGEST {
-        let longest = line_of(alloc, front, part, other, back, *most)?;
-        let read = reading(
-            alloc,
-            &catalogue,
-            Form::Script,
-            longest.as_bytes(),
-            &mut reader,
-        )?;
-        assert!(rt; read.starts_with("1 0 "), "{longest}");
-        let longer = line_of(alloc, front, part, other, back, most.saturating_add(1))?;
-        let read = reading(
-            alloc,
-            &catalogue,
-            Form::Script,
-            longer.as_bytes(),
-            &mut reader,
-        )?;
-        assert_eq!(rt; read.as_str(), "Malformed", "{longer}");
+    for row in LONGEST {
+        let most = row.4;
+        for (count, wanted) in [(most, "1 0 "), (most.saturating_add(1), "Malformed")] {
+            let line = line_of(&rt, alloc, row, count);
+            let bytes = line.as_bytes();
+            let read = reading(&rt, alloc, &catalogue, Form::Script, bytes, &mut reader);
+            assert!(&rt; read.starts_with(wanted), "{line}");
+        }
     }
-    Ok(())
 }
 
 #[test]

@@ -1,6 +1,6 @@
 use boss_words::{WordsRefusal, read_words};
-use std::alloc::{AllocError, Global};
-use std::test::Fail;
+use std::alloc::Global;
+use std::process::Abort;
 
 /// Words with bars between them, and the job that they ask for: a row of each kind with the bounds of its numbers, where no
 /// word is an option, and lists of words that are in no row.
@@ -52,24 +52,24 @@ const ROWS: &[(&str, &str)] = &[
 const USAGE: &str = "Err(Usage)";
 
 #[test]
-fn words_ask_for_their_job(rt: HostRuntime) -> Result<(), Fail> {
+fn words_ask_for_their_job(rt: HostRuntime) {
     for (words, job) in ROWS {
-        let words = words_of(rt.alloc(), words)?;
-        let read = format!(in rt.alloc(); "{:?}", read_words(rt.alloc(), &words))?;
-        assert_eq!(rt; read.as_str(), *job, "{words:?}");
+        let words = words_of(&rt, rt.alloc(), words);
+        let read = format!(in rt.alloc(); "{:?}", read_words(rt.alloc(), &words)).expect(
+            &rt, "memory",
+        );
+        assert_eq!(&rt; read.as_str(), *job, "{words:?}");
     }
     let none = Vec::new(rt.alloc());
-    assert_eq!(rt;
-        read_words(rt.alloc(), &none).err(),
-        Some(WordsRefusal::Usage)
-    );
-    Ok(())
+    let read = read_words(rt.alloc(), &none);
+    assert!(&rt; matches!(read, Err(WordsRefusal::Usage)));
 }
 
-fn words_of(alloc: Global, text: &str) -> Result<Vec<String>, AllocError> {
+fn words_of(rt: &impl Abort, alloc: Global, text: &str) -> Vec<String> {
     let mut words = Vec::new(alloc);
     for word in text.split('|') {
-        words.push(String::from_str(alloc, word)?)?;
+        let word = String::from_str(alloc, word).expect(rt, "memory");
+        words.push(word).expect(rt, "memory");
     }
-    Ok(words)
+    words
 }
