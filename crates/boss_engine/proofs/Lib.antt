@@ -1,6 +1,5 @@
 pub mod Again
 pub mod Attaching
-pub mod Cancelling
 pub mod Concerned
 pub mod Doing
 pub mod Granted

@@ -1,4 +1,6 @@
 pub mod Asked
+pub mod Attaching
+pub mod Cancelling
 pub mod Concluded
 pub mod Counted
 pub mod Current

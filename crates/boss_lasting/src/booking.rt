@@ -16,6 +16,9 @@ pub fn book_all(stages: &mut Stages, processes: &mut Processes, told: &mut Vec<T
     ensures books { record { stages = stages.new; processes = processes.new } ≡ booked_all stages.old processes.old told.old.items }
     ensures capacity { vec_capacity told.new ≡ vec_capacity told.old }
 {
+    if told.is_empty() {
+        return;
+    }
     put_in_order(told);
     book_in_turn(stages, processes, told);
 }

@@ -5,7 +5,7 @@ use Rattle.boss_model.specs.Processes.{process_of}
 use Rattle.boss_engine.specs.Inside.{state_of}
 use Rattle.boss_lasting.specs.Lasting.{persistent_of}
 use Rattle.boss_lasting.specs.Replying.{decided, decision_answer}
-use Rattle.boss_engine.proofs.Cancelling.{cancel-leaves}
+use Rattle.boss_lasting.proofs.Cancelling.{cancel-leaves}
 use Rattle.boss_engine.proofs.machine.Machine.cancel.Goals as goal
 
 pub returns-clause-state : goal.returns-clause-state
