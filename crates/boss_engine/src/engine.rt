@@ -209,8 +209,7 @@ impl Engine {
         }
     }
 
-    /// The same, with what the command came to in place of its answer. It is a call of its own, so that an answer is made in its place.
-    #[inline(never)]
+    /// The same, with what the command came to in place of its answer.
     fn advance(
         &mut self,
         session: SessionId,
