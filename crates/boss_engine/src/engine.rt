@@ -203,6 +203,7 @@ impl Engine {
         let (reply, effect) = self.advance(session, command, moment)?;
         match reply {
             Reply::Want(want) => return Ok((answer_of_want(want), effect)),
+            Reply::Decided(decision) => return Ok((decision.answer(), effect)),
             Reply::Noted { current } => return Ok((Answer::Noted { current }, effect)),
             Reply::Read(reading) => return Ok((answer_of_reading(reading), effect)),
             other => Ok((self.machine.answer(other), effect)),
