@@ -203,14 +203,14 @@ impl Engine {
         let (reply, effect) = self.advance(session, command, moment)?;
         match reply {
             Reply::Want(want) => return Ok((answer_of_want(want), effect)),
+            Reply::Decided(decision) => return Ok((decision.answer(), effect)),
             Reply::Noted { current } => return Ok((Answer::Noted { current }, effect)),
             Reply::Read(reading) => return Ok((answer_of_reading(reading), effect)),
             other => Ok((self.machine.answer(other), effect)),
         }
     }
 
-    /// The same, with what the command came to in place of its answer. It is a call of its own, so that an answer is made in its place.
-    #[inline(never)]
+    /// The same, with what the command came to in place of its answer.
     fn advance(
         &mut self,
         session: SessionId,

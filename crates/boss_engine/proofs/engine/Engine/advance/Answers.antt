@@ -39,50 +39,38 @@ invariant_of-self c =
     let run : CanRun inside.plant.items c.step.new.self = subst (λ (plant : List Actuator). CanRun plant c.step.new.self) c.deref-2.ensures.value c.step.ensures.ready in
     record { sound = run.sound; places = run.places }
 
+same-plant : (c : goal.After-step) → c.deref-2.result.now ≡ c.args.self.now.plant
+same-plant c = c.deref-2.ensures.value ∙ ap (λ r. r.plant) c.self.view_is
+
+same-state : (c : goal.After-step) → state_of c.open_unless.new.self ≡ c.args.self.now.state
+same-state c =
+    let inside = c.self.inside in
+    c.open_unless.ensures.state ∙ ap (λ (p : List Actuator). seen_state p inside.machine inside.is_open) c.deref.ensures.value ∙ ap (λ r. r.state) c.self.view_is
+
 pub returns-clause-tellable : goal.returns-clause-tellable
 returns-clause-tellable c =
     subst (λ (plant : List Actuator). IfOk c.step.result (λ did. IsTellable plant (persistent_of c.step.new.self.lasting) did.0)) c.deref-2.ensures.value c.step.ensures.tellable
 
 pub returns-clause-answer : goal.returns-clause-answer
 returns-clause-answer c =
-    let inside = c.self.inside in
-    let plant : c.deref-2.result.now ≡ c.args.self.now.plant = c.deref-2.ensures.value ∙ ap (λ r. r.plant) c.self.view_is in
-    let state : state_of c.open_unless.new.self ≡ c.args.self.now.state =
-    c.open_unless.ensures.state ∙ ap (λ (p : List Actuator). seen_state p inside.machine inside.is_open) c.deref.ensures.value ∙ ap (λ r. r.state) c.self.view_is in
-    subst (λ (s : State). IfOk c.step.result (λ did. told (persistent_of c.step.new.self.lasting) did.0 ≡ (step c.args.self.now.plant c.args.session c.args.command.now c.args.moment s).answer)) state
-    (subst (λ (p : List Actuator). IfOk c.step.result (λ did. told (persistent_of c.step.new.self.lasting) did.0 ≡ (step p c.args.session c.args.command.now c.args.moment (state_of c.open_unless.new.self)).answer)) plant c.step.ensures.answer)
+    subst (λ (s : State). IfOk c.step.result (λ did. told (persistent_of c.step.new.self.lasting) did.0 ≡ (step c.args.self.now.plant c.args.session c.args.command.now c.args.moment s).answer)) (same-state c)
+    (subst (λ (p : List Actuator). IfOk c.step.result (λ did. told (persistent_of c.step.new.self.lasting) did.0 ≡ (step p c.args.session c.args.command.now c.args.moment (state_of c.open_unless.new.self)).answer)) (same-plant c) c.step.ensures.answer)
 
 pub returns-clause-effect : goal.returns-clause-effect
 returns-clause-effect c =
-    let inside = c.self.inside in
-    let plant : c.deref-2.result.now ≡ c.args.self.now.plant = c.deref-2.ensures.value ∙ ap (λ r. r.plant) c.self.view_is in
-    let state : state_of c.open_unless.new.self ≡ c.args.self.now.state =
-    c.open_unless.ensures.state ∙ ap (λ (p : List Actuator). seen_state p inside.machine inside.is_open) c.deref.ensures.value ∙ ap (λ r. r.state) c.self.view_is in
-    subst (λ (s : State). IfOk c.step.result (λ did. did.1 ≡ step_effect c.args.self.now.plant c.args.session c.args.command.now c.args.moment s)) state
-    (subst (λ (p : List Actuator). IfOk c.step.result (λ did. did.1 ≡ step_effect p c.args.session c.args.command.now c.args.moment (state_of c.open_unless.new.self))) plant c.step.ensures.effect)
+    subst (λ (s : State). IfOk c.step.result (λ did. did.1 ≡ step_effect c.args.self.now.plant c.args.session c.args.command.now c.args.moment s)) (same-state c)
+    (subst (λ (p : List Actuator). IfOk c.step.result (λ did. did.1 ≡ step_effect p c.args.session c.args.command.now c.args.moment (state_of c.open_unless.new.self))) (same-plant c) c.step.ensures.effect)
 
 pub returns-clause-state : goal.returns-clause-state
 returns-clause-state c =
-    let inside = c.self.inside in
-    let plant : c.deref-2.result.now ≡ c.args.self.now.plant = c.deref-2.ensures.value ∙ ap (λ r. r.plant) c.self.view_is in
-    let state : state_of c.open_unless.new.self ≡ c.args.self.now.state =
-    c.open_unless.ensures.state ∙ ap (λ (p : List Actuator). seen_state p inside.machine inside.is_open) c.deref.ensures.value ∙ ap (λ r. r.state) c.self.view_is in
-    subst (λ (s : State). IfOk c.step.result (λ did. state_of c.step.new.self ≡ (step c.args.self.now.plant c.args.session c.args.command.now c.args.moment s).state)) state
-    (subst (λ (p : List Actuator). IfOk c.step.result (λ did. state_of c.step.new.self ≡ (step p c.args.session c.args.command.now c.args.moment (state_of c.open_unless.new.self)).state)) plant c.step.ensures.state)
+    subst (λ (s : State). IfOk c.step.result (λ did. state_of c.step.new.self ≡ (step c.args.self.now.plant c.args.session c.args.command.now c.args.moment s).state)) (same-state c)
+    (subst (λ (p : List Actuator). IfOk c.step.result (λ did. state_of c.step.new.self ≡ (step p c.args.session c.args.command.now c.args.moment (state_of c.open_unless.new.self)).state)) (same-plant c) c.step.ensures.state)
 
 pub returns-clause-err : goal.returns-clause-err
 returns-clause-err c =
-    let inside = c.self.inside in
-    let plant : c.deref-2.result.now ≡ c.args.self.now.plant = c.deref-2.ensures.value ∙ ap (λ r. r.plant) c.self.view_is in
-    let state : state_of c.open_unless.new.self ≡ c.args.self.now.state =
-    c.open_unless.ensures.state ∙ ap (λ (p : List Actuator). seen_state p inside.machine inside.is_open) c.deref.ensures.value ∙ ap (λ r. r.state) c.self.view_is in
-    on_err_weaker c.step.result (λ (is : state_of c.step.new.self ≡ state_of c.open_unless.new.self). λ i. record { plant = (ap (λ r. r.plant) c.self.view_is) i; state = (is ∙ state) i }) c.step.ensures.err
+    on_err_weaker c.step.result (λ (is : state_of c.step.new.self ≡ state_of c.open_unless.new.self). λ i. record { plant = (ap (λ r. r.plant) c.self.view_is) i; state = (is ∙ same-state c) i }) c.step.ensures.err
 
 pub returns-clause-memory : goal.returns-clause-memory
 returns-clause-memory c =
-    let inside = c.self.inside in
-    let plant : c.deref-2.result.now ≡ c.args.self.now.plant = c.deref-2.ensures.value ∙ ap (λ r. r.plant) c.self.view_is in
-    let state : state_of c.open_unless.new.self ≡ c.args.self.now.state =
-    c.open_unless.ensures.state ∙ ap (λ (p : List Actuator). seen_state p inside.machine inside.is_open) c.deref.ensures.value ∙ ap (λ r. r.state) c.self.view_is in
-    on_err_weaker c.step.result (λ needs. subst (λ (s : State). MayNeedMemory c.args.self.now.plant c.args.session c.args.command.now s) state
-    (subst (λ (p : List Actuator). MayNeedMemory p c.args.session c.args.command.now (state_of c.open_unless.new.self)) plant needs)) c.step.ensures.memory
+    on_err_weaker c.step.result (λ needs. subst (λ (s : State). MayNeedMemory c.args.self.now.plant c.args.session c.args.command.now s) (same-state c)
+    (subst (λ (p : List Actuator). MayNeedMemory p c.args.session c.args.command.now (state_of c.open_unless.new.self)) (same-plant c) needs)) c.step.ensures.memory

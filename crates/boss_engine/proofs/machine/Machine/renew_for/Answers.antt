@@ -12,38 +12,31 @@ use Rattle.boss_lasting.specs.Replying.{accepted, renewed_until, with_reply}
 use Rattle.boss_lasting.proofs.Concluded.{renewed-plain}
 use Rattle.boss_engine.proofs.machine.Machine.renew_for.Goals as goal
 
-pub returns-clause-answer : goal.returns-clause-answer
-returns-clause-answer c =
+abbrev longer : goal.Joined-later → List Lease
+longer c = map (extended_if (is_meant c.args.txn c.args.points.now) (c.args.n + unsigned_abs c.args.duration)) (persistent_of c.args.self.now.lasting).leases
+
+later : (c : goal.Joined-later) → persistent_of c.extend-extended.new.self ≡ record (persistent_of c.args.self.now.lasting) { leases = longer c }
+later c =
     let d = persistent_of c.args.self.now.lasting in
-    let n = c.args.n in
-    let meant = is_meant c.args.txn c.args.points.now in
-    let until = n + unsigned_abs c.args.duration in
-    let passed = to_z-of_z w64 c.args.duration c.ranges.duration in
-    let longer : List Lease = map (extended_if meant until) d.leases in
-    let later : persistent_of c.extend-extended.new.self ≡ record d { leases = longer } =
-    c.extend-extended.ensures.after ∙ ap {A = ℕ} (λ k. record d { leases = map (extended_if meant (n + k)) d.leases }) (c.unsigned_abs.ensures.value ∙ ap unsigned_abs passed) in
-    let plain : renewed c.args.txn c.args.duration c.args.points.now n d ≡ record d { now = n; leases = longer } =
-    renewed-plain c.requires.can_act.0 c.args.txn c.args.duration c.args.points.now n d c.requires.can_act.1.sound in
-    let ends = λ (e : Persistent). first_until (filter meant e.leases) in
-    let first : c.extend-extended.result.first_until ≡ renewed_until c.args.txn c.args.duration c.args.points.now n d =
-    c.extend-extended.ensures.first ∙ ap ends later ∙ sym (ap ends plain) in
-    ap (answer.Renewed c.args.txn) first
+    c.extend-extended.ensures.after
+    ∙ ap {A = ℕ} (λ k. record d { leases = map (extended_if (is_meant c.args.txn c.args.points.now) (c.args.n + k)) d.leases }) (c.unsigned_abs.ensures.value ∙ ap unsigned_abs (to_z-of_z w64 c.args.duration c.ranges.duration))
+
+plain : (c : goal.Joined-later) →
+    renewed c.args.txn c.args.duration c.args.points.now c.args.n (persistent_of c.args.self.now.lasting) ≡ record (persistent_of c.args.self.now.lasting) { now = c.args.n; leases = longer c }
+plain c = renewed-plain c.requires.can_act.0 c.args.txn c.args.duration c.args.points.now c.args.n (persistent_of c.args.self.now.lasting) c.requires.can_act.1.sound
+
+first : (c : goal.Joined-later) → c.extend-extended.result.first_until ≡ renewed_until c.args.txn c.args.duration c.args.points.now c.args.n (persistent_of c.args.self.now.lasting)
+first c =
+    let ends = λ (e : Persistent). first_until (filter (is_meant c.args.txn c.args.points.now) e.leases) in
+    c.extend-extended.ensures.first ∙ ap ends (later c) ∙ sym (ap ends (plain c))
+
+pub returns-clause-answer : goal.returns-clause-answer
+returns-clause-answer c = ap (answer.Renewed c.args.txn) (first c)
 
 pub returns-clause-after : goal.returns-clause-after
 returns-clause-after c =
     let d = persistent_of c.args.self.now.lasting in
     let n = c.args.n in
-    let meant = is_meant c.args.txn c.args.points.now in
-    let until = n + unsigned_abs c.args.duration in
-    let passed = to_z-of_z w64 c.args.duration c.ranges.duration in
-    let longer : List Lease = map (extended_if meant until) d.leases in
-    let later : persistent_of c.extend-extended.new.self ≡ record d { leases = longer } =
-    c.extend-extended.ensures.after ∙ ap {A = ℕ} (λ k. record d { leases = map (extended_if meant (n + k)) d.leases }) (c.unsigned_abs.ensures.value ∙ ap unsigned_abs passed) in
-    let plain : renewed c.args.txn c.args.duration c.args.points.now n d ≡ record d { now = n; leases = longer } =
-    renewed-plain c.requires.can_act.0 c.args.txn c.args.duration c.args.points.now n d c.requires.can_act.1.sound in
-    let ends = λ (e : Persistent). first_until (filter meant e.leases) in
-    let first : c.extend-extended.result.first_until ≡ renewed_until c.args.txn c.args.duration c.args.points.now n d =
-    c.extend-extended.ensures.first ∙ ap ends later ∙ sym (ap ends plain) in
     let ext = c.extend-extended.new.self in
     let kept = λ (u : ℕ) (e : Persistent). accepted c.args.owner c.args.seq (acceptance.Renewed c.args.txn u) e.processes in
     let made : ℕ → Persistent → Persistent = λ u e. record e { now = n; processes = kept u e } in
@@ -53,9 +46,9 @@ returns-clause-after c =
       pending = (c.reach.ensures i).pending;
       processes = c.accept.ensures.kept i;
     })
-    ∙ ap (made c.extend-extended.result.first_until) later
-    ∙ ap (λ (u : ℕ). made u (record d { leases = longer })) first
-    ∙ sym (ap (with_reply c.args.owner c.args.seq (acceptance.Renewed c.args.txn (renewed_until c.args.txn c.args.duration c.args.points.now n d))) plain)
+    ∙ ap (made c.extend-extended.result.first_until) (later c)
+    ∙ ap (λ (u : ℕ). made u (record d { leases = longer c })) (first c)
+    ∙ sym (ap (with_reply c.args.owner c.args.seq (acceptance.Renewed c.args.txn (renewed_until c.args.txn c.args.duration c.args.points.now n d))) (plain c))
 
 pub returns-clause-untouched : goal.returns-clause-untouched
 returns-clause-untouched c = λ default point moment left.
