@@ -13,9 +13,15 @@ use boss_model::{
 use std::alloc::Global;
 use std::marker::Model;
 
-/// What is kept of one transaction, with room for a pending reversion of each part.
+/// What is kept of one transaction, with room for a pending reversion of each part. It stands apart, so that a list of
+/// transactions closes up at little cost.
 #[derive(Drop)]
 pub struct Transaction {
+    record: Box<Record>,
+}
+
+#[derive(Drop)]
+struct Record {
     txn: Txn,
     owner: ProcId,
     policy: Policy,
@@ -30,9 +36,9 @@ impl Model for Transaction {
 
     ghost Value = { Tracked };
 
-    ghost view = { λ t. record { transaction = record { txn = t.txn; owner = t.owner; policy = t.policy; parts = t.parts.items }; reverting = t.reverting.items } };
+    ghost view = { λ t. record { transaction = record { txn = t.record.value.txn; owner = t.record.value.owner; policy = t.record.value.policy; parts = t.record.value.parts.items }; reverting = t.record.value.reverting.items } };
 
-    ghost invariant = { λ t. length t.reverting.items + length (filter is_live t.parts.items) ≤ vec_capacity t.reverting };
+    ghost invariant = { λ t. length t.record.value.reverting.items + length (filter is_live t.record.value.parts.items) ≤ vec_capacity t.record.value.reverting };
 }
 
 impl Transaction {
@@ -50,12 +56,15 @@ impl Transaction {
         for (point, priority) in slots {
             parts.push_reserved(Part::new(*point, *priority));
         }
-        Ok(Transaction {
+        let record = Record {
             txn,
             owner,
             policy,
             parts,
             reverting: Vec::with_capacity(alloc, slots.len())?,
+        };
+        Ok(Transaction {
+            record: Box::new(alloc, record)?,
         })
     }
 
@@ -63,21 +72,21 @@ impl Transaction {
     pub fn number(&self) -> u64
         ensures { result ≡ number self.now }
     {
-        self.txn.0
+        self.record.txn.0
     }
 
     /// The process that submitted it.
     pub fn owner(&self) -> ProcId
         ensures { result ≡ self.now.transaction.owner }
     {
-        self.owner
+        self.record.owner
     }
 
     /// Its parts, in the order of its writes.
     pub fn parts(&self) -> &[Part]
         ensures { result.now ≡ self.now.transaction.parts }
     {
-        &self.parts
+        &self.record.parts
     }
 
     /// How far it has come.
@@ -104,16 +113,21 @@ impl Transaction {
     pub fn live_parts(&self) -> u64
         ensures { result ≡ length (filter is_live self.now.transaction.parts) }
     {
-        self.parts.iter().filter(|part| part.is_live()).count() as u64
+        self.record
+            .parts
+            .iter()
+            .filter(|part| part.is_live())
+            .count() as u64
     }
 
     /// How many of its parts are on points with a pending reversion of it.
     pub fn pending_parts(&self) -> u64
         ensures { result ≡ length (filter (λ part. member part.point self.now.reverting) self.now.transaction.parts) }
     {
-        self.parts
+        self.record
+            .parts
             .iter()
-            .filter(|part| has_point(&self.reverting, part.point))
+            .filter(|part| has_point(&self.record.reverting, part.point))
             .count() as u64
     }
 
@@ -121,21 +135,21 @@ impl Transaction {
     pub fn has_live(&self) -> bool
         ensures { result ≡ has_live self.now }
     {
-        self.parts.iter().any(|part| part.is_live())
+        self.record.parts.iter().any(|part| part.is_live())
     }
 
     /// Whether it has a pending reversion.
     fn has_pending(&self) -> bool
         ensures { result ≡ has_pending self.now }
     {
-        !self.reverting.is_empty()
+        !self.record.reverting.is_empty()
     }
 
     /// The slot of its part at this place.
     pub fn slot(&self, place: usize) -> Option<(PointId, Priority)>
         ensures { result ≡ option_map slot_of (slice_get self.now.transaction.parts place) }
     {
-        match self.parts.get(place) {
+        match self.record.parts.get(place) {
             Some(part) => Some(part.slot()),
             None => None,
         }
@@ -155,7 +169,7 @@ impl Transaction {
     pub fn part_on(&self, point: PointId) -> Option<&Part>
         ensures { option_copied result ≡ part_on point self.now.transaction.parts }
     {
-        self.parts.iter().find(|part| part.is_on(point))
+        self.record.parts.iter().find(|part| part.is_on(point))
     }
 
     /// The live lease of its part on the point ends so, and its reversion begins if it has one.
@@ -163,9 +177,10 @@ impl Transaction {
         requires { part_end (part_on point self.old.transaction.parts) ≡ Live }
         ensures { self.new ≡ with_end point cause at reverts self.old }
     {
-        end_parts(&mut self.parts, point, &cause, at);
+        let record = &mut *self.record;
+        end_parts(&mut record.parts, point, &cause, at);
         if reverts {
-            self.reverting.push_reserved(point);
+            record.reverting.push_reserved(point);
         }
     }
 
@@ -173,7 +188,7 @@ impl Transaction {
     pub fn end_reversion(&mut self, point: PointId)
         ensures { self.new ≡ without_reversion point self.old }
     {
-        self.reverting.retain(|other| *other != point);
+        self.record.reverting.retain(|other| *other != point);
     }
 }
 
@@ -200,12 +215,15 @@ impl Transaction {
         for point in reverting {
             pending.push_reserved(*point);
         }
-        Ok(Transaction {
+        let record = Record {
             txn: kept.txn,
             owner: kept.owner,
             policy: kept.policy,
             parts,
             reverting: pending,
+        };
+        Ok(Transaction {
+            record: Box::new(alloc, record)?,
         })
     }
 
@@ -213,11 +231,11 @@ impl Transaction {
     pub fn keep(&self, alloc: Global) -> Result<KeptTxn, NoMemory>
         ensures { IfOk result (λ kept. seen_txn kept ≡ self.now.transaction) }
     {
-        let parts = kept_parts(alloc, &self.parts)?;
+        let parts = kept_parts(alloc, &self.record.parts)?;
         Ok(KeptTxn {
-            txn: self.txn,
-            owner: self.owner,
-            policy: self.policy,
+            txn: self.record.txn,
+            owner: self.record.owner,
+            policy: self.record.policy,
             parts,
         })
     }

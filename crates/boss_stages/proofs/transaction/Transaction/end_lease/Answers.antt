@@ -4,31 +4,31 @@ use Rattle.std.proofs.lemmas.List.{length-map, with_items_is}
 use Rattle.boss_stages.specs.Stages.{ended_on}
 use Rattle.boss_stages.proofs.Parts.{live-ended_live}
 use Rattle.boss_stages.proofs.transaction.Transaction.end_lease.Goals as goal
+use Rattle.boss_stages.proofs.transaction.Transaction.end_lease.Goals.{then-reverts, else-reverts}
 
 pub push_reserved-requires : goal.push_reserved-requires
 push_reserved-requires c =
-    let live = rw (← c.self.view_is) at c.requires in
-    let fewer = live-ended_live c.args.point (record { cause = c.args.cause; at = c.args.at }) c.self.inside.parts.items live in
-    omega (arith, fewer, c.self.invariant)
+    let held = c.deref_mut-record.ensures.value in
+    let live = rw (← c.self.view_is, ← held) at c.requires in
+    let fits = rw (← held) at c.self.invariant in
+    let fewer = live-ended_live c.args.point (record { cause = c.args.cause; at = c.args.at }) c.deref_mut-record.result.now.parts.items live in
+    omega (arith, fewer, fits)
 
 pub invariant_of-self : goal.invariant_of-self
 invariant_of-self c =
     let ended = ended_on c.args.point (record { cause = c.args.cause; at = c.args.at }) in
-    let live = rw (← c.self.view_is) at c.requires in
-    let fewer = live-ended_live c.args.point (record { cause = c.args.cause; at = c.args.at }) c.self.inside.parts.items live in
-    let parts : (with_items c.self.inside.parts c.end_parts.new.parts).items ≡ map ended c.self.inside.parts.items =
-    with_items_is c.self.inside.parts c.end_parts.new.parts (ap length c.end_parts.ensures ∙ (length-map c.deref_mut.result.now ended ∙ c.deref_mut.ensures.len))
+    let held = c.deref_mut-record.ensures.value in
+    let old = c.deref_mut-record.result.now in
+    let live = rw (← c.self.view_is, ← held) at c.requires in
+    let fits = rw (← held) at c.self.invariant in
+    let fewer = live-ended_live c.args.point (record { cause = c.args.cause; at = c.args.at }) old.parts.items live in
+    let parts : (with_items old.parts c.end_parts.new.parts).items ≡ map ended old.parts.items =
+    with_items_is old.parts c.end_parts.new.parts (ap length c.end_parts.ensures ∙ (length-map c.deref_mut.result.now ended ∙ c.deref_mut.ensures.len))
     ∙ (c.end_parts.ensures ∙ ap (map ended) c.deref_mut.ensures.value) in
-    let more : length c.push_reserved.new.self.items ≡ length c.self.inside.reverting.items + 1 =
-    ap length c.push_reserved.ensures.items ∙ length-append c.self.inside.reverting.items (c.args.point ∷ []) in
-    rw parts (omega (arith, fewer, more, c.self.invariant, c.push_reserved.ensures.capacity))
-
-pub invariant_of-self-else-reverts : goal.invariant_of-self-else-reverts
-invariant_of-self-else-reverts c =
-    let ended = ended_on c.args.point (record { cause = c.args.cause; at = c.args.at }) in
-    let live = rw (← c.self.view_is) at c.requires in
-    let fewer = live-ended_live c.args.point (record { cause = c.args.cause; at = c.args.at }) c.self.inside.parts.items live in
-    let parts : (with_items c.self.inside.parts c.end_parts.new.parts).items ≡ map ended c.self.inside.parts.items =
-    with_items_is c.self.inside.parts c.end_parts.new.parts (ap length c.end_parts.ensures ∙ (length-map c.deref_mut.result.now ended ∙ c.deref_mut.ensures.len))
-    ∙ (c.end_parts.ensures ∙ ap (map ended) c.deref_mut.ensures.value) in
-    rw parts (omega (arith, fewer, c.self.invariant))
+    elim c.if-reverts.branch [
+      | then-reverts w ↦
+          let more : length w.push_reserved.new.self.items ≡ length old.reverting.items + 1 =
+          ap length w.push_reserved.ensures.items ∙ length-append old.reverting.items (c.args.point ∷ []) in
+          rw (w.self-inside-is, parts) (omega (arith, fewer, more, fits, w.push_reserved.ensures.capacity))
+      | else-reverts w ↦ rw (w.self-inside-is, parts) (omega (arith, fewer, fits))
+    ]
