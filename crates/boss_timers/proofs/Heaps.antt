@@ -1,7 +1,7 @@
 -- Heaps of weights by place, as one weight goes up or down.
 use Rattle.std.proofs.Common.{◌≡◌, ◌≢◌, ℕ, zero, suc, ◌+◌, ◌-◌, ◌*◌, ◌/◌, ◌^◌, ◌<◌, ◌≤◌, refl, ap, inl, inr, arith}
 use Rattle.std.proofs.lemmas.Bool.{cases_eq}
-use Rattle.boss_timers.specs.Heap.{IsHeap, IsHole, IsRising, doubled}
+use Rattle.boss_timers.specs.Heap.{IsHeap, IsHole, IsRising, IsSinking, doubled}
 
 -- ---- up
 
@@ -128,3 +128,32 @@ mend-cost-down n at before counted after within one below (suc e) small = omega 
 
 pub mend-cost-up : (n at before counted after : ℕ) → 0 < at → at < n → counted ≡ before + 1 → ((d : ℕ) → (at - 1) / 2 < 2 ^ d → after ≤ counted + d) → (d : ℕ) → n < 2 ^ d → after ≤ before + 2 * d
 mend-cost-up n at before counted after some within one above d small = omega (arith, rise-cost at before counted after some one above d (omega arith))
+
+-- ---- down
+
+-- the weight at `at` has gone down to `least`, where the lesser of the two below it stood, which is less
+pub sinking-sunk : (n : ℕ) (w w' : ℕ → ℕ) (at least : ℕ) → 2 * at < least → least ≤ 2 * at + 2 → least < n → IsSinking n w at → w least < w at
+    → ((below : ℕ) → 2 * at < below → below ≤ 2 * at + 2 → below < n → w least ≤ w below)
+    → w' at ≡ w least → w' least ≡ w at → ((k : ℕ) → k ≢ at → k ≢ least → w' k ≡ w k) → IsSinking n w' least
+sinking-sunk n w w' at least low high within sinking less both here there others = record {
+  ordered = λ a b lo hi inside differs. elim (cases_eq a at) [
+    | inl is ↦ elim (cases_eq b least) [
+      | inl is' ↦ omega (arith, ap w' is, ap w' is')
+      | inr b-least ↦
+          let b-at : b ≢ at = omega arith in
+          omega (arith, ap w' is, others b b-at b-least, both b (omega arith) (omega arith) inside)
+    ]
+    | inr a-at ↦
+        let b-least : b ≢ least = omega arith in
+        elim (cases_eq b at) [
+          | inl is' ↦ omega (arith, ap w' is', others a a-at differs, sinking.over a least (omega arith) (omega arith) low high within)
+          | inr b-at ↦ omega (arith, others a a-at differs, others b b-at b-least, sinking.ordered a b lo hi inside a-at)
+        ]
+  ];
+  over = λ a b lo hi lo' hi' inside.
+      let is : a ≡ at = omega arith in
+      let b-at : b ≢ at = omega arith in
+      let b-least : b ≢ least = omega arith in
+      let least-at : least ≢ at = omega arith in
+      omega (arith, ap w' is, others b b-at b-least, sinking.ordered least b lo' hi' inside least-at);
+}

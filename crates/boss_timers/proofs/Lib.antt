@@ -1,3 +1,4 @@
 pub mod Heaps
 pub mod Indexed
 pub mod Kept
+pub mod Held

@@ -72,14 +72,53 @@ pub fn sink<L: Ledger>(
     ensures same { times entries.new places.new ≡ times entries.old places.old }
     ensures cost { (e : ℕ) → length entries.old < doubled (at + 1) (suc e) → steps.new ≤ steps.old + 2 * e }
 {
+    let entry = entries[at];
+    let end = make_way(entries, places, at, entry, steps);
+    put(entries, places, end, entry);
+}
+
+/// The timer at `lower` moves up to the free place `upper`, and its own place is free. `held` is out of the heap meanwhile.
+fn lift(entries: &mut [Entry], places: &mut [Option<u32>], upper: usize, lower: usize, held: Entry)
+    requires order { upper < lower }
+    requires within { lower < length entries.old }
+    requires indexed { IsIndexed (slice_set entries.old upper held) (slice_set places.old held.slot (Some upper)) }
+    ensures indexed { IsIndexed (slice_set entries.new lower held) (slice_set places.new held.slot (Some lower)) }
+    ensures same { times (slice_set entries.new lower held) (slice_set places.new held.slot (Some lower))
+        ≡ times (slice_set entries.old upper held) (slice_set places.old held.slot (Some upper)) }
+    ensures exchanged { IsExchanged (slice_set entries.old upper held) (slice_set entries.new lower held) upper lower }
+{
+    let below = entries[lower];
+    put(entries, places, upper, below);
+}
+
+/// Timers that go off before one that is held out of the heap move up, from the free place `at` downward. Gives the place
+/// that is free then, where that timer belongs.
+fn make_way<L: Ledger>(
+    entries: &mut [Entry],
+    places: &mut [Option<u32>],
+    at: usize,
+    held: Entry,
+    steps: &mut Steps<L>,
+) -> usize
+    requires within { at < length entries.old }
+    requires indexed { IsIndexed (slice_set entries.old at held) (slice_set places.old held.slot (Some at)) }
+    requires sinking { IsSinking (length entries.old) (weight_at (slice_set entries.old at held)) at }
+    ensures within { result < length entries.new }
+    ensures heap { IsHeap (length entries.new) (weight_at (slice_set entries.new result held)) }
+    ensures indexed { IsIndexed (slice_set entries.new result held) (slice_set places.new held.slot (Some result)) }
+    ensures same { times (slice_set entries.new result held) (slice_set places.new held.slot (Some result))
+        ≡ times (slice_set entries.old at held) (slice_set places.old held.slot (Some at)) }
+    ensures cost { (e : ℕ) → length entries.old < doubled (at + 1) (suc e) → steps.new ≤ steps.old + 2 * e }
+{
     if entries.len() <= 2 * at + 1 {
-        return;
+        return at;
     }
     let least = least_below(entries, at, steps);
-    if comes_first(entries[least], entries[at], steps) {
-        exchange(entries, places, at, least);
-        sink(entries, places, least, steps);
+    if comes_first(entries[least], held, steps) {
+        lift(entries, places, at, least, held);
+        return make_way(entries, places, least, held, steps);
     }
+    at
 }
 
 /// Of the two timers below a place the one that goes off first.

@@ -1,0 +1,5 @@
+use Rattle.std.proofs.Common.{◌-◌, length}
+use Rattle.boss_timers.proofs.heap.+make_way.Given as goal
+
+abbrev pub decreases-make_way : goal.decreases-make_way
+decreases-make_way g l = length l.entries.now - l.at
