@@ -9,7 +9,7 @@ use Rattle.std.proofs.lemmas.Bool.{cases_Bool, cases_lt}
 use Rattle.std.proofs.lemmas.Bool.Decides.{nat_tests}
 use Rattle.std.proofs.lemmas.Cmp.{ranked}
 use Rattle.std.proofs.lemmas.Grind.{common_steps}
-use Rattle.std.proofs.lemmas.List.{get_or_default}
+use Rattle.std.proofs.lemmas.List.{get_or_default, get_or-set_same, get_or-set_other, length-set}
 use Rattle.std.proofs.lemmas.Option.{slice_get_read}
 use Rattle.boss_model.specs.declared.notice.Cause.{Cause}
 use Rattle.boss_stages.specs.Stages.{Tracked, number, with_end, without_reversion, kept_as, changed, without, AllAbove, Rising}
@@ -159,6 +159,13 @@ module _ (txn : ℕ) (all : List Tracked) (place : ℕ) (rising : Rising all) (f
 
   pub kept_as_read : kept_as txn all ≡ Some kept
   kept_as_read = find-IsFirst (is_of txn) all place first ∙ slice_get_read all (length all) place kept refl first.within read
+
+  pub position-set : (new : Tracked) → number new ≡ number kept → position_from (is_of txn) 0 (set all place new) ≡ Some place
+  position-set new same = position-IsFirst (is_of txn) (set all place new) place (record {
+    within = omega (arith, first.within, length-set all place new);
+    passes = λ d. rw (get_or-set_same all place new d first.within) (ap (λ n. n == txn) (same ∙ ap number read) ∙ first.passes kept);
+    before = λ other d less. rw (get_or-set_other all place other new d (omega arith)) (first.before other d less);
+  })
 
   pub set-changed : (change : Tracked → Tracked) (new : Tracked) → new ≡ change kept → set all place new ≡ changed txn change all
   set-changed change new is = ap (set all place) (is ∙ ap change read) ∙ sym (changed-IsFirst txn change all place kept rising first)

@@ -1,9 +1,10 @@
-use Rattle.std.specs.Prelude.{ℕ, ◌<◌, ◌-◌, ◌==◌, nat_lt, Bool, false, not, ◌&&◌, if◌then◌else◌, List, [], ◌∷◌, ◌++◌, length, map, filter, find, take, Option, Some, None, is_none, option_and_then}
+use Rattle.std.specs.Prelude.{ℕ, ◌<◌, ◌-◌, ◌==◌, nat_lt, Bool, false, not, ◌&&◌, if◌then◌else◌, List, [], ◌∷◌, ◌++◌, length, map, filter, find, take, Option, Some, None, is_none, option_and_then, pos, ◌≤ℤ◌, unsigned_abs}
 use Rattle.std.specs.List.{list_any}
 use Rattle.std.specs.Option.{option_map_or}
 use Rattle.circular_buffer.specs.Buffer.{keep_last}
 use Rattle.boss_model.specs.Limits.{done_kept}
 use Rattle.boss_model.specs.declared.command.Policy.{Policy}
+use Rattle.boss_model.specs.declared.command.Setting.{Setting}
 use Rattle.boss_model.specs.declared.notice.Cause.{Cause}
 use Rattle.boss_model.specs.declared.notice.Stage.{Stage}
 use Rattle.boss_model.specs.declared.notice.Stage.TheVariants as stage
@@ -60,6 +61,13 @@ part_on point parts = find (λ part. part.point == point) parts
 
 abbrev pub live_part : ℕ × ℕ → Part
 live_part slot = record { point = slot.0; priority = slot.1; end = None }
+
+-- a write at one of the sixteen levels of the priority array
+abbrev pub HasLevel : Setting → Type 0
+HasLevel write = (pos 1 ≤ℤ write.priority) × (write.priority ≤ℤ pos 16)
+
+abbrev pub write_slot : Setting → ℕ × ℕ
+write_slot write = (write.point, unsigned_abs write.priority)
 
 abbrev pub begun : ℕ → ℕ → Policy → List (ℕ × ℕ) → Tracked
 begun txn owner policy slots = record {

@@ -112,7 +112,7 @@ impl Stages {
         };
         self.recent = place;
         self.transactions[place].end_lease(point, cause, at, reverts);
-        self.finish_if_over(txn);
+        self.finish_if_over(txn, place);
     }
 
     /// The pending reversion of the transaction's part on the point ended. Where nothing of the transaction is left, it
@@ -126,7 +126,7 @@ impl Stages {
         };
         self.recent = place;
         self.transactions[place].end_reversion(point);
-        self.finish_if_over(txn);
+        self.finish_if_over(txn, place);
     }
 
     /// How far the transaction has come; none where it is not kept.
@@ -229,22 +229,13 @@ impl Stages {
             .ok()
     }
 
-    /// If nothing of the transaction is left, it is done.
-    fn finish_if_over(&mut self, txn: Txn)
+    /// If nothing of the transaction is left, it is done. It stands at this place.
+    fn finish_if_over(&mut self, txn: Txn, place: usize)
+        requires { position_from (λ kept. number kept == txn) 0 self.old.kept ≡ Some place }
         ensures { self.new ≡ finished_if_over txn self.old }
     {
-        if self.is_over(txn) {
+        if self.transactions[place].is_over() {
             self.finish(txn);
-        }
-    }
-
-    /// Whether the transaction is kept, and nothing of it is left.
-    fn is_over(&self, txn: Txn) -> bool
-        ensures { result ≡ is_over (kept_as txn self.now.kept) }
-    {
-        match self.find(txn) {
-            Some(transaction) => transaction.is_over(),
-            None => false,
         }
     }
 

@@ -1,20 +1,22 @@
 ghost use Rattle.std.specs.Prelude.{◌≡◌, ◌==◌, ◌+◌, ◌≤◌, true, not, ◌&&◌, length, map, filter, find, slice_get, option_copied, IfOk};
-ghost use Rattle.std.specs.List.{list_any};
+ghost use Rattle.std.specs.List.{list_any, AllByRecursion};
 ghost use Rattle.std.specs.Option.{option_map};
 ghost use Rattle.boss_model.specs.Lists.{member};
 ghost use Rattle.boss_model.specs.Seen.{seen_part, seen_txn};
 ghost use Rattle.boss_stages.specs.declared.part.PartEnd.TheVariants.{Live};
-ghost use Rattle.boss_stages.specs.Stages.{number, is_live, has_live, has_pending, stage_of, slot_of, part_end, part_on, begun, ended_on, with_end, without_reversion};
+ghost use Rattle.boss_stages.specs.Stages.{number, is_live, has_live, has_pending, stage_of, slot_of, part_end, part_on, begun, HasLevel, write_slot, ended_on, with_end, without_reversion};
 
 use crate::part::{Part, PartEnd};
 use boss_model::{
-    Cause, Items, KeptPart, KeptTxn, NoMemory, PointId, Policy, Priority, ProcId, Stage, Txn,
+    Cause, Items, KeptPart, KeptTxn, NoMemory, PointId, Policy, Priority, ProcId, Setting, Stage,
+    Txn,
 };
+use smallvec::SmallVec;
 use std::alloc::Global;
 use std::marker::Model;
 
 /// What is kept of one transaction, with room for a pending reversion of each part. It stands apart, so that a list of
-/// transactions closes up at little cost.
+/// transactions closes up at little cost. Up to eight points that revert stand in the record itself.
 #[derive(Drop)]
 pub struct Transaction {
     record: Box<Record>,
@@ -26,11 +28,11 @@ struct Record {
     owner: ProcId,
     policy: Policy,
     parts: Vec<Part>,
-    reverting: Vec<PointId>,
+    reverting: SmallVec<u32, 8>,
 }
 
 impl Model for Transaction {
-    ghost use Rattle.std.specs.Prelude.{◌+◌, ◌≤◌, length, filter, vec_capacity};
+    ghost use Rattle.std.specs.Prelude.{◌+◌, ◌≤◌, length, filter};
     ghost use Rattle.boss_model.specs.Records.{Transaction as Recorded};
     ghost use Rattle.boss_stages.specs.Stages.{Tracked, is_live};
 
@@ -38,7 +40,7 @@ impl Model for Transaction {
 
     ghost view = { λ t. record { transaction = record { txn = t.record.value.txn; owner = t.record.value.owner; policy = t.record.value.policy; parts = t.record.value.parts.items }; reverting = t.record.value.reverting.items } };
 
-    ghost invariant = { λ t. length t.record.value.reverting.items + length (filter is_live t.record.value.parts.items) ≤ vec_capacity t.record.value.reverting };
+    ghost invariant = { λ t. length t.record.value.reverting.items + length (filter is_live t.record.value.parts.items) ≤ t.record.value.reverting.capacity };
 }
 
 impl Transaction {
@@ -61,7 +63,34 @@ impl Transaction {
             owner,
             policy,
             parts,
-            reverting: Vec::with_capacity(alloc, slots.len())?,
+            reverting: SmallVec::with_capacity(alloc, slots.len())?,
+        };
+        Ok(Transaction {
+            record: Box::new(alloc, record)?,
+        })
+    }
+
+    /// A transaction of these writes, whose parts have live leases.
+    pub fn of_writes(
+        alloc: Global,
+        txn: Txn,
+        owner: ProcId,
+        policy: Policy,
+        writes: &[Setting],
+    ) -> Result<Transaction, NoMemory>
+        requires { AllByRecursion HasLevel writes.now }
+        ensures { IfOk result (λ transaction. transaction ≡ begun txn owner policy (map write_slot writes.now)) }
+    {
+        let mut parts = Vec::with_capacity(alloc, writes.len())?;
+        for write in writes {
+            parts.push_reserved(Part::new(write.point, Priority(write.priority as u8)));
+        }
+        let record = Record {
+            txn,
+            owner,
+            policy,
+            parts,
+            reverting: SmallVec::with_capacity(alloc, writes.len())?,
         };
         Ok(Transaction {
             record: Box::new(alloc, record)?,
@@ -180,7 +209,7 @@ impl Transaction {
         let record = &mut *self.record;
         end_parts(&mut record.parts, point, &cause, at);
         if reverts {
-            record.reverting.push_reserved(point);
+            record.reverting.push_reserved(point.0);
         }
     }
 
@@ -188,15 +217,15 @@ impl Transaction {
     pub fn end_reversion(&mut self, point: PointId)
         ensures { self.new ≡ without_reversion point self.old }
     {
-        self.record.reverting.retain(|other| *other != point);
+        self.record.reverting.retain(|other| *other != point.0);
     }
 }
 
 /// Whether the point is one of these.
-fn has_point(points: &[PointId], point: PointId) -> bool
+fn has_point(points: &[u32], point: PointId) -> bool
     ensures { result ≡ member point points.now }
 {
-    points.iter().any(|other| *other == point)
+    points.iter().any(|other| *other == point.0)
 }
 
 impl Transaction {
@@ -211,9 +240,9 @@ impl Transaction {
         ensures { IfOk result (λ transaction. transaction ≡ record { transaction = seen_txn kept.now; reverting = reverting.now }) }
     {
         let parts = parts_put_back(alloc, kept.parts.slice())?;
-        let mut pending = Vec::with_capacity(alloc, parts.len())?;
+        let mut pending = SmallVec::with_capacity(alloc, parts.len())?;
         for point in reverting {
-            pending.push_reserved(*point);
+            pending.push_reserved(point.0);
         }
         let record = Record {
             txn: kept.txn,

@@ -1,6 +1,6 @@
-use Rattle.std.proofs.Common.{sym, ◌∙◌}
-use Rattle.boss_stages.specs.Stages.{with_end}
-use Rattle.boss_stages.proofs.Order.{kept_as_read, kept_as-none, set-changed, Rising-changed, number-with_end}
+use Rattle.std.proofs.Common.{sym, ◌∙◌, ap}
+use Rattle.boss_stages.specs.Stages.{number, with_end}
+use Rattle.boss_stages.proofs.Order.{kept_as_read, kept_as-none, position-set, set-changed, Rising-changed, number-with_end}
 use Rattle.boss_stages.proofs.stages.Stages.lease_ended.Goals as goal
 
 pub returns-in_default : goal.returns-in_default
@@ -28,3 +28,8 @@ returns c =
     let change = with_end c.args.point c.args.cause c.args.at c.args.reverts in
     let all = set-changed c.args.txn c.self.inside.transactions.items c.in-Some.place c.self.invariant.2 place c.index_mut.result.now c.index_mut.ensures.value change c.end_lease.new.self c.end_lease.ensures in
     rw (← c.self.view_is, ← all) c.finish_if_over.ensures
+
+pub finish_if_over-requires : goal.finish_if_over-requires
+finish_if_over-requires c =
+    let place = rw (← c.self.view_is) at (sym c.place_of.ensures.place ∙ c.in-Some.is) in
+    position-set c.args.txn c.self.inside.transactions.items c.in-Some.place c.self.invariant.2 place c.index_mut.result.now c.index_mut.ensures.value c.end_lease.new.self (ap number c.end_lease.ensures)

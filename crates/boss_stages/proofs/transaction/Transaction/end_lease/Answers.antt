@@ -28,7 +28,7 @@ invariant_of-self c =
     elim c.if-reverts.branch [
       | then-reverts w ↦
           let more : length w.push_reserved.new.self.items ≡ length old.reverting.items + 1 =
-          ap length w.push_reserved.ensures.items ∙ length-append old.reverting.items (c.args.point ∷ []) in
+          ap length w.push_reserved.ensures.items ∙ length-append old.reverting.items (c.point.inside.0 ∷ []) in
           rw (w.self-inside-is, parts) (omega (arith, fewer, more, fits, w.push_reserved.ensures.capacity))
       | else-reverts w ↦ rw (w.self-inside-is, parts) (omega (arith, fewer, fits))
     ]

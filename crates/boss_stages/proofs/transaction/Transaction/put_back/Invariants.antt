@@ -1,8 +1,8 @@
-use Rattle.std.proofs.Common.{◌≡◌, ◌≤◌, length, take, vec_capacity}
+use Rattle.std.proofs.Common.{◌≡◌, ◌≤◌, length, take}
 use Rattle.boss_stages.proofs.transaction.Transaction.put_back.Given as goal
 
 abbrev pub invariant-loop-point : goal.invariant-loop-point
 invariant-loop-point l = record {
   points : l.pending.items ≡ take l.point-index l.reverting;
-  room : length l.parts.items ≤ vec_capacity l.pending;
+  room : length l.parts.items ≤ l.pending.capacity;
 }
