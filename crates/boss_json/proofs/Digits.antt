@@ -1,6 +1,8 @@
 -- A text that is nothing but digits is the number that they write.
-use Rattle.std.proofs.Common.{◌≡◌, ℕ, ◌<◌, ◌^◌, true, false, ◌==◌, List, [], ◌∷◌, length, get_or, Some, is_some, pos, inl, inr, refl, sym, ap, ◌∙◌, arith, append-nil, lt-ltb}
+use Rattle.std.proofs.Common.{◌≡◌, ℕ, ◌+◌, ◌-◌, ◌*◌, ◌<◌, ◌≤◌, ◌^◌, true, false, ◌==◌, List, [], ◌∷◌, length, get_or, Some, is_some, pos, inl, inr, refl, sym, ap, ◌∙◌, arith, append-nil, lt-ltb}
 use Rattle.std.proofs.lemmas.Bool.{cases_Bool, eqb-true}
+use Rattle.std.proofs.Math.Nat.{one-le-pow}
+use Rattle.std.proofs.lemmas.Nat.{mul-le, pow-add}
 use Rattle.std.proofs.lemmas.Float.Parse.{scan_numeral-text_of}
 use Rattle.std.proofs.lemmas.Str.Parse.{digit_from_value}
 use Rattle.std.specs.Float.Numeral.{Parts, IsWellFormed, scan_numeral}
@@ -43,3 +45,15 @@ whole_digits ds digits few =
 
 pub digits_in_range : (ds : List ℕ) → IsNumeral 10 ds → digits_value 10 ds < 10 ^ 18 → is_some (number_of ds) ≡ true
 digits_in_range ds digits few = ap is_some (number_of-digits ds digits few)
+
+pub one_digit_more : (n d i : ℕ) → n < 10 ^ i → d < 10 → n * 10 + d < 10 ^ (i + 1)
+one_digit_more n d i few digit =
+    let more : 10 ^ (i + 1) ≡ 10 ^ i * 10 = pow-add 10 i 1 in
+    omega (arith, more, few, digit)
+
+pub few_have_room : (n i : ℕ) → n < 10 ^ i → i ≤ 18 → n < 10 ^ 18
+few_have_room n i few le =
+    let there : i + (18 - i) ≡ 18 = omega arith in
+    let whole : 10 ^ i * 10 ^ (18 - i) ≡ 10 ^ 18 = sym (pow-add 10 i (18 - i)) ∙ ap (λ k. 10 ^ k) there in
+    let more : 10 ^ i * 1 ≤ 10 ^ i * 10 ^ (18 - i) = mul-le (10 ^ i) 1 (10 ^ i) (10 ^ (18 - i)) (omega arith) (one-le-pow (18 - i) 10 (omega arith)) in
+    omega (arith, few, whole, more)

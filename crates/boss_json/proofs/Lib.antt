@@ -1,5 +1,6 @@
 pub mod Datas
 pub mod Digits
+pub mod Ends
 pub mod Fits
 pub mod Found
 pub mod Lines

@@ -1,4 +1,4 @@
-ghost use Rattle.std.specs.Prelude.{◌≡◌, false, bytes_eq, option_map, length, IsFalse};
+ghost use Rattle.std.specs.Prelude.{◌≡◌, bytes_eq, option_map, length};
 ghost use Rattle.json.specs.Find.{get_member};
 ghost use Rattle.json.specs.Value.{members_view, value_view};
 
@@ -27,17 +27,22 @@ pub(crate) fn member_under<'v, 'a>(
 fn is_key(text: &str, key: &str) -> bool
     ensures { result ≡ bytes_eq text.now key.now }
 {
-    text.len() == key.len() && has_ends_of(text.as_bytes(), key.as_bytes()) && text == key
+    text.len() == key.len() && are_same(text.as_bytes(), key.as_bytes())
 }
 
-/// Whether the first and the last byte are those of the other text, which is as long.
+/// Whether bytes are the same as others that are as many. Their ends are compared first, and are all that one or two have.
 #[inline(always)]
-fn has_ends_of(bytes: &[u8], other: &[u8]) -> bool
+#[tactic(auto, using(crate::proofs::Ends::ends_differ, crate::proofs::Ends::ends_same))]
+fn are_same(bytes: &[u8], other: &[u8]) -> bool
     requires { length bytes.now ≡ length other.now }
-    ensures { IsFalse result → bytes_eq bytes.now other.now ≡ false }
+    ensures { result ≡ bytes_eq bytes.now other.now }
 {
-    match bytes.len() {
-        0 => true,
-        count => bytes[0] == other[0] && bytes[count - 1] == other[count - 1],
+    let count = bytes.len();
+    if count == 0 {
+        return true;
     }
+    if bytes[0] != other[0] || bytes[count - 1] != other[count - 1] {
+        return false;
+    }
+    count <= 2 || bytes == other
 }

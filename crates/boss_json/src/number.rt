@@ -6,8 +6,8 @@ ghost use Rattle.serde_json.specs.Read.{number_from, number_of};
 
 use fast_float::Numeral;
 
-/// A number below this one has room for a digit more.
-const ROOMY: u64 = 100_000_000_000_000_000;
+/// A number of at most this many digits has room in 64 bits.
+const MOST_DIGITS: usize = 18;
 
 /// The number that a text writes, if it is a whole one that fits 64 bits with a sign. A fraction, an exponent and `-0` are none.
 #[tactic(auto, using(crate::proofs::Digits::whole_digits))]
@@ -20,7 +20,8 @@ pub(crate) fn whole_number(text: &str) -> Option<i64>
     }
 }
 
-/// The same of any text, cut into the parts of a numeral.
+/// The same of any text, cut into the parts of a numeral. It stands apart, so that few digits are read where they are wanted.
+#[inline(never)]
 fn scanned_number(text: &str) -> Option<i64>
     ensures { result ≡ option_and_then as_i64 (number_of text.now) }
 {
@@ -57,15 +58,12 @@ fn few_digits(bytes: &[u8]) -> Option<u64>
     ensures digits { IfSome result (λ _. IsNumeral 10 bytes.now) }
     ensures value { IfSome result (λ number. (number ≡ digits_value 10 bytes.now) × (number < 10 ^ 18)) }
 {
-    if bytes.is_empty() {
+    if bytes.is_empty() || MOST_DIGITS < bytes.len() {
         return None;
     }
     let mut number = 0;
     for byte in bytes {
         if *byte < b'0' || b'9' < *byte {
-            return None;
-        }
-        if number >= ROOMY {
             return None;
         }
         number = number * 10 + u64::from(*byte - b'0');

@@ -1,4 +1,4 @@
-ghost use Rattle.std.specs.Prelude.{◌≡◌, ◌<◌, codes, length, List, IfOk, IfSome};
+ghost use Rattle.std.specs.Prelude.{◌≡◌, ◌<◌, bytes_eq, codes, length, List, IfOk, IfSome};
 ghost use Rattle.boss_wire.specs.declared.form.Form.{Form};
 ghost use Rattle.boss_wire.specs.declared.form.Form.TheVariants.{Script, FirstLine};
 ghost use Rattle.boss_wire.specs.declared.form.Op.TheVariants.{Attach, Submit, Renew, Cancel, Read, Array, Status, Notices};
@@ -38,10 +38,12 @@ fn script_op(text: &str) -> Option<Op>
     ensures op { result ≡ op_named Script text.now }
     ensures form { IfSome result (IsOpOf Script) }
 {
-    match text {
-        "gone" => Some(Op::Gone),
-        "tick" => Some(Op::Tick),
-        other => common_op(other),
+    if is_word(text, "gone") {
+        Some(Op::Gone)
+    } else if is_word(text, "tick") {
+        Some(Op::Tick)
+    } else {
+        common_op(text)
     }
 }
 
@@ -49,9 +51,10 @@ fn first_op(text: &str) -> Option<Op>
     ensures op { result ≡ op_named FirstLine text.now }
     ensures form { IfSome result (IsOpOf FirstLine) }
 {
-    match text {
-        "watch" => Some(Op::Watch),
-        other => common_op(other),
+    if is_word(text, "watch") {
+        Some(Op::Watch)
+    } else {
+        common_op(text)
     }
 }
 
@@ -59,17 +62,33 @@ fn common_op(text: &str) -> Option<Op>
     ensures op { result ≡ common_op text.now }
     ensures form { (form : Form) → IfSome result (IsOpOf form) }
 {
-    match text {
-        "attach" => Some(Op::Attach),
-        "submit" => Some(Op::Submit),
-        "renew" => Some(Op::Renew),
-        "cancel" => Some(Op::Cancel),
-        "read" => Some(Op::Read),
-        "array" => Some(Op::Array),
-        "status" => Some(Op::Status),
-        "notices" => Some(Op::Notices),
-        _ => None,
+    if is_word(text, "attach") {
+        Some(Op::Attach)
+    } else if is_word(text, "submit") {
+        Some(Op::Submit)
+    } else if is_word(text, "renew") {
+        Some(Op::Renew)
+    } else if is_word(text, "cancel") {
+        Some(Op::Cancel)
+    } else if is_word(text, "read") {
+        Some(Op::Read)
+    } else if is_word(text, "array") {
+        Some(Op::Array)
+    } else if is_word(text, "status") {
+        Some(Op::Status)
+    } else if is_word(text, "notices") {
+        Some(Op::Notices)
+    } else {
+        None
     }
+}
+
+/// Whether a text is this word. Its bytes are compared where this stands, for each request is compared with several words.
+#[inline(always)]
+fn is_word(text: &str, word: &str) -> bool
+    ensures { result ≡ bytes_eq text.now word.now }
+{
+    text.as_bytes() == word.as_bytes()
 }
 
 /// What an object asks.

@@ -1,4 +1,4 @@
-use Rattle.std.proofs.Common.{◌≡◌, sym, ap, ◌∙◌}
+use Rattle.std.proofs.Common.{sym, ap, ◌∙◌}
 use Rattle.json.proofs.Trees.{view-Object}
 use Rattle.json.specs.Find as tree
 use Rattle.json.specs.Value.{value_view}
