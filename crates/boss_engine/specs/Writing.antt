@@ -1,11 +1,8 @@
 use Rattle.std.specs.Prelude.{pos, ◌≤ℤ◌}
 use Rattle.boss_model.specs.declared.command.Setting.{Setting}
+use Rattle.boss_stages.specs.Stages.{HasLevel}
 use Rattle.boss_model.specs.Limits.{longest_lease}
 
--- a write at one of the sixteen levels of the priority array
-abbrev pub HasLevel : Setting → Type 0
-HasLevel write = (pos 1 ≤ℤ write.priority) × (write.priority ≤ℤ pos 16)
-
--- and with a lease of at most a week
+-- a write at one of the sixteen levels, with a lease of at most a week
 abbrev pub IsWritable : Setting → Type 0
 IsWritable write = HasLevel write × (pos 1 ≤ℤ write.lease) × (write.lease ≤ℤ pos longest_lease)

@@ -1,4 +1,4 @@
-ghost use Rattle.std.specs.Prelude.{◌≡◌, ◌≤◌, ◌<◌, ◌+◌, ◌^◌, List, [], length, map, unsigned_abs, None, vec_capacity, IfOk, OnOk, OnErr};
+ghost use Rattle.std.specs.Prelude.{◌≡◌, ◌≤◌, ◌<◌, ◌+◌, ◌^◌, List, [], length, unsigned_abs, None, vec_capacity, IfOk, OnOk, OnErr};
 ghost use Rattle.std.specs.List.{AllByRecursion};
 ghost use Rattle.boss_model.specs.declared.state.Actuator.{Actuator};
 ghost use Rattle.boss_model.specs.Limits.{last_moment, most_told, most_writes};
@@ -128,9 +128,10 @@ impl Machine {
     {
         self.lasting.stages.reserve()?;
         let txn = Txn(self.lasting.next_txn);
+        let room = self.lasting.holdings.room_for(self.alloc, writes.len())?;
         Ok(Ready::Submit {
             transaction: begun(self.alloc, owner, policy, txn, writes)?,
-            leases: granted(self.alloc, owner, policy, txn, n, writes)?,
+            leases: granted(room, self.alloc, owner, policy, txn, n, writes)?,
         })
     }
 
@@ -153,8 +154,9 @@ impl Machine {
     }
 }
 
-/// The leases of these writes, at moment `n`.
+/// The leases of these writes, at moment `n`, in a list that has room for them.
 fn granted(
+    mut leases: Vec<Lease>,
     alloc: Global,
     owner: ProcId,
     policy: Policy,
@@ -164,9 +166,10 @@ fn granted(
 ) -> Result<Vec<Lease>, NoMemory>
     requires writes { AllByRecursion IsWritable writes.now }
     requires moment { n ≤ last_moment }
+    requires empty { leases.items ≡ [] }
+    requires room { length writes.now ≤ vec_capacity leases }
     ensures { IfOk result (λ leases. leases.items ≡ granted owner policy txn n writes.now) }
 {
-    let mut leases = Vec::with_capacity(alloc, writes.len())?;
     for write in writes {
         leases.push_reserved(lease_of(alloc, owner, policy, txn, n, write)?);
     }
@@ -211,17 +214,5 @@ fn begun(
     ensures record { IfOk result (λ kept. kept.transaction ≡ begun owner policy txn writes.now) }
     ensures settled { IfOk result (λ kept. kept.reverting ≡ []) }
 {
-    Transaction::new(alloc, txn, owner, policy, &slots_of(alloc, writes)?)
-}
-
-/// The slots of these writes.
-fn slots_of(alloc: Global, writes: &[Setting]) -> Result<Vec<(PointId, Priority)>, NoMemory>
-    requires { AllByRecursion IsWritable writes.now }
-    ensures { IfOk result (λ slots. slots.items ≡ map (λ write. (write.point, unsigned_abs write.priority)) writes.now) }
-{
-    let mut slots = Vec::with_capacity(alloc, writes.len())?;
-    for write in writes {
-        slots.push_reserved((write.point, Priority(write.priority as u8)));
-    }
-    Ok(slots)
+    Transaction::of_writes(alloc, txn, owner, policy, writes)
 }

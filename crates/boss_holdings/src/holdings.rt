@@ -32,6 +32,7 @@ use boss_slots::{
 };
 use std::alloc::Global;
 use std::marker::Model;
+use std::mem;
 
 /// How many leases, reversions and timers there is room for.
 #[derive(Clone, Copy, Debug, PartialEq, Eq)]
@@ -49,6 +50,8 @@ pub struct Holdings {
     moment: u64,
     tables: Tables,
     touched: Flags,
+    /// Room for the leases of a submit, while there is none.
+    room: Vec<Lease>,
 }
 
 impl Model for Holdings {
@@ -83,6 +86,7 @@ impl Holdings {
             moment: 0,
             tables,
             touched,
+            room: Vec::new(alloc),
         })
     }
 
@@ -93,7 +97,7 @@ impl Holdings {
         alloc: Global,
         points: u32,
         now: u64,
-        leases: Vec<Lease>,
+        mut leases: Vec<Lease>,
         pending: Vec<Pending>,
     ) -> Result<Holdings, NoMemory>
         requires points { points ≤ most_points }
@@ -107,12 +111,13 @@ impl Holdings {
     {
         let mut tables = empty_tables(alloc, points)?;
         let touched = Flags::new(alloc, points)?;
-        put_leases(&mut tables, leases);
+        put_leases(&mut tables, &mut leases);
         put_reversions(&mut tables, pending, now);
         Ok(Holdings {
             moment: now,
             tables,
             touched,
+            room: Vec::new(alloc),
         })
     }
 
@@ -176,7 +181,7 @@ impl Holdings {
     /// New leases of the transaction `by` take their slots at `n`, in milliseconds, up to which nothing more is due. What stood
     /// there goes out without a reversion, and is told in `told`, in no order; what was there before is gone. Their points are
     /// touched.
-    pub fn take(&mut self, new: Vec<Lease>, by: Txn, n: u64, told: &mut Vec<Telling>)
+    pub fn take(&mut self, mut new: Vec<Lease>, by: Txn, n: u64, told: &mut Vec<Telling>)
         requires moment { self.old.now ≤ n }
         requires slots { AllByRecursion (λ lease. (lease.point < self.old.points) × (1 ≤ lease.priority) × (lease.priority ≤ 16)) new.items }
         requires apart { AreApart new.items }
@@ -194,8 +199,22 @@ impl Holdings {
     {
         told.clear();
         clear_slots(&mut self.tables, &mut self.touched, &new, by, n, told);
-        put_leases(&mut self.tables, new);
+        put_leases(&mut self.tables, &mut new);
+        self.room = new;
         self.moment = n;
+    }
+
+    /// An empty list with room for so many leases: the one that `take` emptied last, which takes memory only where it has too
+    /// little room.
+    pub fn room_for(&mut self, alloc: Global, count: usize) -> Result<Vec<Lease>, NoMemory>
+        ensures same { self.new ≡ self.old }
+        ensures empty { IfOk result (λ room. room.items ≡ []) }
+        ensures room { IfOk result (λ room. count ≤ vec_capacity room) }
+    {
+        let mut room = mem::replace(&mut self.room, Vec::new(alloc));
+        room.clear();
+        room.reserve(count)?;
+        Ok(room)
     }
 
     /// The leases in some slots end at `n`, in milliseconds, up to which nothing more is due, and start their reversions then.

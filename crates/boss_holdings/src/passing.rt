@@ -218,7 +218,8 @@ fn take_up_pending(
     last
 }
 
-/// A timer went off by `n`. Gives the last moment at which something was due so far.
+/// A timer went off by `n`. Gives the last moment at which something was due so far. It stands apart, since mostly none did.
+#[inline(never)]
 fn take_up(
     tables: &mut Tables,
     touched: &mut Flags,

@@ -69,20 +69,19 @@ pub fn clear_slots(
     }
 }
 
-/// New leases take their slots, which have to be empty.
-pub fn put_leases(tables: &mut Tables, new: Vec<Lease>)
+/// New leases take their slots, which have to be empty; none is left in the list.
+pub fn put_leases(tables: &mut Tables, new: &mut Vec<Lease>)
     requires kept { IsKept tables.old }
-    requires apart { AreApart new.items }
-    requires slots { AllByRecursion (λ lease. (lease.point < length tables.old.arrays.items) × (1 ≤ lease.priority) × (lease.priority ≤ 16)) new.items }
-    requires clear { AllByRecursion (λ lease. (lease_at tables.old lease.point lease.priority ≡ None) × (pending_at tables.old lease.point lease.priority ≡ None)) new.items }
+    requires apart { AreApart new.old.items }
+    requires slots { AllByRecursion (λ lease. (lease.point < length tables.old.arrays.items) × (1 ≤ lease.priority) × (lease.priority ≤ 16)) new.old.items }
+    requires clear { AllByRecursion (λ lease. (lease_at tables.old lease.point lease.priority ≡ None) × (pending_at tables.old lease.point lease.priority ≡ None)) new.old.items }
     ensures kept { IsKept tables.new }
-    ensures leases { (p q : ℕ) → lease_at tables.new p q ≡ option_or (find (is_at p q) new.items) (lease_at tables.old p q) }
+    ensures leases { (p q : ℕ) → lease_at tables.new p q ≡ option_or (find (is_at p q) new.old.items) (lease_at tables.old p q) }
     ensures pending { (p q : ℕ) → pending_at tables.new p q ≡ pending_at tables.old p q }
     ensures timed { (last : ℕ) → IsTimed last tables.old → IsTimed last tables.new }
     ensures points { length tables.new.arrays.items ≡ length tables.old.arrays.items }
 {
-    let mut others = new;
-    while let Some(lease) = others.pop() {
+    while let Some(lease) = new.pop() {
         put_lease(tables, lease);
     }
 }

@@ -132,3 +132,12 @@ impl Part {
         }
     }
 }
+
+/// What a place without a part has.
+impl Default for Part {
+    ghost is_default = { λ part. part ≡ live_part (0, 0) };
+
+    fn default() -> Part {
+        Part::new(PointId(0), Priority(0))
+    }
+}

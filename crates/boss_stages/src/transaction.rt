@@ -16,7 +16,7 @@ use std::alloc::Global;
 use std::marker::Model;
 
 /// What is kept of one transaction, with room for a pending reversion of each part. It stands apart, so that a list of
-/// transactions closes up at little cost. Up to eight points that revert stand in the record itself.
+/// transactions closes up at little cost. Up to two parts and eight points that revert stand in the record itself.
 #[derive(Drop)]
 pub struct Transaction {
     record: Box<Record>,
@@ -27,7 +27,7 @@ struct Record {
     txn: Txn,
     owner: ProcId,
     policy: Policy,
-    parts: Vec<Part>,
+    parts: SmallVec<Part, 2>,
     reverting: SmallVec<u32, 8>,
 }
 
@@ -54,7 +54,7 @@ impl Transaction {
     ) -> Result<Transaction, NoMemory>
         ensures { IfOk result (λ transaction. transaction ≡ begun txn owner policy slots.now) }
     {
-        let mut parts = Vec::with_capacity(alloc, slots.len())?;
+        let mut parts = SmallVec::with_capacity(alloc, slots.len())?;
         for (point, priority) in slots {
             parts.push_reserved(Part::new(*point, *priority));
         }
@@ -81,7 +81,7 @@ impl Transaction {
         requires { AllByRecursion HasLevel writes.now }
         ensures { IfOk result (λ transaction. transaction ≡ begun txn owner policy (map write_slot writes.now)) }
     {
-        let mut parts = Vec::with_capacity(alloc, writes.len())?;
+        let mut parts = SmallVec::with_capacity(alloc, writes.len())?;
         for write in writes {
             parts.push_reserved(Part::new(write.point, Priority(write.priority as u8)));
         }
@@ -240,7 +240,7 @@ impl Transaction {
         ensures { IfOk result (λ transaction. transaction ≡ record { transaction = seen_txn kept.now; reverting = reverting.now }) }
     {
         let parts = parts_put_back(alloc, kept.parts.slice())?;
-        let mut pending = SmallVec::with_capacity(alloc, parts.len())?;
+        let mut pending = SmallVec::with_capacity(alloc, kept.parts.slice().len())?;
         for point in reverting {
             pending.push_reserved(point.0);
         }
@@ -271,10 +271,10 @@ impl Transaction {
 }
 
 /// The parts of which these outlasted a stop.
-fn parts_put_back(alloc: Global, kept: &[KeptPart]) -> Result<Vec<Part>, NoMemory>
+fn parts_put_back(alloc: Global, kept: &[KeptPart]) -> Result<SmallVec<Part, 2>, NoMemory>
     ensures { IfOk result (λ parts. parts.items ≡ map seen_part kept.now) }
 {
-    let mut parts = Vec::with_capacity(alloc, kept.len())?;
+    let mut parts = SmallVec::with_capacity(alloc, kept.len())?;
     for part in kept {
         parts.push_reserved(Part::put_back(part));
     }

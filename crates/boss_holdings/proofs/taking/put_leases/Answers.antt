@@ -12,7 +12,7 @@ pub put_lease-requires-clause-empty : goal.put_lease-requires-clause-empty
 put_lease-requires-clause-empty c =
     let l = c.in-Some.lease in
     let rest = c.pop.new.self.items in
-    let split : c.loop-lease.others.items ≡ rest ++ l ∷ [] = c.in-Some.ensures.items in
+    let split : c.loop-lease.new.items ≡ rest ++ l ∷ [] = c.in-Some.ensures.items in
     let inv = c.loop-lease.invariant in
     let clear = each-back (λ lease. (lease_at c.loop-lease.tables lease.point lease.priority ≡ None) × (pending_at c.loop-lease.tables lease.point lease.priority ≡ None)) rest (l ∷ [])
     (subst (AllByRecursion (λ lease. (lease_at c.loop-lease.tables lease.point lease.priority ≡ None) × (pending_at c.loop-lease.tables lease.point lease.priority ≡ None))) split inv.clear) in
@@ -22,7 +22,7 @@ pub loop-lease-preserved : goal.loop-lease-preserved
 loop-lease-preserved c =
     let l = c.in-Some.lease in
     let rest = c.pop.new.self.items in
-    let split : c.loop-lease.others.items ≡ rest ++ l ∷ [] = c.in-Some.ensures.items in
+    let split : c.loop-lease.new.items ≡ rest ++ l ∷ [] = c.in-Some.ensures.items in
     let inv = c.loop-lease.invariant in
     let clear = each-back (λ lease. (lease_at c.loop-lease.tables lease.point lease.priority ≡ None) × (pending_at c.loop-lease.tables lease.point lease.priority ≡ None)) rest (l ∷ [])
     (subst (AllByRecursion (λ lease. (lease_at c.loop-lease.tables lease.point lease.priority ≡ None) × (pending_at c.loop-lease.tables lease.point lease.priority ≡ None))) split inv.clear) in

@@ -1,6 +1,7 @@
 use Rattle.std.proofs.Common.{◌≡◌, ◌+◌, [], ◌∷◌, length, map, length-append, ap, ◌∙◌, arith}
-use Rattle.std.specs.Vec.{with_items}
-use Rattle.std.proofs.lemmas.List.{length-map, with_items_is}
+use Rattle.smallvec.specs.SmallVec.{with_items}
+use Rattle.smallvec.proofs.SmallVecLemmas.{items-with_items}
+use Rattle.std.proofs.lemmas.List.{length-map}
 use Rattle.boss_stages.specs.Stages.{ended_on}
 use Rattle.boss_stages.proofs.Parts.{live-ended_live}
 use Rattle.boss_stages.proofs.transaction.Transaction.end_lease.Goals as goal
@@ -23,7 +24,7 @@ invariant_of-self c =
     let fits = rw (← held) at c.self.invariant in
     let fewer = live-ended_live c.args.point (record { cause = c.args.cause; at = c.args.at }) old.parts.items live in
     let parts : (with_items old.parts c.end_parts.new.parts).items ≡ map ended old.parts.items =
-    with_items_is old.parts c.end_parts.new.parts (ap length c.end_parts.ensures ∙ (length-map c.deref_mut.result.now ended ∙ c.deref_mut.ensures.len))
+    items-with_items old.parts c.end_parts.new.parts (ap length c.end_parts.ensures ∙ (length-map c.deref_mut.result.now ended ∙ ap length c.deref_mut.ensures.value))
     ∙ (c.end_parts.ensures ∙ ap (map ended) c.deref_mut.ensures.value) in
     elim c.if-reverts.branch [
       | then-reverts w ↦

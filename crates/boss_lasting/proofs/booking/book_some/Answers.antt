@@ -4,7 +4,7 @@ use Rattle.boss_time.proofs.Orders.{each-in_order}
 use Rattle.boss_books.specs.Bookable.{IsInformed}
 use Rattle.boss_books.specs.Books.{booked}
 use Rattle.boss_books.specs.Gathered.{CanBook, told_rank}
-use Rattle.boss_lasting.proofs.booking.book_all.Goals as goal
+use Rattle.boss_lasting.proofs.booking.book_some.Goals as goal
 
 pub put_in_order-requires : goal.put_in_order-requires
 put_in_order-requires c = c.requires.apart
