@@ -88,7 +88,7 @@ fn common_op(text: &str) -> Option<Op>
 fn is_word(text: &str, word: &str) -> bool
     ensures { result ≡ bytes_eq text.now word.now }
 {
-    text.as_bytes() == word.as_bytes()
+    text.len() == word.len() && text.as_bytes() == word.as_bytes()
 }
 
 /// What an object asks.
