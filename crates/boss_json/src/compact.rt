@@ -22,12 +22,6 @@ const MOST_LEVELS: usize = 8;
 /// A number of at most this many digits is in range.
 const MOST_DIGITS: usize = 18;
 
-/// Room for the items that most arrays have.
-const FEW_ITEMS: usize = 4;
-
-/// Room for the members that most objects have.
-const FEW_MEMBERS: usize = 8;
-
 /// The value that a text writes, where it is spelled compactly: no white space, no escape in a string, no literal, and each number
 /// whole, without a sign, of at most 18 digits; arrays and objects nest at most eight deep. None says nothing of the text, and is also
 /// the answer where no memory was to be had.
@@ -84,7 +78,7 @@ impl<'a> Rest<'a> {
         if levels == 0 || !self.takes(b'[') {
             return None;
         }
-        let Ok(mut items) = Vec::with_capacity(alloc, FEW_ITEMS) else {
+        let Ok(mut items) = Vec::with_capacity(alloc, items_room(levels)) else {
             return None;
         };
         while !self.takes(b']') {
@@ -110,7 +104,7 @@ impl<'a> Rest<'a> {
         if levels == 0 || !self.takes(b'{') {
             return None;
         }
-        let Ok(mut members) = Vec::with_capacity(alloc, FEW_MEMBERS) else {
+        let Ok(mut members) = Vec::with_capacity(alloc, members_room(levels)) else {
             return None;
         };
         while !self.takes(b'}') {
@@ -200,6 +194,25 @@ impl<'a> Rest<'a> {
         ensures { IsTrue result → self.now ≡ [] }
     {
         self.text.len() <= self.place
+    }
+}
+
+/// Room for the items that most arrays have. Those further in have fewer, and the allocator keeps blocks of each size at hand.
+#[inline(always)]
+fn items_room(levels: usize) -> usize {
+    match levels {
+        0..=4 => 2,
+        5 | 6 => 3,
+        _ => 8,
+    }
+}
+
+/// Room for the members that most objects have, in the same way.
+#[inline(always)]
+fn members_room(levels: usize) -> usize {
+    match levels {
+        0..=6 => 5,
+        _ => 8,
     }
 }
 

@@ -66,7 +66,7 @@ fn few_digits(bytes: &[u8]) -> Option<u64>
         if *byte < b'0' || b'9' < *byte {
             return None;
         }
-        number = number * 10 + u64::from(*byte - b'0');
+        number = number * 10 + u64::from(*byte) - u64::from(b'0');
     }
     Some(number)
 }

@@ -1,4 +1,4 @@
-ghost use Rattle.std.specs.Prelude.{◌≡◌, ◌<◌, bytes_eq, codes, length, List, IfOk, IfSome};
+ghost use Rattle.std.specs.Prelude.{◌≡◌, ◌<◌, codes, length, List, IfOk, IfSome};
 ghost use Rattle.boss_wire.specs.declared.form.Form.{Form};
 ghost use Rattle.boss_wire.specs.declared.form.Form.TheVariants.{Script, FirstLine};
 ghost use Rattle.boss_wire.specs.declared.form.Op.TheVariants.{Attach, Submit, Renew, Cancel, Read, Array, Status, Notices};
@@ -38,12 +38,10 @@ fn script_op(text: &str) -> Option<Op>
     ensures op { result ≡ op_named Script text.now }
     ensures form { IfSome result (IsOpOf Script) }
 {
-    if is_word(text, "gone") {
-        Some(Op::Gone)
-    } else if is_word(text, "tick") {
-        Some(Op::Tick)
-    } else {
-        common_op(text)
+    match text.as_bytes() {
+        b"gone" => Some(Op::Gone),
+        b"tick" => Some(Op::Tick),
+        _ => common_op(text),
     }
 }
 
@@ -51,10 +49,9 @@ fn first_op(text: &str) -> Option<Op>
     ensures op { result ≡ op_named FirstLine text.now }
     ensures form { IfSome result (IsOpOf FirstLine) }
 {
-    if is_word(text, "watch") {
-        Some(Op::Watch)
-    } else {
-        common_op(text)
+    match text.as_bytes() {
+        b"watch" => Some(Op::Watch),
+        _ => common_op(text),
     }
 }
 
@@ -62,33 +59,17 @@ fn common_op(text: &str) -> Option<Op>
     ensures op { result ≡ common_op text.now }
     ensures form { (form : Form) → IfSome result (IsOpOf form) }
 {
-    if is_word(text, "attach") {
-        Some(Op::Attach)
-    } else if is_word(text, "submit") {
-        Some(Op::Submit)
-    } else if is_word(text, "renew") {
-        Some(Op::Renew)
-    } else if is_word(text, "cancel") {
-        Some(Op::Cancel)
-    } else if is_word(text, "read") {
-        Some(Op::Read)
-    } else if is_word(text, "array") {
-        Some(Op::Array)
-    } else if is_word(text, "status") {
-        Some(Op::Status)
-    } else if is_word(text, "notices") {
-        Some(Op::Notices)
-    } else {
-        None
+    match text.as_bytes() {
+        b"attach" => Some(Op::Attach),
+        b"submit" => Some(Op::Submit),
+        b"renew" => Some(Op::Renew),
+        b"cancel" => Some(Op::Cancel),
+        b"read" => Some(Op::Read),
+        b"array" => Some(Op::Array),
+        b"status" => Some(Op::Status),
+        b"notices" => Some(Op::Notices),
+        _ => None,
     }
-}
-
-/// Whether a text is this word. Its bytes are compared where this stands, for each request is compared with several words.
-#[inline(always)]
-fn is_word(text: &str, word: &str) -> bool
-    ensures { result ≡ bytes_eq text.now word.now }
-{
-    text.as_bytes() == word.as_bytes()
 }
 
 /// What an object asks.

@@ -66,7 +66,7 @@ fn known_points<V: JsonValue>(
     ensures known { IfOk result (λ points. All (λ point. point < length catalogue.now.points) points) }
     ensures few { IfOk result (λ points. length points ≤ most_writes) }
 {
-    let mut points = Items::new(alloc);
+    let mut points = Items::from_vec(Vec::with_capacity(alloc, values.len())?);
     for (at, value) in values.iter().enumerate() {
         let point = point_in(catalogue, at as u32, value)?;
         points.try_push(point)?;

@@ -54,7 +54,7 @@ fn known_settings<V: JsonValue>(
     ensures known { IfOk result (λ settings. All (λ setting. setting.point < length catalogue.now.points) settings) }
     ensures count { IfOk result (λ settings. length settings ≡ length values.now) }
 {
-    let mut settings = Items::new(alloc);
+    let mut settings = Items::from_vec(Vec::with_capacity(alloc, values.len())?);
     for (at, value) in values.iter().enumerate() {
         let setting = setting_in(alloc, catalogue, at as u32, value)?;
         settings.try_push(setting)?;
@@ -146,7 +146,7 @@ fn reversion_of<V: JsonValue>(alloc: Global, value: &V) -> Result<Items<Step>, R
 fn steps_in<V: JsonValue>(alloc: Global, values: &[V]) -> Result<Items<Step>, ReadRefusal>
     ensures { Gives (λ steps. steps) result (formed (all_of step (map V.meaning values.now))) }
 {
-    let mut steps = Items::new(alloc);
+    let mut steps = Items::from_vec(Vec::with_capacity(alloc, values.len())?);
     for value in values {
         steps.try_push(step_in(value).ok_or(MALFORMED)?)?;
     }
