@@ -219,6 +219,7 @@ fn take_up_pending(
 }
 
 /// A timer went off by `n`. Gives the last moment at which something was due so far.
+#[inline(never)]
 fn take_up(
     tables: &mut Tables,
     touched: &mut Flags,
