@@ -1,5 +1,6 @@
 pub mod Parts
 pub mod Changed
+pub mod Concerned
 pub mod Flags
 pub mod Redone
 pub mod Lasting

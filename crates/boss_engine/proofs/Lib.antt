@@ -1,8 +1,6 @@
 pub mod Again
 pub mod Attaching
-pub mod Concerned
 pub mod Doing
-pub mod Granted
 pub mod Keeping
 pub mod Opening
 pub mod Readied

@@ -4,7 +4,7 @@ use Rattle.std.specs.List.{AllByRecursion}
 use Rattle.std.proofs.lemmas.Bool.{cond_both}
 use Rattle.boss_model.specs.declared.answer.Answer.{Answer}
 use Rattle.boss_model.specs.declared.command.Command.{Command}
-use Rattle.boss_model.specs.declared.command.Command.TheVariants as command
+use Rattle.boss_model.specs.declared.event.Effect.{Effect}
 use Rattle.boss_model.specs.declared.event.Effect.TheVariants as effect
 use Rattle.boss_model.specs.Effects.{concerned, step_effect}
 use Rattle.boss_model.specs.Catalogue.{default_of}
@@ -12,7 +12,8 @@ use Rattle.boss_model.specs.Devices.{proxy_of}
 use Rattle.boss_model.specs.Same.{same_persistent}
 use Rattle.boss_model.specs.Target.{in_force, playing, target, target_at, value_of}
 use Rattle.boss_model.specs.Time.{tick_to}
-use Rattle.boss_effects.specs.Changes.{changes}
+use Rattle.boss_effects.specs.Changes.{changes, may_change}
+use Rattle.boss_effects.proofs.Concerned.{changing, concerned-passed}
 use Rattle.boss_effects.proofs.Flags.{step-flags}
 use Rattle.boss_model.specs.declared.state.Actuator.{Actuator}
 use Rattle.boss_model.specs.Machine.{act, pass_time, step}
@@ -32,26 +33,26 @@ use Rattle.boss_holdings.specs.Held.{is_touched}
 use Rattle.boss_lasting.specs.Lasting.{persistent_of}
 use Rattle.boss_engine.specs.declared.done.Deed.{Deed}
 use Rattle.boss_engine.specs.declared.machine.Machine.{Machine}
-use Rattle.boss_engine.specs.Deeds.{IsDone}
+use Rattle.boss_engine.specs.Deeds.{IsBegun, IsDone}
 use Rattle.boss_engine.specs.Inside.{HasPlaces, state_of}
 use Rattle.boss_engine.specs.Replies.{IsTellable, told}
 use Rattle.boss_engine.proofs.Waiting.{length-settled}
 
--- a command concerns the same process whatever the devices were told
-concerned-passed : (plant : List Actuator) (session n : ℕ) (s : State) (c : Command) →
-    concerned c session (pass_time plant n s) ≡ concerned c session (record s { persistent = tick_to n s.persistent })
-concerned-passed plant session n s (command.Attach name) = refl
-concerned-passed plant session n s (command.Submit writes policy seq) = refl
-concerned-passed plant session n s (command.Renew txn asked points seq) = refl
-concerned-passed plant session n s (command.Cancel txn seq) = refl
-concerned-passed plant session n s command.Gone = refl
-concerned-passed plant session n s command.Tick = refl
-concerned-passed plant session n s (command.Next driver) = refl
-concerned-passed plant session n s (command.Report point version ok) = refl
-concerned-passed plant session n s (command.Read point) = refl
-concerned-passed plant session n s (command.Array point) = refl
-concerned-passed plant session n s (command.Status txn) = refl
-concerned-passed plant session n s (command.Notices name from most) = refl
+-- a step begins in the state that the points are open in
+pub begins : (plant : List Actuator) (c : Command) (moment before n : ℕ) (opened from : State) → opened ≡ from → IsAllowed plant c → moment ≤ 2 ^ 60 → IsSound plant from →
+    before ≡ opened.persistent.now → n ≡ max before moment → IsBegun plant c moment before n opened
+begins plant c moment before n opened from is allowed small sound first at = record {
+  allowed = allowed;
+  small = small;
+  sound = subst (IsSound plant) (sym is) sound;
+  first = first;
+  at = at ∙ ap (λ k. max k moment) first;
+}
+
+-- the owner counts where something was changed
+one-owner : (n : ℕ) (rest : Effect) (changed : Bool) (one other : ℕ) → (changed ≡ true → one ≡ other) → cond changed (effect.Whole n one) rest ≡ cond changed (effect.Whole n other) rest
+one-owner n rest true one other is = ap (effect.Whole n) (is refl)
+one-owner n rest false one other is = refl
 
 module _ (plant : List Actuator) (session : ℕ) (c : Command) (m n : ℕ) (s : State) (at : n ≡ max s.persistent.now m)
     (allowed : IsAllowed plant c) (small : m ≤ 2 ^ 60) (sound : IsSound plant s) (p : State) (passed : p ≡ pass_time plant n s) where
@@ -103,22 +104,28 @@ module _ (plant : List Actuator) (session : ℕ) (c : Command) (m n : ℕ) (s : 
       ap (λ (t : State). (proxy_of t.proxies k).commanded) is ∙ commanded-acted p plant session n c k ∙ all-current plant p passed-well k within
       ∙ sym (same-targets k) ∙ ap (λ (t : State). target_at plant t.persistent.now p.persistent k) (sym is) ∙ sym (shows (default_of plant k) a.persistent.now)
 
-  -- what two flags and the process that the command concerns tell is the effect
-  pub told-by : (changed : Bool) (owner before end : ℕ) → changed ≡ changes plant session n c p → owner ≡ concerned c session p → before ≡ s.persistent.now → end ≡ p.persistent.now →
-      cond changed (effect.Whole n owner) (cond (not (end == before)) (effect.Tick end) effect.Unchanged) ≡ step_effect plant session c m s
-  told-by changed owner before end is-changed is-owner is-before is-end =
+  told-of : (changed : Bool) (before end : ℕ) → changed ≡ changes plant session n c p → before ≡ s.persistent.now → end ≡ p.persistent.now →
+      cond changed (effect.Whole n (concerned c session p)) (cond (not (end == before)) (effect.Tick end) effect.Unchanged) ≡ step_effect plant session c m s
+  told-of changed before end is-changed is-before is-end =
       let k = max s.persistent.now m in
       let flag : changed ≡ changes plant session k c (pass_time plant k s) =
       is-changed ∙ ap (changes plant session n c) passed ∙ ap (λ x. changes plant session x c (pass_time plant x s)) at in
-      let whose : owner ≡ concerned c session (record s { persistent = tick_to k s.persistent }) =
-      is-owner ∙ ap (concerned c session) passed ∙ ap (λ x. concerned c session (pass_time plant x s)) at ∙ concerned-passed plant session k s c in
+      let whose : concerned c session p ≡ concerned c session (record s { persistent = tick_to k s.persistent }) =
+      ap (concerned c session) passed ∙ ap (λ x. concerned c session (pass_time plant x s)) at ∙ concerned-passed plant session k s c in
       let reached : end ≡ (tick_to k s.persistent).now = is-end ∙ ap (λ t. t.persistent.now) passed ∙ ap (λ x. (tick_to x s.persistent).now) at in
       (λ i. cond (flag i) (effect.Whole (at i) (whose i)) (cond (not (reached i == is-before i)) (effect.Tick (reached i)) effect.Unchanged))
       ∙ sym (step-flags plant s session c m sound allowed small)
 
+  -- what two flags and the process that the command concerns tell is the effect, and so it is where the command changes nothing, whichever process that is
+  pub told-by : (changed : Bool) (owner before end : ℕ) → changed ≡ changes plant session n c p → (may_change c ≡ true → owner ≡ concerned c session p) → before ≡ s.persistent.now → end ≡ p.persistent.now →
+      cond changed (effect.Whole n owner) (cond (not (end == before)) (effect.Tick end) effect.Unchanged) ≡ step_effect plant session c m s
+  told-by changed owner before end is-changed is-owner is-before is-end =
+      one-owner n _ changed owner (concerned c session p) (λ yes. is-owner (changing plant session n p c (sym is-changed ∙ yes)))
+      ∙ told-of changed before end is-changed is-before is-end
+
   -- a command that acted once time had passed was carried out
   pub carried-out : (m : Machine) (deed : Deed) → told (persistent_of m.lasting) deed.done.reply ≡ (act plant session n c p).answer → IsTellable plant (persistent_of m.lasting) deed.done.reply →
-      deed.done.changed ≡ changes plant session n c p → deed.owner ≡ concerned c session p → deed.passed ≡ p.persistent.now → state_of m ≡ (act plant session n c p).state → HasPlaces plant m →
+      deed.done.changed ≡ changes plant session n c p → (may_change c ≡ true → deed.owner ≡ concerned c session p) → deed.passed ≡ p.persistent.now → state_of m ≡ (act plant session n c p).state → HasPlaces plant m →
       ((k : ℕ) → is_touched m.lasting.holdings k ≡ false → (default : ℤ) (moment : ℕ) →
       value_of default moment (in_force (persistent_of m.lasting).leases k) (playing (persistent_of m.lasting).pending k) ≡ value_of default moment (in_force p.persistent.leases k) (playing p.persistent.pending k)) →
       IsDone plant session c n s m deed
@@ -126,7 +133,7 @@ module _ (plant : List Actuator) (session : ℕ) (c : Command) (m n : ℕ) (s : 
     answer = is-answer ∙ ap (λ t. (act plant session n c t).answer) passed;
     tellable = tellable;
     changed = is-changed ∙ ap (changes plant session n c) passed;
-    owner = is-owner ∙ ap (concerned c session) passed;
+    owner = λ may. is-owner may ∙ ap (concerned c session) passed;
     passed = is-passed ∙ ap (λ (t : State). t.persistent.now) passed;
     state = is-state ∙ ap (λ t. (act plant session n c t).state) passed;
     places = places;

@@ -1,8 +1,7 @@
 -- Settling point by point: each point's turn is that of a round over all of them, and points that have their targets need none.
-use Rattle.std.proofs.Common.{◌≡◌, ℕ, zero, suc, ◌+◌, ◌-◌, ◌<◌, ◌≤◌, nat_lt, Bool, true, false, not, cond, List, [], ◌∷◌, length, get_or, set, refl, ap, sym, ◌∙◌, inl, inr, subst, arith}
+use Rattle.std.proofs.Common.{◌≡◌, ℕ, ◌+◌, ◌-◌, ◌<◌, ◌≤◌, Bool, true, false, not, cond, List, length, refl, ap, sym, ◌∙◌, subst, arith}
 use Rattle.std.specs.Ordering.{int_eq}
-use Rattle.std.proofs.lemmas.Bool.{cases_eq, cond_both}
-use Rattle.std.proofs.lemmas.Bool.Decides.{Decides-int_eq, nat_tests}
+use Rattle.std.proofs.lemmas.Bool.Decides.{Decides-int_eq}
 use Rattle.boss_model.specs.declared.state.Actuator.{Actuator}
 use Rattle.boss_model.specs.Devices.{proxy_of}
 use Rattle.boss_model.specs.Settle.{is_moved, recommanded}
@@ -10,7 +9,6 @@ use Rattle.boss_model.specs.State.{Persistent}
 use Rattle.boss_model.specs.Target.{target}
 use Rattle.boss_marks.specs.Marks.{Marks, settled}
 use Rattle.boss_marks.proofs.Rounds.{turned, turned_below, turned_below-all, turned_below-more, turned_below-skips}
-use Rattle.boss_slots.specs.Flags.{IsClear}
 use Rattle.boss_engine.specs.Settling.{settled_by}
 
 cond-not : {X : Type 0} (b : Bool) (x y : X) → cond b x y ≡ cond (not b) y x
@@ -46,27 +44,3 @@ module _ (plant : List Actuator) (d : Persistent) where
     pub settled-rest : from ≤ length marks.proxies → ((k : ℕ) → from ≤ k → k < length marks.proxies → (proxy_of marks.proxies k).commanded ≡ target plant d k) →
         turned_below (is_moved plant d) (recommanded plant d) from marks ≡ settled_by plant d marks
     settled-rest low same = sym (passed (length marks.proxies) low (omega arith) same) ∙ turned_below-all (is_moved plant d) (recommanded plant d) marks
-
--- ---- flags that are cleared one after another
-
-clear-stays : (flags : List Bool) (place k : ℕ) → get_or flags k false ≡ false → get_or (set flags place false) k false ≡ false
-clear-stays [] place k is = is
-clear-stays (f ∷ fs) zero zero is = refl
-clear-stays (f ∷ fs) zero (suc k) is = is
-clear-stays (f ∷ fs) (suc place) zero is = is
-clear-stays (f ∷ fs) (suc place) (suc k) is = clear-stays fs place k is
-
-clear-here : (flags : List Bool) (place : ℕ) → get_or (set flags place false) place false ≡ false
-clear-here [] place = refl
-clear-here (f ∷ fs) zero = refl
-clear-here (f ∷ fs) (suc place) = clear-here fs place
-
-pub cleared-below : (flags : List Bool) (from place : ℕ) → ((k : ℕ) → k < from → get_or flags k false ≡ false) → IsClear flags from place →
-    (k : ℕ) → k < place + 1 → get_or (set flags place false) k false ≡ false
-cleared-below flags from place below between k within = elim (cases_eq k place) [
-  | inl is ↦ ap (λ j. get_or (set flags place false) j false) is ∙ clear-here flags place
-  | inr other ↦
-      let earlier : k < place = omega arith in
-      clear-stays flags place k (cond_both (nat_lt k from) true false (λ _. get_or flags k false ≡ false)
-      (λ less. below k (grind (arith, nat_tests))) (λ more. between k (grind (arith, nat_tests)) earlier))
-]

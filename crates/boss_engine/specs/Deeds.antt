@@ -1,14 +1,20 @@
-use Rattle.std.specs.Prelude.{◌≡◌, ℕ, Bool, true, false, List}
-use Rattle.boss_effects.specs.Changes.{changes}
+use Rattle.std.specs.Prelude.{◌≡◌, ℕ, ◌≤◌, Bool, true, false, List}
+use Rattle.boss_effects.specs.Changes.{changes, may_change}
+use Rattle.boss_model.specs.declared.answer.Answer.{Answer}
 use Rattle.boss_model.specs.declared.command.Command.{Command}
 use Rattle.boss_model.specs.declared.command.Command.TheVariants as command
+use Rattle.boss_model.specs.declared.event.Effect.{Effect}
 use Rattle.boss_model.specs.declared.state.Actuator.{Actuator}
-use Rattle.boss_model.specs.Effects.{concerned}
-use Rattle.boss_model.specs.Machine.{act, pass_time}
+use Rattle.boss_model.specs.Effects.{concerned, step_effect}
+use Rattle.boss_model.specs.Machine.{act, pass_time, step}
+use Rattle.boss_model.specs.Limits.{last_moment}
+use Rattle.boss_model.specs.Sound.{IsAllowed, IsSound}
 use Rattle.boss_model.specs.State.{State}
+use Rattle.boss_model.specs.Time.{moment_of}
 use Rattle.boss_lasting.specs.Lasting.{persistent_of}
 use Rattle.boss_engine.specs.declared.done.Deed.{Deed}
 use Rattle.boss_engine.specs.declared.machine.Machine.{Machine}
+use Rattle.boss_engine.specs.declared.reply.Reply.{Reply}
 use Rattle.boss_engine.specs.Inside.{HasPlaces, state_of}
 use Rattle.boss_engine.specs.Replies.{IsTellable, told}
 use Rattle.boss_engine.specs.Settling.{AreCurrent}
@@ -25,8 +31,29 @@ pub record IsDone (plant : List Actuator) (session : ℕ) (command : Command) (n
   pub answer : told (persistent_of m.lasting) deed.done.reply ≡ (act plant session n command (pass_time plant n s)).answer
   pub tellable : IsTellable plant (persistent_of m.lasting) deed.done.reply
   pub changed : deed.done.changed ≡ changes plant session n command (pass_time plant n s)
-  pub owner : deed.owner ≡ concerned command session (pass_time plant n s)
+  pub owner : may_change command ≡ true → deed.owner ≡ concerned command session (pass_time plant n s)
   pub passed : deed.passed ≡ (pass_time plant n s).persistent.now
   pub state : state_of m ≡ (act plant session n command (pass_time plant n s)).state
   pub places : HasPlaces plant m
   pub current : AreCurrent plant m.lasting.holdings m.marks.proxies
+
+-- a step of a command begins in this state, whose last moment was `before`, and goes up to moment n
+pub record IsBegun (plant : List Actuator) (command : Command) (moment before n : ℕ) (s : State) : Type 0 where
+  pub allowed : IsAllowed plant command
+  pub small : moment ≤ last_moment
+  pub sound : IsSound plant s
+  pub first : before ≡ s.persistent.now
+  pub at : n ≡ moment_of s.persistent moment
+
+-- a step from one state to another, with what its command came to and what it did
+pub record IsStep (plant : List Actuator) (session : ℕ) (command : Command) (moment : ℕ) (from to : State) (reply : Reply) (did : Effect) : Type 0 where
+  pub answer : told to.persistent reply ≡ (step plant session command moment from).answer
+  pub tellable : IsTellable plant to.persistent reply
+  pub effect : did ≡ step_effect plant session command moment from
+  pub state : to ≡ (step plant session command moment from).state
+
+-- the same, with the answer itself
+pub record IsTold (plant : List Actuator) (session : ℕ) (command : Command) (moment : ℕ) (from to : State) (given : Answer) (did : Effect) : Type 0 where
+  pub answer : given ≡ (step plant session command moment from).answer
+  pub effect : did ≡ step_effect plant session command moment from
+  pub state : to ≡ (step plant session command moment from).state

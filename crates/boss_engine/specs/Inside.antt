@@ -42,6 +42,11 @@ abbrev pub seen_state : List Actuator → Machine → Bool → State
 seen_state plant m true = state_of m
 seen_state plant m false = opened plant (persistent_of m.lasting)
 
+-- the state that an engine is in is sound, and there is room
+pub record IsRunnable (plant : List Actuator) (m : Machine) (is_open : Bool) : Type 0 where
+  pub sound : IsSound plant (seen_state plant m is_open)
+  pub places : HasPlaces plant m
+
 abbrev pub running : Inside → Running
 running e = record { plant = e.plant.items; state = seen_state e.plant.items e.machine e.is_open }
 

@@ -377,6 +377,7 @@ impl Machine {
 
     /// What follows for the lease in force on a point, whose device has failed to take its value, for the first time or again.
     /// The answer is whether it changed something.
+    #[inline(always)]
     pub fn follow_up(&mut self, point: PointId, first: bool, n: u64) -> bool
         requires can_act { (plant : List Actuator) × CanAct plant self.old }
         requires point { point < self.old.lasting.holdings.points }

@@ -1,6 +1,7 @@
-ghost use Rattle.std.specs.Prelude.{◌≡◌, ◌+◌, ◌*◌, ◌<◌, ◌≤◌, ◌&&◌, not, length, map, min, is_some, IfErr, IfOk, OnOk, OnErr};
+ghost use Rattle.std.specs.Prelude.{true, false, ◌≡◌, ◌+◌, ◌*◌, ◌<◌, ◌≤◌, ◌&&◌, not, length, map, min, is_some, IfErr, IfOk, OnOk, OnErr};
 ghost use Rattle.std.specs.Option.{option_map_or};
 ghost use Rattle.boss_model.specs.Acts.{replay};
+ghost use Rattle.boss_model.specs.declared.command.Command.TheVariants as command;
 ghost use Rattle.boss_model.specs.Catalogue.{actuators};
 ghost use Rattle.boss_model.specs.Devices.{wanting};
 ghost use Rattle.boss_model.specs.Effects.{step_effect};
@@ -14,6 +15,7 @@ ghost use Rattle.boss_model.specs.Sound.{IsAllowed, IsSound, IsSoundPersistent};
 ghost use Rattle.boss_points.specs.Seen.{seen as seen_point};
 ghost use Rattle.boss_spelled.specs.Ranges.{IsSpelled};
 ghost use Rattle.boss_engine.specs.Again.{TakesOn};
+ghost use Rattle.boss_engine.specs.Deeds.{IsStep, IsTold, takes_memory};
 ghost use Rattle.boss_engine.specs.Ready.{MayNeedMemory};
 ghost use Rattle.boss_engine.specs.Replies.{IsTellable, told};
 ghost use Rattle.boss_engine.specs.declared.restoring.RestoreRefusal.TheVariants as refusal;
@@ -22,8 +24,10 @@ use crate::machine::Machine;
 use crate::reply::{Reply, answer_of_reading, answer_of_want};
 use crate::restoring::RestoreRefusal;
 use crate::room::Room;
+use boss_lasting::Decision;
 use boss_model::{
-    Actuator, Answer, Command, DriverId, Effect, Event, Kept, Name, NoMemory, PointId, SessionId,
+    Acceptance, Actuator, Answer, Command, DriverId, Effect, Event, Kept, Name, NoMemory, PointId,
+    Refusal, SessionId,
 };
 use boss_points::{Catalogue, Point};
 use boss_sound::is_sound;
@@ -183,6 +187,7 @@ impl Engine {
     ///
     /// No memory is to be had only for a submit, an attach of a new name or notices, when they are neither refused nor answered
     /// from the reply that is kept of the process. Then nothing has changed.
+    #[inline(always)]
     pub fn step(
         &mut self,
         session: SessionId,
@@ -200,18 +205,92 @@ impl Engine {
         ensures err { OnErr result (self.new ≡ self.old) }
         ensures memory { OnErr result (MayNeedMemory self.old.plant session command.now self.old.state) }
     {
-        let (reply, effect) = self.advance(session, command, moment)?;
-        match reply {
-            Reply::Want(want) => return Ok((answer_of_want(want), effect)),
-            Reply::Decided(decision) => return Ok((decision.answer(), effect)),
-            Reply::Noted { current } => return Ok((Answer::Noted { current }, effect)),
-            Reply::Read(reading) => return Ok((answer_of_reading(reading), effect)),
-            other => Ok((self.machine.answer(other), effect)),
+        match command {
+            Command::Next { .. } | Command::Report { .. } => {
+                self.serve(session, command, moment)
+            }
+            _ => self.answer(session, command, moment),
         }
     }
 
-    /// The same, with what the command came to in place of its answer.
-    fn advance(
+    /// The same of a driver's command. Most steps of a plant that is at work are such: what they come to is compiled with the
+    /// caller, who mostly needs little of it.
+    #[inline(always)]
+    fn serve(
+        &mut self,
+        session: SessionId,
+        command: &Command,
+        moment: u64,
+    ) -> Result<(Answer, Effect), NoMemory>
+        requires moment { moment ≤ last_moment }
+        requires allowed { IsAllowed self.old.plant command.now }
+        ensures did { IfOk result (λ did. IsTold self.old.plant session command.now moment self.old.state self.new.state did.0 did.1) }
+        ensures sound { IsSound self.new.plant self.new.state }
+        ensures plant { self.new.plant ≡ self.old.plant }
+        ensures err { OnErr result (self.new ≡ self.old) }
+        ensures memory { OnErr result (MayNeedMemory self.old.plant session command.now self.old.state) }
+    {
+        let (reply, effect) = self.carry_out(session, command, moment)?;
+        match reply {
+            Reply::Want(want) => return Ok((answer_of_want(want), effect)),
+            Reply::Nothing => return Ok((Answer::Nothing, effect)),
+            Reply::Noted { current } => return Ok((Answer::Noted { current }, effect)),
+            other => Ok((self.look_up(other), effect)),
+        }
+    }
+
+    /// The same of any command. An answer has room for sixteen slots: each is made where it is handed out, so that it is moved once.
+    #[inline(never)]
+    fn answer(
+        &mut self,
+        session: SessionId,
+        command: &Command,
+        moment: u64,
+    ) -> Result<(Answer, Effect), NoMemory>
+        requires moment { moment ≤ last_moment }
+        requires allowed { IsAllowed self.old.plant command.now }
+        ensures did { IfOk result (λ did. IsTold self.old.plant session command.now moment self.old.state self.new.state did.0 did.1) }
+        ensures sound { IsSound self.new.plant self.new.state }
+        ensures plant { self.new.plant ≡ self.old.plant }
+        ensures err { OnErr result (self.new ≡ self.old) }
+        ensures memory { OnErr result (MayNeedMemory self.old.plant session command.now self.old.state) }
+    {
+        let (reply, effect) = self.other(session, command, moment)?;
+        match reply {
+            Reply::Decided(decision) => match decision {
+                Decision::Again(acceptance) => match acceptance {
+                    Acceptance::Accepted { txn, until } => {
+                        return Ok((Answer::Accepted { txn, until }, effect));
+                    }
+                    Acceptance::Renewed { txn, until } => {
+                        return Ok((Answer::Renewed { txn, until }, effect));
+                    }
+                    Acceptance::Cancelled { txn, at } => {
+                        return Ok((Answer::Cancelled { txn, at }, effect));
+                    }
+                },
+                Decision::Stale { kept } => {
+                    return Ok((Answer::Refused(Refusal::Stale { kept }), effect));
+                }
+            },
+            Reply::Read(reading) => return Ok((answer_of_reading(reading), effect)),
+            Reply::Ticked { now } => return Ok((Answer::Ticked { now }, effect)),
+            other => Ok((self.look_up(other), effect)),
+        }
+    }
+
+    /// The answer that a reply is. It is made out of the way of those who need none of its kind.
+    #[inline(always)]
+    fn look_up(&self, reply: Reply) -> Answer
+        requires { IsTellable self.now.plant self.now.state.persistent reply }
+        ensures { result ≡ told self.now.state.persistent reply }
+    {
+        self.machine.answer(reply)
+    }
+
+    /// The same, with what the command came to in place of its answer. A driver's commands have code of their own.
+    #[inline(always)]
+    fn carry_out(
         &mut self,
         session: SessionId,
         command: &Command,
@@ -219,18 +298,127 @@ impl Engine {
     ) -> Result<(Reply, Effect), NoMemory>
         requires moment { moment ≤ last_moment }
         requires allowed { IsAllowed self.old.plant command.now }
-        ensures answer { IfOk result (λ did. told self.new.state.persistent did.0 ≡ (step self.old.plant session command.now moment self.old.state).answer) }
-        ensures tellable { IfOk result (λ did. IsTellable self.new.plant self.new.state.persistent did.0) }
-        ensures effect { IfOk result (λ did. did.1 ≡ step_effect self.old.plant session command.now moment self.old.state) }
-        ensures state { IfOk result (λ _. self.new.state ≡ (step self.old.plant session command.now moment self.old.state).state) }
+        ensures did { IfOk result (λ did. IsStep self.old.plant session command.now moment self.old.state self.new.state did.0 did.1) }
         ensures sound { IsSound self.new.plant self.new.state }
         ensures plant { self.new.plant ≡ self.old.plant }
         ensures err { OnErr result (self.new ≡ self.old) }
         ensures memory { OnErr result (MayNeedMemory self.old.plant session command.now self.old.state) }
     {
-        self.machine.open_unless(self.is_open, &self.plant);
+        match command {
+            Command::Next { driver } => Ok(self.next(session, *driver, moment)),
+            Command::Report { point, version, ok } => {
+                Ok(self.report(session, *point, *version, *ok, moment))
+            }
+            _ => self.other(session, command, moment),
+        }
+    }
+
+    /// Any command.
+    #[inline(never)]
+    fn other(
+        &mut self,
+        session: SessionId,
+        command: &Command,
+        moment: u64,
+    ) -> Result<(Reply, Effect), NoMemory>
+        requires moment { moment ≤ last_moment }
+        requires allowed { IsAllowed self.old.plant command.now }
+        ensures did { IfOk result (λ did. IsStep self.old.plant session command.now moment self.old.state self.new.state did.0 did.1) }
+        ensures sound { IsSound self.new.plant self.new.state }
+        ensures plant { self.new.plant ≡ self.old.plant }
+        ensures err { OnErr result (self.new ≡ self.old) }
+        ensures memory { OnErr result (MayNeedMemory self.old.plant session command.now self.old.state) }
+    {
+        match command {
+            Command::Attach { .. } | Command::Submit { .. } | Command::Notices { .. } => {
+                self.ready(session, command, moment)
+            }
+            _ => Ok(self.plain(session, command, moment)),
+        }
+    }
+
+    /// A driver asks for its first want.
+    #[inline(never)]
+    fn next(&mut self, session: SessionId, driver: DriverId, moment: u64) -> (Reply, Effect)
+        requires moment { moment ≤ last_moment }
+        ensures did { IsStep self.old.plant session (command.Next driver) moment self.old.state self.new.state result.0 result.1 }
+        ensures sound { IsSound self.new.plant self.new.state }
+        ensures plant { self.new.plant ≡ self.old.plant }
+    {
+        self.advance(session, &Command::Next { driver }, moment)
+    }
+
+    /// A driver says whether a device took a value.
+    #[inline(never)]
+    fn report(
+        &mut self,
+        session: SessionId,
+        point: PointId,
+        version: u64,
+        ok: bool,
+        moment: u64,
+    ) -> (Reply, Effect)
+        requires moment { moment ≤ last_moment }
+        requires point { point < length self.old.plant }
+        ensures did { IsStep self.old.plant session (command.Report point version ok) moment self.old.state self.new.state result.0 result.1 }
+        ensures sound { IsSound self.new.plant self.new.state }
+        ensures plant { self.new.plant ≡ self.old.plant }
+    {
+        self.advance(session, &Command::Report { point, version, ok }, moment)
+    }
+
+    /// A command that needs no memory.
+    #[inline(never)]
+    fn plain(&mut self, session: SessionId, command: &Command, moment: u64) -> (Reply, Effect)
+        requires moment { moment ≤ last_moment }
+        requires allowed { IsAllowed self.old.plant command.now }
+        requires takes { takes_memory command.now ≡ false }
+        ensures did { IsStep self.old.plant session command.now moment self.old.state self.new.state result.0 result.1 }
+        ensures sound { IsSound self.new.plant self.new.state }
+        ensures plant { self.new.plant ≡ self.old.plant }
+    {
+        self.advance(session, command, moment)
+    }
+
+    /// The same, which is compiled for each command that it is called with.
+    #[inline(always)]
+    fn advance(&mut self, session: SessionId, command: &Command, moment: u64) -> (Reply, Effect)
+        requires moment { moment ≤ last_moment }
+        requires allowed { IsAllowed self.old.plant command.now }
+        requires takes { takes_memory command.now ≡ false }
+        ensures did { IsStep self.old.plant session command.now moment self.old.state self.new.state result.0 result.1 }
+        ensures sound { IsSound self.new.plant self.new.state }
+        ensures plant { self.new.plant ≡ self.old.plant }
+    {
+        let did = self
+            .machine
+            .step_plain(&self.plant, self.is_open, session, command, moment);
         self.is_open = true;
-        self.machine.step(&self.plant, session, command, moment)
+        did
+    }
+
+    /// A command that needs memory.
+    #[inline(never)]
+    fn ready(
+        &mut self,
+        session: SessionId,
+        command: &Command,
+        moment: u64,
+    ) -> Result<(Reply, Effect), NoMemory>
+        requires moment { moment ≤ last_moment }
+        requires allowed { IsAllowed self.old.plant command.now }
+        requires takes { takes_memory command.now ≡ true }
+        ensures did { IfOk result (λ did. IsStep self.old.plant session command.now moment self.old.state self.new.state did.0 did.1) }
+        ensures sound { IsSound self.new.plant self.new.state }
+        ensures plant { self.new.plant ≡ self.old.plant }
+        ensures err { OnErr result (self.new ≡ self.old) }
+        ensures memory { OnErr result (MayNeedMemory self.old.plant session command.now self.old.state) }
+    {
+        let did = self
+            .machine
+            .step_ready(&self.plant, self.is_open, session, command, moment);
+        self.is_open = true;
+        did
     }
 
     /// Does an event again, wherever it comes from: time passes up to its moment, or to the engine's last moment where that is

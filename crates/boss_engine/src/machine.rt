@@ -1,15 +1,16 @@
-ghost use Rattle.std.specs.Prelude.{◌≡◌, true, false, List, ◌≤◌, length, map, IfOk, OnOk, OnErr};
+ghost use Rattle.std.specs.Prelude.{◌≡◌, ℕ, true, false, List, ◌≤◌, length, map, IfOk, OnOk, OnErr};
+ghost use Rattle.boss_model.specs.declared.command.Command.{Command};
 ghost use Rattle.boss_model.specs.declared.state.Actuator.{Actuator};
-ghost use Rattle.boss_model.specs.Effects.{step_effect};
 ghost use Rattle.boss_model.specs.Limits.{last_moment, most_points};
-ghost use Rattle.boss_model.specs.Machine.{act, pass_time, step};
+ghost use Rattle.boss_model.specs.Machine.{act, pass_time};
 ghost use Rattle.boss_model.specs.Sound.{IsAllowed, IsSound};
 ghost use Rattle.boss_model.specs.Settle.{first_state};
+ghost use Rattle.boss_model.specs.State.{State};
 ghost use Rattle.boss_effects.specs.Changes.{changes};
 ghost use Rattle.boss_engine.specs.declared.ready.Ready.{Ready};
-ghost use Rattle.boss_engine.specs.Deeds.{IsDone, takes_memory};
+ghost use Rattle.boss_engine.specs.Deeds.{IsBegun, IsDone, IsStep, takes_memory};
 ghost use Rattle.boss_engine.specs.Replies.{IsTellable, told};
-ghost use Rattle.boss_engine.specs.Inside.{CanRun, HasPlaces, state_of};
+ghost use Rattle.boss_engine.specs.Inside.{CanRun, HasPlaces, IsRunnable, seen_state, state_of};
 ghost use Rattle.boss_lasting.specs.Lasting.{persistent_of};
 ghost use Rattle.boss_books.specs.Passed.{IsPassed};
 ghost use Rattle.boss_engine.specs.Ready.{HasRoomFor, IsReadyFor, MayNeedMemory};
@@ -56,57 +57,72 @@ impl Machine {
         })
     }
 
-    /// Lets time pass up to a moment, failed devices be tried again, the points settle, the command act, and the points settle
-    /// again.
-    pub fn step(
+    /// Opens the points unless they are open, lets time pass up to a moment, failed devices be tried again, the points settle, a command act that may need memory, and the
+    /// points settle again.
+    #[inline(always)]
+    pub fn step_ready(
         &mut self,
         plant: &[Actuator],
+        is_open: bool,
         session: SessionId,
         command: &Command,
         moment: u64,
     ) -> Result<(Reply, Effect), NoMemory>
         requires moment { moment ≤ last_moment }
         requires allowed { IsAllowed plant.now command.now }
-        requires ready { CanRun plant.now self.old }
-        ensures tellable { IfOk result (λ did. IsTellable plant.now (persistent_of self.new.lasting) did.0) }
-        ensures answer { IfOk result (λ did. told (persistent_of self.new.lasting) did.0 ≡ (step plant.now session command.now moment (state_of self.old)).answer) }
-        ensures effect { IfOk result (λ did. did.1 ≡ step_effect plant.now session command.now moment (state_of self.old)) }
-        ensures state { OnOk result (state_of self.new ≡ (step plant.now session command.now moment (state_of self.old)).state) }
+        requires ready { IsRunnable plant.now self.old is_open }
+        requires takes { takes_memory command.now ≡ true }
+        ensures did { IfOk result (λ did. IsStep plant.now session command.now moment (seen_state plant.now self.old is_open) (state_of self.new) did.0 did.1) }
         ensures ready { CanRun plant.now self.new }
-        ensures err { OnErr result (state_of self.new ≡ state_of self.old) }
-        ensures memory { OnErr result (MayNeedMemory plant.now session command.now (state_of self.old)) }
+        ensures err { OnErr result (state_of self.new ≡ seen_state plant.now self.old is_open) }
+        ensures memory { OnErr result (MayNeedMemory plant.now session command.now (seen_state plant.now self.old is_open)) }
     {
+        self.open_unless(is_open, plant);
         let before = self.lasting.holdings.now();
         let n = before.max(moment);
-        let deed = self.carry_out(plant, session, command, n)?;
+        let deed = self.carry_out_ready(plant, session, command, n)?;
+        Ok(self.finish(plant, deed, before, n))
+    }
+
+    /// The same of a command that needs none.
+    #[inline(always)]
+    pub fn step_plain(
+        &mut self,
+        plant: &[Actuator],
+        is_open: bool,
+        session: SessionId,
+        command: &Command,
+        moment: u64,
+    ) -> (Reply, Effect)
+        requires moment { moment ≤ last_moment }
+        requires allowed { IsAllowed plant.now command.now }
+        requires ready { IsRunnable plant.now self.old is_open }
+        requires takes { takes_memory command.now ≡ false }
+        ensures did { IsStep plant.now session command.now moment (seen_state plant.now self.old is_open) (state_of self.new) result.0 result.1 }
+        ensures ready { CanRun plant.now self.new }
+    {
+        self.open_unless(is_open, plant);
+        let before = self.lasting.holdings.now();
+        let n = before.max(moment);
+        let deed = self.carry_out_plain(plant, session, command, n);
+        self.finish(plant, deed, before, n)
+    }
+
+    /// The points settle once a command was carried out.
+    #[inline(always)]
+    fn finish(&mut self, plant: &[Actuator], deed: Deed, before: u64, n: u64) -> (Reply, Effect)
+        requires { (session : ℕ) × (command : Command) × (moment : ℕ) × (s : State) × IsBegun plant.now command moment before n s × IsDone plant.now session command n s self.old deed }
+        ensures did { (session : ℕ) (command : Command) (moment : ℕ) (s : State) → IsBegun plant.now command moment before n s → IsDone plant.now session command n s self.old deed →
+            IsStep plant.now session command moment s (state_of self.new) result.0 result.1 }
+        ensures ready { CanRun plant.now self.new }
+    {
         settle(plant, &mut self.lasting, &mut self.marks);
         let effect = effect_of(deed.done.changed, n, deed.owner, before, deed.passed);
-        Ok((deed.done.reply, effect))
+        (deed.done.reply, effect)
     }
 
     /// Takes the memory that a command needs, lets time pass up to `n`, and lets the command act.
-    fn carry_out(
-        &mut self,
-        plant: &[Actuator],
-        session: SessionId,
-        command: &Command,
-        n: u64,
-    ) -> Result<Deed, NoMemory>
-        requires moment { (self.old.lasting.holdings.now ≤ n) × (n ≤ last_moment) }
-        requires allowed { IsAllowed plant.now command.now }
-        requires ready { CanRun plant.now self.old }
-        ensures deed { IfOk result (λ deed. IsDone plant.now session command.now n (state_of self.old) self.new deed) }
-        ensures places { HasPlaces plant.now self.new }
-        ensures err { OnErr result (state_of self.new ≡ state_of self.old) }
-        ensures memory { OnErr result (MayNeedMemory plant.now session command.now (state_of self.old)) }
-    {
-        if takes_memory(command) {
-            return self.carry_out_ready(plant, session, command, n);
-        }
-        Ok(self.carry_out_plain(plant, session, command, n))
-    }
-
-    /// The same of a command that needs some.
+    #[inline(always)]
     fn carry_out_ready(
         &mut self,
         plant: &[Actuator],
@@ -126,7 +142,7 @@ impl Machine {
         let ready = self.make_ready(plant, session, command, n)?;
         self.pass_time(plant, n);
         let passed = self.lasting.holdings.now();
-        let owner = self.concerned(session, command);
+        let owner = self.entrant_or_own(session, command);
         Ok(Deed {
             done: self.act_ready(plant, session, command, n, ready),
             owner,
@@ -135,6 +151,7 @@ impl Machine {
     }
 
     /// The same of a command that needs none.
+    #[inline(always)]
     fn carry_out_plain(
         &mut self,
         plant: &[Actuator],
@@ -160,6 +177,7 @@ impl Machine {
     }
 
     /// Lets time pass up to `n`, failed devices be tried again, and the points settle.
+    #[inline(always)]
     fn pass_time(&mut self, plant: &[Actuator], n: u64)
         requires moment { (self.old.lasting.holdings.now ≤ n) × (n ≤ last_moment) }
         requires ready { CanRun plant.now self.old }
@@ -206,6 +224,7 @@ impl Machine {
     }
 
     /// Lets a command act at moment `n` that needs no memory.
+    #[inline(always)]
     fn act(&mut self, plant: &[Actuator], session: SessionId, command: &Command, n: u64) -> Done
         requires passed { IsPassed n (persistent_of self.old.lasting) }
         requires moment { (self.old.lasting.holdings.now ≤ n) × (n ≤ last_moment) }
@@ -254,16 +273,6 @@ impl Machine {
             _ => unreachable!(),
         }
     }
-}
-
-/// Whether a command may need memory: one that takes on what outlasts it, or makes a list.
-fn takes_memory(command: &Command) -> bool
-    ensures { result ≡ takes_memory command.now }
-{
-    matches!(
-        command,
-        Command::Attach { .. } | Command::Submit { .. } | Command::Notices { .. }
-    )
 }
 
 /// The driver and the default of each point.

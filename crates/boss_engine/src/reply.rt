@@ -71,6 +71,7 @@ pub enum Reply {
 
 impl Machine {
     /// The answer that a reply is.
+    #[inline(never)]
     pub fn answer(&self, reply: Reply) -> Answer
         requires { (plant : List Actuator) × CanAct plant self.now × IsTellable plant (persistent_of self.now.lasting) reply }
         ensures { result ≡ told (persistent_of self.now.lasting) reply }

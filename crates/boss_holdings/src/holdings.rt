@@ -343,6 +343,13 @@ impl Holdings {
         self.tables.under_way
     }
 
+    /// Whether no point is touched.
+    pub fn is_settled(&self) -> bool
+        ensures { result ≡ true → (point : ℕ) → is_touched self.now point ≡ false }
+    {
+        self.touched.are_clear()
+    }
+
     /// The first touched point from `from` on.
     pub fn next_touched(&self, from: PointId) -> Option<PointId>
         ensures some { IfSome result (λ point. IsNext self.now.touched from point) }

@@ -6,6 +6,7 @@ pub mod Counted
 pub mod Current
 pub mod Firsts
 pub mod Flagged
+pub mod Granted
 pub mod Holders
 pub mod Lengthening
 pub mod MeantLeases

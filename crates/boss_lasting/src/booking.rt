@@ -11,6 +11,7 @@ use boss_stages::Stages;
 
 /// Books what was gathered, one after another in the order in which it is told: the records are changed, the owners are told,
 /// and where the last part of a transaction ended its owner is told that it is done. It takes no memory.
+#[inline(always)]
 pub fn book_all(stages: &mut Stages, processes: &mut Processes, told: &mut Vec<Telling>)
     requires { IsBookable stages.old processes.old told.old.items }
     ensures books { record { stages = stages.new; processes = processes.new } ≡ booked_all stages.old processes.old told.old.items }

@@ -145,6 +145,7 @@ impl Marks {
 
     /// The points whose failed write is due at moment `n` want their devices to be written again, by rising point. It
     /// takes no memory.
+    #[inline(always)]
     pub fn retry_due(&mut self, n: u64)
         ensures { self.new ≡ retried_all n self.old }
     {

@@ -58,6 +58,10 @@ unfilled words filled word known clear =
     let e : nat_lt 0 (slice_index words word) ≡ false = sym (known word) ∙ ap (λ (bit : ℕ). bit == 1) clear in
     omega (arith, ltb-false 0 _ e)
 
+-- where no word's bit is set, none of its own is
+pub none-filled : (words filled : List ℕ) → AreFilled words filled → ((word : ℕ) → bit_of filled word ≡ 0) → (place : ℕ) → bit_of words place ≡ 0
+none-filled words filled known clear place = zero-bit words place (unfilled words filled (place / 64) known (clear (place / 64)))
+
 -- a bit of a word is set, and that of the word is
 pub filled-set : (words new filled marked : List ℕ) (place : ℕ) → AreFilled words filled → bit_of new place ≡ 1 → bit_of marked (place / 64) ≡ 1 →
     ((word : ℕ) → word ≢ place / 64 → slice_index new word ≡ slice_index words word) → ((word : ℕ) → word ≢ place / 64 → bit_of marked word ≡ bit_of filled word) →

@@ -1,4 +1,5 @@
 pub mod BySlot
+pub mod Cleared
 pub mod Ended
 pub mod Flagged
 pub mod Gathers

@@ -65,6 +65,16 @@ impl Flags {
         }
     }
 
+    /// Whether no flag is set. It looks at one word for each 4,096 points.
+    pub fn are_clear(&self) -> bool
+        ensures { result ≡ true → (point : ℕ) → slice_index_or self.now point false ≡ false }
+    {
+        match first_bit(&self.filled, 0) {
+            Some(_) => false,
+            None => true,
+        }
+    }
+
     /// The first point from `from` on whose flag is set.
     pub fn next(&self, from: PointId) -> Option<PointId>
         requires { length self.now < 2 ^ 32 }

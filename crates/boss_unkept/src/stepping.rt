@@ -24,7 +24,8 @@ fn events_behind(events: u64, effect: &Effect) -> u64
     }
 }
 
-/// Does a command, and counts its event.
+/// Does a command, and counts its event. It is compiled into its caller, who mostly knows which command it gives.
+#[inline(always)]
 pub fn step_counted(
     engine: &mut Engine,
     count: &mut u64,

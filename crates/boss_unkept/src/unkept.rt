@@ -71,6 +71,7 @@ impl Keeper for Unkept {
         false
     }
 
+    #[inline(always)]
     fn apply(&mut self, session: SessionId, command: &Command, moment: u64) -> Outcome {
         match step_counted(&mut self.engine, &mut self.events, session, command, moment) {
             Ok(answer) => Outcome::Done { answer },

@@ -3,8 +3,8 @@ use Rattle.boss_engine.specs.Inside.{state_of}
 use Rattle.boss_engine.proofs.Stepping.{passed-at, passed-moment, passed-well, carried-out}
 use Rattle.boss_engine.proofs.machine.Machine.carry_out_plain.Goals as goal
 
-pub concerned-owner-requires : goal.concerned-owner-requires
-concerned-owner-requires c =
+pub concerned-owner-requires-clause-allowed : goal.concerned-owner-requires-clause-allowed
+concerned-owner-requires-clause-allowed c =
     let well = passed-well c.args.plant.now c.args.session c.args.command.now c.args.n c.args.n (state_of c.args.self.now) (omega (arith, c.requires.moment.0))
     c.requires.allowed c.requires.moment.1 c.requires.ready.sound (state_of c.pass_time.new.self) c.pass_time.ensures.state in
     (c.args.plant.now, c.pass_time.ensures.places.points, c.requires.allowed, well.persistent)
