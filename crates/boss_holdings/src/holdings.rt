@@ -345,7 +345,8 @@ impl Holdings {
 
     /// Whether no point is touched.
     pub fn is_settled(&self) -> bool
-        ensures { result ≡ true → (point : ℕ) → is_touched self.now point ≡ false }
+        ensures settled { result ≡ true → (point : ℕ) → is_touched self.now point ≡ false }
+        ensures touched { result ≡ false → (point : ℕ) × (is_touched self.now point ≡ true) }
     {
         self.touched.are_clear()
     }

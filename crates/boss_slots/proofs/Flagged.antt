@@ -1,9 +1,9 @@
-use Rattle.std.proofs.Common.{◌≡◌, ◌≢◌, inl, inr, Option, Some, None, IfSome, IfNone, ℕ, ◌+◌, ◌*◌, ◌/◌, ◌%◌, ◌^◌, ◌==◌, ◌<◌, ◌≤◌, Bool, false, List, length, replicate, nat_lt, slice_index, slice_index_or, slice_set, sym, ap, ◌∙◌, arith}
-use Rattle.std.specs.Int.{bit_at}
-use Rattle.std.proofs.lemmas.Bool.{true≢false, cases_eq, cases_lt, lt-ltb, ltb-false}
+use Rattle.std.proofs.Common.{◌≡◌, ◌≢◌, inl, inr, Option, Some, None, IfSome, IfNone, ℕ, ◌+◌, ◌*◌, ◌/◌, ◌%◌, ◌^◌, ◌==◌, ◌<◌, ◌≤◌, Bool, true, false, w64, List, length, replicate, nat_lt, slice_index, slice_index_or, slice_set, sym, ap, ◌∙◌, arith}
+use Rattle.std.specs.Int.{bit_at, trailing_zeros}
+use Rattle.std.proofs.lemmas.Bool.{true≢false, cases_eq, cases_lt, lt-ltb, ltb-false, ltb-true}
 use Rattle.std.proofs.lemmas.List.{ext_get_or, get_or-replicate, get_or-set_other, get_or-set_same, get_or_past, length-replicate, length-set}
 use Rattle.std.proofs.lemmas.List.FromFn.{get_or-map-range_with_len, length-map-range_with_len}
-use Rattle.std.proofs.lemmas.Nat.Bits.{bit_at-zero, same_from_bits_below}
+use Rattle.std.proofs.lemmas.Nat.Bits.{bit_at-trailing_zeros, bit_at-zero, same_from_bits_below}
 use Rattle.boss_slots.specs.Bits.{IsFirstBit, bit_of}
 use Rattle.boss_slots.proofs.Words.{one-zero}
 use Rattle.boss_slots.specs.Flags.{AreFilled, AreFlags, IsNext, flags_of}
@@ -166,12 +166,25 @@ next-flag count words from place within at =
       first = λ other later before. flag-below count words other (omega arith) ∙ ap (λ (bit : ℕ). bit == 1) (at.first other later before);
     }
 
+pub some-flag : (count : ℕ) (words : List ℕ) (place : ℕ) → ((other : ℕ) → bit_of words other ≡ 1 → other < count) → bit_of words place ≡ 1 → slice_index_or (flags_of count words) place false ≡ true
+some-flag count words place within is = flag-below count words place (within place is) ∙ ap (λ (bit : ℕ). bit == 1) is
+
 pub no-flag : (count : ℕ) (words : List ℕ) (place : ℕ) → bit_of words place ≡ 0 → slice_index_or (flags_of count words) place false ≡ false
 no-flag count words place clear =
     elim (cases_lt place count) [
       | inl h ↦ flag-below count words place h ∙ ap (λ (bit : ℕ). bit == 1) clear
       | inr h ↦ get_or_past (flags_of count words) place false (omega (arith, length-flags count words))
     ]
+
+-- where a word's bit is set, one of its own is
+pub some-bit : (words filled : List ℕ) (word : ℕ) → AreFilled words filled → slice_index words word < 2 ^ 64 → bit_of filled word ≡ 1 → (place : ℕ) × (bit_of words place ≡ 1)
+some-bit words filled word known small marked =
+    let n = slice_index words word in
+    let positive : 0 < n = ltb-true 0 n (sym (known word) ∙ ap (λ (bit : ℕ). bit == 1) marked) in
+    let lowest = bit_at-trailing_zeros w64 n positive small in
+    let e : (64 * word + trailing_zeros w64 n) / 64 ≡ word = omega (arith, lowest.0) in
+    let f : (64 * word + trailing_zeros w64 n) % 64 ≡ trailing_zeros w64 n = omega (arith, lowest.0) in
+    (64 * word + trailing_zeros w64 n, rw (e, f) lowest.1)
 
 -- behind the word of `from`, the word of the bit is the first that is not zero
 pub first-behind : (words filled : List ℕ) (from word place : ℕ) → AreFilled words filled → IsFirstBit filled (from / 64 + 1) word →

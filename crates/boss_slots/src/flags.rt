@@ -67,12 +67,10 @@ impl Flags {
 
     /// Whether no flag is set. It looks at one word for each 4,096 points.
     pub fn are_clear(&self) -> bool
-        ensures { result ≡ true → (point : ℕ) → slice_index_or self.now point false ≡ false }
+        ensures clear { result ≡ true → (point : ℕ) → slice_index_or self.now point false ≡ false }
+        ensures set { result ≡ false → (point : ℕ) × (slice_index_or self.now point false ≡ true) }
     {
-        match first_bit(&self.filled, 0) {
-            Some(_) => false,
-            None => true,
-        }
+        are_zero(&self.words, &self.filled)
     }
 
     /// The first point from `from` on whose flag is set.
@@ -83,6 +81,19 @@ impl Flags {
     {
         let place = first_flag(&self.words, &self.filled, from.0 as usize)?;
         Some(PointId(place as u32))
+    }
+}
+
+/// Whether no bit of the words is set, where a bit of `filled` is set for each word that is not zero.
+fn are_zero(words: &[u64], filled: &[u64]) -> bool
+    requires filled { AreFilled words.now filled.now }
+    requires few { 64 * length filled.now < 2 ^ 64 }
+    ensures zero { result ≡ true → (place : ℕ) → bit_of words.now place ≡ 0 }
+    ensures set { result ≡ false → (place : ℕ) × (bit_of words.now place ≡ 1) }
+{
+    match first_bit(filled, 0) {
+        Some(_) => false,
+        None => true,
     }
 }
 

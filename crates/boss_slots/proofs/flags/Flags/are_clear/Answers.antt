@@ -1,10 +1,10 @@
-use Rattle.std.proofs.Common.{arith}
-use Rattle.boss_slots.proofs.Flagged.{no-flag, none-filled}
+use Rattle.boss_slots.proofs.Flagged.{no-flag, some-flag}
 use Rattle.boss_slots.proofs.flags.Flags.are_clear.Goals as goal
 
-pub returns-in-None : goal.returns-in-None
-returns-in-None c =
-    rw (← c.self.view_is)
-    (λ _ point. no-flag c.self.inside.count c.self.inside.words.items point
-    (none-filled c.self.inside.words.items c.self.inside.filled.items c.self.invariant.known
-    (λ word. rw c.deref.ensures.value at (c.in-None.ensures.none word (omega arith))) point))
+pub returns-clause-clear : goal.returns-clause-clear
+returns-clause-clear c = rw (← c.self.view_is) (λ is point. no-flag c.self.inside.count c.self.inside.words.items point (rw c.deref.ensures.value at (c.are_zero.ensures.zero is point)))
+
+pub returns-clause-set : goal.returns-clause-set
+returns-clause-set c = rw (← c.self.view_is) (λ is.
+    let found = rw c.deref.ensures.value at (c.are_zero.ensures.set is) in
+    (found.0, some-flag c.self.inside.count c.self.inside.words.items found.0 c.self.invariant.within found.1))
