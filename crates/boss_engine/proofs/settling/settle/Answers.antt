@@ -12,4 +12,4 @@ returns-then-is_settled-clause-marks c =
     let d = persistent_of c.args.lasting.now in
     let marks = c.args.marks.now in
     sym (turned_below-none (is_moved plant d) (recommanded plant d) marks) ∙ settled-rest plant d marks 0 (omega arith)
-    (λ k low high. c.requires.current k (omega (arith, high, c.requires.number)) (c.is_settled.ensures c.if-is_settled.true k))
+    (λ k low high. c.requires.current k (omega (arith, high, c.requires.number)) (c.is_settled.ensures.settled c.if-is_settled.true k))
