@@ -2,6 +2,7 @@ ghost use Rattle.std.specs.Prelude.{◌≡◌, ◌≤◌, ◌<◌, true, false, 
 ghost use Rattle.std.specs.List.{list_all};
 ghost use Rattle.serde_json.specs.Find.{as_str};
 ghost use Rattle.boss_model.specs.declared.answer.Refusal.TheVariants.{Malformed};
+ghost use Rattle.boss_model.specs.Catalogue.{place_of};
 ghost use Rattle.boss_model.specs.Limits.{most_writes};
 ghost use Rattle.boss_wire.specs.Requests.{each_from, point_at, points_of};
 ghost use Rattle.boss_requests.specs.declared.refusal.ReadRefusal.TheVariants.{Refused};
@@ -16,6 +17,7 @@ use boss_points::Catalogue;
 use std::alloc::Global;
 
 /// The point of this name, the one at this place among the names of the request, from 0.
+#[inline(always)]
 pub(crate) fn point_at(
     catalogue: &Catalogue,
     index: u32,
@@ -24,10 +26,18 @@ pub(crate) fn point_at(
     ensures point { Gives (λ point. point) result (point_at catalogue.now index name.now) }
     ensures known { IfOk result (λ point. point < length catalogue.now.points) }
 {
-    match catalogue.find(name.as_bytes()) {
+    match found(catalogue, name) {
         Some(point) => Ok(point),
         None => Err(ReadRefusal::Refused(Refusal::UnknownPoint { index })),
     }
+}
+
+/// The point of this name. The search stands apart: what it tells is a number, and no refusal has to be made room for.
+#[inline(never)]
+fn found(catalogue: &Catalogue, name: &str) -> Option<PointId>
+    ensures { result ≡ place_of catalogue.now name.now }
+{
+    catalogue.find(name.as_bytes())
 }
 
 /// The points that texts name.
