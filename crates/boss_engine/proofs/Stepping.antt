@@ -12,8 +12,8 @@ use Rattle.boss_model.specs.Devices.{proxy_of}
 use Rattle.boss_model.specs.Same.{same_persistent}
 use Rattle.boss_model.specs.Target.{in_force, playing, target, target_at, value_of}
 use Rattle.boss_model.specs.Time.{tick_to}
-use Rattle.boss_effects.specs.Changes.{changes, may_change}
-use Rattle.boss_effects.proofs.Concerned.{changing, concerned-passed}
+use Rattle.boss_effects.specs.Changes.{changes}
+use Rattle.boss_effects.proofs.Concerned.{concerned-passed}
 use Rattle.boss_effects.proofs.Flags.{step-flags}
 use Rattle.boss_model.specs.declared.state.Actuator.{Actuator}
 use Rattle.boss_model.specs.Machine.{act, pass_time, step}
@@ -116,16 +116,16 @@ module _ (plant : List Actuator) (session : ℕ) (c : Command) (m n : ℕ) (s : 
       (λ i. cond (flag i) (effect.Whole (at i) (whose i)) (cond (not (reached i == is-before i)) (effect.Tick (reached i)) effect.Unchanged))
       ∙ sym (step-flags plant s session c m sound allowed small)
 
-  -- what two flags and the process that the command concerns tell is the effect, and so it is where the command changes nothing, whichever process that is
-  pub told-by : (changed : Bool) (owner before end : ℕ) → changed ≡ changes plant session n c p → (may_change c ≡ true → owner ≡ concerned c session p) → before ≡ s.persistent.now → end ≡ p.persistent.now →
+  -- what two flags tell is the effect, with the process that the command concerns where it changes something
+  pub told-by : (changed : Bool) (owner before end : ℕ) → changed ≡ changes plant session n c p → (changed ≡ true → owner ≡ concerned c session p) → before ≡ s.persistent.now → end ≡ p.persistent.now →
       cond changed (effect.Whole n owner) (cond (not (end == before)) (effect.Tick end) effect.Unchanged) ≡ step_effect plant session c m s
   told-by changed owner before end is-changed is-owner is-before is-end =
-      one-owner n _ changed owner (concerned c session p) (λ yes. is-owner (changing plant session n p c (sym is-changed ∙ yes)))
+      one-owner n _ changed owner (concerned c session p) is-owner
       ∙ told-of changed before end is-changed is-before is-end
 
   -- a command that acted once time had passed was carried out
   pub carried-out : (m : Machine) (deed : Deed) → told (persistent_of m.lasting) deed.done.reply ≡ (act plant session n c p).answer → IsTellable plant (persistent_of m.lasting) deed.done.reply →
-      deed.done.changed ≡ changes plant session n c p → (may_change c ≡ true → deed.owner ≡ concerned c session p) → deed.passed ≡ p.persistent.now → state_of m ≡ (act plant session n c p).state → HasPlaces plant m →
+      deed.done.changed ≡ changes plant session n c p → (deed.done.changed ≡ true → deed.done.owner ≡ concerned c session p) → deed.passed ≡ p.persistent.now → state_of m ≡ (act plant session n c p).state → HasPlaces plant m →
       ((k : ℕ) → is_touched m.lasting.holdings k ≡ false → (default : ℤ) (moment : ℕ) →
       value_of default moment (in_force (persistent_of m.lasting).leases k) (playing (persistent_of m.lasting).pending k) ≡ value_of default moment (in_force p.persistent.leases k) (playing p.persistent.pending k)) →
       IsDone plant session c n s m deed
@@ -133,7 +133,7 @@ module _ (plant : List Actuator) (session : ℕ) (c : Command) (m n : ℕ) (s : 
     answer = is-answer ∙ ap (λ t. (act plant session n c t).answer) passed;
     tellable = tellable;
     changed = is-changed ∙ ap (changes plant session n c) passed;
-    owner = λ may. is-owner may ∙ ap (concerned c session) passed;
+    owner = λ yes. is-owner yes ∙ ap (concerned c session) passed;
     passed = is-passed ∙ ap (λ (t : State). t.persistent.now) passed;
     state = is-state ∙ ap (λ t. (act plant session n c t).state) passed;
     places = places;

@@ -1,5 +1,5 @@
 use Rattle.std.specs.Prelude.{◌≡◌, ℕ, ◌≤◌, Bool, true, false, List}
-use Rattle.boss_effects.specs.Changes.{changes, may_change}
+use Rattle.boss_effects.specs.Changes.{changes}
 use Rattle.boss_model.specs.declared.answer.Answer.{Answer}
 use Rattle.boss_model.specs.declared.command.Command.{Command}
 use Rattle.boss_model.specs.declared.command.Command.TheVariants as command
@@ -26,12 +26,18 @@ takes_memory (command.Submit writes policy seq) = true
 takes_memory (command.Notices name from most) = true
 takes_memory other = false
 
+-- the commands of drivers
+abbrev pub is_a_drivers : Command → Bool
+is_a_drivers (command.Next driver) = true
+is_a_drivers (command.Report point version ok) = true
+is_a_drivers other = false
+
 -- time passed from a state up to moment n, and a command acted
 pub record IsDone (plant : List Actuator) (session : ℕ) (command : Command) (n : ℕ) (s : State) (m : Machine) (deed : Deed) : Type 0 where
   pub answer : told (persistent_of m.lasting) deed.done.reply ≡ (act plant session n command (pass_time plant n s)).answer
   pub tellable : IsTellable plant (persistent_of m.lasting) deed.done.reply
   pub changed : deed.done.changed ≡ changes plant session n command (pass_time plant n s)
-  pub owner : may_change command ≡ true → deed.owner ≡ concerned command session (pass_time plant n s)
+  pub owner : deed.done.changed ≡ true → deed.done.owner ≡ concerned command session (pass_time plant n s)
   pub passed : deed.passed ≡ (pass_time plant n s).persistent.now
   pub state : state_of m ≡ (act plant session n command (pass_time plant n s)).state
   pub places : HasPlaces plant m

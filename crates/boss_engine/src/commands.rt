@@ -1,4 +1,4 @@
-ghost use Rattle.std.specs.Prelude.{◌≡◌, ℕ, ◌≤◌, ◌<◌, ◌+◌, ◌==◌, not, ◌&&◌, ◌||◌, if◌then◌else◌, List, [], ◌∷◌, length, filter, Some, None, is_none, vec_len};
+ghost use Rattle.std.specs.Prelude.{◌≡◌, ℕ, true, ◌≤◌, ◌<◌, ◌+◌, ◌==◌, not, ◌&&◌, ◌||◌, if◌then◌else◌, List, [], ◌∷◌, length, filter, Some, None, is_none, vec_len};
 ghost use Rattle.std.specs.List.{AllByRecursion};
 ghost use Rattle.boss_model.specs.declared.state.Actuator.{Actuator};
 ghost use Rattle.boss_model.specs.declared.answer.Answer.TheVariants as answer;
@@ -8,6 +8,7 @@ ghost use Rattle.boss_model.specs.declared.command.Setting.{Setting};
 ghost use Rattle.boss_model.specs.declared.kept.Acceptance.TheVariants as acceptance;
 ghost use Rattle.boss_model.specs.declared.notice.Cause.TheVariants as cause;
 ghost use Rattle.boss_model.specs.declared.state.Lease.{Lease};
+ghost use Rattle.boss_model.specs.Effects.{concerned};
 ghost use Rattle.boss_model.specs.Ends.{cancel_refused, end_leases, fault, faulted, is_of, is_owned_by, lost};
 ghost use Rattle.boss_model.specs.Happenings.{tell};
 ghost use Rattle.boss_model.specs.Limits.{last_moment, last_number, most_processes, most_writes};
@@ -62,6 +63,7 @@ impl Machine {
         ensures answer { (plant : List Actuator) → told (persistent_of self.new.lasting) result.reply ≡ (act plant session n (command.Attach name.now) (state_of self.old)).answer }
         ensures state { (plant : List Actuator) → state_of self.new ≡ (act plant session n (command.Attach name.now) (state_of self.old)).state }
         ensures changed { (plant : List Actuator) → result.changed ≡ changes plant session n (command.Attach name.now) (state_of self.old) }
+        ensures owner { result.changed ≡ true → result.owner ≡ concerned (command.Attach name.now) session (state_of self.old) }
         ensures places { (plant : List Actuator) → HasPlaces plant self.old → HasPlaces plant self.new }
         ensures untouched { ShowsAsBefore self.old.lasting.holdings self.new.lasting.holdings }
     {
@@ -76,6 +78,7 @@ impl Machine {
                 next: self.lasting.processes.next_notice(entrant.process),
             },
             changed: entrant.is_new,
+            owner: entrant.process,
         }
     }
 
@@ -122,6 +125,9 @@ impl Machine {
         ensures changed { (plant : List Actuator) (session : ℕ) (writes : List Setting) (policy : Policy) → 1 ≤ length writes →
             IsReadyToSubmit plant (process_of self.old.attached.items session) writes policy seq n ready (state_of self.old) →
             result.changed ≡ changes plant session n (command.Submit writes policy seq) (state_of self.old) }
+        ensures owner { (plant : List Actuator) (session : ℕ) (writes : List Setting) (policy : Policy) → 1 ≤ length writes →
+            IsReadyToSubmit plant (process_of self.old.attached.items session) writes policy seq n ready (state_of self.old) →
+            result.changed ≡ true → result.owner ≡ concerned (command.Submit writes policy seq) session (state_of self.old) }
         ensures places { (plant : List Actuator) → HasPlaces plant self.old → HasPlaces plant self.new }
         ensures untouched { ShowsAsBefore self.old.lasting.holdings self.new.lasting.holdings }
     {
@@ -130,12 +136,14 @@ impl Machine {
                 transaction,
                 leases,
             } => {
+                let owner = transaction.owner();
                 let txn = Txn(self.lasting.next_txn);
                 let until = self.begin(transaction, leases, seq, n);
                 let accepted = Acceptance::Accepted { txn, until };
                 Done {
                     reply: Reply::Decided(Decision::Again(accepted)),
                     changed: true,
+                    owner,
                 }
             }
             Ready::Decided(decision) => Done::unchanged(Reply::Decided(decision)),
@@ -189,6 +197,7 @@ impl Machine {
         ensures answer { (plant : List Actuator) → told (persistent_of self.new.lasting) result.reply ≡ (act plant session n (command.Renew txn duration points.now seq) (state_of self.old)).answer }
         ensures state { (plant : List Actuator) → state_of self.new ≡ (act plant session n (command.Renew txn duration points.now seq) (state_of self.old)).state }
         ensures changed { (plant : List Actuator) → result.changed ≡ changes plant session n (command.Renew txn duration points.now seq) (state_of self.old) }
+        ensures owner { result.changed ≡ true → result.owner ≡ concerned (command.Renew txn duration points.now seq) session (state_of self.old) }
         ensures places { (plant : List Actuator) → HasPlaces plant self.old → HasPlaces plant self.new }
         ensures untouched { ShowsAsBefore self.old.lasting.holdings self.new.lasting.holdings }
     {
@@ -221,6 +230,7 @@ impl Machine {
         ensures tellable { (plant : List Actuator) → IsTellable plant (persistent_of self.new.lasting) result.reply }
         ensures answer { told (persistent_of self.new.lasting) result.reply ≡ answer.Renewed txn (renewed_until txn duration points.now n (persistent_of self.old.lasting)) }
         ensures changed { result.changed ≡ renewal_changes n txn duration points.now seq (persistent_of self.old.lasting) }
+        ensures owner { result.owner ≡ owner }
         ensures after { persistent_of self.new.lasting ≡ with_reply owner seq
             (acceptance.Renewed txn (renewed_until txn duration points.now n (persistent_of self.old.lasting)))
             (renewed txn duration points.now n (persistent_of self.old.lasting)) }
@@ -240,6 +250,7 @@ impl Machine {
         Done {
             reply: Reply::Decided(Decision::Again(renewed)),
             changed: 0 < seq || later || extended.longer,
+            owner,
         }
     }
 
@@ -252,6 +263,7 @@ impl Machine {
         ensures answer { (plant : List Actuator) → told (persistent_of self.new.lasting) result.reply ≡ (act plant session n (command.Cancel txn seq) (state_of self.old)).answer }
         ensures state { (plant : List Actuator) → state_of self.new ≡ (act plant session n (command.Cancel txn seq) (state_of self.old)).state }
         ensures changed { (plant : List Actuator) → result.changed ≡ changes plant session n (command.Cancel txn seq) (state_of self.old) }
+        ensures owner { result.changed ≡ true → result.owner ≡ concerned (command.Cancel txn seq) session (state_of self.old) }
         ensures places { (plant : List Actuator) → HasPlaces plant self.old → HasPlaces plant self.new }
         ensures untouched { ShowsAsBefore self.old.lasting.holdings self.new.lasting.holdings }
     {
@@ -269,6 +281,7 @@ impl Machine {
         Done {
             reply: Reply::Decided(Decision::Again(cancelled)),
             changed: true,
+            owner,
         }
     }
 
@@ -304,6 +317,7 @@ impl Machine {
         ensures answer { (plant : List Actuator) → told (persistent_of self.new.lasting) result.reply ≡ (act plant session n (command.Gone) (state_of self.old)).answer }
         ensures state { (plant : List Actuator) → state_of self.new ≡ (act plant session n (command.Gone) (state_of self.old)).state }
         ensures changed { (plant : List Actuator) → result.changed ≡ changes plant session n (command.Gone) (state_of self.old) }
+        ensures owner { result.changed ≡ true → result.owner ≡ concerned (command.Gone) session (state_of self.old) }
         ensures places { (plant : List Actuator) → HasPlaces plant self.old → HasPlaces plant self.new }
         ensures untouched { ShowsAsBefore self.old.lasting.holdings self.new.lasting.holdings }
     {
@@ -315,6 +329,7 @@ impl Machine {
         Done {
             reply: Reply::Gone { ended },
             changed: 0 < ended,
+            owner,
         }
     }
 
@@ -362,6 +377,7 @@ impl Machine {
         ensures answer { (plant : List Actuator) (session : ℕ) → HasPlaces plant self.old → told (persistent_of self.new.lasting) result.reply ≡ (act plant session n (command.Report point version ok) (state_of self.old)).answer }
         ensures state { (plant : List Actuator) (session : ℕ) → HasPlaces plant self.old → state_of self.new ≡ (act plant session n (command.Report point version ok) (state_of self.old)).state }
         ensures changed { (plant : List Actuator) (session : ℕ) → HasPlaces plant self.old → result.changed ≡ changes plant session n (command.Report point version ok) (state_of self.old) }
+        ensures owner { (session : ℕ) → result.changed ≡ true → result.owner ≡ concerned (command.Report point version ok) session (state_of self.old) }
         ensures places { (plant : List Actuator) → HasPlaces plant self.old → HasPlaces plant self.new }
         ensures untouched { ShowsAsBefore self.old.lasting.holdings self.new.lasting.holdings }
     {
@@ -369,9 +385,13 @@ impl Machine {
         if reported == Reported::Old {
             return Done::unchanged(Reply::Noted { current: false });
         }
+        let failed = reported == Reported::FirstFailure;
+        let owner = self.owner_of_failed(point, failed);
+        let changed = self.follow_up(point, failed, n);
         Done {
-            changed: self.follow_up(point, reported == Reported::FirstFailure, n),
             reply: Reply::Noted { current: true },
+            changed,
+            owner,
         }
     }
 

@@ -1,6 +1,7 @@
-ghost use Rattle.std.specs.Prelude.{true, false, ◌≡◌, ◌+◌, ◌*◌, ◌<◌, ◌≤◌, ◌&&◌, not, length, map, min, is_some, IfErr, IfOk, OnOk, OnErr};
+ghost use Rattle.std.specs.Prelude.{true, false, Ok, ◌≡◌, ◌+◌, ◌*◌, ◌<◌, ◌≤◌, ◌&&◌, not, length, map, min, is_some, IfErr, IfOk, OnOk, OnErr};
 ghost use Rattle.std.specs.Option.{option_map_or};
 ghost use Rattle.boss_model.specs.Acts.{replay};
+ghost use Rattle.boss_model.specs.declared.answer.Answer.TheVariants as answer;
 ghost use Rattle.boss_model.specs.declared.command.Command.TheVariants as command;
 ghost use Rattle.boss_model.specs.Catalogue.{actuators};
 ghost use Rattle.boss_model.specs.Devices.{wanting};
@@ -15,19 +16,19 @@ ghost use Rattle.boss_model.specs.Sound.{IsAllowed, IsSound, IsSoundPersistent};
 ghost use Rattle.boss_points.specs.Seen.{seen as seen_point};
 ghost use Rattle.boss_spelled.specs.Ranges.{IsSpelled};
 ghost use Rattle.boss_engine.specs.Again.{TakesOn};
-ghost use Rattle.boss_engine.specs.Deeds.{IsStep, IsTold, takes_memory};
+ghost use Rattle.boss_engine.specs.Deeds.{is_a_drivers, IsStep, IsTold, takes_memory};
 ghost use Rattle.boss_engine.specs.Ready.{MayNeedMemory};
 ghost use Rattle.boss_engine.specs.Replies.{IsTellable, told};
 ghost use Rattle.boss_engine.specs.declared.restoring.RestoreRefusal.TheVariants as refusal;
 
 use crate::machine::Machine;
-use crate::reply::{Reply, answer_of_reading, answer_of_want};
+use crate::reply::{Reading, Reply, answer_of_reading, answer_of_want};
 use crate::restoring::RestoreRefusal;
 use crate::room::Room;
 use boss_lasting::Decision;
 use boss_model::{
     Acceptance, Actuator, Answer, Command, DriverId, Effect, Event, Kept, Name, NoMemory, PointId,
-    Refusal, SessionId,
+    Refusal, SessionId, Txn,
 };
 use boss_points::{Catalogue, Point};
 use boss_sound::is_sound;
@@ -224,22 +225,42 @@ impl Engine {
     ) -> Result<(Answer, Effect), NoMemory>
         requires moment { moment ≤ last_moment }
         requires allowed { IsAllowed self.old.plant command.now }
+        requires driver { is_a_drivers command.now ≡ true }
         ensures did { IfOk result (λ did. IsTold self.old.plant session command.now moment self.old.state self.new.state did.0 did.1) }
         ensures sound { IsSound self.new.plant self.new.state }
         ensures plant { self.new.plant ≡ self.old.plant }
-        ensures err { OnErr result (self.new ≡ self.old) }
-        ensures memory { OnErr result (MayNeedMemory self.old.plant session command.now self.old.state) }
+        ensures ok { OnErr result ⊥ }
     {
-        let (reply, effect) = self.carry_out(session, command, moment)?;
+        let (reply, effect) = self.hear(session, command, moment);
         match reply {
             Reply::Want(want) => return Ok((answer_of_want(want), effect)),
             Reply::Nothing => return Ok((Answer::Nothing, effect)),
             Reply::Noted { current } => return Ok((Answer::Noted { current }, effect)),
-            other => Ok((self.look_up(other), effect)),
+            other => return self.look_up(other, effect),
         }
     }
 
-    /// The same of any command. An answer has room for sixteen slots: each is made where it is handed out, so that it is moved once.
+    /// The same, with what the command came to in place of its answer. Each of a driver's commands has code of its own.
+    #[inline(always)]
+    fn hear(&mut self, session: SessionId, command: &Command, moment: u64) -> (Reply, Effect)
+        requires moment { moment ≤ last_moment }
+        requires allowed { IsAllowed self.old.plant command.now }
+        requires driver { is_a_drivers command.now ≡ true }
+        ensures did { IsStep self.old.plant session command.now moment self.old.state self.new.state result.0 result.1 }
+        ensures sound { IsSound self.new.plant self.new.state }
+        ensures plant { self.new.plant ≡ self.old.plant }
+    {
+        match command {
+            Command::Next { driver } => self.next(session, *driver, moment),
+            Command::Report { point, version, ok } => {
+                self.report(session, *point, *version, *ok, moment)
+            }
+            _ => unreachable!(),
+        }
+    }
+
+    /// The same of any other command. An answer has room for sixteen slots: each is made where it is handed out, so that it is
+    /// moved once.
     #[inline(never)]
     fn answer(
         &mut self,
@@ -255,67 +276,26 @@ impl Engine {
         ensures err { OnErr result (self.new ≡ self.old) }
         ensures memory { OnErr result (MayNeedMemory self.old.plant session command.now self.old.state) }
     {
-        let (reply, effect) = self.other(session, command, moment)?;
+        let (reply, effect) = self.carry_out(session, command, moment)?;
         match reply {
             Reply::Decided(decision) => match decision {
                 Decision::Again(acceptance) => match acceptance {
-                    Acceptance::Accepted { txn, until } => {
-                        return Ok((Answer::Accepted { txn, until }, effect));
-                    }
-                    Acceptance::Renewed { txn, until } => {
-                        return Ok((Answer::Renewed { txn, until }, effect));
-                    }
-                    Acceptance::Cancelled { txn, at } => {
-                        return Ok((Answer::Cancelled { txn, at }, effect));
-                    }
+                    Acceptance::Accepted { txn, until } => return accepted(txn, until, effect),
+                    Acceptance::Renewed { txn, until } => return renewed(txn, until, effect),
+                    Acceptance::Cancelled { txn, at } => return cancelled(txn, at, effect),
                 },
-                Decision::Stale { kept } => {
-                    return Ok((Answer::Refused(Refusal::Stale { kept }), effect));
-                }
+                Decision::Stale { kept } => return refused(Refusal::Stale { kept }, effect),
             },
-            Reply::Read(reading) => return Ok((answer_of_reading(reading), effect)),
-            Reply::Ticked { now } => return Ok((Answer::Ticked { now }, effect)),
-            other => Ok((self.look_up(other), effect)),
+            Reply::Read(reading) => return read(reading, effect),
+            Reply::Ticked { now } => return ticked(now, effect),
+            Reply::Refused(why) => return refused(why, effect),
+            other => return self.look_up(other, effect),
         }
     }
 
-    /// The answer that a reply is. It is made out of the way of those who need none of its kind.
-    #[inline(always)]
-    fn look_up(&self, reply: Reply) -> Answer
-        requires { IsTellable self.now.plant self.now.state.persistent reply }
-        ensures { result ≡ told self.now.state.persistent reply }
-    {
-        self.machine.answer(reply)
-    }
-
-    /// The same, with what the command came to in place of its answer. A driver's commands have code of their own.
+    /// The same, with what the command came to in place of its answer.
     #[inline(always)]
     fn carry_out(
-        &mut self,
-        session: SessionId,
-        command: &Command,
-        moment: u64,
-    ) -> Result<(Reply, Effect), NoMemory>
-        requires moment { moment ≤ last_moment }
-        requires allowed { IsAllowed self.old.plant command.now }
-        ensures did { IfOk result (λ did. IsStep self.old.plant session command.now moment self.old.state self.new.state did.0 did.1) }
-        ensures sound { IsSound self.new.plant self.new.state }
-        ensures plant { self.new.plant ≡ self.old.plant }
-        ensures err { OnErr result (self.new ≡ self.old) }
-        ensures memory { OnErr result (MayNeedMemory self.old.plant session command.now self.old.state) }
-    {
-        match command {
-            Command::Next { driver } => Ok(self.next(session, *driver, moment)),
-            Command::Report { point, version, ok } => {
-                Ok(self.report(session, *point, *version, *ok, moment))
-            }
-            _ => self.other(session, command, moment),
-        }
-    }
-
-    /// Any command.
-    #[inline(never)]
-    fn other(
         &mut self,
         session: SessionId,
         command: &Command,
@@ -333,8 +313,17 @@ impl Engine {
             Command::Attach { .. } | Command::Submit { .. } | Command::Notices { .. } => {
                 self.ready(session, command, moment)
             }
-            _ => Ok(self.plain(session, command, moment)),
+            _ => Ok(self.advance(session, command, moment)),
         }
+    }
+
+    /// The answer that a reply is. It is made out of the way of those who need none of its kind.
+    #[inline(always)]
+    fn look_up(&self, reply: Reply, effect: Effect) -> Result<(Answer, Effect), NoMemory>
+        requires { IsTellable self.now.plant self.now.state.persistent reply }
+        ensures { result ≡ Ok (told self.now.state.persistent reply, effect) }
+    {
+        Ok((self.machine.answer(reply), effect))
     }
 
     /// A driver asks for its first want.
@@ -367,19 +356,6 @@ impl Engine {
         self.advance(session, &Command::Report { point, version, ok }, moment)
     }
 
-    /// A command that needs no memory.
-    #[inline(never)]
-    fn plain(&mut self, session: SessionId, command: &Command, moment: u64) -> (Reply, Effect)
-        requires moment { moment ≤ last_moment }
-        requires allowed { IsAllowed self.old.plant command.now }
-        requires takes { takes_memory command.now ≡ false }
-        ensures did { IsStep self.old.plant session command.now moment self.old.state self.new.state result.0 result.1 }
-        ensures sound { IsSound self.new.plant self.new.state }
-        ensures plant { self.new.plant ≡ self.old.plant }
-    {
-        self.advance(session, command, moment)
-    }
-
     /// The same, which is compiled for each command that it is called with.
     #[inline(always)]
     fn advance(&mut self, session: SessionId, command: &Command, moment: u64) -> (Reply, Effect)
@@ -398,7 +374,7 @@ impl Engine {
     }
 
     /// A command that needs memory.
-    #[inline(never)]
+    #[inline(always)]
     fn ready(
         &mut self,
         session: SessionId,
@@ -502,4 +478,52 @@ fn actuator_of(point: &Point) -> Actuator
         default: point.default,
         driver: point.driver,
     }
+}
+
+/// What is handed out of a submit that was accepted.
+#[inline(always)]
+fn accepted(txn: Txn, until: u64, effect: Effect) -> Result<(Answer, Effect), NoMemory>
+    ensures { result ≡ Ok (answer.Accepted txn until, effect) }
+{
+    Ok((Answer::Accepted { txn, until }, effect))
+}
+
+/// What is handed out of a renewal that was accepted.
+#[inline(always)]
+fn renewed(txn: Txn, until: u64, effect: Effect) -> Result<(Answer, Effect), NoMemory>
+    ensures { result ≡ Ok (answer.Renewed txn until, effect) }
+{
+    Ok((Answer::Renewed { txn, until }, effect))
+}
+
+/// What is handed out of a cancel that was accepted.
+#[inline(always)]
+fn cancelled(txn: Txn, at: u64, effect: Effect) -> Result<(Answer, Effect), NoMemory>
+    ensures { result ≡ Ok (answer.Cancelled txn at, effect) }
+{
+    Ok((Answer::Cancelled { txn, at }, effect))
+}
+
+/// What is handed out where a point was read.
+#[inline(always)]
+fn read(reading: Reading, effect: Effect) -> Result<(Answer, Effect), NoMemory>
+    ensures { result ≡ Ok (answer.Reading reading.point reading.value reading.basis reading.mark, effect) }
+{
+    Ok((answer_of_reading(reading), effect))
+}
+
+/// What is handed out where time passed.
+#[inline(always)]
+fn ticked(now: u64, effect: Effect) -> Result<(Answer, Effect), NoMemory>
+    ensures { result ≡ Ok (answer.Ticked now, effect) }
+{
+    Ok((Answer::Ticked { now }, effect))
+}
+
+/// What is handed out of a refusal.
+#[inline(always)]
+fn refused(why: Refusal, effect: Effect) -> Result<(Answer, Effect), NoMemory>
+    ensures { result ≡ Ok (answer.Refused why, effect) }
+{
+    Ok((Answer::Refused(why), effect))
 }

@@ -1,6 +1,7 @@
 ghost use Rattle.std.specs.Prelude.{◌≡◌, ℕ, true, false, List, ◌≤◌, length, map, IfOk, OnOk, OnErr};
 ghost use Rattle.boss_model.specs.declared.command.Command.{Command};
 ghost use Rattle.boss_model.specs.declared.state.Actuator.{Actuator};
+ghost use Rattle.boss_model.specs.Effects.{concerned};
 ghost use Rattle.boss_model.specs.Limits.{last_moment, most_points};
 ghost use Rattle.boss_model.specs.Machine.{act, pass_time};
 ghost use Rattle.boss_model.specs.Sound.{IsAllowed, IsSound};
@@ -24,7 +25,9 @@ use crate::settling::settle;
 use boss_books::Telling;
 use boss_lasting::{Attachment, Lasting};
 use boss_marks::Marks;
-use boss_model::{Actuator, Command, DriverId, Effect, Items, MOST_PROCESSES, NoMemory, SessionId};
+use boss_model::{
+    Actuator, Command, DriverId, Effect, Items, MOST_PROCESSES, NoMemory, ProcId, SessionId,
+};
 use std::alloc::Global;
 
 /// The most that one step tells of a point's slots: of each that a lease ended, and that its reversion did.
@@ -117,8 +120,13 @@ impl Machine {
         ensures ready { CanRun plant.now self.new }
     {
         settle(plant, &mut self.lasting, &mut self.marks);
-        let effect = effect_of(deed.done.changed, n, deed.owner, before, deed.passed);
-        (deed.done.reply, effect)
+        let Done {
+            reply,
+            changed,
+            owner,
+        } = deed.done;
+        let effect = effect_of(changed, n, owner, before, deed.passed);
+        (reply, effect)
     }
 
     /// Takes the memory that a command needs, lets time pass up to `n`, and lets the command act.
@@ -142,10 +150,8 @@ impl Machine {
         let ready = self.make_ready(plant, session, command, n)?;
         self.pass_time(plant, n);
         let passed = self.lasting.holdings.now();
-        let owner = self.entrant_or_own(session, command);
         Ok(Deed {
             done: self.act_ready(plant, session, command, n, ready),
-            owner,
             passed,
         })
     }
@@ -167,11 +173,8 @@ impl Machine {
     {
         self.pass_time(plant, n);
         let passed = self.lasting.holdings.now();
-        let owner = self.concerned(session, command);
-        let done = self.act(plant, session, command, n);
         Deed {
-            done,
-            owner,
+            done: self.act(plant, session, command, n),
             passed,
         }
     }
@@ -208,6 +211,7 @@ impl Machine {
         ensures answer { told (persistent_of self.new.lasting) result.reply ≡ (act plant.now session n command.now (state_of self.old)).answer }
         ensures tellable { IsTellable plant.now (persistent_of self.new.lasting) result.reply }
         ensures changed { result.changed ≡ changes plant.now session n command.now (state_of self.old) }
+        ensures owner { result.changed ≡ true → result.owner ≡ concerned command.now session (state_of self.old) }
         ensures state { state_of self.new ≡ (act plant.now session n command.now (state_of self.old)).state }
         ensures places { HasPlaces plant.now self.new }
         ensures untouched { ShowsAsBefore self.old.lasting.holdings self.new.lasting.holdings }
@@ -218,6 +222,7 @@ impl Machine {
             Command::Notices { name, from, max } => Done {
                 reply: self.notices(session, name, *from, *max, ready),
                 changed: false,
+                owner: ProcId(0),
             },
             _ => unreachable!(),
         }
@@ -234,6 +239,7 @@ impl Machine {
         ensures answer { told (persistent_of self.new.lasting) result.reply ≡ (act plant.now session n command.now (state_of self.old)).answer }
         ensures tellable { IsTellable plant.now (persistent_of self.new.lasting) result.reply }
         ensures changed { result.changed ≡ changes plant.now session n command.now (state_of self.old) }
+        ensures owner { result.changed ≡ true → result.owner ≡ concerned command.now session (state_of self.old) }
         ensures state { state_of self.new ≡ (act plant.now session n command.now (state_of self.old)).state }
         ensures places { HasPlaces plant.now self.new }
         ensures untouched { ShowsAsBefore self.old.lasting.holdings self.new.lasting.holdings }
@@ -252,23 +258,28 @@ impl Machine {
                     now: self.lasting.holdings.now(),
                 },
                 changed: false,
+                owner: ProcId(0),
             },
             Command::Next { driver } => Done {
                 reply: self.next(*driver),
                 changed: false,
+                owner: ProcId(0),
             },
             Command::Report { point, version, ok } => self.report(*point, *version, *ok, n),
             Command::Read { point } => Done {
                 reply: self.read(plant, *point),
                 changed: false,
+                owner: ProcId(0),
             },
             Command::Array { point } => Done {
                 reply: Reply::Array { point: *point },
                 changed: false,
+                owner: ProcId(0),
             },
             Command::Status { txn } => Done {
                 reply: Reply::Status { txn: *txn },
                 changed: false,
+                owner: ProcId(0),
             },
             _ => unreachable!(),
         }

@@ -73,3 +73,15 @@ returns-in-Report-clause-tellable c = c.report.ensures.tellable c.args.plant.now
 
 pub returns-in-Read-clause-tellable : goal.returns-in-Read-clause-tellable
 returns-in-Read-clause-tellable c = c.read.ensures.tellable c.args.plant.now
+
+pub returns-in-Renew-clause-owner : goal.returns-in-Renew-clause-owner
+returns-in-Renew-clause-owner c = rw c.in-Renew.is c.renew.ensures.owner
+
+pub returns-in-Cancel-clause-owner : goal.returns-in-Cancel-clause-owner
+returns-in-Cancel-clause-owner c = rw c.in-Cancel.is c.cancel.ensures.owner
+
+pub returns-in-Gone-clause-owner : goal.returns-in-Gone-clause-owner
+returns-in-Gone-clause-owner c = rw c.in-Gone.is c.gone.ensures.owner
+
+pub returns-in-Report-clause-owner : goal.returns-in-Report-clause-owner
+returns-in-Report-clause-owner c = rw c.in-Report.is (c.report.ensures.owner c.args.session)

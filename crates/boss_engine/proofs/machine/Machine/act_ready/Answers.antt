@@ -20,3 +20,6 @@ returns-in-Submit-clause-tellable c = c.submit.ensures.tellable c.args.plant.now
 
 pub returns-in-Notices-clause-tellable : goal.returns-in-Notices-clause-tellable
 returns-in-Notices-clause-tellable c = c.notices.ensures.tellable c.args.plant.now
+
+pub returns-in-Attach-clause-owner : goal.returns-in-Attach-clause-owner
+returns-in-Attach-clause-owner c = rw c.in-Attach.is c.attach.ensures.owner

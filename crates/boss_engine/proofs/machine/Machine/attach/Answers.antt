@@ -62,3 +62,6 @@ returns-clause-changed c = λ any.
 
 pub returns-clause-untouched : goal.returns-clause-untouched
 returns-clause-untouched c = λ default point moment left. ap (λ (m : Machine). shown default moment m.lasting.holdings point) c.process_for-entrant.ensures.others
+
+pub returns-clause-owner : goal.returns-clause-owner
+returns-clause-owner c = λ _. c.process_for-entrant.ensures.process

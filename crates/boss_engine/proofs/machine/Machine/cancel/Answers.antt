@@ -1,5 +1,6 @@
 use Rattle.std.proofs.Common.{◌≡◌, Some, None, sym, ap, ◌∙◌}
 use Rattle.boss_model.specs.Ends.{cancel_refused}
+use Rattle.std.specs.Prelude.{unwrap_or}
 use Rattle.std.specs.Option.{option_map}
 use Rattle.boss_model.specs.Processes.{process_of}
 use Rattle.boss_engine.specs.Inside.{state_of}
@@ -22,3 +23,6 @@ returns-clause-state c = λ any.
       wants = (c.cancel_for.ensures.others.0 i).wants;
     })
     ∙ sym (ap (λ r. r.state) (cancel-leaves any c.args.session owner c.args.txn c.args.seq c.args.n (state_of m) held undecided passed))
+
+pub returns-clause-owner : goal.returns-clause-owner
+returns-clause-owner c = λ _. ap (λ h. unwrap_or h 0) (c.in-Some.ensures ∙ ap (λ attached. process_of attached c.args.session) c.deref.ensures.value)

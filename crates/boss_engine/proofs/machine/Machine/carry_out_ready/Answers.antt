@@ -10,12 +10,6 @@ pub act_ready-requires-clause-ready : goal.act_ready-requires-clause-ready
 act_ready-requires-clause-ready c = subst (IsReadyFor c.args.plant.now c.args.session c.args.command.now c.args.n c.in_ok-ready.ready) (sym (c.pass_time.ensures.state ∙ ap (pass_time c.args.plant.now c.args.n) c.in_ok-ready.ensures.state))
     (readied c.args.plant.now c.args.session c.args.command.now c.args.n c.in_ok-ready.ready (state_of c.args.self.now) c.in_ok-ready.ensures.ready)
 
-pub entrant_or_own-owner-requires-clause-allowed : goal.entrant_or_own-owner-requires-clause-allowed
-entrant_or_own-owner-requires-clause-allowed c =
-    let well = passed-well c.args.plant.now c.args.session c.args.command.now c.args.n c.args.n (state_of c.args.self.now) (omega (arith, c.requires.moment.0))
-    c.requires.allowed c.requires.moment.1 c.requires.ready.sound (state_of c.pass_time.new.self) (c.pass_time.ensures.state ∙ ap (pass_time c.args.plant.now c.args.n) c.in_ok-ready.ensures.state) in
-    (c.args.plant.now, c.pass_time.ensures.places.points, c.requires.allowed, well.persistent)
-
 pub act_ready-requires-clause-moment : goal.act_ready-requires-clause-moment
 act_ready-requires-clause-moment c =
     passed-moment c.args.plant.now c.args.session c.args.command.now c.args.n c.args.n (state_of c.args.self.now) (omega (arith, c.requires.moment.0))
@@ -32,5 +26,5 @@ pub returns-clause-deed : goal.returns-clause-deed
 returns-clause-deed c =
     carried-out c.args.plant.now c.args.session c.args.command.now c.args.n c.args.n (state_of c.args.self.now) (omega (arith, c.requires.moment.0))
     c.requires.allowed c.requires.moment.1 c.requires.ready.sound (state_of c.pass_time.new.self) (c.pass_time.ensures.state ∙ ap (pass_time c.args.plant.now c.args.n) c.in_ok-ready.ensures.state) c.act_ready.new.self _
-    c.act_ready.ensures.answer c.act_ready.ensures.tellable c.act_ready.ensures.changed (λ _. c.entrant_or_own-owner.ensures) c.now-passed.ensures c.act_ready.ensures.state c.act_ready.ensures.places
+    c.act_ready.ensures.answer c.act_ready.ensures.tellable c.act_ready.ensures.changed c.act_ready.ensures.owner c.now-passed.ensures c.act_ready.ensures.state c.act_ready.ensures.places
     (λ k left default moment. c.act_ready.ensures.untouched default k moment left)

@@ -1,4 +1,5 @@
 use Rattle.std.proofs.Common.{◌≡◌, nat_lt, Some, sym, ap, ◌∙◌}
+use Rattle.std.specs.Prelude.{unwrap_or}
 use Rattle.std.specs.List.{list_any}
 use Rattle.boss_model.specs.Ends.{is_owned_by}
 use Rattle.boss_model.specs.Processes.{process_of}
@@ -15,3 +16,6 @@ returns-clause-changed c = λ any.
     let held : process_of m.attached.items c.args.session ≡ Some owner = sym (c.in-Some.ensures ∙ ap (λ attached. process_of attached c.args.session) c.deref.ensures.value) in
     ap (λ count. nat_lt 0 count) c.lose-ended.ensures.ended ∙ sym (any-counted (is_owned_by owner) d.leases)
     ∙ sym (ap (λ h. if_held h (λ process. list_any (is_owned_by process) d.leases)) held)
+
+pub returns-clause-owner : goal.returns-clause-owner
+returns-clause-owner c = λ _. ap (λ h. unwrap_or h 0) (c.in-Some.ensures ∙ ap (λ attached. process_of attached c.args.session) c.deref.ensures.value)

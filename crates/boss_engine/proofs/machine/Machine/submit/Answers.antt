@@ -1,4 +1,5 @@
 use Rattle.std.proofs.Common.{ℕ, ◌<◌, ◌≤◌, length, subst, sym, ap, ◌∙◌}
+use Rattle.std.specs.Prelude.{unwrap_or}
 use Rattle.std.specs.List.{AllByRecursion}
 use Rattle.boss_model.specs.declared.state.Lease.{Lease}
 use Rattle.boss_model.specs.declared.kept.Acceptance.TheVariants as acceptance
@@ -91,3 +92,10 @@ returns-in-Refused-clause-changed c = λ plant session writes policy some is.
     let s = state_of c.args.self.now in
     ap (λ d. d.changed) c.refused.ensures ∙ refused-unchanged plant (process_of s.attached session) writes policy c.args.seq c.args.n c.in-Refused.why s
     (subst (λ (given : Ready). IsReadyToSubmit plant (process_of s.attached session) writes policy c.args.seq c.args.n given s) c.in-Refused.is is)
+
+pub returns-in-Submit-clause-owner : goal.returns-in-Submit-clause-owner
+returns-in-Submit-clause-owner c = λ plant session writes policy some is _.
+    let s = state_of c.args.self.now in
+    let begun = ready-submit plant (process_of s.attached session) writes policy c.args.seq c.args.n c.in-Submit.transaction c.in-Submit.leases s some
+    (subst (λ (given : Ready). IsReadyToSubmit plant (process_of s.attached session) writes policy c.args.seq c.args.n given s) c.in-Submit.is is) in
+    c.owner-owner.ensures ∙ ap (λ t. t.owner) begun.is.recorded ∙ sym (ap (λ h. unwrap_or h 0) begun.own)
