@@ -1,10 +1,9 @@
-use Rattle.std.proofs.Common.{◌≡◌, ◌≢◌, inl, inr, ℕ, ◌+◌, ◌-◌, ◌*◌, ◌/◌, ◌%◌, ◌^◌, ◌<◌, ◌≤◌, List, length, slice_index, slice_set, bit_or, bit_and, w64, refl, sym, ap, ◌∙◌, arith}
+use Rattle.std.proofs.Common.{◌≡◌, ◌≢◌, inl, inr, ℕ, ◌+◌, ◌*◌, ◌/◌, ◌%◌, ◌^◌, ◌<◌, List, length, slice_index, slice_set, bit_or, bit_and, w64, refl, ap, ◌∙◌, arith}
 use Rattle.std.specs.Int.{bit_at, bit_not, trailing_zeros}
-use Rattle.std.proofs.lemmas.Bool.{cases_eq, cases_lt}
+use Rattle.std.proofs.lemmas.Bool.{cases_eq}
 use Rattle.std.proofs.lemmas.List.{get_or-set_other, get_or-set_same}
-use Rattle.std.proofs.lemmas.Nat.{shr-shr, shr_le}
-use Rattle.std.proofs.lemmas.Nat.Bits.{bit_at-trailing_zeros, bit_at-zero, bit_at_above, bit_at_clear_other, bit_at_clear_same, bit_at_set_other, bit_at_set_same}
-use Rattle.boss_slots.specs.Bits.{IsFirstBit, bit_of}
+use Rattle.std.proofs.lemmas.Nat.Bits.{bit_at-trailing_zeros, bit_at-zero, bit_at_clear_other, bit_at_clear_same, bit_at_set_other, bit_at_set_same}
+use Rattle.boss_slots.specs.Bits.{IsClearBelow, IsFirstBit, bit_of}
 
 -- ---- a word is written
 
@@ -41,52 +40,37 @@ clear-other words place word other h is ne =
 
 -- ---- the first bit of a word
 
-behind : (words : List ℕ) (from i : ℕ) → from % 64 + i < 64 → bit_of words (from + i) ≡ bit_at (slice_index words (from / 64) / 2 ^ (from % 64)) i
-behind words from i h =
-    let a : (from + i) / 64 ≡ from / 64 = omega arith in
-    let b : (from + i) % 64 ≡ from % 64 + i = omega arith in
-    rw (a, b) (ap (λ (x : ℕ). x % 2) (sym (shr-shr _ (from % 64) i)))
-
-between : (words : List ℕ) (from place : ℕ) → from ≤ place → from % 64 + (place - from) < 64 → bit_of words place ≡ bit_at (slice_index words (from / 64) / 2 ^ (from % 64)) (place - from)
-between words from place later h =
-    let e : place ≡ from + (place - from) = omega arith in
-    ap (bit_of words) e ∙ behind words from (place - from) h
-
--- no bit of the rest of a word is set
-pub rest-clear : (words : List ℕ) (from place : ℕ) → slice_index words (from / 64) / 2 ^ (from % 64) ≡ 0 → from ≤ place → place / 64 ≡ from / 64 → bit_of words place ≡ 0
-rest-clear words from place clear later here =
-    between words from place later (omega arith) ∙ ap (λ (rest : ℕ). bit_at rest (place - from)) clear ∙ bit_at-zero (place - from)
-
 pub one-zero : (bit : ℕ) → bit ≡ 1 → bit ≡ 0 → ⊥
 one-zero bit one none = omega arith
 
-fits : (word k t : ℕ) → word < 2 ^ 64 → bit_at (word / 2 ^ k) t ≡ 1 → k + t < 64
-fits word k t small is =
-    elim (cases_lt (k + t) 64) [
-      | inl h ↦ h
-      | inr h ↦ absurd (one-zero _ is (ap (λ (x : ℕ). x % 2) (shr-shr word k t) ∙ bit_at_above word 64 (k + t) small h))
-    ]
+pub zero-bit : (words : List ℕ) (place : ℕ) → slice_index words (place / 64) ≡ 0 → bit_of words place ≡ 0
+zero-bit words place e = ap (λ (word : ℕ). bit_at word (place % 64)) e ∙ bit_at-zero (place % 64)
 
-found : (words : List ℕ) (from t word : ℕ) → word ≡ slice_index words (from / 64) → word < 2 ^ 64 → bit_at (word / 2 ^ (from % 64)) t ≡ 1 →
-    ((i : ℕ) → i < t → bit_at (word / 2 ^ (from % 64)) i ≡ 0) → (from % 64 + t < 64) × IsFirstBit words from (from + t)
-found words from t word e small is first =
-    let within : from % 64 + t < 64 = fits word (from % 64) t small is in
-    let same = λ (i : ℕ). ap (λ (w : ℕ). bit_at (w / 2 ^ (from % 64)) i) e in (
-      within,
-      record {
-        is = behind words from t within ∙ sym (same t) ∙ is;
-        later = omega arith;
-        first = λ place later before. between words from place later (omega arith) ∙ sym (same (place - from)) ∙ first (place - from) (omega arith);
-      },
-    )
+-- this bit of a word is its first one that is set
+pub record IsFirstIn (words : List ℕ) (word place : ℕ) : Type 0 where
+  pub here : place / 64 ≡ word
+  pub is : bit_of words place ≡ 1
+  pub first : (other : ℕ) → other / 64 ≡ word → other < place → bit_of words other ≡ 0
 
--- the bit that `trailing_zeros` finds in the rest of a word
-abbrev pub IsFoundIn : List ℕ → ℕ → ℕ → Type 0
-IsFoundIn words from word =
-    let t = trailing_zeros w64 (word / 2 ^ (from % 64)) in (from % 64 + t < 64) × IsFirstBit words from (from + t)
+pub first-in : (words : List ℕ) (word n : ℕ) → n ≡ slice_index words word → 0 < n → n < 2 ^ 64 → IsFirstIn words word (word * 64 + trailing_zeros w64 n)
+first-in words word n read some small =
+    let t = trailing_zeros w64 n in
+    let lowest = bit_at-trailing_zeros w64 n some small in
+    let here : (word * 64 + t) / 64 ≡ word = omega (arith, lowest.0) in
+    let place : (word * 64 + t) % 64 ≡ t = omega (arith, lowest.0) in
+    record {
+      here = here;
+      is = rw (here, place, ← read) lowest.1;
+      first = λ other same before. rw (same, ← read) (lowest.2 (other % 64) (omega (arith, lowest.0)));
+    }
 
-pub rest-found : (words : List ℕ) (from word : ℕ) → word ≡ slice_index words (from / 64) → word < 2 ^ 64 → (word / 2 ^ (from % 64) ≡ 0 → ⊥) → IsFoundIn words from word
-rest-found words from word is small some =
-    let rest = word / 2 ^ (from % 64) in
-    let at = bit_at-trailing_zeros w64 rest (omega arith) (omega (arith, shr_le word (from % 64))) in
-    found words from (trailing_zeros w64 rest) word is small at.1 at.2
+-- behind words without a bit, a word's first bit is the first of all
+pub first-of-all : (words : List ℕ) (word place : ℕ) → IsClearBelow words (64 * word) → IsFirstIn words word place → IsFirstBit words place
+first-of-all words word place clear found = record {
+  is = found.is;
+  first = λ other before.
+      elim (cases_eq (other / 64) word) [
+        | inl same ↦ found.first other same before
+        | inr differs ↦ clear other (omega (arith, found.here))
+      ];
+}

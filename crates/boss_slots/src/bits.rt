@@ -1,7 +1,7 @@
 //! Bits in words of 64.
 
 ghost use Rattle.std.specs.Prelude.{◌≡◌, ◌≢◌, ℕ, ◌*◌, ◌/◌, ◌<◌, ◌≤◌, ◌^◌, length, slice_index, IfNone, IfSome};
-ghost use Rattle.boss_slots.specs.Bits.{IsClearBetween, IsFirstBit, bit_of};
+ghost use Rattle.boss_slots.specs.Bits.{IsFirstBit, bit_of};
 
 /// The bits of a word.
 pub const BITS: usize = 64;
@@ -29,29 +29,15 @@ pub fn clear_bit(words: &mut Vec<u64>, place: usize)
     words[place / BITS] &= !(1 << (place % BITS));
 }
 
-/// The first bit that is set from one place on, in the word that this place is in.
-pub fn first_in_word(words: &[u64], from: usize) -> Option<usize>
-    ensures some { IfSome result (λ place. IsFirstBit words.now from place) }
-    ensures here { IfSome result (λ place. place / 64 ≡ from / 64) }
-    ensures none { IfNone result ((place : ℕ) → from ≤ place → place / 64 ≡ from / 64 → bit_of words.now place ≡ 0) }
-{
-    let word = *words.get(from / BITS)?;
-    let rest = word >> (from % BITS);
-    if rest == 0 {
-        return None;
-    }
-    Some(from + rest.trailing_zeros() as usize)
-}
-
-/// The first bit that is set from one place on. It looks at each word from there to that of the bit.
-pub fn first_bit(words: &[u64], from: usize) -> Option<usize>
+/// The first bit that is set. It looks at each word up to that of the bit.
+pub fn first_bit(words: &[u64]) -> Option<usize>
     requires { 64 * length words.now < 2 ^ 64 }
-    ensures some { IfSome result (λ place. IsFirstBit words.now from place) }
-    ensures none { IfNone result ((place : ℕ) → from ≤ place → bit_of words.now place ≡ 0) }
+    ensures some { IfSome result (λ place. IsFirstBit words.now place) }
+    ensures none { IfNone result ((place : ℕ) → bit_of words.now place ≡ 0) }
 {
-    for word in from / BITS..words.len() {
-        if let Some(place) = first_in_word(words, from.max(word * BITS)) {
-            return Some(place);
+    for (place, word) in words.iter().enumerate() {
+        if *word != 0 {
+            return Some(place * BITS + word.trailing_zeros() as usize);
         }
     }
     None

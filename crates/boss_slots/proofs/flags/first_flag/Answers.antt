@@ -1,13 +1,15 @@
-use Rattle.std.proofs.Common.{arith}
-use Rattle.boss_slots.proofs.Flagged.{not-none, some-behind}
+use Rattle.std.proofs.Common.{refl, arith}
+use Rattle.boss_slots.proofs.Flagged.{first-filled, word-within}
 use Rattle.boss_slots.proofs.flags.first_flag.Goals as goal
+
+pub overflow_add-result : goal.overflow_add-result
+overflow_add-result c =
+    let word = c.in_ok-word.word in
+    let at = c.in_ok-word.ensures.some in
+    let found = first-filled c.args.words.now c.args.filled.now word _ c.requires.filled at refl (omega (arith, c.type_inv.words word)) in
+    omega (arith, found.0.here, word-within c.args.words.now c.args.filled.now word c.requires.filled at.is, c.requires.few_words)
 
 pub returns-clause-some : goal.returns-clause-some
 returns-clause-some c =
-    some-behind c.args.words.now c.args.filled.now c.args.from c.in_ok-word.word c.first_in_word-2.result c.requires.filled c.in_ok-word.ensures.some c.in_default.ensures.none
-    c.first_in_word-2.ensures.here c.first_in_word-2.ensures.some
-
-pub returns-clause-none : goal.returns-clause-none
-returns-clause-none c =
-    not-none c.args.words.now c.args.filled.now c.args.from c.in_ok-word.word c.first_in_word-2.result _ (omega (arith, c.type_inv.words c.in_ok-word.word)) c.requires.filled c.in_ok-word.ensures.some
-    c.first_in_word-2.ensures.none
+    let word = c.in_ok-word.word in
+    (first-filled c.args.words.now c.args.filled.now word _ c.requires.filled c.in_ok-word.ensures.some refl (omega (arith, c.type_inv.words word))).1
