@@ -1,10 +1,10 @@
 use Rattle.std.proofs.Common.{◌≡◌, ◌≢◌, inl, inr, ℕ, ◌+◌, ◌*◌, ◌/◌, ◌^◌, ◌==◌, ◌<◌, ◌≤◌, Bool, true, false, w64, List, length, replicate, nat_lt, slice_index, slice_index_or, slice_set, refl, sym, ap, ◌∙◌, arith}
-use Rattle.std.specs.Int.{trailing_zeros}
 use Rattle.std.proofs.lemmas.Bool.{cases_eq, cases_lt, lt-ltb, ltb-false, ltb-true}
 use Rattle.std.proofs.lemmas.List.{ext_get_or, get_or-replicate, get_or-set_other, get_or-set_same, get_or_past, length-replicate, length-set}
 use Rattle.std.proofs.lemmas.List.FromFn.{get_or-map-range_with_len, length-map-range_with_len}
-use Rattle.boss_slots.specs.Bits.{IsFirstBit, bit_of}
-use Rattle.boss_slots.proofs.Words.{IsFirstIn, first-in, first-of-all, one-zero, zero-bit}
+use Rattle.std.proofs.lemmas.Nat.Bits.{bit_at-trailing_zeros}
+use Rattle.boss_slots.specs.Bits.{IsFirstBit, IsFirstIn, bit_of}
+use Rattle.boss_slots.proofs.Words.{first-in, first-of-all, one-zero, zero-bit}
 use Rattle.boss_slots.specs.Flags.{AreFilled, AreFlags, IsFirst, flags_of}
 
 -- ---- flags as bits
@@ -60,6 +60,15 @@ filled-set words new filled marked place known here mark words_stay marks_stay w
       | inr d ↦ ap (λ (bit : ℕ). bit == 1) (marks_stay word d) ∙ known word ∙ ap (nat_lt 0) (sym (words_stay word d))
     ]
 
+-- a word has changed, and is not zero before or after
+pub filled-stays : (words new filled : List ℕ) (here : ℕ) → AreFilled words filled → (slice_index new here ≡ 0 → ⊥) → slice_index new here ≤ slice_index words here →
+    ((word : ℕ) → word ≢ here → slice_index new word ≡ slice_index words word) → AreFilled new filled
+filled-stays words new filled here known some less words_stay word =
+    elim (cases_eq word here) [
+      | inl e ↦ rw e (known here ∙ lt-ltb 0 _ (omega arith) ∙ sym (lt-ltb 0 _ (omega arith)))
+      | inr d ↦ known word ∙ ap (nat_lt 0) (sym (words_stay word d))
+    ]
+
 -- a bit is written, and lies below the count
 within-written : (count : ℕ) (words new : List ℕ) (place : ℕ) → ((other : ℕ) → bit_of words other ≡ 1 → other < count) → place < count →
     ((other : ℕ) → other ≢ place → bit_of new other ≡ bit_of words other) → (other : ℕ) → bit_of new other ≡ 1 → other < count
@@ -73,6 +82,19 @@ pub flags-set : (count : ℕ) (words new filled marked : List ℕ) (place : ℕ)
     AreFlags count new marked
 flags-set count words new filled marked place kept below same_length here bits words_stay same_filled mark marks_stay = record {
   known = filled-set words new filled marked place kept.known here mark words_stay marks_stay;
+  within = within-written count words new place kept.within below bits;
+  few = kept.few;
+  enough = omega arith;
+  most = omega arith;
+  enough_filled = omega arith;
+  most_filled = omega arith;
+}
+
+pub flags-cleared : (count : ℕ) (words new filled marked : List ℕ) (place : ℕ) → AreFlags count words filled → place < count →
+    length new ≡ length words → ((other : ℕ) → other ≢ place → bit_of new other ≡ bit_of words other) → length marked ≡ length filled → AreFilled new marked →
+    AreFlags count new marked
+flags-cleared count words new filled marked place kept below same_length bits same_filled known = record {
+  known = known;
   within = within-written count words new place kept.within below bits;
   few = kept.few;
   enough = omega arith;
@@ -135,21 +157,13 @@ no-flag count words place clear =
 pub some-word : (words filled : List ℕ) (word : ℕ) → AreFilled words filled → bit_of filled word ≡ 1 → 0 < slice_index words word
 some-word words filled word known marked = ltb-true 0 _ (sym (known word) ∙ ap (λ (bit : ℕ). bit == 1) marked)
 
-pub word-within : (words filled : List ℕ) (word : ℕ) → AreFilled words filled → bit_of filled word ≡ 1 → word < length words
-word-within words filled word known marked =
-    elim (cases_lt word (length words)) [
-      | inl h ↦ h
-      | inr h ↦ absurd (omega (arith, get_or_past words word 0 h, some-word words filled word known marked))
-    ]
-
 -- and a bit of its own is set
 pub some-bit : (words filled : List ℕ) (word : ℕ) → AreFilled words filled → slice_index words word < 2 ^ 64 → bit_of filled word ≡ 1 → (place : ℕ) × (bit_of words place ≡ 1)
 some-bit words filled word known small marked =
-    let found = first-in words word _ refl (some-word words filled word known marked) small in
-    (_, found.is)
+    let lowest = bit_at-trailing_zeros w64 (slice_index words word) (some-word words filled word known marked) small in
+    (_, (first-in words word _ _ refl lowest.0 lowest.1 lowest.2).is)
 
 -- the first word that is not zero has the first bit of all
-pub first-filled : (words filled : List ℕ) (word n : ℕ) → AreFilled words filled → IsFirstBit filled word → n ≡ slice_index words word → n < 2 ^ 64 → IsFirstIn words word (word * 64 + trailing_zeros w64 n) × IsFirstBit words (word * 64 + trailing_zeros w64 n)
-first-filled words filled word n known at read small =
-    let found = first-in words word n read (omega (arith, read, some-word words filled word known at.is)) small in
-    (found, first-of-all words word _ (λ other before. zero-bit words other (unfilled words filled (other / 64) known (at.first (other / 64) (omega arith)))) found)
+pub first-filled : (words filled : List ℕ) (word place : ℕ) → AreFilled words filled → IsFirstBit filled word → IsFirstIn words word place → IsFirstBit words place
+first-filled words filled word place known at found =
+    first-of-all words word place (λ other before. zero-bit words other (unfilled words filled (other / 64) known (at.first (other / 64) (omega arith)))) found

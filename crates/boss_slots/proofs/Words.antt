@@ -1,9 +1,9 @@
-use Rattle.std.proofs.Common.{◌≡◌, ◌≢◌, inl, inr, ℕ, ◌+◌, ◌*◌, ◌/◌, ◌%◌, ◌^◌, ◌<◌, List, length, slice_index, slice_set, bit_or, bit_and, w64, refl, ap, ◌∙◌, arith}
-use Rattle.std.specs.Int.{bit_at, bit_not, trailing_zeros}
-use Rattle.std.proofs.lemmas.Bool.{cases_eq}
-use Rattle.std.proofs.lemmas.List.{get_or-set_other, get_or-set_same}
-use Rattle.std.proofs.lemmas.Nat.Bits.{bit_at-trailing_zeros, bit_at-zero, bit_at_clear_other, bit_at_clear_same, bit_at_set_other, bit_at_set_same}
-use Rattle.boss_slots.specs.Bits.{IsClearBelow, IsFirstBit, bit_of}
+use Rattle.std.proofs.Common.{◌≡◌, ◌≢◌, inl, inr, ℕ, ◌+◌, ◌*◌, ◌/◌, ◌%◌, ◌^◌, ◌<◌, List, length, slice_index, slice_set, bit_or, bit_and, w64, refl, sym, ap, ◌∙◌, arith}
+use Rattle.std.specs.Int.{bit_at, bit_not}
+use Rattle.std.proofs.lemmas.Bool.{cases_eq, cases_lt}
+use Rattle.std.proofs.lemmas.List.{get_or-set_other, get_or-set_same, get_or_past}
+use Rattle.std.proofs.lemmas.Nat.Bits.{bit_at-zero, bit_at_clear_other, bit_at_clear_same, bit_at_set_other, bit_at_set_same}
+use Rattle.boss_slots.specs.Bits.{IsClearBelow, IsFirstBit, IsFirstIn, bit_of}
 
 -- ---- a word is written
 
@@ -46,23 +46,35 @@ one-zero bit one none = omega arith
 pub zero-bit : (words : List ℕ) (place : ℕ) → slice_index words (place / 64) ≡ 0 → bit_of words place ≡ 0
 zero-bit words place e = ap (λ (word : ℕ). bit_at word (place % 64)) e ∙ bit_at-zero (place % 64)
 
--- this bit of a word is its first one that is set
-pub record IsFirstIn (words : List ℕ) (word place : ℕ) : Type 0 where
-  pub here : place / 64 ≡ word
-  pub is : bit_of words place ≡ 1
-  pub first : (other : ℕ) → other / 64 ≡ word → other < place → bit_of words other ≡ 0
-
-pub first-in : (words : List ℕ) (word n : ℕ) → n ≡ slice_index words word → 0 < n → n < 2 ^ 64 → IsFirstIn words word (word * 64 + trailing_zeros w64 n)
-first-in words word n read some small =
-    let t = trailing_zeros w64 n in
-    let lowest = bit_at-trailing_zeros w64 n some small in
-    let here : (word * 64 + t) / 64 ≡ word = omega (arith, lowest.0) in
-    let place : (word * 64 + t) % 64 ≡ t = omega (arith, lowest.0) in
+pub first-in : (words : List ℕ) (word bit n : ℕ) → n ≡ slice_index words word → bit < 64 → bit_at n bit ≡ 1 → ((i : ℕ) → i < bit → bit_at n i ≡ 0) → IsFirstIn words word (word * 64 + bit)
+first-in words word bit n read within is first =
+    let here : (word * 64 + bit) / 64 ≡ word = omega arith in
+    let place : (word * 64 + bit) % 64 ≡ bit = omega arith in
     record {
       here = here;
-      is = rw (here, place, ← read) lowest.1;
-      first = λ other same before. rw (same, ← read) (lowest.2 (other % 64) (omega (arith, lowest.0)));
+      is = rw (here, place, ← read) is;
+      first = λ other same before. rw (same, ← read) (first (other % 64) (omega arith));
     }
+
+-- a word that is not zero is one of the words
+pub some-within : (words : List ℕ) (word : ℕ) → 0 < slice_index words word → word < length words
+some-within words word some =
+    elim (cases_lt word (length words)) [ inl h ↦ h | inr h ↦ absurd (omega (arith, get_or_past words word 0 h, some)) ]
+
+-- a bit of a word is cleared, by its place in that word
+abbrev cleared : List ℕ → ℕ → ℕ → ℕ → List ℕ
+cleared words word bit n = slice_set words word (bit_and n (bit_not w64 (1 * 2 ^ bit % 2 ^ 64)))
+
+pub clear-in : (words : List ℕ) (word bit n : ℕ) → word < length words → bit < 64 → n ≡ slice_index words word →
+    (bit_of (cleared words word bit n) (word * 64 + bit) ≡ 0) × ((other : ℕ) → other ≢ word * 64 + bit → bit_of (cleared words word bit n) other ≡ bit_of words other)
+clear-in words word bit n within below read =
+    let here : (word * 64 + bit) / 64 ≡ word = omega arith in
+    let place : (word * 64 + bit) % 64 ≡ bit = omega arith in
+    let range : word * 64 + bit < 64 * length words = omega arith in
+    let same : cleared words word bit n ≡ cleared words ((word * 64 + bit) / 64) ((word * 64 + bit) % 64) n = ap (λ k. cleared words k bit n) (sym here) ∙ ap (λ b. cleared words ((word * 64 + bit) / 64) b n) (sym place) in (
+      ap (λ new. bit_of new (word * 64 + bit)) same ∙ clear-here words (word * 64 + bit) n range,
+      λ other differs. ap (λ new. bit_of new other) same ∙ clear-other words (word * 64 + bit) n other range (read ∙ ap (slice_index words) (sym here)) differs,
+    )
 
 -- behind words without a bit, a word's first bit is the first of all
 pub first-of-all : (words : List ℕ) (word place : ℕ) → IsClearBelow words (64 * word) → IsFirstIn words word place → IsFirstBit words place

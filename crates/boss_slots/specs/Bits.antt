@@ -13,3 +13,9 @@ IsClearBelow words to = (place : ℕ) → place < to → bit_of words place ≡ 
 pub record IsFirstBit (words : List ℕ) (place : ℕ) : Type 0 where
   pub is : bit_of words place ≡ 1
   pub first : IsClearBelow words place
+
+-- the bit of this place is the first one of its word that is set
+pub record IsFirstIn (words : List ℕ) (word place : ℕ) : Type 0 where
+  pub here : place / 64 ≡ word
+  pub is : bit_of words place ≡ 1
+  pub first : (other : ℕ) → other / 64 ≡ word → other < place → bit_of words other ≡ 0

@@ -1,10 +1,10 @@
 //! Which points were touched.
 
 ghost use Rattle.std.specs.Prelude.{◌≡◌, ℕ, ◌*◌, ◌<◌, ◌≤◌, ◌^◌, true, false, IfNone, IfOk, IfSome, length, replicate, slice_index_or, slice_set};
-ghost use Rattle.boss_slots.specs.Bits.{IsFirstBit, bit_of};
+ghost use Rattle.boss_slots.specs.Bits.{bit_of};
 ghost use Rattle.boss_slots.specs.Flags.{AreFilled, IsFirst};
 
-use crate::bits::{BITS, clear_bit, first_bit, set_bit};
+use crate::bits::{BITS, clear_bit, first_bit, set_bit, take_bit};
 use boss_model::{NoMemory, PointId};
 use std::alloc::Global;
 use std::marker::Model;
@@ -68,10 +68,10 @@ impl Flags {
         ensures none { IfNone result ((point : ℕ) → slice_index_or self.old point false ≡ false) }
         ensures same { IfNone result (self.new ≡ self.old) }
     {
-        let place = first_flag(&self.words, &self.filled)?;
-        clear_bit(&mut self.words, place);
-        if self.words[place / BITS] == 0 {
-            clear_bit(&mut self.filled, place / BITS);
+        let word = first_bit(&self.filled)?;
+        let place = take_bit(&mut self.words, word);
+        if self.words[word] == 0 {
+            clear_bit(&mut self.filled, word);
         }
         Some(PointId(place as u32))
     }
@@ -88,16 +88,4 @@ fn are_zero(words: &[u64], filled: &[u64]) -> bool
         Some(_) => false,
         None => true,
     }
-}
-
-/// The first bit of the words that is set, where a bit of `filled` is set for each word that is not zero.
-fn first_flag(words: &[u64], filled: &[u64]) -> Option<usize>
-    requires filled { AreFilled words.now filled.now }
-    requires few_words { 64 * length words.now < 2 ^ 64 }
-    requires few { 64 * length filled.now < 2 ^ 64 }
-    ensures some { IfSome result (λ place. IsFirstBit words.now place) }
-    ensures none { IfNone result ((place : ℕ) → bit_of words.now place ≡ 0) }
-{
-    let word = first_bit(filled)?;
-    Some(word * BITS + words[word].trailing_zeros() as usize)
 }
