@@ -8,7 +8,7 @@ ghost use Rattle.boss_engine.specs.Settling.{AreCurrent, settled_by};
 
 use boss_lasting::{Lasting, target_of};
 use boss_marks::Marks;
-use boss_model::{Actuator, PointId};
+use boss_model::Actuator;
 
 /// Compares the touched points' targets with their commanded values, and lets those that differ want their devices to be written.
 /// The other points have their targets already. Then no point is touched.
@@ -43,10 +43,7 @@ fn settle_touched(plant: &[Actuator], lasting: &mut Lasting, marks: &mut Marks)
     ensures others { lasting.new ≡ record lasting.old { holdings = record lasting.old.holdings { touched = lasting.new.holdings.touched } } }
     ensures untouched { (point : ℕ) → is_touched lasting.new.holdings point ≡ false }
 {
-    let mut from = PointId(0);
-    while let Some(point) = lasting.holdings.next_touched(from) {
+    while let Some(point) = lasting.holdings.take_touched() {
         marks.settle(point, target_of(plant, &lasting.holdings, point));
-        lasting.holdings.untouch(point);
-        from = PointId(point.0 + 1);
     }
 }

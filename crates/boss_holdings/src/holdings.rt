@@ -15,7 +15,7 @@ ghost use Rattle.boss_model.specs.Time.{live, under_way};
 ghost use Rattle.boss_dues.specs.Due.{last_of_lease, last_of_pending};
 ghost use Rattle.boss_books.specs.Gathered.{end_tellings, lease_tellings, pending_tellings, plain};
 ghost use Rattle.boss_dues.specs.Playing.{IsEndable, IsPlayable};
-ghost use Rattle.boss_slots.specs.Flags.{IsNext};
+ghost use Rattle.boss_slots.specs.Flags.{IsFirst};
 ghost use Rattle.boss_holdings.specs.Held.{AreApart, in_slots, is_touched, shown};
 ghost use Rattle.boss_holdings.specs.Putting.{IsUnderWay};
 
@@ -351,20 +351,14 @@ impl Holdings {
         self.touched.are_clear()
     }
 
-    /// The first touched point from `from` on.
-    pub fn next_touched(&self, from: PointId) -> Option<PointId>
-        ensures some { IfSome result (λ point. IsNext self.now.touched from point) }
-        ensures within { IfSome result (λ point. point < self.now.points) }
-        ensures none { IfNone result ((point : ℕ) → from ≤ point → is_touched self.now point ≡ false) }
+    /// Takes the first touched point, which is touched no more then.
+    pub fn take_touched(&mut self) -> Option<PointId>
+        ensures first { IfSome result (λ point. IsFirst self.old.touched point) }
+        ensures within { IfSome result (λ point. point < self.old.points) }
+        ensures untouched { IfSome result (λ point. self.new ≡ record self.old { touched = slice_set self.old.touched point false }) }
+        ensures none { IfNone result ((point : ℕ) → is_touched self.old point ≡ false) }
+        ensures same { IfNone result (self.new ≡ self.old) }
     {
-        self.touched.next(from)
-    }
-
-    /// A point is touched no more.
-    pub fn untouch(&mut self, point: PointId)
-        requires { point < self.old.points }
-        ensures { self.new ≡ record self.old { touched = slice_set self.old.touched point false } }
-    {
-        self.touched.clear(point);
+        self.touched.take_first()
     }
 }

@@ -1,12 +1,11 @@
-use Rattle.std.proofs.Common.{◌≡◌, ◌≢◌, inl, inr, Option, Some, None, IfSome, IfNone, ℕ, ◌+◌, ◌*◌, ◌/◌, ◌%◌, ◌^◌, ◌==◌, ◌<◌, ◌≤◌, Bool, true, false, w64, List, length, replicate, nat_lt, slice_index, slice_index_or, slice_set, sym, ap, ◌∙◌, arith}
-use Rattle.std.specs.Int.{bit_at, trailing_zeros}
-use Rattle.std.proofs.lemmas.Bool.{true≢false, cases_eq, cases_lt, lt-ltb, ltb-false, ltb-true}
+use Rattle.std.proofs.Common.{◌≡◌, ◌≢◌, inl, inr, ℕ, ◌+◌, ◌*◌, ◌/◌, ◌^◌, ◌==◌, ◌<◌, ◌≤◌, Bool, true, false, w64, List, length, replicate, nat_lt, slice_index, slice_index_or, slice_set, refl, sym, ap, ◌∙◌, arith}
+use Rattle.std.proofs.lemmas.Bool.{cases_eq, cases_lt, lt-ltb, ltb-false, ltb-true}
 use Rattle.std.proofs.lemmas.List.{ext_get_or, get_or-replicate, get_or-set_other, get_or-set_same, get_or_past, length-replicate, length-set}
 use Rattle.std.proofs.lemmas.List.FromFn.{get_or-map-range_with_len, length-map-range_with_len}
-use Rattle.std.proofs.lemmas.Nat.Bits.{bit_at-trailing_zeros, bit_at-zero, same_from_bits_below}
-use Rattle.boss_slots.specs.Bits.{IsFirstBit, bit_of}
-use Rattle.boss_slots.proofs.Words.{one-zero}
-use Rattle.boss_slots.specs.Flags.{AreFilled, AreFlags, IsNext, flags_of}
+use Rattle.std.proofs.lemmas.Nat.Bits.{bit_at-trailing_zeros}
+use Rattle.boss_slots.specs.Bits.{IsFirstBit, IsFirstIn, bit_of}
+use Rattle.boss_slots.proofs.Words.{first-in, first-of-all, one-zero, zero-bit}
+use Rattle.boss_slots.specs.Flags.{AreFilled, AreFlags, IsFirst, flags_of}
 
 -- ---- flags as bits
 
@@ -35,23 +34,12 @@ flags-written count words new place flag here others =
 
 -- ---- a bit for each word
 
-pub zero-bit : (words : List ℕ) (place : ℕ) → slice_index words (place / 64) ≡ 0 → bit_of words place ≡ 0
-zero-bit words place e = ap (λ (word : ℕ). bit_at word (place % 64)) e ∙ bit_at-zero (place % 64)
-
 pub positive : (words : List ℕ) (place : ℕ) → bit_of words place ≡ 1 → 0 < slice_index words (place / 64)
 positive words place is =
     elim (cases_eq (slice_index words (place / 64)) 0) [
       | inl e ↦ absurd (one-zero _ is (zero-bit words place e))
       | inr d ↦ omega arith
     ]
-
--- a word none of whose bits is set is zero
-pub empty-word : (words : List ℕ) (word : ℕ) → slice_index words word < 2 ^ 64 → ((place : ℕ) → 64 * word ≤ place → place / 64 ≡ word → bit_of words place ≡ 0) → slice_index words word ≡ 0
-empty-word words word small clear =
-    same_from_bits_below 64 (slice_index words word) 0 small (omega arith) (λ i h.
-    let e : (64 * word + i) / 64 ≡ word = omega arith in
-    let f : (64 * word + i) % 64 ≡ i = omega arith in
-    rw (e, f) at (clear (64 * word + i) (omega arith) e) ∙ sym (bit_at-zero i))
 
 unfilled : (words filled : List ℕ) (word : ℕ) → AreFilled words filled → bit_of filled word ≡ 0 → slice_index words word ≡ 0
 unfilled words filled word known clear =
@@ -69,16 +57,6 @@ pub filled-set : (words new filled marked : List ℕ) (place : ℕ) → AreFille
 filled-set words new filled marked place known here mark words_stay marks_stay word =
     elim (cases_eq word (place / 64)) [
       | inl e ↦ rw e (ap (λ (bit : ℕ). bit == 1) mark ∙ sym (lt-ltb 0 _ (positive new place here)))
-      | inr d ↦ ap (λ (bit : ℕ). bit == 1) (marks_stay word d) ∙ known word ∙ ap (nat_lt 0) (sym (words_stay word d))
-    ]
-
--- a word has become zero, and its bit is cleared
-pub filled-cleared : (words new filled marked : List ℕ) (here : ℕ) → AreFilled words filled → slice_index new here ≡ 0 → bit_of marked here ≡ 0 →
-    ((word : ℕ) → word ≢ here → slice_index new word ≡ slice_index words word) → ((word : ℕ) → word ≢ here → bit_of marked word ≡ bit_of filled word) →
-    AreFilled new marked
-filled-cleared words new filled marked here known empty mark words_stay marks_stay word =
-    elim (cases_eq word here) [
-      | inl e ↦ rw e (ap (λ (bit : ℕ). bit == 1) mark ∙ sym (ap (nat_lt 0) empty))
       | inr d ↦ ap (λ (bit : ℕ). bit == 1) (marks_stay word d) ∙ known word ∙ ap (nat_lt 0) (sym (words_stay word d))
     ]
 
@@ -157,13 +135,12 @@ flags-first count words filled few enough most enough_filled most_filled =
 
 -- ---- the first flag that is set
 
-pub next-flag : (count : ℕ) (words : List ℕ) (from place : ℕ) → ((other : ℕ) → bit_of words other ≡ 1 → other < count) → IsFirstBit words from place → IsNext (flags_of count words) from place
-next-flag count words from place within at =
+pub first-flag : (count : ℕ) (words : List ℕ) (place : ℕ) → ((other : ℕ) → bit_of words other ≡ 1 → other < count) → IsFirstBit words place → IsFirst (flags_of count words) place
+first-flag count words place within at =
     let below = within place at.is in
     record {
       is = flag-below count words place below ∙ ap (λ (bit : ℕ). bit == 1) at.is;
-      later = at.later;
-      first = λ other later before. flag-below count words other (omega arith) ∙ ap (λ (bit : ℕ). bit == 1) (at.first other later before);
+      first = λ other before. flag-below count words other (omega arith) ∙ ap (λ (bit : ℕ). bit == 1) (at.first other before);
     }
 
 pub some-flag : (count : ℕ) (words : List ℕ) (place : ℕ) → ((other : ℕ) → bit_of words other ≡ 1 → other < count) → bit_of words place ≡ 1 → slice_index_or (flags_of count words) place false ≡ true
@@ -176,51 +153,17 @@ no-flag count words place clear =
       | inr h ↦ get_or_past (flags_of count words) place false (omega (arith, length-flags count words))
     ]
 
--- where a word's bit is set, one of its own is
+-- a word whose bit is set is not zero
+pub some-word : (words filled : List ℕ) (word : ℕ) → AreFilled words filled → bit_of filled word ≡ 1 → 0 < slice_index words word
+some-word words filled word known marked = ltb-true 0 _ (sym (known word) ∙ ap (λ (bit : ℕ). bit == 1) marked)
+
+-- and a bit of its own is set
 pub some-bit : (words filled : List ℕ) (word : ℕ) → AreFilled words filled → slice_index words word < 2 ^ 64 → bit_of filled word ≡ 1 → (place : ℕ) × (bit_of words place ≡ 1)
 some-bit words filled word known small marked =
-    let n = slice_index words word in
-    let positive : 0 < n = ltb-true 0 n (sym (known word) ∙ ap (λ (bit : ℕ). bit == 1) marked) in
-    let lowest = bit_at-trailing_zeros w64 n positive small in
-    let e : (64 * word + trailing_zeros w64 n) / 64 ≡ word = omega (arith, lowest.0) in
-    let f : (64 * word + trailing_zeros w64 n) % 64 ≡ trailing_zeros w64 n = omega (arith, lowest.0) in
-    (64 * word + trailing_zeros w64 n, rw (e, f) lowest.1)
+    let lowest = bit_at-trailing_zeros w64 (slice_index words word) (some-word words filled word known marked) small in
+    (_, (first-in words word _ _ refl lowest.0 lowest.1 lowest.2).is)
 
--- behind the word of `from`, the word of the bit is the first that is not zero
-pub first-behind : (words filled : List ℕ) (from word place : ℕ) → AreFilled words filled → IsFirstBit filled (from / 64 + 1) word →
-    ((other : ℕ) → from ≤ other → other / 64 ≡ from / 64 → bit_of words other ≡ 0) → place / 64 ≡ word → IsFirstBit words (word * 64) place → IsFirstBit words from place
-first-behind words filled from word place known at clear here found = record {
-  is = found.is;
-  later = omega (arith, at.later);
-  first = λ other later before.
-      elim (cases_lt (from / 64) (other / 64)) [
-        | inr h ↦ clear other later (omega arith)
-        | inl h ↦ elim (cases_lt (other / 64) word) [
-          | inl less ↦ zero-bit words other (unfilled words filled (other / 64) known (at.first (other / 64) (omega arith) less))
-          | inr more ↦ found.first other (omega arith) before
-        ]
-      ];
-}
-
-pub some-behind : (words filled : List ℕ) (from word : ℕ) (found : Option ℕ) → AreFilled words filled → IsFirstBit filled (from / 64 + 1) word →
-    ((other : ℕ) → from ≤ other → other / 64 ≡ from / 64 → bit_of words other ≡ 0) →
-    IfSome found (λ place. place / 64 ≡ word * 64 / 64) → IfSome found (λ place. IsFirstBit words (word * 64) place) → IfSome found (λ place. IsFirstBit words from place)
-some-behind words filled from word None known at clear here first = tt
-some-behind words filled from word (Some place) known at clear here first = first-behind words filled from word place known at clear (omega arith) first
-
--- a word whose bit is set has a bit
-pub not-none : (words filled : List ℕ) (from word : ℕ) (found : Option ℕ) (Any : Type 0) → slice_index words word < 2 ^ 64 → AreFilled words filled → IsFirstBit filled (from / 64 + 1) word →
-    IfNone found ((place : ℕ) → word * 64 ≤ place → place / 64 ≡ word * 64 / 64 → bit_of words place ≡ 0) → IfNone found Any
-not-none words filled from word None Any small known at clear =
-    let empty = empty-word words word small (λ place later here. clear place (omega arith) (omega arith)) in
-    absurd (true≢false (sym (ap (λ (bit : ℕ). bit == 1) at.is) ∙ known word ∙ ap (nat_lt 0) empty))
-not-none words filled from word (Some place) Any small known at clear = tt
-
--- no word behind that of `from` has a bit
-pub none-behind : (words filled : List ℕ) (from : ℕ) → AreFilled words filled → ((word : ℕ) → from / 64 + 1 ≤ word → bit_of filled word ≡ 0) →
-    ((other : ℕ) → from ≤ other → other / 64 ≡ from / 64 → bit_of words other ≡ 0) → (other : ℕ) → from ≤ other → bit_of words other ≡ 0
-none-behind words filled from known clear_words clear other later =
-    elim (cases_lt (from / 64) (other / 64)) [
-      | inr h ↦ clear other later (omega arith)
-      | inl h ↦ zero-bit words other (unfilled words filled (other / 64) known (clear_words (other / 64) (omega arith)))
-    ]
+-- the first word that is not zero has the first bit of all
+pub first-filled : (words filled : List ℕ) (word place : ℕ) → AreFilled words filled → IsFirstBit filled word → IsFirstIn words word place → IsFirstBit words place
+first-filled words filled word place known at found =
+    first-of-all words word place (λ other before. zero-bit words other (unfilled words filled (other / 64) known (at.first (other / 64) (omega arith)))) found

@@ -1,10 +1,9 @@
-use Rattle.std.proofs.Common.{◌≡◌, ◌≢◌, inl, inr, ℕ, ◌+◌, ◌-◌, ◌*◌, ◌/◌, ◌%◌, ◌^◌, ◌<◌, ◌≤◌, List, length, slice_index, slice_set, bit_or, bit_and, w64, refl, sym, ap, ◌∙◌, arith}
-use Rattle.std.specs.Int.{bit_at, bit_not, trailing_zeros}
+use Rattle.std.proofs.Common.{◌≡◌, ◌≢◌, inl, inr, ℕ, ◌+◌, ◌*◌, ◌/◌, ◌%◌, ◌^◌, ◌<◌, List, length, slice_index, slice_set, bit_or, bit_and, w64, refl, sym, ap, ◌∙◌, arith}
+use Rattle.std.specs.Int.{bit_at, bit_not}
 use Rattle.std.proofs.lemmas.Bool.{cases_eq, cases_lt}
-use Rattle.std.proofs.lemmas.List.{get_or-set_other, get_or-set_same}
-use Rattle.std.proofs.lemmas.Nat.{shr-shr, shr_le}
-use Rattle.std.proofs.lemmas.Nat.Bits.{bit_at-trailing_zeros, bit_at-zero, bit_at_above, bit_at_clear_other, bit_at_clear_same, bit_at_set_other, bit_at_set_same}
-use Rattle.boss_slots.specs.Bits.{IsFirstBit, bit_of}
+use Rattle.std.proofs.lemmas.List.{get_or-set_other, get_or-set_same, get_or_past}
+use Rattle.std.proofs.lemmas.Nat.Bits.{bit_at-zero, bit_at_clear_other, bit_at_clear_same, bit_at_set_other, bit_at_set_same}
+use Rattle.boss_slots.specs.Bits.{IsClearBelow, IsFirstBit, IsFirstIn, bit_of}
 
 -- ---- a word is written
 
@@ -41,52 +40,49 @@ clear-other words place word other h is ne =
 
 -- ---- the first bit of a word
 
-behind : (words : List ℕ) (from i : ℕ) → from % 64 + i < 64 → bit_of words (from + i) ≡ bit_at (slice_index words (from / 64) / 2 ^ (from % 64)) i
-behind words from i h =
-    let a : (from + i) / 64 ≡ from / 64 = omega arith in
-    let b : (from + i) % 64 ≡ from % 64 + i = omega arith in
-    rw (a, b) (ap (λ (x : ℕ). x % 2) (sym (shr-shr _ (from % 64) i)))
-
-between : (words : List ℕ) (from place : ℕ) → from ≤ place → from % 64 + (place - from) < 64 → bit_of words place ≡ bit_at (slice_index words (from / 64) / 2 ^ (from % 64)) (place - from)
-between words from place later h =
-    let e : place ≡ from + (place - from) = omega arith in
-    ap (bit_of words) e ∙ behind words from (place - from) h
-
--- no bit of the rest of a word is set
-pub rest-clear : (words : List ℕ) (from place : ℕ) → slice_index words (from / 64) / 2 ^ (from % 64) ≡ 0 → from ≤ place → place / 64 ≡ from / 64 → bit_of words place ≡ 0
-rest-clear words from place clear later here =
-    between words from place later (omega arith) ∙ ap (λ (rest : ℕ). bit_at rest (place - from)) clear ∙ bit_at-zero (place - from)
-
 pub one-zero : (bit : ℕ) → bit ≡ 1 → bit ≡ 0 → ⊥
 one-zero bit one none = omega arith
 
-fits : (word k t : ℕ) → word < 2 ^ 64 → bit_at (word / 2 ^ k) t ≡ 1 → k + t < 64
-fits word k t small is =
-    elim (cases_lt (k + t) 64) [
-      | inl h ↦ h
-      | inr h ↦ absurd (one-zero _ is (ap (λ (x : ℕ). x % 2) (shr-shr word k t) ∙ bit_at_above word 64 (k + t) small h))
-    ]
+pub zero-bit : (words : List ℕ) (place : ℕ) → slice_index words (place / 64) ≡ 0 → bit_of words place ≡ 0
+zero-bit words place e = ap (λ (word : ℕ). bit_at word (place % 64)) e ∙ bit_at-zero (place % 64)
 
-found : (words : List ℕ) (from t word : ℕ) → word ≡ slice_index words (from / 64) → word < 2 ^ 64 → bit_at (word / 2 ^ (from % 64)) t ≡ 1 →
-    ((i : ℕ) → i < t → bit_at (word / 2 ^ (from % 64)) i ≡ 0) → (from % 64 + t < 64) × IsFirstBit words from (from + t)
-found words from t word e small is first =
-    let within : from % 64 + t < 64 = fits word (from % 64) t small is in
-    let same = λ (i : ℕ). ap (λ (w : ℕ). bit_at (w / 2 ^ (from % 64)) i) e in (
-      within,
-      record {
-        is = behind words from t within ∙ sym (same t) ∙ is;
-        later = omega arith;
-        first = λ place later before. between words from place later (omega arith) ∙ sym (same (place - from)) ∙ first (place - from) (omega arith);
-      },
+pub first-in : (words : List ℕ) (word bit n : ℕ) → n ≡ slice_index words word → bit < 64 → bit_at n bit ≡ 1 → ((i : ℕ) → i < bit → bit_at n i ≡ 0) → IsFirstIn words word (word * 64 + bit)
+first-in words word bit n read within is first =
+    let here : (word * 64 + bit) / 64 ≡ word = omega arith in
+    let place : (word * 64 + bit) % 64 ≡ bit = omega arith in
+    record {
+      here = here;
+      is = rw (here, place, ← read) is;
+      first = λ other same before. rw (same, ← read) (first (other % 64) (omega arith));
+    }
+
+-- a word that is not zero is one of the words
+pub some-within : (words : List ℕ) (word : ℕ) → 0 < slice_index words word → word < length words
+some-within words word some =
+    elim (cases_lt word (length words)) [ inl h ↦ h | inr h ↦ absurd (omega (arith, get_or_past words word 0 h, some)) ]
+
+-- a bit of a word is cleared, by its place in that word
+abbrev cleared : List ℕ → ℕ → ℕ → ℕ → List ℕ
+cleared words word bit n = slice_set words word (bit_and n (bit_not w64 (1 * 2 ^ bit % 2 ^ 64)))
+
+pub clear-in : (words : List ℕ) (word bit n : ℕ) → word < length words → bit < 64 → n ≡ slice_index words word →
+    (bit_of (cleared words word bit n) (word * 64 + bit) ≡ 0) × ((other : ℕ) → other ≢ word * 64 + bit → bit_of (cleared words word bit n) other ≡ bit_of words other)
+clear-in words word bit n within below read =
+    let here : (word * 64 + bit) / 64 ≡ word = omega arith in
+    let place : (word * 64 + bit) % 64 ≡ bit = omega arith in
+    let range : word * 64 + bit < 64 * length words = omega arith in
+    let same : cleared words word bit n ≡ cleared words ((word * 64 + bit) / 64) ((word * 64 + bit) % 64) n = ap (λ k. cleared words k bit n) (sym here) ∙ ap (λ b. cleared words ((word * 64 + bit) / 64) b n) (sym place) in (
+      ap (λ new. bit_of new (word * 64 + bit)) same ∙ clear-here words (word * 64 + bit) n range,
+      λ other differs. ap (λ new. bit_of new other) same ∙ clear-other words (word * 64 + bit) n other range (read ∙ ap (slice_index words) (sym here)) differs,
     )
 
--- the bit that `trailing_zeros` finds in the rest of a word
-abbrev pub IsFoundIn : List ℕ → ℕ → ℕ → Type 0
-IsFoundIn words from word =
-    let t = trailing_zeros w64 (word / 2 ^ (from % 64)) in (from % 64 + t < 64) × IsFirstBit words from (from + t)
-
-pub rest-found : (words : List ℕ) (from word : ℕ) → word ≡ slice_index words (from / 64) → word < 2 ^ 64 → (word / 2 ^ (from % 64) ≡ 0 → ⊥) → IsFoundIn words from word
-rest-found words from word is small some =
-    let rest = word / 2 ^ (from % 64) in
-    let at = bit_at-trailing_zeros w64 rest (omega arith) (omega (arith, shr_le word (from % 64))) in
-    found words from (trailing_zeros w64 rest) word is small at.1 at.2
+-- behind words without a bit, a word's first bit is the first of all
+pub first-of-all : (words : List ℕ) (word place : ℕ) → IsClearBelow words (64 * word) → IsFirstIn words word place → IsFirstBit words place
+first-of-all words word place clear found = record {
+  is = found.is;
+  first = λ other before.
+      elim (cases_eq (other / 64) word) [
+        | inl same ↦ found.first other same before
+        | inr differs ↦ clear other (omega (arith, found.here))
+      ];
+}

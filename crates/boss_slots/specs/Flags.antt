@@ -2,15 +2,10 @@ use Rattle.std.specs.Prelude.{◌≡◌, ℕ, ◌+◌, ◌*◌, ◌==◌, ◌<�
 use Rattle.std.specs.List.{range_with_len}
 use Rattle.boss_slots.specs.Bits.{bit_of}
 
--- no flag is set from one place on and before another
-abbrev pub IsClear : List Bool → ℕ → ℕ → Type 0
-IsClear flags from to = (place : ℕ) → from ≤ place → place < to → slice_index_or flags place false ≡ false
-
--- the flag of this place is the first one from `from` on that is set
-pub record IsNext (flags : List Bool) (from place : ℕ) : Type 0 where
+-- the flag of this place is the first one that is set
+pub record IsFirst (flags : List Bool) (place : ℕ) : Type 0 where
   pub is : slice_index_or flags place false ≡ true
-  pub later : from ≤ place
-  pub first : IsClear flags from place
+  pub first : (other : ℕ) → other < place → slice_index_or flags other false ≡ false
 
 -- so many flags, each a bit of the words
 abbrev pub flags_of : ℕ → List ℕ → List Bool

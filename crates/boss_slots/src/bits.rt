@@ -1,7 +1,8 @@
 //! Bits in words of 64.
 
 ghost use Rattle.std.specs.Prelude.{◌≡◌, ◌≢◌, ℕ, ◌*◌, ◌/◌, ◌<◌, ◌≤◌, ◌^◌, length, slice_index, IfNone, IfSome};
-ghost use Rattle.boss_slots.specs.Bits.{IsClearBetween, IsFirstBit, bit_of};
+ghost use Rattle.std.specs.Int.{bit_at};
+ghost use Rattle.boss_slots.specs.Bits.{IsFirstBit, IsFirstIn, bit_of};
 
 /// The bits of a word.
 pub const BITS: usize = 64;
@@ -29,30 +30,42 @@ pub fn clear_bit(words: &mut Vec<u64>, place: usize)
     words[place / BITS] &= !(1 << (place % BITS));
 }
 
-/// The first bit that is set from one place on, in the word that this place is in.
-pub fn first_in_word(words: &[u64], from: usize) -> Option<usize>
-    ensures some { IfSome result (λ place. IsFirstBit words.now from place) }
-    ensures here { IfSome result (λ place. place / 64 ≡ from / 64) }
-    ensures none { IfNone result ((place : ℕ) → from ≤ place → place / 64 ≡ from / 64 → bit_of words.now place ≡ 0) }
+/// Takes the first bit that is set in a word, which must not be zero: clears it, and gives its place.
+pub fn take_bit(words: &mut Vec<u64>, word: usize) -> usize
+    requires some { 0 < slice_index words.old.items word }
+    requires few { 64 * length words.old.items < 2 ^ 64 }
+    ensures first { IsFirstIn words.old.items word result }
+    ensures length { length words.new.items ≡ length words.old.items }
+    ensures here { bit_of words.new.items result ≡ 0 }
+    ensures bits { (other : ℕ) → other ≢ result → bit_of words.new.items other ≡ bit_of words.old.items other }
+    ensures words { (other : ℕ) → other ≢ word → slice_index words.new.items other ≡ slice_index words.old.items other }
+    ensures less { slice_index words.new.items word ≤ slice_index words.old.items word }
 {
-    let word = *words.get(from / BITS)?;
-    let rest = word >> (from % BITS);
-    if rest == 0 {
-        return None;
-    }
-    Some(from + rest.trailing_zeros() as usize)
+    let bit = first_of(words[word]);
+    words[word] &= !(1 << bit);
+    word * BITS + bit
 }
 
-/// The first bit that is set from one place on. It looks at each word from there to that of the bit.
-pub fn first_bit(words: &[u64], from: usize) -> Option<usize>
+/// The first bit that is set. It looks at each word up to that of the bit.
+pub fn first_bit(words: &[u64]) -> Option<usize>
     requires { 64 * length words.now < 2 ^ 64 }
-    ensures some { IfSome result (λ place. IsFirstBit words.now from place) }
-    ensures none { IfNone result ((place : ℕ) → from ≤ place → bit_of words.now place ≡ 0) }
+    ensures some { IfSome result (λ place. IsFirstBit words.now place) }
+    ensures none { IfNone result ((place : ℕ) → bit_of words.now place ≡ 0) }
 {
-    for word in from / BITS..words.len() {
-        if let Some(place) = first_in_word(words, from.max(word * BITS)) {
-            return Some(place);
+    for (place, word) in words.iter().enumerate() {
+        if *word != 0 {
+            return Some(place * BITS + first_of(*word));
         }
     }
     None
+}
+
+/// Which bit of a word is the first that is set. The word must not be zero.
+fn first_of(word: u64) -> usize
+    requires { 0 < word }
+    ensures within { result < 64 }
+    ensures is { bit_at word result ≡ 1 }
+    ensures first { (bit : ℕ) → bit < result → bit_at word bit ≡ 0 }
+{
+    word.trailing_zeros() as usize
 }

@@ -1,16 +1,16 @@
 //! Which points were touched.
 
 ghost use Rattle.std.specs.Prelude.{◌≡◌, ℕ, ◌*◌, ◌<◌, ◌≤◌, ◌^◌, true, false, IfNone, IfOk, IfSome, length, replicate, slice_index_or, slice_set};
-ghost use Rattle.boss_slots.specs.Bits.{IsFirstBit, bit_of};
-ghost use Rattle.boss_slots.specs.Flags.{AreFilled, IsNext};
+ghost use Rattle.boss_slots.specs.Bits.{bit_of};
+ghost use Rattle.boss_slots.specs.Flags.{AreFilled, IsFirst};
 
-use crate::bits::{BITS, clear_bit, first_bit, first_in_word, set_bit};
+use crate::bits::{BITS, clear_bit, first_bit, set_bit, take_bit};
 use boss_model::{NoMemory, PointId};
 use std::alloc::Global;
 use std::marker::Model;
 
 /// A flag for each point. A contract sees them as a list. They are bits of words. A bit for each word says whether any of the
-/// word's is set, so the next flag that is set is found by a look at two words, and at one more for each 4,096 points.
+/// word's is set, so the first flag that is set is found by a look at two words, and at one more for each 4,096 points.
 #[derive(Drop)]
 pub struct Flags {
     count: usize,
@@ -53,18 +53,6 @@ impl Flags {
         set_bit(&mut self.filled, place / BITS);
     }
 
-    /// Clears the flag of a point.
-    pub fn clear(&mut self, point: PointId)
-        requires { point < length self.old }
-        ensures { self.new ≡ slice_set self.old point false }
-    {
-        let place = point.0 as usize;
-        clear_bit(&mut self.words, place);
-        if self.words[place / BITS] == 0 {
-            clear_bit(&mut self.filled, place / BITS);
-        }
-    }
-
     /// Whether no flag is set. It looks at one word for each 4,096 points.
     pub fn are_clear(&self) -> bool
         ensures clear { result ≡ true → (point : ℕ) → slice_index_or self.now point false ≡ false }
@@ -73,13 +61,18 @@ impl Flags {
         are_zero(&self.words, &self.filled)
     }
 
-    /// The first point from `from` on whose flag is set.
-    pub fn next(&self, from: PointId) -> Option<PointId>
-        requires { length self.now < 2 ^ 32 }
-        ensures some { IfSome result (λ point. IsNext self.now from point) }
-        ensures none { IfNone result ((point : ℕ) → from ≤ point → slice_index_or self.now point false ≡ false) }
+    /// Takes the first flag that is set: gives its point, and clears it. It looks at one word for each 4,096 points.
+    pub fn take_first(&mut self) -> Option<PointId>
+        ensures first { IfSome result (λ point. IsFirst self.old point) }
+        ensures cleared { IfSome result (λ point. self.new ≡ slice_set self.old point false) }
+        ensures none { IfNone result ((point : ℕ) → slice_index_or self.old point false ≡ false) }
+        ensures same { IfNone result (self.new ≡ self.old) }
     {
-        let place = first_flag(&self.words, &self.filled, from.0 as usize)?;
+        let word = first_bit(&self.filled)?;
+        let place = take_bit(&mut self.words, word);
+        if self.words[word] == 0 {
+            clear_bit(&mut self.filled, word);
+        }
         Some(PointId(place as u32))
     }
 }
@@ -91,23 +84,8 @@ fn are_zero(words: &[u64], filled: &[u64]) -> bool
     ensures zero { result ≡ true → (place : ℕ) → bit_of words.now place ≡ 0 }
     ensures set { result ≡ false → (place : ℕ) × (bit_of words.now place ≡ 1) }
 {
-    match first_bit(filled, 0) {
+    match first_bit(filled) {
         Some(_) => false,
         None => true,
     }
-}
-
-/// The first bit of the words that is set, from one place on, where a bit of `filled` is set for each word that is not zero.
-fn first_flag(words: &[u64], filled: &[u64], from: usize) -> Option<usize>
-    requires filled { AreFilled words.now filled.now }
-    requires few_words { 64 * length words.now < 2 ^ 64 }
-    requires few { 64 * length filled.now < 2 ^ 64 }
-    ensures some { IfSome result (λ place. IsFirstBit words.now from place) }
-    ensures none { IfNone result ((place : ℕ) → from ≤ place → bit_of words.now place ≡ 0) }
-{
-    if let Some(place) = first_in_word(words, from) {
-        return Some(place);
-    }
-    let word = first_bit(filled, from / BITS + 1)?;
-    first_in_word(words, word * BITS)
 }

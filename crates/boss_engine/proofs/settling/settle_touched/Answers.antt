@@ -1,4 +1,5 @@
-use Rattle.std.proofs.Common.{◌≡◌, ◌≢◌, ℕ, ◌≤◌, ◌<◌, ◌+◌, FitsSigned, w64, rules, false, length, set, refl, ap, sym, ◌∙◌, arith}
+use Rattle.std.proofs.Common.{◌≡◌, ◌≢◌, ℕ, ◌≤◌, ◌<◌, ◌+◌, FitsSigned, w64, rules, true, false, length, set, refl, ap, sym, ◌∙◌, inl, inr, arith}
+use Rattle.std.proofs.lemmas.Bool.{cases_lt, true≢false}
 use Rattle.std.proofs.lemmas.Int.{to_z-of_z}
 use Rattle.std.proofs.lemmas.List.{get_or-set_other}
 use Rattle.boss_model.specs.Catalogue.{default_of}
@@ -18,6 +19,7 @@ loop-point-init c =
     let plant = c.args.plant.now in
     let d = persistent_of c.args.lasting.now in
     record {
+      from = 0;
       turned = sym (turned_below-none (is_moved plant d) (recommanded plant d) c.args.marks.now);
       others = refl;
       within = omega arith;
@@ -34,29 +36,30 @@ loop-point-preserved c =
     let before = c.loop-point in
     let inv = before.invariant in
     let point = c.in-Some.point in
-    let place : c.point.inside.0 ≡ point = c.point.view_is in
-    let next = c.in-Some.ensures.some in
+    let next = c.in-Some.ensures.first in
     let flags = before.lasting.holdings.touched in
+    let same = c.in-Some.ensures.untouched in
+    let held : c.take_touched.new.self ≡ record first.holdings { touched = set flags point false } = same ∙ ap (λ (l : Lasting). record l.holdings { touched = set flags point false }) inv.others in
     let fits : FitsSigned w64 c.target_of.result = search rules in
-    let told : c.target_of.result ≡ target plant d point = c.target_of.ensures ∙ ap (λ (l : Lasting). shown (default_of plant point) l.holdings.now l.holdings point) inv.others in
+    let told : c.target_of.result ≡ target plant d point = c.target_of.ensures ∙ ap (λ (h : Held). shown (default_of plant point) h.now h point) held in
     let points : before.lasting.holdings.points ≡ length plant = ap (λ (l : Lasting). l.holdings.points) inv.others ∙ sym c.requires.points in
     let known : point < length plant = omega (arith, points, c.in-Some.ensures.within) in
     let own : point < length marks.proxies = omega (arith, known, c.requires.number) in
-    let reads : (k : ℕ) → is_touched c.untouch.new.self k ≡ is_touched (record before.lasting.holdings { touched = set flags point false }) k = λ k. ap (λ (h : Held). is_touched h k) c.untouch.ensures in
+    let later : inv.from ≤ point = elim (cases_lt point inv.from) [ inl low ↦ absurd (true≢false (sym next.is ∙ inv.settled point low)) | inr high ↦ high ] in
+    let reads : (k : ℕ) → is_touched c.take_touched.new.self k ≡ is_touched (record before.lasting.holdings { touched = set flags point false }) k = λ k. ap (λ (h : Held). is_touched h k) same in
     record {
+      from = point + 1;
       turned = (simp to_z-of_z at c.settle.ensures.after)
           ∙ (ap (λ value. settled point value before.marks) told
           ∙ (ap (settled point (target plant d point)) inv.turned
-          ∙ (settled-next plant d marks before.from point next.later own (λ k low high. c.requires.current k (omega (arith, known, high)) (sym (inv.later k low) ∙ next.first k low high))
-          ∙ ap (λ k. turned_below (is_moved plant d) (recommanded plant d) (k + 1) marks) (sym place))));
-      others = (λ i. record before.lasting { holdings = c.untouch.ensures i })
-          ∙ ((λ i. record (inv.others i) { holdings = record (inv.others i).holdings { touched = set flags point false } })
-          ∙ (λ i. record first { holdings = record first.holdings { touched = (sym c.untouch.ensures i).touched } }));
-      within = omega (arith, known, place);
-      settled = λ k less. reads k ∙ cleared-below flags before.from point inv.settled next.first k (omega (arith, less, place));
+          ∙ settled-next plant d marks inv.from point later own (λ k low high. c.requires.current k (omega (arith, known, high)) (sym (inv.later k low) ∙ next.first k high))));
+      others = (λ i. record (inv.others i) { holdings = held i })
+          ∙ (λ i. record first { holdings = record first.holdings { touched = (sym held i).touched } });
+      within = omega (arith, known);
+      settled = λ k less. reads k ∙ cleared-below flags point next k less;
       later = λ k low.
-          let other : k ≢ point = λ same. omega (arith, same, low, place) in
-          let past : before.from ≤ k = omega (arith, low, place, next.later) in
+          let other : k ≢ point = λ is. omega (arith, is, low) in
+          let past : inv.from ≤ k = omega (arith, low, later) in
           reads k ∙ (get_or-set_other flags point k false false other ∙ inv.later k past);
     }
 
@@ -66,5 +69,5 @@ returns-clause-marks c =
     let d = persistent_of c.args.lasting.now in
     let marks = c.args.marks.now in
     let inv = c.loop-point.invariant in
-    inv.turned ∙ settled-rest plant d marks c.loop-point.from (omega (arith, inv.within, c.requires.number))
-    (λ k low high. c.requires.current k (omega (arith, high, c.requires.number)) (sym (inv.later k low) ∙ c.in_default.ensures.none k low))
+    inv.turned ∙ settled-rest plant d marks inv.from (omega (arith, inv.within, c.requires.number))
+    (λ k low high. c.requires.current k (omega (arith, high, c.requires.number)) (sym (inv.later k low) ∙ c.in_default.ensures.none k))

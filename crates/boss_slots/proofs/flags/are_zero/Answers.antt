@@ -3,7 +3,7 @@ use Rattle.boss_slots.proofs.Flagged.{none-filled, some-bit}
 use Rattle.boss_slots.proofs.flags.are_zero.Goals as goal
 
 pub returns-in-None-clause-zero : goal.returns-in-None-clause-zero
-returns-in-None-clause-zero c = λ _. none-filled c.args.words.now c.args.filled.now c.requires.filled (λ word. c.in-None.ensures.none word (omega arith))
+returns-in-None-clause-zero c = λ _. none-filled c.args.words.now c.args.filled.now c.requires.filled c.in-None.ensures.none
 
 pub returns-in-Some-clause-set : goal.returns-in-Some-clause-set
 returns-in-Some-clause-set c = λ _.

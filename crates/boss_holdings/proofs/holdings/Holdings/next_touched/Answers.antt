@@ -1,7 +1,0 @@
-use Rattle.std.proofs.Common.{ℕ, ◌<◌, subst}
-use Rattle.std.proofs.lemmas.Option.{IfSome_then}
-use Rattle.boss_holdings.proofs.Counted.{touched-within}
-use Rattle.boss_holdings.proofs.holdings.Holdings.next_touched.Goals as goal
-
-pub returns-clause-within : goal.returns-clause-within
-returns-clause-within c = rw (← c.self.view_is) (IfSome_then c.next.result c.next.ensures.some (λ point is. subst (λ (n : ℕ). point < n) c.self.invariant.flags (touched-within c.self.inside.touched point is.is)))
