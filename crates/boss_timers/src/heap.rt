@@ -1,4 +1,4 @@
-ghost use Rattle.std.specs.Prelude.{◌≡◌, ℕ, suc, ◌+◌, ◌*◌, ◌<◌, ◌≤◌, ◌^◌, Some, length, slice_set};
+ghost use Rattle.std.specs.Prelude.{◌≡◌, ℕ, suc, ◌+◌, ◌*◌, ◌<◌, ◌≤◌, ◌^◌, IfNone, IfSome, Some, length, slice_set};
 ghost use Rattle.boss_timers.specs.Heap.{IsExchanged, IsHeap, IsHole, IsIndexed, IsRising, IsSinking, doubled, times, weight_at};
 
 use crate::Steps;
@@ -110,10 +110,9 @@ fn make_way<L: Ledger>(
         ≡ times (slice_set entries.old at held) (slice_set places.old held.slot (Some at)) }
     ensures cost { (e : ℕ) → length entries.old < doubled (at + 1) (suc e) → steps.new ≤ steps.old + 2 * e }
 {
-    if entries.len() <= 2 * at + 1 {
+    let Some(least) = least_below(entries, at, steps) else {
         return at;
-    }
-    let least = least_below(entries, at, steps);
+    };
     if comes_first(entries[least], held, steps) {
         lift(entries, places, at, least, held);
         return make_way(entries, places, least, held, steps);
@@ -121,20 +120,28 @@ fn make_way<L: Ledger>(
     at
 }
 
-/// Of the two timers below a place the one that goes off first.
-fn least_below<L: Ledger>(entries: &[Entry], at: usize, steps: &mut Steps<L>) -> usize
-    requires { 2 * at + 1 < length entries.now }
-    ensures within { result < length entries.now }
-    ensures below { (2 * at < result) × (result ≤ 2 * at + 2) }
-    ensures least { (below : ℕ) → 2 * at < below → below ≤ 2 * at + 2 → below < length entries.now → weight_at entries.now result ≤ weight_at entries.now below }
+/// Of the two timers below a place the one that goes off first; none where none stands there. Mostly two do, so that is asked
+/// first.
+fn least_below<L: Ledger>(entries: &[Entry], at: usize, steps: &mut Steps<L>) -> Option<usize>
+    requires { at < length entries.now }
+    ensures none { IfNone result ((length entries.now ≤ 2 * at + 1) × (steps.new ≡ steps.old)) }
+    ensures within { IfSome result (λ least. least < length entries.now) }
+    ensures below { IfSome result (λ least. (2 * at < least) × (least ≤ 2 * at + 2)) }
+    ensures least { IfSome result (λ least. (below : ℕ) → 2 * at < below → below ≤ 2 * at + 2 → below < length entries.now → weight_at entries.now least ≤ weight_at entries.now below) }
     ensures cost { steps.new ≤ steps.old + 1 }
 {
     let left = 2 * at + 1;
     let right = left + 1;
-    if right < entries.len() && comes_first(entries[right], entries[left], steps) {
-        right
+    if right < entries.len() {
+        if comes_first(entries[right], entries[left], steps) {
+            return Some(right);
+        }
+        return Some(left);
+    }
+    if left < entries.len() {
+        Some(left)
     } else {
-        left
+        None
     }
 }
 
