@@ -3,7 +3,7 @@ use Rattle.std.proofs.Common.{◌≡◌, ◌≢◌, ℕ, ◌<◌, List, length, 
 use Rattle.std.proofs.lemmas.List.{get_or-set_same, get_or-set_other, length-set, set-set, set_comm}
 use Rattle.boss_timers.specs.declared.entry.Entry.{Entry}
 use Rattle.boss_timers.specs.Heap.{IsExchanged, IsIndexed, entry_at, place_of, times}
-use Rattle.boss_timers.proofs.Indexed.{IsExchanged-both, IsIndexed-both, times-both}
+use Rattle.boss_timers.proofs.Indexed.{IsExchanged-both, IsIndexed-both, times-both, within-from_place}
 
 module _ (entries : List Entry) (places : List (Option ℕ)) (upper lower : ℕ) (held : Entry) (order : upper < lower) (inside : lower < length entries)
     (indexed : IsIndexed (set entries upper held) (set places held.slot (Some upper)))
@@ -18,11 +18,16 @@ module _ (entries : List Entry) (places : List (Option ℕ)) (upper lower : ℕ)
   there : entry_at (set entries upper held) lower ≡ entry_at entries lower
   there = get_or-set_other entries upper lower held _ (omega arith)
 
+  led : place_of (set places held.slot (Some upper)) (entry_at entries lower).slot ≡ Some lower
+  led = ap (λ (e : Entry). place_of (set places held.slot (Some upper)) e.slot) (sym there) ∙ indexed.leads lower within
+
+  pub slot-lifted : (entry_at entries lower).slot < length places
+  slot-lifted = omega (arith, within-from_place (set places held.slot (Some upper)) (entry_at entries lower).slot lower led, length-set places held.slot (Some upper))
+
   apart : held.slot ≢ (entry_at entries lower).slot
   apart same =
       let up : place_of (set places held.slot (Some upper)) held.slot ≡ Some upper = ap (λ (e : Entry). place_of (set places held.slot (Some upper)) e.slot) (sym here) ∙ indexed.leads upper (omega (arith, within)) in
-      let low : place_of (set places held.slot (Some upper)) (entry_at entries lower).slot ≡ Some lower = ap (λ (e : Entry). place_of (set places held.slot (Some upper)) e.slot) (sym there) ∙ indexed.leads lower within in
-      let both : Some upper ≡ Some lower = sym up ∙ ap (place_of (set places held.slot (Some upper))) same ∙ low in
+      let both : Some upper ≡ Some lower = sym up ∙ ap (place_of (set places held.slot (Some upper))) same ∙ led in
       let is : upper ≡ lower = cc in
       omega arith
 

@@ -1,11 +1,11 @@
 -- Timers as they are kept: one gets another moment, one comes, one goes.
-use Rattle.std.proofs.Common.{◌≡◌, ◌≢◌, ℕ, zero, suc, ◌+◌, ◌^◌, ◌<◌, ◌≤◌, List, [], ◌∷◌, ◌++◌, length, set, get_or, replicate, Option, Some, None, is_some, cond, count_by, refl, sym, ap, ◌∙◌, arith}
+use Rattle.std.proofs.Common.{◌≡◌, ℕ, zero, suc, ◌+◌, ◌^◌, ◌<◌, ◌≤◌, List, [], ◌∷◌, ◌++◌, length, set, get_or, replicate, Option, Some, None, is_some, cond, count_by, refl, sym, ap, ◌∙◌, arith}
 use Rattle.std.proofs.lemmas.List.{length-set, length-map, length-replicate, length_push}
 use Rattle.std.proofs.lemmas.List.Sums.{sum_by-cons}
 use Rattle.boss_timers.specs.declared.entry.Entry.{Entry}
 use Rattle.boss_timers.specs.Heap.{IsHeap, IsIndexed, IsRising, entry_at, moment_at, place_of, times, weight, weight_at}
 use Rattle.boss_timers.specs.Timers.{IsFirst, IsKept}
-use Rattle.boss_timers.proofs.Heaps.{heap-fewer, rising-from_heap, root-least}
+use Rattle.boss_timers.proofs.Heaps.{rising-from_heap, root-least}
 use Rattle.boss_timers.proofs.Indexed.{IsIndexed-changed, IsIndexed-pushed, count-again, count-cleared, count-set, fewer-set, pushed-before, times-at, times-pushed, times-set, within-from_place, within-indexed}
 
 -- the slot of an entry has its moment
@@ -88,7 +88,7 @@ module _ (entries : List Entry) (places : List (Option ℕ)) (most : ℕ) (entry
 -- ---- a timer goes
 
 -- as many slots as before
-slots-same : (es entries : List Entry) (ps places : List (Option ℕ)) (slot : ℕ) (moment : Option ℕ) → times es ps ≡ set (times entries places) slot moment → length ps ≡ length places
+pub slots-same : (es entries : List Entry) (ps places : List (Option ℕ)) (slot : ℕ) (moment : Option ℕ) → times es ps ≡ set (times entries places) slot moment → length ps ≡ length places
 slots-same es entries ps places slot moment changed =
     sym (slots-of-times es ps) ∙ ap length changed ∙ length-set (times entries places) slot moment ∙ slots-of-times entries places
 
@@ -103,11 +103,6 @@ module _ (entries : List Entry) (places : List (Option ℕ)) (most place : ℕ) 
         room = omega (arith, kept.room, slots);
         few = omega (arith, kept.few, slots);
       }
-
-  -- the others stand where they stood
-  module _ (others : (other : ℕ) → other < length es → other ≢ place → entry_at es other ≡ entry_at entries other) where
-    pub heap-without : length es ≤ place → IsHeap (length es) (weight_at es)
-    heap-without outside = heap-fewer (length entries) (length es) (weight_at entries) (weight_at es) (omega (arith, one-less)) (λ k before. ap weight (others k before (omega arith))) kept.heap
 
 -- ---- the first
 

@@ -2,3 +2,4 @@ pub mod Heaps
 pub mod Indexed
 pub mod Kept
 pub mod Held
+pub mod Laid

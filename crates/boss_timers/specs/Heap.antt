@@ -1,9 +1,15 @@
-use Rattle.std.specs.Prelude.{◌≡◌, ◌≢◌, ℕ, zero, suc, ◌+◌, ◌*◌, ◌<◌, ◌≤◌, ◌^◌, List, length, map, Option, Some, None, slice_index_or}
+use Rattle.std.specs.Prelude.{◌≡◌, ◌≢◌, ℕ, zero, suc, ◌+◌, ◌*◌, ◌<◌, ◌≤◌, ◌^◌, List, [], ◌∷◌, length, map, Option, Some, None, slice_index_or}
 use Rattle.boss_timers.specs.declared.entry.Entry.{Entry}
 
 -- one timer comes before another where its weight is less: a slot is below 2^32
 abbrev pub weight : Entry → ℕ
 weight entry = entry.moment * 4294967296 + entry.slot
+
+-- the timers with these moments and slots
+abbrev pub entries_of : List ℕ → List ℕ → List Entry
+entries_of [] slots = []
+entries_of (moment ∷ moments) [] = []
+entries_of (moment ∷ moments) (slot ∷ slots) = record { moment = moment; slot = slot } ∷ entries_of moments slots
 
 abbrev pub entry_at : List Entry → ℕ → Entry
 entry_at entries place = slice_index_or entries place (record { moment = 0; slot = 0 })

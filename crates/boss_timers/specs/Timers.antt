@@ -1,6 +1,6 @@
 use Rattle.std.specs.Prelude.{◌≡◌, ℕ, ◌<◌, ◌≤◌, ◌^◌, List, length, Option, Some, None, is_some, count_by, slice_index_or}
 use Rattle.boss_timers.specs.declared.entry.Entry.{Entry}
-use Rattle.boss_timers.specs.Heap.{IsHeap, IsIndexed, times, weight_at}
+use Rattle.boss_timers.specs.Heap.{IsHeap, IsIndexed, entries_of, times, weight_at}
 
 -- the timer of this slot goes off first, and of those that go off at once it has the least slot
 pub record IsFirst (times : List (Option ℕ)) (slot moment : ℕ) : Type 0 where
@@ -15,3 +15,9 @@ pub record IsKept (entries : List Entry) (places : List (Option ℕ)) (most : �
   pub counted : count_by is_some (times entries places) ≡ length entries
   pub room : length places ≤ most
   pub few : length places < 2 ^ 32
+
+-- and with their moments and slots in two lists, each with room for one of each slot
+pub record IsLaid (moments slots : List ℕ) (places : List (Option ℕ)) (most more : ℕ) : Type 0 where
+  pub pairs : length slots ≡ length moments
+  pub kept : IsKept (entries_of moments slots) places most
+  pub room : length places ≤ more

@@ -1,10 +1,10 @@
 ghost use Rattle.std.specs.Prelude.{◌≡◌, ◌≢◌, ℕ, ◌+◌, ◌*◌, ◌-◌, ◌<◌, ◌≤◌, ◌^◌, IfNone, IfOk, IfSome, None, Some, length, replicate, slice_index_or, slice_set, take, vec_capacity};
-ghost use Rattle.boss_timers.specs.Heap.{IsIndexed, entry_at, place_of, times};
-ghost use Rattle.boss_timers.specs.Timers.{IsFirst, IsKept};
+ghost use Rattle.boss_timers.specs.Heap.{IsIndexed, entries_of, entry_at, place_of, times};
+ghost use Rattle.boss_timers.specs.Timers.{IsFirst, IsLaid};
 
 use crate::Steps;
 use crate::entry::Entry;
-use crate::heap::{exchange, mend, rise};
+use crate::heap::{entry_at, mend, put, rise};
 use boss_model::NoMemory;
 use std::alloc::Global;
 use std::marker::Model;
@@ -14,22 +14,25 @@ use std::sync::ledger::Ledger;
 /// place for each slot. Of the calls only `new` takes memory.
 #[derive(Drop)]
 pub struct Timers {
-    /// The timers that are set: a heap, the first of them at its top.
-    entries: Vec<Entry>,
+    /// When the timers that are set go off: a heap, the first of them at its top. They stand apart from the slots, so that a
+    /// way through the heap reads moments that lie together.
+    moments: Vec<u64>,
+    /// The slot of each of them.
+    slots: Vec<u32>,
     /// Where the heap has the timer of each slot.
     places: Vec<Option<u32>>,
 }
 
 impl Model for Timers {
     ghost use Rattle.std.specs.Prelude.{List, Option, ℕ, vec_capacity};
-    ghost use Rattle.boss_timers.specs.Heap.{times};
-    ghost use Rattle.boss_timers.specs.Timers.{IsKept};
+    ghost use Rattle.boss_timers.specs.Heap.{entries_of, times};
+    ghost use Rattle.boss_timers.specs.Timers.{IsLaid};
 
     ghost Value = { List (Option ℕ) };
 
-    ghost view = { λ t. times t.entries.items t.places.items };
+    ghost view = { λ t. times (entries_of t.moments.items t.slots.items) t.places.items };
 
-    ghost invariant = { λ t. IsKept t.entries.items t.places.items (vec_capacity t.entries) };
+    ghost invariant = { λ t. IsLaid t.moments.items t.slots.items t.places.items (vec_capacity t.moments) (vec_capacity t.slots) };
 }
 
 impl Timers {
@@ -38,7 +41,8 @@ impl Timers {
         ensures { IfOk result (λ timers. timers ≡ replicate capacity None) }
     {
         Ok(Timers {
-            entries: Vec::with_capacity(alloc, capacity as usize)?,
+            moments: Vec::with_capacity(alloc, capacity as usize)?,
+            slots: Vec::with_capacity(alloc, capacity as usize)?,
             places: vec![in alloc; None; capacity as usize]?,
         })
     }
@@ -52,13 +56,20 @@ impl Timers {
         let entry = Entry { moment, slot };
         match self.places[slot as usize] {
             Some(place) => change(
-                &mut self.entries,
+                &mut self.moments,
+                &mut self.slots,
                 &mut self.places,
                 place as usize,
                 entry,
                 steps,
             ),
-            None => insert(&mut self.entries, &mut self.places, entry, steps),
+            None => insert(
+                &mut self.moments,
+                &mut self.slots,
+                &mut self.places,
+                entry,
+                steps,
+            ),
         }
     }
 
@@ -69,7 +80,13 @@ impl Timers {
         ensures cost { (d : ℕ) → length self.old < 2 ^ d → steps.new ≤ steps.old + 2 * d }
     {
         if let Some(place) = self.places[slot as usize] {
-            take_out(&mut self.entries, &mut self.places, place as usize, steps);
+            take_out(
+                &mut self.moments,
+                &mut self.slots,
+                &mut self.places,
+                place as usize,
+                steps,
+            );
         }
     }
 
@@ -86,94 +103,113 @@ impl Timers {
         ensures some { IfSome result (λ found. IsFirst self.now found.0 found.1) }
         ensures none { IfNone result ((slot : ℕ) → slice_index_or self.now slot None ≡ None) }
     {
-        let entry = self.entries.first()?;
-        Some((entry.slot, entry.moment))
+        let moment = *self.moments.first()?;
+        Some((self.slots[0], moment))
     }
 }
 
 /// A timer at this place of the heap gets another moment.
 fn change<L: Ledger>(
-    entries: &mut Vec<Entry>,
+    moments: &mut Vec<u64>,
+    slots: &mut Vec<u32>,
     places: &mut Vec<Option<u32>>,
     place: usize,
     entry: Entry,
     steps: &mut Steps<L>,
 )
-    requires kept { IsKept entries.old.items places.old.items (vec_capacity entries.old) }
+    requires laid { IsLaid moments.old.items slots.old.items places.old.items (vec_capacity moments.old) (vec_capacity slots.old) }
     requires leads { place_of places.old.items entry.slot ≡ Some place }
-    ensures kept { IsKept entries.new.items places.new.items (vec_capacity entries.new) }
-    ensures set { times entries.new.items places.new.items ≡ slice_set (times entries.old.items places.old.items) entry.slot (Some entry.moment) }
+    ensures laid { IsLaid moments.new.items slots.new.items places.new.items (vec_capacity moments.new) (vec_capacity slots.new) }
+    ensures set { times (entries_of moments.new.items slots.new.items) places.new.items
+        ≡ slice_set (times (entries_of moments.old.items slots.old.items) places.old.items) entry.slot (Some entry.moment) }
     ensures cost { (d : ℕ) → length places.old.items < 2 ^ d → steps.new ≤ steps.old + 2 * d }
 {
-    entries[place] = entry;
-    mend(entries, places, place, steps);
+    moments[place] = entry.moment;
+    mend(moments, slots, places, place, steps);
 }
 
 /// A timer of a slot that had none.
 fn insert<L: Ledger>(
-    entries: &mut Vec<Entry>,
+    moments: &mut Vec<u64>,
+    slots: &mut Vec<u32>,
     places: &mut Vec<Option<u32>>,
     entry: Entry,
     steps: &mut Steps<L>,
 )
-    requires kept { IsKept entries.old.items places.old.items (vec_capacity entries.old) }
+    requires laid { IsLaid moments.old.items slots.old.items places.old.items (vec_capacity moments.old) (vec_capacity slots.old) }
     requires within { entry.slot < length places.old.items }
     requires none { place_of places.old.items entry.slot ≡ None }
-    ensures kept { IsKept entries.new.items places.new.items (vec_capacity entries.new) }
-    ensures set { times entries.new.items places.new.items ≡ slice_set (times entries.old.items places.old.items) entry.slot (Some entry.moment) }
+    ensures laid { IsLaid moments.new.items slots.new.items places.new.items (vec_capacity moments.new) (vec_capacity slots.new) }
+    ensures set { times (entries_of moments.new.items slots.new.items) places.new.items
+        ≡ slice_set (times (entries_of moments.old.items slots.old.items) places.old.items) entry.slot (Some entry.moment) }
     ensures cost { (d : ℕ) → length places.old.items < 2 ^ d → steps.new ≤ steps.old + 2 * d }
 {
-    let place = entries.len();
-    entries.push_reserved(entry);
+    let place = moments.len();
+    moments.push_reserved(entry.moment);
+    slots.push_reserved(entry.slot);
     places[entry.slot as usize] = Some(place as u32);
-    rise(entries, places, place, steps);
+    rise(moments, slots, places, place, steps);
 }
 
 /// The timer at this place of the heap goes.
 fn take_out<L: Ledger>(
-    entries: &mut Vec<Entry>,
+    moments: &mut Vec<u64>,
+    slots: &mut Vec<u32>,
     places: &mut Vec<Option<u32>>,
     place: usize,
     steps: &mut Steps<L>,
 )
-    requires kept { IsKept entries.old.items places.old.items (vec_capacity entries.old) }
-    requires within { place < length entries.old.items }
-    ensures kept { IsKept entries.new.items places.new.items (vec_capacity entries.new) }
-    ensures removed { times entries.new.items places.new.items ≡ slice_set (times entries.old.items places.old.items) (entry_at entries.old.items place).slot None }
+    requires laid { IsLaid moments.old.items slots.old.items places.old.items (vec_capacity moments.old) (vec_capacity slots.old) }
+    requires within { place < length moments.old.items }
+    ensures laid { IsLaid moments.new.items slots.new.items places.new.items (vec_capacity moments.new) (vec_capacity slots.new) }
+    ensures removed { times (entries_of moments.new.items slots.new.items) places.new.items
+        ≡ slice_set (times (entries_of moments.old.items slots.old.items) places.old.items) (entry_at (entries_of moments.old.items slots.old.items) place).slot None }
     ensures cost { (d : ℕ) → length places.old.items < 2 ^ d → steps.new ≤ steps.old + 2 * d }
 {
-    drop_at(entries, places, place);
-    if place < entries.len() {
-        mend(entries, places, place, steps);
+    drop_at(moments, slots, places, place);
+    if place < moments.len() {
+        mend(moments, slots, places, place, steps);
     }
 }
 
 /// The timer at this place of the heap goes, and the last one takes its place.
-fn drop_at(entries: &mut Vec<Entry>, places: &mut Vec<Option<u32>>, place: usize)
-    requires indexed { IsIndexed entries.old.items places.old.items }
-    requires within { place < length entries.old.items }
-    ensures fewer { length entries.new.items + 1 ≡ length entries.old.items }
-    ensures others { (other : ℕ) → other < length entries.new.items → other ≢ place → entry_at entries.new.items other ≡ entry_at entries.old.items other }
-    ensures indexed { IsIndexed entries.new.items places.new.items }
-    ensures removed { times entries.new.items places.new.items ≡ slice_set (times entries.old.items places.old.items) (entry_at entries.old.items place).slot None }
-    ensures room { vec_capacity entries.new ≡ vec_capacity entries.old }
+fn drop_at(
+    moments: &mut Vec<u64>,
+    slots: &mut Vec<u32>,
+    places: &mut Vec<Option<u32>>,
+    place: usize,
+)
+    requires pairs { length slots.old.items ≡ length moments.old.items }
+    requires indexed { IsIndexed (entries_of moments.old.items slots.old.items) places.old.items }
+    requires within { place < length moments.old.items }
+    ensures fewer { length moments.new.items + 1 ≡ length moments.old.items }
+    ensures pairs { length slots.new.items ≡ length moments.new.items }
+    ensures others { (other : ℕ) → other < length moments.new.items → other ≢ place →
+        entry_at (entries_of moments.new.items slots.new.items) other ≡ entry_at (entries_of moments.old.items slots.old.items) other }
+    ensures indexed { IsIndexed (entries_of moments.new.items slots.new.items) places.new.items }
+    ensures removed { times (entries_of moments.new.items slots.new.items) places.new.items
+        ≡ slice_set (times (entries_of moments.old.items slots.old.items) places.old.items) (entry_at (entries_of moments.old.items slots.old.items) place).slot None }
+    ensures room { (vec_capacity moments.new ≡ vec_capacity moments.old) × (vec_capacity slots.new ≡ vec_capacity slots.old) }
 {
-    let last = entries.len() - 1;
-    if place < last {
-        exchange(entries, places, place, last);
+    let gone = entry_at(moments, slots, place);
+    let last = pop_last(moments, slots);
+    places[gone.slot as usize] = None;
+    if place < moments.len() {
+        put(moments, slots, places, place, last);
     }
-    drop_last(entries, places);
 }
 
-/// The last timer of the heap goes.
-fn drop_last(entries: &mut Vec<Entry>, places: &mut Vec<Option<u32>>)
-    requires indexed { IsIndexed entries.old.items places.old.items }
-    requires some { 0 < length entries.old.items }
-    ensures entries { entries.new.items ≡ take (length entries.old.items - 1) entries.old.items }
-    ensures indexed { IsIndexed entries.new.items places.new.items }
-    ensures removed { times entries.new.items places.new.items ≡ slice_set (times entries.old.items places.old.items) (entry_at entries.old.items (length entries.old.items - 1)).slot None }
-    ensures room { vec_capacity entries.new ≡ vec_capacity entries.old }
+/// The last timer of the heap, which its slot still leads to.
+fn pop_last(moments: &mut Vec<u64>, slots: &mut Vec<u32>) -> Entry
+    requires pairs { length slots.old.items ≡ length moments.old.items }
+    requires some { 0 < length moments.old.items }
+    ensures last { result ≡ entry_at (entries_of moments.old.items slots.old.items) (length moments.old.items - 1) }
+    ensures fewer { length moments.new.items + 1 ≡ length moments.old.items }
+    ensures pairs { length slots.new.items ≡ length moments.new.items }
+    ensures entries { entries_of moments.new.items slots.new.items ≡ take (length moments.old.items - 1) (entries_of moments.old.items slots.old.items) }
+    ensures room { (vec_capacity moments.new ≡ vec_capacity moments.old) × (vec_capacity slots.new ≡ vec_capacity slots.old) }
 {
-    let entry = entries.pop().unwrap();
-    places[entry.slot as usize] = None;
+    let moment = moments.pop().unwrap();
+    let slot = slots.pop().unwrap();
+    Entry { moment, slot }
 }
