@@ -1,4 +1,4 @@
-use Rattle.std.specs.Prelude.{ℕ, ◌<◌, ◌-◌, ◌==◌, nat_lt, Bool, false, not, ◌&&◌, if◌then◌else◌, List, [], ◌∷◌, ◌++◌, length, map, filter, find, take, Option, Some, None, is_none, option_and_then, pos, ◌≤ℤ◌, unsigned_abs}
+use Rattle.std.specs.Prelude.{ℕ, ◌-◌, ◌==◌, nat_lt, Bool, false, not, ◌&&◌, if◌then◌else◌, List, [], ◌∷◌, ◌++◌, length, map, filter, find, take, Option, Some, None, is_none, option_and_then, pos, ◌≤ℤ◌, unsigned_abs}
 use Rattle.std.specs.List.{list_any}
 use Rattle.std.specs.Option.{option_map_or}
 use Rattle.circular_buffer.specs.Buffer.{keep_last}
@@ -103,15 +103,6 @@ is_reverting txn point stages = option_map_or (λ kept. list_any (λ other. othe
 -- the transaction of this number changes so
 abbrev pub changed : ℕ → (Tracked → Tracked) → List Tracked → List Tracked
 changed txn change all = map (λ kept. if number kept == txn then change kept else kept) all
-
--- the transactions are in order of number
-abbrev pub AllAbove : ℕ → List Tracked → Type 0
-AllAbove txn [] = Unit {0}
-AllAbove txn (kept ∷ all) = (txn < number kept) × AllAbove txn all
-
-abbrev pub Rising : List Tracked → Type 0
-Rising [] = Unit {0}
-Rising (kept ∷ all) = AllAbove (number kept) all × Rising all
 
 -- of all that became done, those before the last 1,024
 abbrev pub dropped : List ℕ → List ℕ

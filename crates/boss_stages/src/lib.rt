@@ -1,6 +1,8 @@
 //! What is kept of transactions: their parts, how the leases of these ended, and how far each transaction has come.
 #![tactic(auto)]
 
+mod entry;
+mod list;
 mod part;
 mod stages;
 mod transaction;

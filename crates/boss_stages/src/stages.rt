@@ -1,12 +1,11 @@
 ghost use Rattle.std.specs.Prelude.{◌≡◌, ◌+◌, ◌<◌, ◌≤◌, ◌==◌, ◌∷◌, [], ◌++◌, true, length, map, option_copied, option_and_then, slice_get, Some, All, IfOk, IfSome, IsTrue, OnOk, OnErr};
-ghost use Rattle.std.specs.List.{position_from, remove};
 ghost use Rattle.std.specs.Option.{option_map};
-ghost use Rattle.std.specs.VecDeque.{deque_capacity};
 ghost use Rattle.boss_model.specs.Limits.{done_kept};
 ghost use Rattle.boss_model.specs.Seen.{seen_txn};
 ghost use Rattle.boss_stages.specs.declared.part.PartEnd.TheVariants.{Live};
 ghost use Rattle.boss_stages.specs.Stages.{number, stage_of, slot_of, begun, kept_as, end_on, is_reverting, is_over, without, finished, finished_if_over, after_lease, after_reversion};
 
+use crate::list::TransactionList;
 use crate::part::PartEnd;
 use crate::transaction::Transaction;
 use boss_model::{
@@ -14,30 +13,26 @@ use boss_model::{
 };
 use circular_buffer::HeapCircularBuffer;
 use std::alloc::Global;
-use std::collections::VecDeque;
 use std::marker::Model;
 
 /// What is kept of transactions: of all that are not done, and of the last 1,024 that became done. A transaction goes
 /// from stage to stage as in BOSS (Dawson-Haggerty et al., NSDI 2013): it runs, it reverts, and it is done.
 #[derive(Drop)]
 pub struct Stages {
-    transactions: VecDeque<Transaction>,
+    transactions: TransactionList,
     done: HeapCircularBuffer<Txn>,
-    /// Where the transaction stood that changed last: it is mostly asked for once more.
-    recent: usize,
 }
 
 impl Model for Stages {
     ghost use Rattle.std.specs.Prelude.{◌≡◌, ◌≤◌, length};
-    ghost use Rattle.std.specs.VecDeque.{deque_capacity};
     ghost use Rattle.boss_model.specs.Limits.{done_kept};
-    ghost use Rattle.boss_stages.specs.Stages.{Stages as Records, Rising};
+    ghost use Rattle.boss_stages.specs.Stages.{Stages as Records};
 
     ghost Value = { Records };
 
-    ghost view = { λ s. record { kept = s.transactions.items; done = s.done.items; room = deque_capacity s.transactions } };
+    ghost view = { λ s. record { kept = s.transactions.kept; done = s.done.items; room = s.transactions.room } };
 
-    ghost invariant = { λ s. (s.done.capacity ≡ done_kept) × (length s.done.items ≤ done_kept) × Rising s.transactions.items };
+    ghost invariant = { λ s. (s.done.capacity ≡ done_kept) × (length s.done.items ≤ done_kept) };
 }
 
 impl Stages {
@@ -47,9 +42,8 @@ impl Stages {
         ensures room { IfOk result (λ stages. capacity + done_kept ≤ stages.room) }
     {
         Ok(Stages {
-            transactions: VecDeque::with_capacity(alloc, capacity as usize + DONE_KEPT)?,
+            transactions: TransactionList::new(alloc, capacity)?,
             done: HeapCircularBuffer::with_capacity(alloc, DONE_KEPT)?,
-            recent: 0,
         })
     }
 
@@ -79,7 +73,7 @@ impl Stages {
     pub fn room(&self) -> usize
         ensures { result ≡ self.now.room }
     {
-        self.transactions.capacity()
+        self.transactions.room()
     }
 
     /// Makes room for one transaction more.
@@ -88,8 +82,7 @@ impl Stages {
         ensures same { (self.new.kept ≡ self.old.kept) × (self.new.done ≡ self.old.done) }
         ensures room { self.old.room ≤ self.new.room }
     {
-        self.transactions.reserve(1)?;
-        Ok(())
+        self.transactions.reserve()
     }
 
     /// A transaction more, whose number is above that of each one that is kept. It takes no memory, since there is room.
@@ -98,35 +91,41 @@ impl Stages {
         requires room { length self.old.kept < self.old.room }
         ensures { self.new ≡ record self.old { kept = self.old.kept ++ transaction ∷ [] } }
     {
-        self.transactions.push_back_reserved(transaction);
+        self.transactions.add(transaction);
     }
 
     /// The live lease of the transaction's part on the point ended for this cause at this moment, in milliseconds, and its
-    /// reversion began if it has one. Where nothing of the transaction is left, it is done. It takes no memory.
-    pub fn lease_ended(&mut self, txn: Txn, point: PointId, cause: Cause, at: u64, reverts: bool)
+    /// reversion began if it has one. Where nothing of the transaction is left, it is done. The answer is whether it is kept and
+    /// nothing of it is left. It takes no memory.
+    pub fn lease_ended(
+        &mut self,
+        txn: Txn,
+        point: PointId,
+        cause: Cause,
+        at: u64,
+        reverts: bool,
+    ) -> bool
         requires { end_on txn point self.old ≡ Live }
-        ensures { self.new ≡ after_lease txn point cause at reverts self.old }
+        ensures records { self.new ≡ after_lease txn point cause at reverts self.old }
+        ensures done { result ≡ is_over (kept_as txn self.new.kept) }
     {
-        let Some(place) = self.place_of(txn) else {
-            return;
-        };
-        self.recent = place;
-        self.transactions[place].end_lease(point, cause, at, reverts);
-        self.finish_if_over(txn, place);
+        if !self.transactions.end_lease(txn, point, cause, at, reverts) {
+            return false;
+        }
+        self.finish(txn)
     }
 
     /// The pending reversion of the transaction's part on the point ended. Where nothing of the transaction is left, it
-    /// is done. It takes no memory.
-    pub fn reversion_ended(&mut self, txn: Txn, point: PointId)
+    /// is done. The answer is whether it is kept and nothing of it is left. It takes no memory.
+    pub fn reversion_ended(&mut self, txn: Txn, point: PointId) -> bool
         requires { is_reverting txn point self.old ≡ true }
-        ensures { self.new ≡ after_reversion txn point self.old }
+        ensures records { self.new ≡ after_reversion txn point self.old }
+        ensures done { result ≡ is_over (kept_as txn self.new.kept) }
     {
-        let Some(place) = self.place_of(txn) else {
-            return;
-        };
-        self.recent = place;
-        self.transactions[place].end_reversion(point);
-        self.finish_if_over(txn, place);
+        if !self.transactions.end_reversion(txn, point) {
+            return false;
+        }
+        self.finish(txn)
     }
 
     /// How far the transaction has come; none where it is not kept.
@@ -173,87 +172,22 @@ impl Stages {
     pub fn find(&self, txn: Txn) -> Option<&Transaction>
         ensures { option_copied result ≡ kept_as txn self.now.kept }
     {
-        match self.place_of(txn) {
-            Some(place) => Some(&self.transactions[place]),
-            None => None,
-        }
+        self.transactions.find(txn)
     }
 
-    /// The place of the transaction of this number: that of the one that changed last, or the one that the number makes likely,
-    /// or else one that a binary search finds.
-    fn place_of(&self, txn: Txn) -> Option<usize>
-        ensures place { result ≡ position_from (λ kept. number kept == txn) 0 self.now.kept }
-        ensures within { IfSome result (λ place. place < length self.now.kept) }
+    /// One more transaction is done, of which nothing is left. The one that became done 1,024 before it is forgotten. The answer is
+    /// whether it is still kept: whether it was not that one.
+    fn finish(&mut self, txn: Txn) -> bool
+        requires { is_over (kept_as txn self.old.kept) ≡ true }
+        ensures records { self.new ≡ finished txn self.old }
+        ensures done { result ≡ is_over (kept_as txn self.new.kept) }
     {
-        if self.stands_at(self.recent, txn) {
-            return Some(self.recent);
-        }
-        let likely = self.likely_place(txn);
-        if self.stands_at(likely, txn) {
-            return Some(likely);
-        }
-        self.searched_place(txn)
-    }
-
-    /// Whether the transaction of this number stands at the place.
-    fn stands_at(&self, place: usize, txn: Txn) -> bool
-        ensures { IsTrue result → (place < length self.now.kept) × (position_from (λ kept. number kept == txn) 0 self.now.kept ≡ Some place) }
-    {
-        match self.transactions.get(place) {
-            Some(transaction) => transaction.number() == txn.0,
-            None => false,
-        }
-    }
-
-    /// Where the transaction of this number stands if all behind it are kept: as far from the end as its number is from the last.
-    fn likely_place(&self, txn: Txn) -> usize {
-        match self.transactions.back() {
-            Some(last) => {
-                let behind = last.number().saturating_sub(txn.0);
-                self.transactions
-                    .len()
-                    .saturating_sub(behind as usize)
-                    .saturating_sub(1)
+        match self.done.push_back(txn) {
+            Some(oldest) => {
+                self.transactions.forget(oldest);
+                oldest != txn
             }
-            None => 0,
-        }
-    }
-
-    /// The place of the transaction of this number, which a binary search finds.
-    fn searched_place(&self, txn: Txn) -> Option<usize>
-        ensures place { result ≡ position_from (λ kept. number kept == txn) 0 self.now.kept }
-        ensures within { IfSome result (λ place. place < length self.now.kept) }
-    {
-        self.transactions
-            .binary_search_by_key(&txn.0, |transaction| transaction.number())
-            .ok()
-    }
-
-    /// If nothing of the transaction is left, it is done. It stands at this place.
-    fn finish_if_over(&mut self, txn: Txn, place: usize)
-        requires { position_from (λ kept. number kept == txn) 0 self.old.kept ≡ Some place }
-        ensures { self.new ≡ finished_if_over txn self.old }
-    {
-        if self.transactions[place].is_over() {
-            self.finish(txn);
-        }
-    }
-
-    /// One more transaction is done. The one that became done 1,024 before it is gone.
-    fn finish(&mut self, txn: Txn)
-        ensures { self.new ≡ finished txn self.old }
-    {
-        if let Some(oldest) = self.done.push_back(txn) {
-            self.forget(oldest);
-        }
-    }
-
-    /// The transaction of this number is no longer kept.
-    fn forget(&mut self, txn: Txn)
-        ensures { self.new ≡ record self.old { kept = without (txn ∷ []) self.old.kept } }
-    {
-        if let Some(place) = self.place_of(txn) {
-            drop_at(&mut self.transactions, place);
+            None => true,
         }
     }
 }
@@ -264,20 +198,9 @@ impl Stages {
         ensures txns { IfOk result (λ kept. map seen_txn kept.0 ≡ map (λ one. one.transaction) self.now.kept) }
         ensures done { IfOk result (λ kept. kept.1 ≡ self.now.done) }
     {
-        let txns = self.keep_transactions(alloc)?;
+        let txns = self.transactions.keep(alloc)?;
         let done = self.done.to_vec(alloc)?;
         Ok((txns, Items::from_vec(done)))
-    }
-
-    /// What outlasts a stop of the transactions, in order of number.
-    fn keep_transactions(&self, alloc: Global) -> Result<Items<KeptTxn>, NoMemory>
-        ensures { IfOk result (λ kept. map seen_txn kept ≡ map (λ one. one.transaction) self.now.kept) }
-    {
-        let mut kept = Vec::with_capacity(alloc, self.transactions.len())?;
-        for place in 0..self.transactions.len() {
-            kept.push_reserved(self.transactions[place].keep(alloc)?);
-        }
-        Ok(Items::from_vec(kept))
     }
 
     /// These of the transactions are done, in the order of becoming done; at most 1,024, where none was done before. The
@@ -289,13 +212,4 @@ impl Stages {
     {
         self.done.extend_from_slice(done);
     }
-}
-
-/// The transaction at this place is dropped.
-fn drop_at(transactions: &mut VecDeque<Transaction>, place: usize)
-    requires { place < length transactions.old.items }
-    ensures items { transactions.new.items ≡ remove transactions.old.items place }
-    ensures room { deque_capacity transactions.new ≡ deque_capacity transactions.old }
-{
-    let _ = transactions.remove(place);
 }
