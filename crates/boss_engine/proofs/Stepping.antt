@@ -33,9 +33,9 @@ use Rattle.boss_holdings.specs.Held.{is_touched}
 use Rattle.boss_lasting.specs.Lasting.{persistent_of}
 use Rattle.boss_engine.specs.declared.done.Deed.{Deed}
 use Rattle.boss_engine.specs.declared.machine.Machine.{Machine}
-use Rattle.boss_engine.specs.Deeds.{IsBegun, IsDone}
+use Rattle.boss_engine.specs.Deeds.{is_answered_apart, IsBegun, IsDone}
 use Rattle.boss_engine.specs.Inside.{HasPlaces, state_of}
-use Rattle.boss_engine.specs.Replies.{IsTellable, told}
+use Rattle.boss_engine.specs.Replies.{IsTellable, is_told_apart, told}
 use Rattle.boss_engine.proofs.Waiting.{length-settled}
 
 -- a step begins in the state that the points are open in
@@ -104,34 +104,30 @@ module _ (plant : List Actuator) (session : ℕ) (c : Command) (m n : ℕ) (s : 
       ap (λ (t : State). (proxy_of t.proxies k).commanded) is ∙ commanded-acted p plant session n c k ∙ all-current plant p passed-well k within
       ∙ sym (same-targets k) ∙ ap (λ (t : State). target_at plant t.persistent.now p.persistent k) (sym is) ∙ sym (shows (default_of plant k) a.persistent.now)
 
-  told-of : (changed : Bool) (before end : ℕ) → changed ≡ changes plant session n c p → before ≡ s.persistent.now → end ≡ p.persistent.now →
-      cond changed (effect.Whole n (concerned c session p)) (cond (not (end == before)) (effect.Tick end) effect.Unchanged) ≡ step_effect plant session c m s
-  told-of changed before end is-changed is-before is-end =
+  -- what two flags tell is the effect, with the process that the command concerns where it changes something
+  pub told-by : (changed : Bool) (owner before end : ℕ) → changed ≡ changes plant session n c p → (changed ≡ true → owner ≡ concerned c session p) → before ≡ s.persistent.now → end ≡ p.persistent.now →
+      cond changed (effect.Whole n owner) (cond (not (end == before)) (effect.Tick end) effect.Unchanged) ≡ step_effect plant session c m s
+  told-by changed owner before end is-changed is-owner is-before is-end =
       let k = max s.persistent.now m in
       let flag : changed ≡ changes plant session k c (pass_time plant k s) =
       is-changed ∙ ap (changes plant session n c) passed ∙ ap (λ x. changes plant session x c (pass_time plant x s)) at in
       let whose : concerned c session p ≡ concerned c session (record s { persistent = tick_to k s.persistent }) =
       ap (concerned c session) passed ∙ ap (λ x. concerned c session (pass_time plant x s)) at ∙ concerned-passed plant session k s c in
       let reached : end ≡ (tick_to k s.persistent).now = is-end ∙ ap (λ t. t.persistent.now) passed ∙ ap (λ x. (tick_to x s.persistent).now) at in
-      (λ i. cond (flag i) (effect.Whole (at i) (whose i)) (cond (not (reached i == is-before i)) (effect.Tick (reached i)) effect.Unchanged))
-      ∙ sym (step-flags plant s session c m sound allowed small)
-
-  -- what two flags tell is the effect, with the process that the command concerns where it changes something
-  pub told-by : (changed : Bool) (owner before end : ℕ) → changed ≡ changes plant session n c p → (changed ≡ true → owner ≡ concerned c session p) → before ≡ s.persistent.now → end ≡ p.persistent.now →
-      cond changed (effect.Whole n owner) (cond (not (end == before)) (effect.Tick end) effect.Unchanged) ≡ step_effect plant session c m s
-  told-by changed owner before end is-changed is-owner is-before is-end =
       one-owner n _ changed owner (concerned c session p) is-owner
-      ∙ told-of changed before end is-changed is-before is-end
+      ∙ (λ i. cond (flag i) (effect.Whole (at i) (whose i)) (cond (not (reached i == is-before i)) (effect.Tick (reached i)) effect.Unchanged))
+      ∙ sym (step-flags plant s session c m sound allowed small)
 
   -- a command that acted once time had passed was carried out
   pub carried-out : (m : Machine) (deed : Deed) → told (persistent_of m.lasting) deed.done.reply ≡ (act plant session n c p).answer → IsTellable plant (persistent_of m.lasting) deed.done.reply →
-      deed.done.changed ≡ changes plant session n c p → (deed.done.changed ≡ true → deed.done.owner ≡ concerned c session p) → deed.passed ≡ p.persistent.now → state_of m ≡ (act plant session n c p).state → HasPlaces plant m →
+      (is_answered_apart c ≡ false → is_told_apart deed.done.reply ≡ false) → deed.done.changed ≡ changes plant session n c p → (deed.done.changed ≡ true → deed.done.owner ≡ concerned c session p) → deed.passed ≡ p.persistent.now → state_of m ≡ (act plant session n c p).state → HasPlaces plant m →
       ((k : ℕ) → is_touched m.lasting.holdings k ≡ false → (default : ℤ) (moment : ℕ) →
       value_of default moment (in_force (persistent_of m.lasting).leases k) (playing (persistent_of m.lasting).pending k) ≡ value_of default moment (in_force p.persistent.leases k) (playing p.persistent.pending k)) →
       IsDone plant session c n s m deed
-  carried-out m deed is-answer tellable is-changed is-owner is-passed is-state places shows = record {
+  carried-out m deed is-answer tellable apart is-changed is-owner is-passed is-state places shows = record {
     answer = is-answer ∙ ap (λ t. (act plant session n c t).answer) passed;
     tellable = tellable;
+    apart = apart;
     changed = is-changed ∙ ap (changes plant session n c) passed;
     owner = λ yes. is-owner yes ∙ ap (concerned c session) passed;
     passed = is-passed ∙ ap (λ (t : State). t.persistent.now) passed;

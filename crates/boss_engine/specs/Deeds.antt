@@ -16,7 +16,7 @@ use Rattle.boss_engine.specs.declared.done.Deed.{Deed}
 use Rattle.boss_engine.specs.declared.machine.Machine.{Machine}
 use Rattle.boss_engine.specs.declared.reply.Reply.{Reply}
 use Rattle.boss_engine.specs.Inside.{HasPlaces, state_of}
-use Rattle.boss_engine.specs.Replies.{IsTellable, told}
+use Rattle.boss_engine.specs.Replies.{IsTellable, is_told_apart, told}
 use Rattle.boss_engine.specs.Settling.{AreCurrent}
 
 -- the commands that may need memory
@@ -32,10 +32,20 @@ is_a_drivers (command.Next driver) = true
 is_a_drivers (command.Report point version ok) = true
 is_a_drivers other = false
 
+-- those of drivers, and those whose answer is looked up
+abbrev pub is_answered_apart : Command → Bool
+is_answered_apart (command.Next driver) = true
+is_answered_apart (command.Report point version ok) = true
+is_answered_apart (command.Array point) = true
+is_answered_apart (command.Status txn) = true
+is_answered_apart (command.Notices name from most) = true
+is_answered_apart other = false
+
 -- time passed from a state up to moment n, and a command acted
 pub record IsDone (plant : List Actuator) (session : ℕ) (command : Command) (n : ℕ) (s : State) (m : Machine) (deed : Deed) : Type 0 where
   pub answer : told (persistent_of m.lasting) deed.done.reply ≡ (act plant session n command (pass_time plant n s)).answer
   pub tellable : IsTellable plant (persistent_of m.lasting) deed.done.reply
+  pub apart : is_answered_apart command ≡ false → is_told_apart deed.done.reply ≡ false
   pub changed : deed.done.changed ≡ changes plant session n command (pass_time plant n s)
   pub owner : deed.done.changed ≡ true → deed.done.owner ≡ concerned command session (pass_time plant n s)
   pub passed : deed.passed ≡ (pass_time plant n s).persistent.now
@@ -55,6 +65,7 @@ pub record IsBegun (plant : List Actuator) (command : Command) (moment before n 
 pub record IsStep (plant : List Actuator) (session : ℕ) (command : Command) (moment : ℕ) (from to : State) (reply : Reply) (did : Effect) : Type 0 where
   pub answer : told to.persistent reply ≡ (step plant session command moment from).answer
   pub tellable : IsTellable plant to.persistent reply
+  pub apart : is_answered_apart command ≡ false → is_told_apart reply ≡ false
   pub effect : did ≡ step_effect plant session command moment from
   pub state : to ≡ (step plant session command moment from).state
 

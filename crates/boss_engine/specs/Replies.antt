@@ -1,4 +1,4 @@
-use Rattle.std.specs.Prelude.{◌≤◌, ◌<◌, List, length, vec_capacity}
+use Rattle.std.specs.Prelude.{◌≤◌, ◌<◌, Bool, true, false, List, length, vec_capacity}
 use Rattle.std.specs.Option.{IfSome}
 use Rattle.boss_model.specs.declared.answer.Answer.{Answer}
 use Rattle.boss_model.specs.declared.answer.Answer.TheVariants as answer
@@ -23,6 +23,16 @@ told d (reply.Array point) = array point d
 told d (reply.Status txn) = status txn d
 told d (reply.Notices process from most list) = notices process from most d
 told d (reply.Refused why) = answer.Refused why
+
+-- a driver's replies, and those whose answer is looked up
+abbrev pub is_told_apart : Reply → Bool
+is_told_apart (reply.Want want) = true
+is_told_apart reply.Nothing = true
+is_told_apart (reply.Noted current) = true
+is_told_apart (reply.Array point) = true
+is_told_apart (reply.Status txn) = true
+is_told_apart (reply.Notices process from most list) = true
+is_told_apart other = false
 
 -- what it tells of is there, and there is room for a list
 abbrev pub IsTellable : List Actuator → Persistent → Reply → Type 0

@@ -1,4 +1,4 @@
-ghost use Rattle.std.specs.Prelude.{◌≡◌, ℕ, true, ◌≤◌, ◌<◌, ◌+◌, ◌==◌, not, ◌&&◌, ◌||◌, if◌then◌else◌, List, [], ◌∷◌, length, filter, Some, None, is_none, vec_len};
+ghost use Rattle.std.specs.Prelude.{◌≡◌, ℕ, true, false, ◌≤◌, ◌<◌, ◌+◌, ◌==◌, not, ◌&&◌, ◌||◌, if◌then◌else◌, List, [], ◌∷◌, length, filter, Some, None, is_none, vec_len};
 ghost use Rattle.std.specs.List.{AllByRecursion};
 ghost use Rattle.boss_model.specs.declared.state.Actuator.{Actuator};
 ghost use Rattle.boss_model.specs.declared.answer.Answer.TheVariants as answer;
@@ -23,7 +23,7 @@ ghost use Rattle.boss_lasting.specs.Lasting.{IsSomeSubmit, IsSubmit, persistent_
 ghost use Rattle.boss_effects.specs.Changes.{changes, failure_changes, may_be_told, renewal_changes};
 ghost use Rattle.boss_books.specs.Passed.{IsPassed};
 ghost use Rattle.boss_dues.specs.Playing.{IsPlayable};
-ghost use Rattle.boss_engine.specs.Replies.{IsTellable, told};
+ghost use Rattle.boss_engine.specs.Replies.{IsTellable, is_told_apart, told};
 ghost use Rattle.boss_engine.specs.Ready.{CanTakeOn, HasRoomFor, IsReadyToAttach, IsReadyToList, IsReadyToSubmit};
 ghost use Rattle.boss_lasting.specs.Replying.{renewed_until, with_reply};
 ghost use Rattle.boss_lasting.specs.Showing.{ShowsAsBefore};
@@ -60,6 +60,7 @@ impl Machine {
         requires moment { self.old.lasting.holdings.now ≤ n }
         requires ready { IsReadyToAttach session name.now ready (state_of self.old) }
         ensures tellable { (plant : List Actuator) → IsTellable plant (persistent_of self.new.lasting) result.reply }
+        ensures apart { is_told_apart result.reply ≡ false }
         ensures answer { (plant : List Actuator) → told (persistent_of self.new.lasting) result.reply ≡ (act plant session n (command.Attach name.now) (state_of self.old)).answer }
         ensures state { (plant : List Actuator) → state_of self.new ≡ (act plant session n (command.Attach name.now) (state_of self.old)).state }
         ensures changed { (plant : List Actuator) → result.changed ≡ changes plant session n (command.Attach name.now) (state_of self.old) }
@@ -116,6 +117,7 @@ impl Machine {
         requires ready { (plant : List Actuator) × CanAct plant self.old × (session : ℕ) × (writes : List Setting) × (policy : Policy) × (1 ≤ length writes) × IsReadyToSubmit plant (process_of self.old.attached.items session) writes policy seq n ready (state_of self.old) }
         requires room { HasRoomFor ready self.old }
         ensures tellable { (plant : List Actuator) → IsTellable plant (persistent_of self.new.lasting) result.reply }
+        ensures apart { is_told_apart result.reply ≡ false }
         ensures answer { (plant : List Actuator) (session : ℕ) (writes : List Setting) (policy : Policy) → 1 ≤ length writes →
             IsReadyToSubmit plant (process_of self.old.attached.items session) writes policy seq n ready (state_of self.old) →
             told (persistent_of self.new.lasting) result.reply ≡ (act plant session n (command.Submit writes policy seq) (state_of self.old)).answer }
@@ -194,6 +196,7 @@ impl Machine {
         requires moment { (self.old.lasting.holdings.now ≤ n) × (n ≤ last_moment) }
         requires points { length points.now ≤ most_writes }
         ensures tellable { (plant : List Actuator) → IsTellable plant (persistent_of self.new.lasting) result.reply }
+        ensures apart { is_told_apart result.reply ≡ false }
         ensures answer { (plant : List Actuator) → told (persistent_of self.new.lasting) result.reply ≡ (act plant session n (command.Renew txn duration points.now seq) (state_of self.old)).answer }
         ensures state { (plant : List Actuator) → state_of self.new ≡ (act plant session n (command.Renew txn duration points.now seq) (state_of self.old)).state }
         ensures changed { (plant : List Actuator) → result.changed ≡ changes plant session n (command.Renew txn duration points.now seq) (state_of self.old) }
@@ -228,6 +231,7 @@ impl Machine {
         requires points { length points.now ≤ most_writes }
         requires passed { renew_refused owner txn duration points.now n (persistent_of self.old.lasting) ≡ None }
         ensures tellable { (plant : List Actuator) → IsTellable plant (persistent_of self.new.lasting) result.reply }
+        ensures apart { is_told_apart result.reply ≡ false }
         ensures answer { told (persistent_of self.new.lasting) result.reply ≡ answer.Renewed txn (renewed_until txn duration points.now n (persistent_of self.old.lasting)) }
         ensures changed { result.changed ≡ renewal_changes n txn duration points.now seq (persistent_of self.old.lasting) }
         ensures owner { result.owner ≡ owner }
@@ -260,6 +264,7 @@ impl Machine {
         requires passed { IsPassed n (persistent_of self.old.lasting) }
         requires moment { (self.old.lasting.holdings.now ≤ n) × (n ≤ last_moment) }
         ensures tellable { (plant : List Actuator) → IsTellable plant (persistent_of self.new.lasting) result.reply }
+        ensures apart { is_told_apart result.reply ≡ false }
         ensures answer { (plant : List Actuator) → told (persistent_of self.new.lasting) result.reply ≡ (act plant session n (command.Cancel txn seq) (state_of self.old)).answer }
         ensures state { (plant : List Actuator) → state_of self.new ≡ (act plant session n (command.Cancel txn seq) (state_of self.old)).state }
         ensures changed { (plant : List Actuator) → result.changed ≡ changes plant session n (command.Cancel txn seq) (state_of self.old) }
@@ -314,6 +319,7 @@ impl Machine {
         requires passed { IsPassed n (persistent_of self.old.lasting) }
         requires moment { (self.old.lasting.holdings.now ≤ n) × (n ≤ last_moment) }
         ensures tellable { (plant : List Actuator) → IsTellable plant (persistent_of self.new.lasting) result.reply }
+        ensures apart { is_told_apart result.reply ≡ false }
         ensures answer { (plant : List Actuator) → told (persistent_of self.new.lasting) result.reply ≡ (act plant session n (command.Gone) (state_of self.old)).answer }
         ensures state { (plant : List Actuator) → state_of self.new ≡ (act plant session n (command.Gone) (state_of self.old)).state }
         ensures changed { (plant : List Actuator) → result.changed ≡ changes plant session n (command.Gone) (state_of self.old) }
@@ -472,6 +478,7 @@ impl Machine {
         requires can_run { CanRun plant.now self.now }
         requires point { point < length plant.now }
         ensures tellable { (plant : List Actuator) → IsTellable plant (persistent_of self.now.lasting) result }
+        ensures apart { is_told_apart result ≡ false }
         ensures answer { (session n : ℕ) → told (persistent_of self.now.lasting) result ≡ (act plant.now session n (command.Read point) (state_of self.now)).answer }
     {
         let holdings = &self.lasting.holdings;

@@ -16,7 +16,7 @@ ghost use Rattle.boss_model.specs.Sound.{IsAllowed, IsSound, IsSoundPersistent};
 ghost use Rattle.boss_points.specs.Seen.{seen as seen_point};
 ghost use Rattle.boss_spelled.specs.Ranges.{IsSpelled};
 ghost use Rattle.boss_engine.specs.Again.{TakesOn};
-ghost use Rattle.boss_engine.specs.Deeds.{is_a_drivers, IsStep, IsTold, takes_memory};
+ghost use Rattle.boss_engine.specs.Deeds.{is_a_drivers, is_answered_apart, IsStep, IsTold, takes_memory};
 ghost use Rattle.boss_engine.specs.Ready.{MayNeedMemory};
 ghost use Rattle.boss_engine.specs.Replies.{IsTellable, told};
 ghost use Rattle.boss_engine.specs.declared.restoring.RestoreRefusal.TheVariants as refusal;
@@ -210,6 +210,9 @@ impl Engine {
             Command::Next { .. } | Command::Report { .. } => {
                 self.serve(session, command, moment)
             }
+            Command::Array { .. } | Command::Status { .. } | Command::Notices { .. } => {
+                self.tell(session, command, moment)
+            }
             _ => self.answer(session, command, moment),
         }
     }
@@ -259,8 +262,28 @@ impl Engine {
         }
     }
 
-    /// The same of any other command. An answer has room for sixteen slots: each is made where it is handed out, so that it is
-    /// moved once.
+    /// The same of any command, whose answer is looked up out of the way of those that need no looking up.
+    #[inline(never)]
+    fn tell(
+        &mut self,
+        session: SessionId,
+        command: &Command,
+        moment: u64,
+    ) -> Result<(Answer, Effect), NoMemory>
+        requires moment { moment ≤ last_moment }
+        requires allowed { IsAllowed self.old.plant command.now }
+        ensures did { IfOk result (λ did. IsTold self.old.plant session command.now moment self.old.state self.new.state did.0 did.1) }
+        ensures sound { IsSound self.new.plant self.new.state }
+        ensures plant { self.new.plant ≡ self.old.plant }
+        ensures err { OnErr result (self.new ≡ self.old) }
+        ensures memory { OnErr result (MayNeedMemory self.old.plant session command.now self.old.state) }
+    {
+        let (reply, effect) = self.carry_out(session, command, moment)?;
+        self.look_up(reply, effect)
+    }
+
+    /// The same of a command whose answer needs no looking up. An answer has room for sixteen slots: each is made where it is handed
+    /// out, so that it is moved once.
     #[inline(never)]
     fn answer(
         &mut self,
@@ -270,6 +293,7 @@ impl Engine {
     ) -> Result<(Answer, Effect), NoMemory>
         requires moment { moment ≤ last_moment }
         requires allowed { IsAllowed self.old.plant command.now }
+        requires apart { is_answered_apart command.now ≡ false }
         ensures did { IfOk result (λ did. IsTold self.old.plant session command.now moment self.old.state self.new.state did.0 did.1) }
         ensures sound { IsSound self.new.plant self.new.state }
         ensures plant { self.new.plant ≡ self.old.plant }
@@ -289,7 +313,9 @@ impl Engine {
             Reply::Read(reading) => return read(reading, effect),
             Reply::Ticked { now } => return ticked(now, effect),
             Reply::Refused(why) => return refused(why, effect),
-            other => return self.look_up(other, effect),
+            Reply::Attached { name, next } => return attached(name, next, effect),
+            Reply::Gone { ended } => return gone(ended, effect),
+            _ => unreachable!(),
         }
     }
 
@@ -480,6 +506,14 @@ fn actuator_of(point: &Point) -> Actuator
     }
 }
 
+/// What is handed out where a session came to hold a process.
+#[inline(always)]
+fn attached(name: Name, next: u64, effect: Effect) -> Result<(Answer, Effect), NoMemory>
+    ensures { result ≡ Ok (answer.Attached name next, effect) }
+{
+    Ok((Answer::Attached { name, next }, effect))
+}
+
 /// What is handed out of a submit that was accepted.
 #[inline(always)]
 fn accepted(txn: Txn, until: u64, effect: Effect) -> Result<(Answer, Effect), NoMemory>
@@ -502,6 +536,14 @@ fn cancelled(txn: Txn, at: u64, effect: Effect) -> Result<(Answer, Effect), NoMe
     ensures { result ≡ Ok (answer.Cancelled txn at, effect) }
 {
     Ok((Answer::Cancelled { txn, at }, effect))
+}
+
+/// What is handed out where a process was lost.
+#[inline(always)]
+fn gone(ended: u64, effect: Effect) -> Result<(Answer, Effect), NoMemory>
+    ensures { result ≡ Ok (answer.Gone ended, effect) }
+{
+    Ok((Answer::Gone { ended }, effect))
 }
 
 /// What is handed out where a point was read.

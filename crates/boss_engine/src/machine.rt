@@ -9,8 +9,8 @@ ghost use Rattle.boss_model.specs.Settle.{first_state};
 ghost use Rattle.boss_model.specs.State.{State};
 ghost use Rattle.boss_effects.specs.Changes.{changes};
 ghost use Rattle.boss_engine.specs.declared.ready.Ready.{Ready};
-ghost use Rattle.boss_engine.specs.Deeds.{IsBegun, IsDone, IsStep, takes_memory};
-ghost use Rattle.boss_engine.specs.Replies.{IsTellable, told};
+ghost use Rattle.boss_engine.specs.Deeds.{is_answered_apart, IsBegun, IsDone, IsStep, takes_memory};
+ghost use Rattle.boss_engine.specs.Replies.{IsTellable, is_told_apart, told};
 ghost use Rattle.boss_engine.specs.Inside.{CanRun, HasPlaces, IsRunnable, seen_state, state_of};
 ghost use Rattle.boss_lasting.specs.Lasting.{persistent_of};
 ghost use Rattle.boss_books.specs.Passed.{IsPassed};
@@ -210,6 +210,7 @@ impl Machine {
         requires room { HasRoomFor ready self.old }
         ensures answer { told (persistent_of self.new.lasting) result.reply ≡ (act plant.now session n command.now (state_of self.old)).answer }
         ensures tellable { IsTellable plant.now (persistent_of self.new.lasting) result.reply }
+        ensures apart { is_answered_apart command.now ≡ false → is_told_apart result.reply ≡ false }
         ensures changed { result.changed ≡ changes plant.now session n command.now (state_of self.old) }
         ensures owner { result.changed ≡ true → result.owner ≡ concerned command.now session (state_of self.old) }
         ensures state { state_of self.new ≡ (act plant.now session n command.now (state_of self.old)).state }
@@ -238,6 +239,7 @@ impl Machine {
         requires takes { takes_memory command.now ≡ false }
         ensures answer { told (persistent_of self.new.lasting) result.reply ≡ (act plant.now session n command.now (state_of self.old)).answer }
         ensures tellable { IsTellable plant.now (persistent_of self.new.lasting) result.reply }
+        ensures apart { is_answered_apart command.now ≡ false → is_told_apart result.reply ≡ false }
         ensures changed { result.changed ≡ changes plant.now session n command.now (state_of self.old) }
         ensures owner { result.changed ≡ true → result.owner ≡ concerned command.now session (state_of self.old) }
         ensures state { state_of self.new ≡ (act plant.now session n command.now (state_of self.old)).state }

@@ -25,5 +25,5 @@ pub returns : goal.returns
 returns c =
     carried-out c.args.plant.now c.args.session c.args.command.now c.args.n c.args.n (state_of c.args.self.now) (omega (arith, c.requires.moment.0))
     c.requires.allowed c.requires.moment.1 c.requires.ready.sound (state_of c.pass_time.new.self) c.pass_time.ensures.state c.act.new.self _
-    c.act.ensures.answer c.act.ensures.tellable c.act.ensures.changed c.act.ensures.owner c.now-passed.ensures c.act.ensures.state c.act.ensures.places
+    c.act.ensures.answer c.act.ensures.tellable c.act.ensures.apart c.act.ensures.changed c.act.ensures.owner c.now-passed.ensures c.act.ensures.state c.act.ensures.places
     (λ k left default moment. c.act.ensures.untouched default k moment left)

@@ -26,5 +26,5 @@ pub returns-clause-deed : goal.returns-clause-deed
 returns-clause-deed c =
     carried-out c.args.plant.now c.args.session c.args.command.now c.args.n c.args.n (state_of c.args.self.now) (omega (arith, c.requires.moment.0))
     c.requires.allowed c.requires.moment.1 c.requires.ready.sound (state_of c.pass_time.new.self) (c.pass_time.ensures.state ∙ ap (pass_time c.args.plant.now c.args.n) c.in_ok-ready.ensures.state) c.act_ready.new.self _
-    c.act_ready.ensures.answer c.act_ready.ensures.tellable c.act_ready.ensures.changed c.act_ready.ensures.owner c.now-passed.ensures c.act_ready.ensures.state c.act_ready.ensures.places
+    c.act_ready.ensures.answer c.act_ready.ensures.tellable c.act_ready.ensures.apart c.act_ready.ensures.changed c.act_ready.ensures.owner c.now-passed.ensures c.act_ready.ensures.state c.act_ready.ensures.places
     (λ k left default moment. c.act_ready.ensures.untouched default k moment left)

@@ -50,6 +50,7 @@ returns-clause-did c = λ session command moment s begun done. record {
   answer = ap (λ (l : Lasting). told (persistent_of l) c.args.deed.done.reply) c.settle.ensures.others
       ∙ answered c.args.plant.now session command moment c.args.n s begun.at begun.allowed begun.small begun.sound (pass_time c.args.plant.now c.args.n s) refl _ done.answer;
   tellable = subst (λ (d : Persistent). IsTellable c.args.plant.now d c.args.deed.done.reply) (sym (ap persistent_of c.settle.ensures.others)) done.tellable;
+  apart = done.apart;
   effect = c.effect_of-effect.ensures
       ∙ told-by c.args.plant.now session command moment c.args.n s begun.at begun.allowed begun.small begun.sound (pass_time c.args.plant.now c.args.n s) refl _ _ _ _
       done.changed done.owner begun.first done.passed;
