@@ -84,6 +84,14 @@ impl Leases {
         self.slab.get(place)
     }
 
+    /// The lease of this key, which has to be there.
+    pub fn at(&self, key: u32) -> &Lease
+        requires { IsSome (slice_index_or self.now key None) }
+        ensures { slice_index_or self.now key None ≡ Some result.now }
+    {
+        &self.slab[place_of(&self.places, key).unwrap()]
+    }
+
     /// The capacity: every key is below it.
     pub fn keys(&self) -> u32
         ensures { result ≡ length self.now }

@@ -1,5 +1,5 @@
 -- What is found of a point: the first of its slots that has a lease, and the first that has a reversion.
-use Rattle.std.proofs.Common.{◌≡◌, ℕ, zero, suc, ◌+◌, ◌*◌, ◌<◌, ◌≤◌, nat_lt, List, [], ◌∷◌, ◌++◌, length, get_or, replicate, false, Option, Some, None, is_some, count_by, refl, ap, sym, ◌∙◌, arith}
+use Rattle.std.proofs.Common.{◌≡◌, ℕ, zero, suc, ◌+◌, ◌*◌, ◌<◌, ◌≤◌, nat_lt, List, [], ◌∷◌, ◌++◌, length, get_or, replicate, false, Option, Some, None, IsSome, is_some, count_by, refl, ap, sym, ◌∙◌, arith}
 use Rattle.std.specs.Option.{option_map, option_to_list}
 use Rattle.std.specs.List.{AllByRecursion}
 use Rattle.std.proofs.lemmas.Bool.Decides.{nat_tests}
@@ -64,6 +64,17 @@ module _ (t : Tables) (k : IsKept t) (p : ℕ) where
       (each-gather (λ (r : Pending). found.0.priority ≤ r.priority) (λ q. option_to_list (pending_of t.pending.items (entry_in t.arrays.items p q))) (level + 1) (length xs)
       (λ q low _. each-one (λ (r : Pending). found.0.priority ≤ r.priority) (pending_of t.pending.items (entry_in t.arrays.items p q)) (λ r is. let place = pending-placed t k p q r is in let p1 = place.1 in omega arith))))
 
+  -- the first lease that stands in a slot is there
+  first-there : (xs : List (Option Entry)) (level : ℕ) → ((j : ℕ) → entry_in t.arrays.items p (level + j) ≡ get_or xs j None) →
+      (found : ℕ × ℕ) → first_lease level xs ≡ Some found → IsSome (get_or t.leases found.1 None)
+  first-there [] level at found is = absurd (cc)
+  first-there (None ∷ xs) level at found is = first-there xs (level + 1) (λ j. ap (entry_in t.arrays.items p) (omega arith) ∙ at (suc j)) found is
+  first-there (Some (entry.Pending key) ∷ xs) level at found is = first-there xs (level + 1) (λ j. ap (entry_in t.arrays.items p) (omega arith) ∙ at (suc j)) found is
+  first-there (Some (entry.Lease key) ∷ xs) level at found is =
+      let here : entry_in t.arrays.items p level ≡ Some (entry.Lease key) = ap (entry_in t.arrays.items p) (omega arith) ∙ at 0 in
+      let same : found.1 ≡ key = cc in
+      ap (λ n. is_some (get_or t.leases n None)) same ∙ ap is_some (leased p level (get_or t.leases key None) (k.keyed p level key here)).1
+
   slots-from : (array : List (Option Entry)) → get_or t.arrays.items p [] ≡ array → (j : ℕ) → entry_in t.arrays.items p (1 + j) ≡ get_or array j None
   slots-from array is j = let one : 1 + j ≡ suc j = omega arith in ap (entry_in t.arrays.items p) one ∙ of-suc j
     where
@@ -79,6 +90,13 @@ module _ (t : Tables) (k : IsKept t) (p : ℕ) where
   playing-first array is sixteen within =
       ap (least (λ (r : Pending). r.priority)) (filter-point (λ (r : Pending). r.point) (λ (r : Pending). r.priority) (pending_at t) (length t.arrays.items) p (pending-placed t k) within)
       ∙ ap (λ n. least (λ (r : Pending). r.priority) (gather (λ q. option_to_list (pending_at t p q)) 1 n)) (sym sixteen) ∙ first-pending_from array 1 (slots-from array is)
+
+  pub force-there : (array : List (Option Entry)) → get_or t.arrays.items p [] ≡ array → (key : ℕ) → option_map (λ found. found.1) (first_lease 1 array) ≡ Some key → IsSome (get_or t.leases key None)
+  force-there array is key first = by (first_lease 1 array) refl
+    where
+      by : (o : Option (ℕ × ℕ)) → first_lease 1 array ≡ o → IsSome (get_or t.leases key None)
+      by None none = absurd (cc)
+      by (Some found) some = let same : key ≡ found.1 = cc in ap (λ n. is_some (get_or t.leases n None)) same ∙ first-there array 1 (slots-from array is) found some
 
 -- ---- by key
 

@@ -42,7 +42,7 @@ pub fn force_on(tables: &Tables, point: PointId) -> Option<&Lease>
     ensures { option_copied result ≡ in_force (all (lease_at tables.now) (length tables.now.arrays.items)) point }
 {
     match top_lease(&tables.arrays, point) {
-        Some(key) => tables.leases.get(key),
+        Some(key) => Some(tables.leases.at(key)),
         None => None,
     }
 }
