@@ -199,7 +199,7 @@ fn drop_at(
     }
 }
 
-/// The last timer of the heap, which its slot still leads to.
+/// Takes the last timer out of the lists of the heap; its slot still leads there.
 fn pop_last(moments: &mut Vec<u64>, slots: &mut Vec<u32>) -> Entry
     requires pairs { length slots.old.items ≡ length moments.old.items }
     requires some { 0 < length moments.old.items }
