@@ -87,10 +87,14 @@ pub fn put_in_order(told: &mut Vec<Telling>)
 fn compare(one: &Happening, other: &Happening) -> Ordering
     ensures { is_lt result ≡ not (comes_before (rank other.now) (rank one.now)) }
 {
-    one.at
-        .cmp(&other.at)
-        .then(one.txn.cmp(&other.txn))
-        .then(sort_number(&one.what).cmp(&sort_number(&other.what)))
+    if one.at != other.at {
+        return one.at.cmp(&other.at);
+    }
+    if one.txn != other.txn {
+        return one.txn.cmp(&other.txn);
+    }
+    sort_number(&one.what)
+        .cmp(&sort_number(&other.what))
         .then(point_of(&one.what).cmp(&point_of(&other.what)))
 }
 

@@ -1,12 +1,13 @@
-ghost use Rattle.std.specs.Prelude.{◌≡◌, ◌<◌, length, fold, vec_capacity};
+ghost use Rattle.std.specs.Prelude.{◌≡◌, ◌<◌, ◌&&◌, length, fold, vec_capacity};
 ghost use Rattle.std.specs.List.{AllByRecursion};
 ghost use Rattle.boss_books.specs.Bookable.{IsBookable, IsInformed};
-ghost use Rattle.boss_books.specs.Books.{after_what, booked};
+ghost use Rattle.boss_books.specs.Books.{after_what, booked, is_end};
 ghost use Rattle.boss_books.specs.Gathered.{booked_all, CanBook, CanTell};
+ghost use Rattle.boss_stages.specs.Stages.{is_over, kept_as};
 
 use crate::processes::Processes;
 use boss_books::{Happening, Telling, put_in_order};
-use boss_model::{Stage, What};
+use boss_model::What;
 use boss_stages::Stages;
 
 /// Books what was gathered, one after another in the order in which it is told: the records are changed, the owners are told,
@@ -52,25 +53,26 @@ fn book(stages: &mut Stages, processes: &mut Processes, telling: &Telling)
     ensures processes { length processes.new ≡ length processes.old }
 {
     let happening = telling.happening;
-    record_end(stages, &happening, telling.reverts);
+    let done = record_end(stages, &happening, telling.reverts);
     processes.tell(&happening);
-    if happening.is_end() && stages.stage(happening.txn) == Some(Stage::Done) {
+    if done {
         processes.tell(&happening.all_done());
     }
 }
 
-/// Notes in the records what ended.
-fn record_end(stages: &mut Stages, happening: &Happening, reverts: bool)
+/// Notes in the records what ended. The answer is whether a part ended and the transaction is done now.
+fn record_end(stages: &mut Stages, happening: &Happening, reverts: bool) -> bool
     requires { CanTell happening.now.txn happening.now.told stages.old }
-    ensures { stages.new ≡ after_what happening.now.txn happening.now.at reverts happening.now.told stages.old }
+    ensures records { stages.new ≡ after_what happening.now.txn happening.now.at reverts happening.now.told stages.old }
+    ensures done { result ≡ (is_end happening.now.told && is_over (kept_as happening.now.txn stages.new.kept)) }
 {
     match happening.what {
         What::Ended { point, cause } => {
-            stages.lease_ended(happening.txn, point, cause, happening.at, reverts);
+            stages.lease_ended(happening.txn, point, cause, happening.at, reverts)
         }
         What::Reverted { point } | What::Cut { point, .. } => {
-            stages.reversion_ended(happening.txn, point);
+            stages.reversion_ended(happening.txn, point)
         }
-        What::Fault { .. } | What::Done => {}
+        What::Fault { .. } | What::Done => false,
     }
 }
