@@ -361,6 +361,7 @@ impl Machine {
     }
 
     /// Hands a driver's first want out.
+    #[inline(always)]
     pub fn next(&mut self, driver: DriverId) -> Reply
         ensures tellable { (plant : List Actuator) → IsTellable plant (persistent_of self.new.lasting) result }
         ensures answer { (plant : List Actuator) (session n : ℕ) → HasPlaces plant self.old → told (persistent_of self.new.lasting) result ≡ (act plant session n (command.Next driver) (state_of self.old)).answer }
@@ -474,6 +475,7 @@ impl Machine {
     }
 
     /// Tells the value that a point is to have.
+    #[inline(always)]
     pub fn read(&self, plant: &[Actuator], point: PointId) -> Reply
         requires can_run { CanRun plant.now self.now }
         requires point { point < length plant.now }

@@ -194,6 +194,7 @@ impl Machine {
     }
 
     /// Lets a command act at moment `n` for which this was made ready.
+    #[inline(always)]
     fn act_ready(
         &mut self,
         plant: &[Actuator],

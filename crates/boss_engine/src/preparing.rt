@@ -26,6 +26,7 @@ use std::alloc::Global;
 impl Machine {
     /// Takes the memory that a command will need, if it is neither refused nor decided by a reply that is kept. It changes
     /// nothing else.
+    #[inline(always)]
     pub fn make_ready(
         &mut self,
         plant: &[Actuator],
@@ -55,6 +56,7 @@ impl Machine {
     }
 
     /// Makes the ring of a new process.
+    #[inline(always)]
     fn ready_process(&self, session: SessionId, name: &Name) -> Result<Ready, NoMemory>
         requires { AllByRecursion (λ attachment. attachment.process < length self.now.lasting.processes) self.now.attached.items }
         ensures ready { IfOk result (λ ready. IsReadyToAttach session name.now ready (state_of self.now)) }
@@ -80,6 +82,7 @@ impl Machine {
     }
 
     /// Makes the record and the leases of a new transaction, and room for them.
+    #[inline(always)]
     fn ready_submit(
         &mut self,
         plant: &[Actuator],
@@ -136,6 +139,7 @@ impl Machine {
     }
 
     /// Makes room for a list of notices.
+    #[inline(always)]
     fn ready_list(
         &self,
         session: SessionId,
