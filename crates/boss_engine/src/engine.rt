@@ -343,7 +343,7 @@ impl Engine {
         }
     }
 
-    /// The answer that a reply is. It is made out of the way of those who need none of its kind.
+    /// What is handed out for a reply whose answer is looked up. It is made out of the way of those who need none of its kind.
     #[inline(always)]
     fn look_up(&self, reply: Reply, effect: Effect) -> Result<(Answer, Effect), NoMemory>
         requires { IsTellable self.now.plant self.now.state.persistent reply }
