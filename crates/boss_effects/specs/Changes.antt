@@ -74,12 +74,6 @@ changes plant session n (command.Report point version ok) s =
     && failure_changes n (in_force s.persistent.leases point) s.persistent))
 changes plant session n c s = false
 
--- the commands that may change what outlasts a stop
-abbrev pub may_change : Command → Bool
-may_change (command.Next driver) = false
-may_change (command.Report point version ok) = not ok
-may_change other = true
-
 -- ---- events
 
 -- whether an act at moment n that is not refused changes a persistent part to which time has passed

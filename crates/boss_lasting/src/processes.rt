@@ -2,7 +2,7 @@ ghost use Rattle.std.specs.Prelude.{◌≡◌, ◌<◌, ◌≤◌, ◌+◌, [], 
 ghost use Rattle.std.specs.Option.{option_map};
 ghost use Rattle.boss_model.specs.Happenings.{post, tell};
 ghost use Rattle.boss_model.specs.Limits.{most_processes};
-ghost use Rattle.boss_model.specs.Processes.{name_of, next_notice, number_of, process_named};
+ghost use Rattle.boss_model.specs.Processes.{name_of, next_notice, process_named};
 ghost use Rattle.boss_model.specs.Queries.{first_kept, numbered_from, start};
 ghost use Rattle.boss_notices.specs.Rings.{no_notices};
 ghost use Rattle.boss_model.specs.Replies.{answer_of, keep_reply, reply_of};
@@ -77,17 +77,6 @@ impl Processes {
             }
         }
         None
-    }
-
-    /// The place of the process of this name, which a new one would get.
-    pub fn number_of(&self, name: &Name) -> ProcId
-        requires { length self.now ≤ most_processes }
-        ensures { result ≡ number_of self.now (process_named self.now name.now) }
-    {
-        match self.named(name) {
-            Some(process) => process,
-            None => ProcId(self.count() as u16),
-        }
     }
 
     /// The name of a process.

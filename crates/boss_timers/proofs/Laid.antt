@@ -50,7 +50,7 @@ module _ (moments slots : List ℕ) (places : List (Option ℕ)) (pairs : length
   pub slot-fits : (entry_at (entries_of moments slots) place).slot < length places
   slot-fits = within-from_place places _ place (indexed.leads place place-there)
 
-  pub place-few : place < 2 ^ 32
+  pub place-few : place + 1 < 2 ^ 32
   place-few = omega (arith, place-there, indexed.few)
 
 -- ---- a timer that is held out where it stands

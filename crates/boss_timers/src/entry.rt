@@ -18,5 +18,14 @@ pub fn comes_first<L: Ledger>(one: Entry, other: Entry, steps: &mut Steps<L>) ->
     ensures counted { steps.new ≡ steps.old + 1 }
 {
     steps.tick();
-    one.moment < other.moment || one.moment == other.moment && one.slot < other.slot
+    one.moment < other.moment || one.moment == other.moment && has_lesser_slot(one, other)
+}
+
+/// Whether one timer has a lesser slot than another. Cold, since few timers go off at once: a way through the heap is compiled
+/// for those that do not, and reads moments alone where it can.
+#[cold]
+fn has_lesser_slot(one: Entry, other: Entry) -> bool
+    ensures { result ≡ nat_lt one.slot other.slot }
+{
+    one.slot < other.slot
 }

@@ -3,6 +3,7 @@ ghost use Rattle.boss_timers.specs.Heap.{IsExchanged, IsHeap, IsHole, IsIndexed,
 
 use crate::Steps;
 use crate::entry::{Entry, comes_first};
+use crate::place::Place;
 use std::sync::ledger::Ledger;
 
 /// The timer at a place of the heap.
@@ -18,30 +19,24 @@ pub fn entry_at(moments: &[u64], slots: &[u32], place: usize) -> Entry
 }
 
 /// The timer takes this place of the heap, and its slot leads there.
-pub fn put(
-    moments: &mut [u64],
-    slots: &mut [u32],
-    places: &mut [Option<u32>],
-    place: usize,
-    entry: Entry,
-)
+pub fn put(moments: &mut [u64], slots: &mut [u32], places: &mut [Place], place: usize, entry: Entry)
     requires place { place < length moments.old }
     requires pairs { length slots.old ≡ length moments.old }
     requires slot { entry.slot < length places.old }
-    requires few { place < 2 ^ 32 }
+    requires few { place + 1 < 2 ^ 32 }
     ensures entries { entries_of moments.new slots.new ≡ slice_set (entries_of moments.old slots.old) place entry }
     ensures places { places.new ≡ slice_set places.old entry.slot (Some place) }
 {
     moments[place] = entry.moment;
     slots[place] = entry.slot;
-    places[entry.slot as usize] = Some(place as u32);
+    places[entry.slot as usize] = Place::at(place as u32);
 }
 
 /// Two timers change their places in the heap.
 fn exchange(
     moments: &mut [u64],
     slots: &mut [u32],
-    places: &mut [Option<u32>],
+    places: &mut [Place],
     upper: usize,
     lower: usize,
 )
@@ -63,7 +58,7 @@ fn exchange(
 pub fn rise<L: Ledger>(
     moments: &mut [u64],
     slots: &mut [u32],
-    places: &mut [Option<u32>],
+    places: &mut [Place],
     at: usize,
     steps: &mut Steps<L>,
 )
@@ -94,7 +89,7 @@ pub fn rise<L: Ledger>(
 fn sink<L: Ledger>(
     moments: &mut [u64],
     slots: &mut [u32],
-    places: &mut [Option<u32>],
+    places: &mut [Place],
     at: usize,
     steps: &mut Steps<L>,
 )
@@ -116,7 +111,7 @@ fn sink<L: Ledger>(
 fn lift(
     moments: &mut [u64],
     slots: &mut [u32],
-    places: &mut [Option<u32>],
+    places: &mut [Place],
     upper: usize,
     lower: usize,
     held: Entry,
@@ -139,7 +134,7 @@ fn lift(
 fn make_way<L: Ledger>(
     moments: &mut [u64],
     slots: &mut [u32],
-    places: &mut [Option<u32>],
+    places: &mut [Place],
     at: usize,
     held: Entry,
     steps: &mut Steps<L>,
@@ -205,7 +200,7 @@ fn least_below<L: Ledger>(
 pub fn mend<L: Ledger>(
     moments: &mut [u64],
     slots: &mut [u32],
-    places: &mut [Option<u32>],
+    places: &mut [Place],
     at: usize,
     steps: &mut Steps<L>,
 )

@@ -4,6 +4,7 @@
 
 mod entry;
 mod heap;
+mod place;
 mod steps;
 mod timers;
 

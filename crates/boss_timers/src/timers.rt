@@ -5,6 +5,7 @@ ghost use Rattle.boss_timers.specs.Timers.{IsFirst, IsLaid};
 use crate::Steps;
 use crate::entry::Entry;
 use crate::heap::{entry_at, mend, put, rise};
+use crate::place::Place;
 use boss_model::NoMemory;
 use std::alloc::Global;
 use std::marker::Model;
@@ -20,7 +21,7 @@ pub struct Timers {
     /// The slot of each of them.
     slots: Vec<u32>,
     /// Where the heap has the timer of each slot.
-    places: Vec<Option<u32>>,
+    places: Vec<Place>,
 }
 
 impl Model for Timers {
@@ -43,7 +44,7 @@ impl Timers {
         Ok(Timers {
             moments: Vec::with_capacity(alloc, capacity as usize)?,
             slots: Vec::with_capacity(alloc, capacity as usize)?,
-            places: vec![in alloc; None; capacity as usize]?,
+            places: vec![in alloc; Place::nowhere(); capacity as usize]?,
         })
     }
 
@@ -54,7 +55,7 @@ impl Timers {
         ensures cost { (d : ℕ) → length self.old < 2 ^ d → steps.new ≤ steps.old + 2 * d }
     {
         let entry = Entry { moment, slot };
-        match self.places[slot as usize] {
+        match self.places[slot as usize].get() {
             Some(place) => change(
                 &mut self.moments,
                 &mut self.slots,
@@ -79,7 +80,7 @@ impl Timers {
         ensures removed { self.new ≡ slice_set self.old slot None }
         ensures cost { (d : ℕ) → length self.old < 2 ^ d → steps.new ≤ steps.old + 2 * d }
     {
-        if let Some(place) = self.places[slot as usize] {
+        if let Some(place) = self.places[slot as usize].get() {
             take_out(
                 &mut self.moments,
                 &mut self.slots,
@@ -112,7 +113,7 @@ impl Timers {
 fn change<L: Ledger>(
     moments: &mut Vec<u64>,
     slots: &mut Vec<u32>,
-    places: &mut Vec<Option<u32>>,
+    places: &mut Vec<Place>,
     place: usize,
     entry: Entry,
     steps: &mut Steps<L>,
@@ -132,7 +133,7 @@ fn change<L: Ledger>(
 fn insert<L: Ledger>(
     moments: &mut Vec<u64>,
     slots: &mut Vec<u32>,
-    places: &mut Vec<Option<u32>>,
+    places: &mut Vec<Place>,
     entry: Entry,
     steps: &mut Steps<L>,
 )
@@ -147,7 +148,7 @@ fn insert<L: Ledger>(
     let place = moments.len();
     moments.push_reserved(entry.moment);
     slots.push_reserved(entry.slot);
-    places[entry.slot as usize] = Some(place as u32);
+    places[entry.slot as usize] = Place::at(place as u32);
     rise(moments, slots, places, place, steps);
 }
 
@@ -155,7 +156,7 @@ fn insert<L: Ledger>(
 fn take_out<L: Ledger>(
     moments: &mut Vec<u64>,
     slots: &mut Vec<u32>,
-    places: &mut Vec<Option<u32>>,
+    places: &mut Vec<Place>,
     place: usize,
     steps: &mut Steps<L>,
 )
@@ -173,12 +174,7 @@ fn take_out<L: Ledger>(
 }
 
 /// The timer at this place of the heap goes, and the last one takes its place.
-fn drop_at(
-    moments: &mut Vec<u64>,
-    slots: &mut Vec<u32>,
-    places: &mut Vec<Option<u32>>,
-    place: usize,
-)
+fn drop_at(moments: &mut Vec<u64>, slots: &mut Vec<u32>, places: &mut Vec<Place>, place: usize)
     requires pairs { length slots.old.items ≡ length moments.old.items }
     requires indexed { IsIndexed (entries_of moments.old.items slots.old.items) places.old.items }
     requires within { place < length moments.old.items }
@@ -193,7 +189,7 @@ fn drop_at(
 {
     let gone = entry_at(moments, slots, place);
     let last = pop_last(moments, slots);
-    places[gone.slot as usize] = None;
+    places[gone.slot as usize] = Place::nowhere();
     if place < moments.len() {
         put(moments, slots, places, place, last);
     }
