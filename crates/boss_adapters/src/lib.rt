@@ -1,15 +1,26 @@
-//! The real things: the standard input and output, and the files of this machine, read whole or kept open as disks. They
-//! count their faults, and tell nothing of what they hold. The devices are not real yet: they take every command.
+//! The real things: the standard input and output, the files of this machine, read whole or kept open as disks, the system's
+//! clock, a TCP listener and its connections, a waiter that sleeps, and threads. They count their faults, and tell nothing of
+//! what they hold, gave, took or did. The devices are not real yet: they take every command.
 #![tactic(auto)]
 
+mod connection;
 mod console;
 mod devices;
+mod real_clock;
 mod real_disk;
 mod real_files;
+mod real_host;
+mod real_spawner;
+mod real_waiter;
 mod signals;
 
+pub use connection::{RealSink, RealSource};
 pub use console::{StdSink, StdSource};
 pub use devices::idle_devices;
+pub use real_clock::RealClock;
 pub use real_disk::RealDisk;
 pub use real_files::RealFiles;
+pub use real_host::RealHost;
+pub use real_spawner::RealSpawner;
+pub use real_waiter::RealWaiter;
 pub use signals::read_past_signals;

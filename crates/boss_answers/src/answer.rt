@@ -2,7 +2,7 @@ ghost use Rattle.std.specs.Prelude.{◌≡◌, ◌+◌, ◌≤◌, ◌<◌, ◌+
 ghost use Rattle.std.specs.Fmt.{signed_decimal};
 ghost use Rattle.boss_model.specs.Catalogue.{actuators, default_of};
 ghost use Rattle.boss_model.specs.Tellable.{AreTellable, IsTellable};
-ghost use Rattle.boss_wire.specs.Texts.{answer_text, basis_text, listed, mark_text, notice_text, point_text, quoted, slot_text, stage_text};
+ghost use Rattle.def_wire.specs.Texts.{answer_text, basis_text, listed, mark_text, notice_text, point_text, quoted, slot_text, stage_text};
 ghost use Rattle.boss_answers.specs.Room.{HasRoom, PutsAtMost};
 
 use crate::notice::write_notices;

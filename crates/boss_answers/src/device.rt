@@ -1,6 +1,6 @@
 ghost use Rattle.std.specs.Prelude.{◌≡◌, ◌+◌, ◌≤◌, ◌<◌, ◌++◌, length, codes};
 ghost use Rattle.std.specs.Fmt.{signed_decimal};
-ghost use Rattle.boss_wire.specs.Texts.{device_text, driver_name_of, result_text};
+ghost use Rattle.def_wire.specs.Texts.{device_text, driver_name_of, result_text};
 ghost use Rattle.boss_answers.specs.Room.{HasRoom, PutsAtMost};
 
 use crate::parts::write_signed;

@@ -2,7 +2,7 @@ ghost use Rattle.std.specs.Prelude.{◌≡◌, ◌+◌, ◌*◌, ◌≤◌, ◌<
 ghost use Rattle.std.specs.List.{flat_map, AllByRecursion};
 ghost use Rattle.boss_model.specs.Sound.{IsKnown};
 ghost use Rattle.boss_model.specs.Tellable.{AreTellable, IsTellableNotice};
-ghost use Rattle.boss_wire.specs.Texts.{cause_text, listed, notice_text, point_text, what_text};
+ghost use Rattle.def_wire.specs.Texts.{cause_text, listed, notice_text, point_text, what_text};
 ghost use Rattle.boss_answers.specs.Room.{HasRoom, PutsAtMost};
 
 use crate::parts::{write_cause, write_number, write_point, write_txn};

@@ -1,6 +1,6 @@
 ghost use Rattle.std.specs.Prelude.{◌≡◌, ◌+◌, ◌≤◌, ◌<◌, ◌++◌, length, codes, decimal};
 ghost use Rattle.std.specs.Fmt.{signed_decimal};
-ghost use Rattle.boss_wire.specs.Texts.{quoted, point_text, mark_text, stage_text, cause_text, basis_text};
+ghost use Rattle.def_wire.specs.Texts.{quoted, point_text, mark_text, stage_text, cause_text, basis_text};
 ghost use Rattle.boss_answers.specs.Room.{HasRoom, PutsAtMost};
 
 use boss_model::{Basis, Buffer, Cause, Mark, Name, PointId, Priority, Stage, Txn};

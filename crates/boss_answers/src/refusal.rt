@@ -1,5 +1,5 @@
 ghost use Rattle.std.specs.Prelude.{◌+◌, ◌≤◌, ◌++◌, length, codes, decimal};
-ghost use Rattle.boss_wire.specs.Texts.{cause_text, placed, quoted, refusal_text};
+ghost use Rattle.def_wire.specs.Texts.{cause_text, placed, quoted, refusal_text};
 ghost use Rattle.boss_answers.specs.Room.{HasRoom, PutsAtMost};
 
 use crate::parts::{write_cause, write_last, write_number, write_quoted};

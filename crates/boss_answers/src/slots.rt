@@ -1,7 +1,7 @@
 ghost use Rattle.std.specs.Prelude.{◌+◌, ◌*◌, ◌≤◌, ◌++◌, ◌∷◌, length, map, codes, decimal};
 ghost use Rattle.std.specs.Fmt.{signed_decimal};
 ghost use Rattle.std.specs.List.{flat_map};
-ghost use Rattle.boss_wire.specs.Texts.{listed, slot_text};
+ghost use Rattle.def_wire.specs.Texts.{listed, slot_text};
 ghost use Rattle.boss_answers.specs.Room.{HasRoom, PutsAtMost};
 
 use crate::parts::{write_number, write_signed, write_txn};

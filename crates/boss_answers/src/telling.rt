@@ -2,7 +2,7 @@
 
 ghost use Rattle.std.specs.Prelude.{◌≡◌, ◌≤◌, ◌<◌, length};
 ghost use Rattle.boss_model.specs.Tellable.{IsTellable};
-ghost use Rattle.boss_wire.specs.Texts.{answer_text, device_text, line_of, memory_text, refusal_text, stopped_text, too_long_text};
+ghost use Rattle.def_wire.specs.Texts.{answer_text, device_text, line_of, memory_text, refusal_text, stopped_text, too_long_text};
 ghost use Rattle.boss_outside.specs.Counts.{HasCause};
 ghost use Rattle.boss_outside.specs.Streams.{Writes};
 ghost use Rattle.boss_answers.specs.Refused.{usage_line};

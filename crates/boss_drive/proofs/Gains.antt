@@ -2,13 +2,13 @@
 use Rattle.std.proofs.Common.{◌≡◌, ℕ, suc, ◌+◌, ◌<◌, Bool, true, false, List, [], ◌∷◌, ◌++◌, length, refl, sym, ap, ◌∙◌, subst, arith, append_assoc, append-nil, length-append}
 use Rattle.boss_model.specs.declared.answer.Answer.{Answer}
 use Rattle.boss_model.specs.DeviceCall.{DeviceCall}
-use Rattle.boss_workers.specs.declared.waiter.Woke.{Woke}
-use Rattle.boss_workers.specs.declared.waiter.Woke.TheVariants.{Again, Close}
-use Rattle.boss_workers.specs.Waits.{one_pause_more, CloseCause}
-use Rattle.boss_history.specs.declared.entry.Entry.{Entry}
+use Rattle.boss_outside_server.specs.declared.waiter.Woke.{Woke}
+use Rattle.boss_outside_server.specs.declared.waiter.Woke.TheVariants.{Again, Close}
+use Rattle.boss_outside_server.specs.Waits.{one_pause_more, CloseCause}
+use Rattle.def_history.specs.declared.entry.Entry.{Entry}
 use Rattle.boss_expiry.specs.declared.end.WorkEnd.{WorkEnd}
 use Rattle.boss_expiry.specs.declared.end.WorkEnd.TheVariants.{Finished, Closed, ClockFault, Stopped, DiskFault}
-use Rattle.boss_lanes.specs.Waits.{paused}
+use Rattle.def_lanes.specs.Waits.{paused}
 use Rattle.boss_expiry.specs.Ends.{ClockCause, EndCause, TookTurns}
 use Rattle.boss_drive.specs.Driving.{Write, Turn, idle, served, nothing, Made, made_in, left_by, both, made_by, Stand, Gained, is_served, IsTurn, IsCutTurn, IsNoDisk, DiskCause, idles, Driven}
 

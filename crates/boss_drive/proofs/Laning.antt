@@ -8,16 +8,16 @@ use Rattle.boss_model.specs.declared.state.Actuator.{Actuator}
 use Rattle.boss_model.specs.Catalogue.{driver_of}
 use Rattle.boss_model.specs.DeviceCall.{DeviceCall}
 use Rattle.boss_model.specs.State.{State}
-use Rattle.boss_history.specs.declared.entry.Entry.{Entry}
-use Rattle.boss_history.specs.declared.entry.Entry.TheVariants.{Did, Broke}
-use Rattle.boss_history.specs.History.{deeds, after_entry, IsEntryAt, IsLegal}
-use Rattle.boss_lanes.specs.Lanes.{of_driver, lane_of}
-use Rattle.boss_lanes.specs.Parts.{AreTimed, Added}
-use Rattle.boss_lanes.specs.Waits.{paused}
-use Rattle.boss_lanes.proofs.Choices.{deeds-append}
-use Rattle.boss_lanes.proofs.Lists.{each-append, each-parts}
-use Rattle.boss_lanes.proofs.Moments.{timed-deeds, timed-next}
-use Rattle.boss_lanes.proofs.Wants.{want-driver}
+use Rattle.def_history.specs.declared.entry.Entry.{Entry}
+use Rattle.def_history.specs.declared.entry.Entry.TheVariants.{Did, Broke}
+use Rattle.def_history.specs.History.{deeds, after_entry, IsEntryAt, IsLegal}
+use Rattle.def_lanes.specs.Lanes.{of_driver, lane_of}
+use Rattle.def_lanes.specs.Parts.{AreTimed, Added}
+use Rattle.def_lanes.specs.Waits.{paused}
+use Rattle.def_lanes.proofs.Choices.{deeds-append}
+use Rattle.def_lanes.proofs.Lists.{each-append, each-parts}
+use Rattle.def_lanes.proofs.Moments.{timed-deeds, timed-next}
+use Rattle.def_lanes.proofs.Wants.{want-driver}
 use Rattle.boss_lock.specs.Places.{entry_at, entries_at}
 use Rattle.boss_expiry.specs.declared.end.WorkEnd.{WorkEnd}
 use Rattle.boss_expiry.specs.declared.end.WorkEnd.TheVariants.{Finished, Closed, ClockFault, Stopped, DiskFault}

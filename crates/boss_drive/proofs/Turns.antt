@@ -4,8 +4,8 @@ use Rattle.boss_model.specs.declared.answer.Answer.{Answer}
 use Rattle.boss_model.specs.declared.answer.Answer.TheVariants.{Nothing}
 use Rattle.boss_model.specs.declared.command.Command.TheVariants.{Next, Report}
 use Rattle.boss_model.specs.DeviceCall.{DeviceCall}
-use Rattle.boss_history.specs.declared.entry.Entry.{Entry}
-use Rattle.boss_history.specs.declared.entry.Entry.TheVariants.{Did, Broke}
+use Rattle.def_history.specs.declared.entry.Entry.{Entry}
+use Rattle.def_history.specs.declared.entry.Entry.TheVariants.{Did, Broke}
 use Rattle.boss_expiry.specs.declared.end.WorkEnd.{WorkEnd}
 use Rattle.boss_expiry.specs.declared.end.WorkEnd.TheVariants.{Finished, Closed, ClockFault, Stopped, DiskFault}
 use Rattle.boss_expiry.specs.Ends.{IsCut}

@@ -1,9 +1,9 @@
 -- What the worker that drives the devices of a driver has done, as its lane has it.
 use Rattle.std.specs.Prelude.{◌≡◌, ℕ, List}
 use Rattle.boss_model.specs.DeviceCall.{DeviceCall}
-use Rattle.boss_history.specs.declared.entry.Entry.{Entry}
-use Rattle.boss_history.specs.History.{deeds}
-use Rattle.boss_lanes.specs.Waits.{paused}
+use Rattle.def_history.specs.declared.entry.Entry.{Entry}
+use Rattle.def_history.specs.History.{deeds}
+use Rattle.def_lanes.specs.Waits.{paused}
 use Rattle.boss_expiry.specs.declared.end.WorkEnd.{WorkEnd}
 use Rattle.boss_drive.specs.Driving.{Turn, Cut, Leaves, made_by, left_by, idles}
 

@@ -4,12 +4,12 @@ use Rattle.boss_model.specs.declared.answer.Answer.{Answer}
 use Rattle.boss_model.specs.declared.answer.Answer.TheVariants.{Want, Nothing}
 use Rattle.boss_model.specs.declared.command.Command.TheVariants.{Next, Report}
 use Rattle.boss_model.specs.DeviceCall.{DeviceCall}
-use Rattle.boss_history.specs.declared.entry.Entry.{Entry}
-use Rattle.boss_history.specs.declared.entry.Entry.TheVariants.{Did}
-use Rattle.boss_history.specs.History.{is_broken}
+use Rattle.def_history.specs.declared.entry.Entry.{Entry}
+use Rattle.def_history.specs.declared.entry.Entry.TheVariants.{Did}
+use Rattle.def_history.specs.History.{is_broken}
 use Rattle.boss_expiry.specs.declared.end.WorkEnd.{WorkEnd}
 use Rattle.boss_expiry.specs.declared.end.WorkEnd.TheVariants.{Finished, Closed, ClockFault, Stopped, DiskFault}
-use Rattle.boss_lanes.specs.Waits.{paused}
+use Rattle.def_lanes.specs.Waits.{paused}
 use Rattle.boss_expiry.specs.Ends.{mark, TookTurns}
 
 -- a want that was handed out at a moment, and whether its device took it

@@ -1,7 +1,7 @@
 ghost use Rattle.std.specs.Prelude.{◌≡◌, ℕ, List, ◌++◌};
-ghost use Rattle.boss_history.specs.declared.entry.Entry.{Entry};
-ghost use Rattle.boss_lanes.specs.Lanes.{of_driver};
-ghost use Rattle.boss_lanes.specs.Parts.{Added};
+ghost use Rattle.def_history.specs.declared.entry.Entry.{Entry};
+ghost use Rattle.def_lanes.specs.Lanes.{of_driver};
+ghost use Rattle.def_lanes.specs.Parts.{Added};
 ghost use Rattle.boss_lock.specs.Places.{entries_at};
 ghost use Rattle.boss_model.specs.declared.state.Actuator.{Actuator};
 ghost use Rattle.boss_model.specs.DeviceCall.{DeviceCall};
@@ -12,7 +12,7 @@ ghost use Rattle.boss_drive.specs.Drives.{IsDriveOf};
 ghost use Rattle.boss_drive.specs.Driving.{Driven};
 
 use boss_outside::Actuators;
-use boss_workers::{Clock, Waiter};
+use boss_outside_server::{Clock, Waiter};
 
 /// What the worker of a driver added to the history is all in the driver's lane, as each want that it was given is of a point of
 /// its own: the entries of its turns, at moments that its clock gave. Its devices gained the calls of these turns. Its waiter has

@@ -7,8 +7,8 @@ use crate::turn::turn;
 use boss_expiry::WorkEnd;
 use boss_model::DriverId;
 use boss_outside::Actuators;
+use boss_outside_server::{Clock, Waiter, Woke};
 use boss_shared::Desk;
-use boss_workers::{Clock, Waiter, Woke};
 
 /// How long a pause is where the driver has no want, in milliseconds.
 const PAUSE: u64 = 20;

@@ -7,8 +7,8 @@ use crate::want::next;
 use boss_expiry::{WorkEnd, work};
 use boss_model::{Command, DriverId};
 use boss_outside::Actuators;
+use boss_outside_server::Clock;
 use boss_shared::Desk;
-use boss_workers::Clock;
 
 /// Takes one turn up to its pause, and tells whether a device was written.
 pub fn turn<G: Desk, A: Actuators, C: Clock>(

@@ -2,7 +2,7 @@ ghost use Rattle.std.specs.Prelude.{◌≡◌, ◌<◌, ◌≤◌, length, [], �
 ghost use Rattle.boss_model.specs.declared.command.Command.TheVariants.{Next};
 ghost use Rattle.boss_model.specs.Limits.{last_moment};
 ghost use Rattle.boss_lock.specs.Places.{entries_at};
-ghost use Rattle.boss_history.specs.declared.entry.Entry.TheVariants.{Did};
+ghost use Rattle.def_history.specs.declared.entry.Entry.TheVariants.{Did};
 ghost use Rattle.boss_expiry.specs.Ends.{IsCut};
 ghost use Rattle.boss_drive.specs.Wants.{answer_to};
 

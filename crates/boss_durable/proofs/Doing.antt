@@ -3,10 +3,10 @@
 use Rattle.std.proofs.Common.{◌≡◌, inl, inr, Bool, true, false, ◌||◌, ℕ, ◌+◌, List, [], ◌∷◌, ◌++◌, length, take, refl, sym, ap, ◌∙◌, subst, arith, append-nil, length-append}
 use Rattle.std.specs.List.{AllByRecursion}
 use Rattle.boss_disk.specs.declared.disk.Disk as disk
-use Rattle.boss_history.specs.declared.entry.Entry.{Entry}
-use Rattle.boss_history.specs.declared.entry.Entry.TheVariants.{Broke}
-use Rattle.boss_history.specs.History.{events, is_broken, run, run_tried, stepped, IsLegal, MayCall}
-use Rattle.boss_history.proofs.Going.{tried_whole}
+use Rattle.def_history.specs.declared.entry.Entry.{Entry}
+use Rattle.def_history.specs.declared.entry.Entry.TheVariants.{Broke}
+use Rattle.def_history.specs.History.{events, is_broken, run, run_tried, stepped, IsLegal, MayCall}
+use Rattle.def_history.proofs.Going.{tried_whole}
 use Rattle.boss_model.specs.declared.command.Command.{Command}
 use Rattle.boss_model.specs.declared.event.Event.{Event}
 use Rattle.boss_model.specs.declared.state.Actuator.{Actuator}
@@ -14,10 +14,10 @@ use Rattle.boss_model.specs.State.{Persistent, State}
 use Rattle.boss_outside.specs.Counts.{Rose}
 use Rattle.boss_shared.specs.Keeping.{shortened}
 use Rattle.boss_shared.proofs.Holding.{whole_shortened}
-use Rattle.boss_two_disks.specs.Causes.{Counts, counts_of, OneRose}
-use Rattle.boss_two_disks.specs.declared.two_disks.TwoDisks.{TwoDisks}
-use Rattle.boss_two_disks.specs.Rests as pair
-use Rattle.boss_two_disks.proofs.Words as words
+use Rattle.boss_disk_pair.specs.Causes.{Counts, counts_of, OneRose}
+use Rattle.boss_disk_pair.specs.declared.two_disks.TwoDisks.{TwoDisks}
+use Rattle.boss_disk_pair.specs.Rests as pair
+use Rattle.boss_disk_pair.proofs.Words as words
 use Rattle.boss_durable.specs.declared.batch.Batch.{Batch}
 use Rattle.boss_durable.specs.declared.durable.Durable.{Durable}
 use Rattle.boss_durable.specs.Taken.{Taken}

@@ -1,10 +1,10 @@
 -- The events of steps, and how many bytes they have.
 use Rattle.std.proofs.Common.{◌≡◌, true, ℕ, ◌*◌, ◌≤◌, List, [], ◌∷◌, ◌++◌, length, Option, Some, None, refl, sym, ap, ◌∙◌, arith, length-append}
 use Rattle.std.specs.List.{AllByRecursion}
-use Rattle.boss_bytes.specs.Batches.{batch_text}
-use Rattle.boss_bytes.specs.Events.{event}
-use Rattle.boss_bytes.proofs.OfEvents.{event_spelled}
-use Rattle.boss_history.specs.History.{if_event}
+use Rattle.def_bytes.specs.Batches.{batch_text}
+use Rattle.def_bytes.specs.Events.{event}
+use Rattle.def_bytes.proofs.OfEvents.{event_spelled}
+use Rattle.def_history.specs.History.{if_event}
 use Rattle.boss_model.specs.declared.command.Command.{Command}
 use Rattle.boss_model.specs.declared.event.Effect.{Effect}
 use Rattle.boss_model.specs.declared.event.Effect.TheVariants as effect

@@ -2,19 +2,19 @@
 use Rattle.std.proofs.Common.{◌≡◌, ◌⊎◌, inl, inr, true, false, ◌||◌, ℕ, zero, suc, ◌+◌, ◌<◌, ◌≤◌, List, [], ◌∷◌, ◌++◌, length, take, Option, Some, None, refl, sym, ap, ◌∙◌, subst, arith, append-nil, length-take}
 use Rattle.std.specs.List.{AllByRecursion}
 use Rattle.boss_disk.specs.declared.disk.Disk as disk
-use Rattle.boss_history.specs.declared.entry.Entry.TheVariants.{Did, Broke}
-use Rattle.boss_history.specs.declared.outcome.Outcome.{Outcome}
-use Rattle.boss_history.specs.declared.outcome.Outcome.TheVariants.{Done, Stopped, DiskFault, NoMemory}
-use Rattle.boss_history.specs.History.{events, run, stepped, MayCall}
-use Rattle.boss_history.specs.Made.{done_by, mark_by, made_by_all}
+use Rattle.def_history.specs.declared.entry.Entry.TheVariants.{Did, Broke}
+use Rattle.def_history.specs.declared.outcome.Outcome.{Outcome}
+use Rattle.def_history.specs.declared.outcome.Outcome.TheVariants.{Done, Stopped, DiskFault, NoMemory}
+use Rattle.def_history.specs.History.{events, run, stepped, MayCall}
+use Rattle.def_history.specs.Made.{done_by, mark_by, made_by_all}
 use Rattle.boss_model.specs.declared.answer.Answer.{Answer}
 use Rattle.boss_model.specs.declared.command.Command.{Command}
 use Rattle.boss_model.specs.declared.event.Event.{Event}
 use Rattle.boss_model.specs.declared.state.Actuator.{Actuator}
 use Rattle.boss_model.specs.State.{State}
 use Rattle.boss_shared.specs.Calls.{has_failed_rest, is_growing_at, NoneDone, RestFits}
-use Rattle.boss_two_disks.specs.Causes.{counts_of, OneRose}
-use Rattle.boss_two_disks.specs.Rests as pair
+use Rattle.boss_disk_pair.specs.Causes.{counts_of, OneRose}
+use Rattle.boss_disk_pair.specs.Rests as pair
 use Rattle.boss_durable.specs.declared.batch.Batch.{Batch}
 use Rattle.boss_durable.specs.declared.durable.Durable.{Durable}
 use Rattle.boss_durable.specs.Begun.{WantNone}

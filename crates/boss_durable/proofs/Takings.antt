@@ -2,15 +2,15 @@
 use Rattle.std.proofs.Common.{◌≡◌, true, false, ◌||◌, ℕ, zero, suc, ◌+◌, ◌*◌, ◌<◌, ◌≤◌, List, [], ◌∷◌, ◌++◌, length, get_or, take, Option, Some, None, is_none, refl, sym, ap, ◌∙◌, subst, arith, length-append}
 use Rattle.std.specs.List.{AllByRecursion}
 use Rattle.std.proofs.lemmas.Grind.{flat_map-append}
-use Rattle.boss_bytes.specs.Batches.{batch_text}
-use Rattle.boss_bytes.specs.Events.{event}
-use Rattle.boss_history.specs.declared.entry.Entry.{Entry}
-use Rattle.boss_history.specs.declared.entry.Entry.TheVariants.{Did}
-use Rattle.boss_history.specs.History.{events, if_event, is_broken, run, IsLegal, MayCall}
-use Rattle.boss_history.specs.Made.{done_by, is_growing}
-use Rattle.boss_history.proofs.Going.{run_append, events_append, broken_append, legal_append}
-use Rattle.boss_kept.proofs.OfEvents.{event-fits}
-use Rattle.boss_laws.proofs.Replay.{step-again, step-unchanged}
+use Rattle.def_bytes.specs.Batches.{batch_text}
+use Rattle.def_bytes.specs.Events.{event}
+use Rattle.def_history.specs.declared.entry.Entry.{Entry}
+use Rattle.def_history.specs.declared.entry.Entry.TheVariants.{Did}
+use Rattle.def_history.specs.History.{events, if_event, is_broken, run, IsLegal, MayCall}
+use Rattle.def_history.specs.Made.{done_by, is_growing}
+use Rattle.def_history.proofs.Going.{run_append, events_append, broken_append, legal_append}
+use Rattle.law_spelling.proofs.OfEvents.{event-fits}
+use Rattle.law_machine.proofs.Replay.{step-again, step-unchanged}
 use Rattle.boss_model.specs.declared.answer.Answer.{Answer}
 use Rattle.boss_model.specs.declared.command.Command.{Command}
 use Rattle.boss_model.specs.declared.command.Command.TheVariants as command
@@ -23,9 +23,9 @@ use Rattle.boss_model.specs.Processes.{process_named}
 use Rattle.boss_model.specs.Run.{replay_all}
 use Rattle.boss_model.specs.Sound.{IsSound}
 use Rattle.boss_model.specs.State.{State}
-use Rattle.boss_pairs.proofs.Replays.{some-is, replay_join, all_join}
+use Rattle.def_disk_pair.proofs.Replays.{some-is, replay_join, all_join}
 use Rattle.boss_shared.specs.Calls.{is_growing_at}
-use Rattle.boss_spelled.proofs.Events.{step-spelled}
+use Rattle.law_spelling.proofs.Events.{step-spelled}
 use Rattle.boss_engine.specs.Ready.{MayNeedMemory, MayTakeOn}
 use Rattle.boss_durable.specs.declared.batch.Batch.{Batch}
 use Rattle.boss_durable.specs.Begun.{may_want, WantNone}

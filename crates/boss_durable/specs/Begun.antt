@@ -5,7 +5,7 @@ use Rattle.boss_model.specs.declared.command.Command.{Command}
 use Rattle.boss_model.specs.declared.command.Command.TheVariants as command
 use Rattle.boss_model.specs.Processes.{process_named}
 use Rattle.boss_model.specs.State.{State}
-use Rattle.boss_two_disks.specs.Causes.{Counts, OneRose}
+use Rattle.boss_disk_pair.specs.Causes.{Counts, OneRose}
 use Rattle.boss_durable.specs.declared.beginning.Begun.{Begun}
 use Rattle.boss_durable.specs.declared.beginning.Begun.TheVariants.{Ready, NoMemory, DiskFault}
 

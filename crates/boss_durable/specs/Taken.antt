@@ -1,10 +1,10 @@
 -- What was done so far in a call.
 use Rattle.std.specs.Prelude.{◌≡◌, ℕ, ◌≤◌, true, false, List, length, Some}
 use Rattle.std.specs.List.{AllByRecursion}
-use Rattle.boss_bytes.specs.Batches.{batch_text}
-use Rattle.boss_bytes.specs.Events.{event}
-use Rattle.boss_history.specs.declared.entry.Entry.{Entry}
-use Rattle.boss_history.specs.History.{events, is_broken, IsLegal, run}
+use Rattle.def_bytes.specs.Batches.{batch_text}
+use Rattle.def_bytes.specs.Events.{event}
+use Rattle.def_history.specs.declared.entry.Entry.{Entry}
+use Rattle.def_history.specs.History.{events, is_broken, IsLegal, run}
 use Rattle.boss_model.specs.declared.state.Actuator.{Actuator}
 use Rattle.boss_model.specs.Run.{replay_all}
 use Rattle.boss_model.specs.State.{State}

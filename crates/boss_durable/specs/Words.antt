@@ -2,13 +2,13 @@
 -- these words.
 use Rattle.std.specs.Prelude.{ℕ, ◌+◌, ◌-◌, List, length}
 use Rattle.boss_disk.specs.declared.disk.Disk as disk
-use Rattle.boss_history.specs.declared.entry.Entry.{Entry}
-use Rattle.boss_history.specs.History.{run_tried}
+use Rattle.def_history.specs.declared.entry.Entry.{Entry}
+use Rattle.def_history.specs.History.{run_tried}
 use Rattle.boss_model.specs.declared.event.Event.{Event}
 use Rattle.boss_model.specs.State.{Persistent}
 use Rattle.boss_shared.specs.Keeping.{shortened, Keeps}
-use Rattle.boss_two_disks.specs.Causes.{counts_of}
-use Rattle.boss_two_disks.specs.Rests as pair
+use Rattle.boss_disk_pair.specs.Causes.{counts_of}
+use Rattle.boss_disk_pair.specs.Rests as pair
 use Rattle.boss_durable.specs.declared.durable.Durable.{Durable}
 
 module _ {D : Type 0} {g : disk.Ghosts D} where

@@ -1,21 +1,21 @@
 ghost use Rattle.std.specs.Prelude.{◌≡◌, ◌≢◌, ◌+◌, ◌≤◌, true, false, List};
 ghost use Rattle.boss_durable.specs.Begun.{BegunCause, is_fault, may_want};
 ghost use Rattle.boss_durable.specs.Words.{Does, RunsThrough, keeps, lasting, leaves, log, passes};
-ghost use Rattle.boss_history.specs.History.{MayCall};
-ghost use Rattle.boss_history.specs.Made.{is_growing, made_by};
+ghost use Rattle.def_history.specs.History.{MayCall};
+ghost use Rattle.def_history.specs.Made.{is_growing, made_by};
 ghost use Rattle.boss_model.specs.declared.answer.Answer.{Answer};
 ghost use Rattle.boss_model.specs.declared.event.Event.{Event};
 ghost use Rattle.boss_shared.specs.Calls.{is_stopped, MayWant};
-ghost use Rattle.boss_two_disks.specs.Causes.{counts_of};
+ghost use Rattle.boss_disk_pair.specs.Causes.{counts_of};
 
 use crate::Durable;
 use crate::beginning::Begun;
 use crate::stepping::take_step;
 use crate::wanting::may_want;
 use boss_disk::Disk;
-use boss_history::Outcome;
 use boss_model::{Command, NoMemory, SessionId};
 use boss_outside::Failed;
+use def_history::Outcome;
 
 impl<D: Disk> Durable<D> {
     /// Does a command of a session at a moment, in milliseconds. Where it changed something that outlasts a stop, its event stands

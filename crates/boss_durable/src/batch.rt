@@ -1,7 +1,7 @@
 ghost use Rattle.std.specs.Prelude.{◌≡◌, ◌≢◌, ◌+◌, ◌≤◌, ◌<◌, true, [], ◌++◌, length, Some};
-ghost use Rattle.boss_bytes.specs.Batches.{batch_text};
-ghost use Rattle.boss_bytes.specs.Events.{event};
-ghost use Rattle.boss_history.specs.History.{if_event};
+ghost use Rattle.def_bytes.specs.Batches.{batch_text};
+ghost use Rattle.def_bytes.specs.Events.{event};
+ghost use Rattle.def_history.specs.History.{if_event};
 ghost use Rattle.boss_model.specs.declared.event.Effect.TheVariants.{Unchanged};
 ghost use Rattle.boss_model.specs.declared.event.Event.{Event};
 ghost use Rattle.boss_model.specs.Effects.{event_of};

@@ -1,11 +1,11 @@
 ghost use Rattle.std.specs.Prelude.{◌≡◌, ◌≢◌, ◌+◌, ◌≤◌, false, true, List, IfOk};
-ghost use Rattle.boss_bytes.specs.States.{state};
+ghost use Rattle.def_bytes.specs.States.{state};
 ghost use Rattle.boss_durable.specs.Begun.{BegunCause, is_fault};
 ghost use Rattle.boss_durable.specs.Words.{keeps, lasting, leaves, log, passes};
 ghost use Rattle.boss_model.specs.declared.event.Event.{Event};
 ghost use Rattle.boss_model.specs.Seen.{seen};
 ghost use Rattle.boss_model.specs.Sound.{IsSoundPersistent};
-ghost use Rattle.boss_two_disks.specs.Causes.{counts_of};
+ghost use Rattle.boss_disk_pair.specs.Causes.{counts_of};
 
 use crate::Durable;
 use boss_disk::Disk;

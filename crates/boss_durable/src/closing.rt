@@ -5,18 +5,18 @@ ghost use Rattle.boss_model.specs.Limits.{last_number};
 ghost use Rattle.boss_model.specs.Plants.{IsPlant};
 ghost use Rattle.boss_model.specs.Sound.{IsSound};
 ghost use Rattle.boss_model.specs.State.{Persistent};
-ghost use Rattle.boss_pairs.specs.Pairs.{OpensCleanly};
-ghost use Rattle.boss_two_disks.specs.Causes.{first_disk, second_disk};
-ghost use Rattle.boss_two_disks.specs.Images.{OpensToOne};
-ghost use Rattle.boss_two_disks.specs.Rests.{rests};
+ghost use Rattle.def_disk_pair.specs.Pairs.{OpensCleanly};
+ghost use Rattle.boss_disk_pair.specs.Causes.{first_disk, second_disk};
+ghost use Rattle.boss_disk_pair.specs.Images.{OpensToOne};
+ghost use Rattle.boss_disk_pair.specs.Rests.{rests};
 
 use crate::Durable;
 use crate::batch::Batch;
 use crate::machine::Machine;
 use boss_disk::Disk;
+use boss_disk_pair::TwoDisks;
 use boss_engine::Engine;
 use boss_model::Buffer;
-use boss_two_disks::TwoDisks;
 use std::alloc::Global;
 
 impl<D: Disk> Durable<D> {

@@ -1,7 +1,7 @@
 ghost use Rattle.std.specs.Prelude.{◌≡◌, List, length};
 ghost use Rattle.boss_durable.specs.Words.{keeps};
 ghost use Rattle.boss_model.specs.declared.event.Event.{Event};
-ghost use Rattle.boss_two_disks.specs.Rests.{counted};
+ghost use Rattle.boss_disk_pair.specs.Rests.{counted};
 
 use crate::Durable;
 use boss_disk::Disk;

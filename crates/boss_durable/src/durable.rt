@@ -4,8 +4,8 @@ ghost use Rattle.boss_model.specs.Devices.{wanting};
 use crate::batch::Batch;
 use crate::machine::Machine;
 use boss_disk::Disk;
+use boss_disk_pair::TwoDisks;
 use boss_model::DriverId;
-use boss_two_disks::TwoDisks;
 use std::alloc::Global;
 
 /// An engine and the disks on which it keeps what it does. Once a disk has failed it does no more.

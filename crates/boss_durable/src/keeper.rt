@@ -2,9 +2,9 @@ ghost use Rattle.boss_durable.specs.Words.{faults, keeps, leaves};
 
 use crate::Durable;
 use boss_disk::Disk;
-use boss_history::{Outcome, Outcomes};
 use boss_model::{Answer, Command, DriverId, Items, SessionId};
 use boss_shared::Keeper;
+use def_history::{Outcome, Outcomes};
 
 impl<D: Disk> Keeper for Durable<D> {
     ghost plant = { λ durable. durable.engine.plant };

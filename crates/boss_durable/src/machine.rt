@@ -1,9 +1,9 @@
 ghost use Rattle.std.specs.Prelude.{◌≡◌, true, Some, IfOk, OnErr};
-ghost use Rattle.boss_bytes.specs.Events.{event};
-ghost use Rattle.boss_bytes.specs.States.{state};
+ghost use Rattle.def_bytes.specs.Events.{event};
+ghost use Rattle.def_bytes.specs.States.{state};
 ghost use Rattle.boss_durable.specs.Begun.{may_want};
 ghost use Rattle.boss_durable.specs.Reached.{IsReached};
-ghost use Rattle.boss_history.specs.History.{MayCall};
+ghost use Rattle.def_history.specs.History.{MayCall};
 ghost use Rattle.boss_model.specs.declared.event.Event.{Event};
 ghost use Rattle.boss_model.specs.Effects.{event_of, step_effect};
 ghost use Rattle.boss_model.specs.Machine.{step};

@@ -2,21 +2,21 @@ ghost use Rattle.std.specs.Prelude.{◌≡◌, ◌⊎◌, ◌+◌, ◌≤◌, �
 ghost use Rattle.std.specs.List.{AllByRecursion};
 ghost use Rattle.boss_durable.specs.Begun.{WantNone};
 ghost use Rattle.boss_durable.specs.Words.{Does, RunsThrough, keeps, lasting, leaves, log, passes};
-ghost use Rattle.boss_history.specs.declared.outcome.Outcome.TheVariants.{NoMemory};
-ghost use Rattle.boss_history.specs.History.{MayCall};
-ghost use Rattle.boss_history.specs.Made.{made_by_all};
+ghost use Rattle.def_history.specs.declared.outcome.Outcome.TheVariants.{NoMemory};
+ghost use Rattle.def_history.specs.History.{MayCall};
+ghost use Rattle.def_history.specs.Made.{made_by_all};
 ghost use Rattle.boss_model.specs.declared.event.Event.{Event};
 ghost use Rattle.boss_shared.specs.Calls.{has_failed_rest, is_growing_at, is_stopped_rest, NoneDone, RestFits};
-ghost use Rattle.boss_two_disks.specs.Causes.{CallCause, counts_of};
+ghost use Rattle.boss_disk_pair.specs.Causes.{CallCause, counts_of};
 
 use crate::Durable;
 use crate::beginning::Begun;
 use crate::stepping::take_steps;
 use crate::wanting::before_want;
 use boss_disk::Disk;
-use boss_history::{Outcome, Outcomes};
 use boss_model::{Answer, Command, Items, SessionId};
 use boss_outside::Failed;
+use def_history::{Outcome, Outcomes};
 
 impl<D: Disk> Durable<D> {
     /// Does 1 to 16 commands of a session in order, each at its moment in milliseconds. What they changed stands in the log, as

@@ -1,9 +1,9 @@
 ghost use Rattle.std.specs.Prelude.{◌≡◌, ℕ, ◌+◌, ◌≤◌, ◌<◌, true, List, [], ◌∷◌, ◌++◌, length, IfOk, OnErr, vec_capacity};
 ghost use Rattle.std.specs.List.{AllByRecursion};
-ghost use Rattle.boss_history.specs.declared.entry.Entry.{Entry};
-ghost use Rattle.boss_history.specs.declared.entry.Entry.TheVariants.{Did};
-ghost use Rattle.boss_history.specs.History.{MayCall};
-ghost use Rattle.boss_history.specs.Made.{done_by, is_growing};
+ghost use Rattle.def_history.specs.declared.entry.Entry.{Entry};
+ghost use Rattle.def_history.specs.declared.entry.Entry.TheVariants.{Did};
+ghost use Rattle.def_history.specs.History.{MayCall};
+ghost use Rattle.def_history.specs.Made.{done_by, is_growing};
 ghost use Rattle.boss_model.specs.State.{State};
 ghost use Rattle.boss_shared.specs.Calls.{is_growing_at};
 ghost use Rattle.boss_durable.specs.Begun.{may_want};

@@ -1,17 +1,17 @@
 ghost use Rattle.std.specs.Prelude.{◌≡◌, ◌+◌, ◌-◌, ◌≤◌, ℕ, true, false, List, length, OnOk, OnErr};
 ghost use Rattle.boss_durable.specs.Taken.{Taken};
-ghost use Rattle.boss_history.specs.declared.entry.Entry.{Entry};
-ghost use Rattle.boss_history.specs.History.{events};
+ghost use Rattle.def_history.specs.declared.entry.Entry.{Entry};
+ghost use Rattle.def_history.specs.History.{events};
 ghost use Rattle.boss_model.specs.declared.state.Actuator.{Actuator};
 ghost use Rattle.boss_model.specs.State.{State};
-ghost use Rattle.boss_two_disks.specs.Causes.{CallCause, counts_of};
-ghost use Rattle.boss_two_disks.specs.Rests.{leaves, passes, rests};
+ghost use Rattle.boss_disk_pair.specs.Causes.{CallCause, counts_of};
+ghost use Rattle.boss_disk_pair.specs.Rests.{leaves, passes, rests};
 
 use crate::batch::Batch;
 use boss_disk::Disk;
+use boss_disk_pair::TwoDisks;
 use boss_journal::Appended;
 use boss_outside::Failed;
-use boss_two_disks::TwoDisks;
 
 impl Batch {
     /// Appends the events to the log, as one record. Where there is none no disk is called.

@@ -1,6 +1,6 @@
 ghost use Rattle.std.specs.Prelude.{◌≡◌, ◌≤◌, ◌<◌, true, length, take};
 ghost use Rattle.boss_durable.specs.Begun.{may_want, WantNone};
-ghost use Rattle.boss_history.specs.Made.{is_growing};
+ghost use Rattle.def_history.specs.Made.{is_growing};
 ghost use Rattle.boss_shared.specs.Calls.{is_growing_at};
 
 use boss_engine::Engine;

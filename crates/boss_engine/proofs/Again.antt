@@ -24,21 +24,21 @@ use Rattle.boss_model.specs.Replies.{answer_of, is_repeat, once}
 use Rattle.boss_model.specs.Sound.{IsSoundPersistent}
 use Rattle.boss_model.specs.State.{Persistent}
 use Rattle.boss_model.specs.Time.{due, tick_to}
-use Rattle.boss_soundness.proofs.EndSound.{IsAt, at-tick}
-use Rattle.boss_spelled.specs.Ranges.{IsSpelled}
-use Rattle.boss_effects.specs.Changes.{is_new, makes}
-use Rattle.boss_effects.specs.Early.{early}
-use Rattle.boss_effects.proofs.Early.{act-early, number-some, replay-refused}
-use Rattle.boss_effects.proofs.Redone.{replay-done, replay-same, replay-sound}
-use Rattle.boss_time.proofs.TickSound.{tick-sound}
+use Rattle.law_soundness.proofs.EndSound.{IsAt, at-tick}
+use Rattle.law_spelling.specs.Ranges.{IsSpelled}
+use Rattle.law_effects.specs.Changes.{is_new, makes}
+use Rattle.law_effects.specs.Early.{early}
+use Rattle.law_effects.proofs.Early.{act-early, number-some, replay-refused}
+use Rattle.law_effects.proofs.Redone.{replay-done, replay-same, replay-sound}
+use Rattle.law_time.proofs.TickSound.{tick-sound}
 use Rattle.boss_engine.specs.Again.{IsReadyAgain}
 use Rattle.boss_engine.specs.Ready.{MustBeThere}
-use Rattle.boss_lasting.specs.Replying.{decided, renewed_until, with_reply}
+use Rattle.boss_persistent.specs.Replying.{decided, renewed_until, with_reply}
 use Rattle.boss_engine.specs.declared.ready.Ready.{Ready}
 use Rattle.boss_engine.specs.declared.ready.Ready.TheVariants as ready
-use Rattle.boss_lasting.proofs.Flagged.{undecided-new}
-use Rattle.boss_lasting.proofs.Names.{told-named}
-use Rattle.boss_lasting.proofs.Replied.{once-did}
+use Rattle.boss_persistent.proofs.Flagged.{undecided-new}
+use Rattle.boss_persistent.proofs.Names.{told-named}
+use Rattle.boss_persistent.proofs.Replied.{once-did}
 
 -- ---- an event, by its moment n
 

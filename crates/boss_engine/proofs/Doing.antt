@@ -20,11 +20,11 @@ use Rattle.boss_model.specs.State.{Persistent, Process, State}
 use Rattle.boss_model.specs.Target.{in_force}
 use Rattle.boss_policy.specs.Decision.{decision}
 use Rattle.boss_policy.specs.declared.Decision.TheVariants.{EndAll, Mark, Tell}
-use Rattle.boss_effects.specs.Changes.{failure_changes, may_be_told}
-use Rattle.boss_lasting.proofs.Concluded.{kept-fault}
-use Rattle.boss_lasting.proofs.Counted.{any-counted}
-use Rattle.boss_lasting.proofs.Replied.{once-did}
-use Rattle.boss_lasting.specs.Replying.{decided, renewed_until, with_reply}
+use Rattle.law_effects.specs.Changes.{failure_changes, may_be_told}
+use Rattle.boss_persistent.proofs.Concluded.{kept-fault}
+use Rattle.boss_persistent.proofs.Counted.{any-counted}
+use Rattle.boss_persistent.proofs.Replied.{once-did}
+use Rattle.boss_persistent.specs.Replying.{decided, renewed_until, with_reply}
 
 -- ---- renew
 

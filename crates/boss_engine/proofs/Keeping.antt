@@ -2,10 +2,10 @@
 use Rattle.std.proofs.Common.{◌≡◌, ℕ, Bool, List, vec_capacity, sym, ◌∙◌, arith}
 use Rattle.boss_model.specs.declared.state.Actuator.{Actuator}
 use Rattle.boss_model.specs.State.{Process}
-use Rattle.boss_lasting.specs.declared.lasting.Lasting.{Lasting}
+use Rattle.boss_persistent.specs.declared.lasting.Lasting.{Lasting}
 use Rattle.boss_engine.specs.declared.machine.Machine.{Machine}
 use Rattle.boss_engine.specs.Inside.{HasPlaces}
-use Rattle.boss_lasting.specs.Lasting.{IsKept}
+use Rattle.boss_persistent.specs.Lasting.{IsKept}
 
 pub keeps-places : (plant : List Actuator) (m m' : Machine) → HasPlaces plant m → m'.marks.drivers ≡ m.marks.drivers → vec_capacity m'.attached ≡ vec_capacity m.attached →
     m'.lasting.holdings.points ≡ m.lasting.holdings.points → IsKept m'.lasting → vec_capacity m'.told ≡ vec_capacity m.told → HasPlaces plant m'

@@ -13,10 +13,10 @@ use Rattle.boss_model.specs.Time.{due}
 use Rattle.boss_engine.specs.declared.ready.Ready.{Ready}
 use Rattle.boss_engine.specs.declared.ready.Ready.TheVariants as ready
 use Rattle.boss_engine.specs.Again.{IsReadyToBegin}
-use Rattle.boss_lasting.specs.Replying.{decided}
+use Rattle.boss_persistent.specs.Replying.{decided}
 use Rattle.boss_engine.specs.Ready.{CanTakeOn, IsReadyFor, IsReadyToAttach, IsReadyToSubmit, MustBeThere}
-use Rattle.boss_lasting.proofs.Names.{attach-refused-ticked, told-named}
-use Rattle.boss_lasting.proofs.Replied.{decided-told}
+use Rattle.boss_persistent.proofs.Names.{attach-refused-ticked, told-named}
+use Rattle.boss_persistent.proofs.Replied.{decided-told}
 
 readied-attach : (plant : List Actuator) (session n : ℕ) (name : List ℕ) (s : State) (given : Ready) →
     IsReadyToAttach session name given s → IsReadyToAttach session name given (pass_time plant n s)

@@ -10,8 +10,8 @@ use Rattle.boss_model.specs.State.{Persistent}
 use Rattle.boss_model.specs.Target.{target}
 use Rattle.boss_marks.specs.Marks.{Marks}
 use Rattle.boss_marks.proofs.Rounds.{turned_below}
-use Rattle.boss_time.proofs.Filters.{filter-none}
-use Rattle.boss_time.proofs.Orders.{each-map}
+use Rattle.law_time.proofs.Filters.{filter-none}
+use Rattle.law_time.proofs.Orders.{each-map}
 use Rattle.boss_engine.specs.Settling.{opened_by}
 
 -- each point is started

@@ -1,14 +1,14 @@
 -- The room for what a command does is there still after a change that makes no more of anything.
 use Rattle.std.proofs.Common.{◌≡◌, ◌≤◌, length, arith}
 use Rattle.std.proofs.lemmas.List.{length-map}
-use Rattle.boss_lasting.specs.declared.lasting.Lasting.{Lasting}
+use Rattle.boss_persistent.specs.declared.lasting.Lasting.{Lasting}
 use Rattle.boss_engine.specs.declared.machine.Machine.{Machine}
 use Rattle.boss_engine.specs.declared.ready.Ready.{Ready}
 use Rattle.boss_engine.specs.declared.ready.Ready.TheVariants as ready
-use Rattle.boss_lasting.specs.Lasting.{persistent_of}
+use Rattle.boss_persistent.specs.Lasting.{persistent_of}
 use Rattle.boss_engine.specs.Ready.{HasRoomFor}
-use Rattle.boss_dues.proofs.DueLemmas.{IsNoMore}
-use Rattle.boss_lasting.proofs.Recorded.{record_of}
+use Rattle.law_due.proofs.DueLemmas.{IsNoMore}
+use Rattle.boss_persistent.proofs.Recorded.{record_of}
 
 fewer-kept : (old new : Lasting) → IsNoMore (persistent_of old) (persistent_of new) → length new.stages.kept ≤ length old.stages.kept
 fewer-kept old new few = omega (arith, few.txns, length-map old.stages.kept record_of, length-map new.stages.kept record_of)

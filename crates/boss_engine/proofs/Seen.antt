@@ -8,10 +8,10 @@ use Rattle.boss_model.specs.Catalogue.{driver_of}
 use Rattle.boss_model.specs.Sound.{IsSound, IsSoundPersistent}
 use Rattle.boss_model.specs.Settle.{opened}
 use Rattle.boss_model.specs.State.{Persistent}
-use Rattle.boss_soundness.proofs.Opened.{opened-sound}
+use Rattle.law_soundness.proofs.Opened.{opened-sound}
 use Rattle.boss_engine.specs.declared.machine.Machine.{Machine}
 use Rattle.boss_engine.specs.Inside.{CanAct, HasPlaces, seen_state, state_of}
-use Rattle.boss_lasting.specs.Lasting.{persistent_of}
+use Rattle.boss_persistent.specs.Lasting.{persistent_of}
 use Rattle.boss_engine.specs.Waiting.{drivers_of}
 
 pub seen-persistent : (plant : List Actuator) (m : Machine) (is_open : Bool) → (seen_state plant m is_open).persistent ≡ persistent_of m.lasting

@@ -12,25 +12,25 @@ use Rattle.boss_model.specs.Devices.{proxy_of}
 use Rattle.boss_model.specs.Same.{same_persistent}
 use Rattle.boss_model.specs.Target.{in_force, playing, target, target_at, value_of}
 use Rattle.boss_model.specs.Time.{tick_to}
-use Rattle.boss_effects.specs.Changes.{changes}
-use Rattle.boss_effects.proofs.Concerned.{concerned-passed}
-use Rattle.boss_effects.proofs.Flags.{step-flags}
+use Rattle.law_effects.specs.Changes.{changes}
+use Rattle.law_effects.proofs.Concerned.{concerned-passed}
+use Rattle.law_effects.proofs.Flags.{step-flags}
 use Rattle.boss_model.specs.declared.state.Actuator.{Actuator}
 use Rattle.boss_model.specs.Machine.{act, pass_time, step}
 use Rattle.boss_model.specs.Settle.{settle}
 use Rattle.boss_model.specs.Sound.{IsAllowed, IsSound}
 use Rattle.boss_model.specs.State.{State}
-use Rattle.boss_laws.proofs.Replay.{act-acts}
-use Rattle.boss_laws.proofs.SameDecides.{persistent-equal}
-use Rattle.boss_laws.proofs.Targets.{target-ticked}
+use Rattle.law_machine.proofs.Replay.{act-acts}
+use Rattle.law_machine.proofs.SameDecides.{persistent-equal}
+use Rattle.law_machine.proofs.Targets.{target-ticked}
 use Rattle.boss_marks.specs.Marks.{Marks}
-use Rattle.boss_soundness.proofs.EndSound.{IsAt, at-tick}
-use Rattle.boss_soundness.proofs.StepSound.{passed-sound, step-sound}
-use Rattle.boss_dues.specs.Playing.{IsPlayable}
-use Rattle.boss_lasting.proofs.Current.{all-current, commanded-acted}
-use Rattle.boss_lasting.proofs.Playable.{all-playable}
+use Rattle.law_soundness.proofs.EndSound.{IsAt, at-tick}
+use Rattle.law_soundness.proofs.StepSound.{passed-sound, step-sound}
+use Rattle.law_due.specs.Playing.{IsPlayable}
+use Rattle.boss_persistent.proofs.Current.{all-current, commanded-acted}
+use Rattle.boss_persistent.proofs.Playable.{all-playable}
 use Rattle.boss_holdings.specs.Held.{is_touched}
-use Rattle.boss_lasting.specs.Lasting.{persistent_of}
+use Rattle.boss_persistent.specs.Lasting.{persistent_of}
 use Rattle.boss_engine.specs.declared.done.Deed.{Deed}
 use Rattle.boss_engine.specs.declared.machine.Machine.{Machine}
 use Rattle.boss_engine.specs.Deeds.{is_answered_apart, IsBegun, IsDone}

@@ -14,14 +14,14 @@ use Rattle.boss_model.specs.Processes.{process_of}
 use Rattle.boss_stages.specs.Stages.{Tracked}
 use Rattle.boss_model.specs.State.{Persistent, State}
 use Rattle.boss_model.specs.Submit.{first_until, granted, submit, submit_refused, submitted}
-use Rattle.boss_lasting.specs.Lasting.{IsSubmit}
+use Rattle.boss_persistent.specs.Lasting.{IsSubmit}
 use Rattle.boss_engine.specs.Ready.{IsReadyToSubmit}
 use Rattle.boss_engine.specs.declared.ready.Ready.TheVariants as ready
-use Rattle.boss_lasting.specs.declared.replies.Decision.{Decision}
-use Rattle.boss_lasting.specs.Replying.{decided, decision_answer, with_reply}
-use Rattle.boss_effects.specs.Changes.{if_held, is_made}
-use Rattle.boss_lasting.proofs.Flagged.{made-decided, made-new}
-use Rattle.boss_lasting.proofs.Replied.{once-decided, once-did, once-refused}
+use Rattle.boss_persistent.specs.declared.replies.Decision.{Decision}
+use Rattle.boss_persistent.specs.Replying.{decided, decision_answer, with_reply}
+use Rattle.law_effects.specs.Changes.{if_held, is_made}
+use Rattle.boss_persistent.proofs.Flagged.{made-decided, made-new}
+use Rattle.boss_persistent.proofs.Replied.{once-decided, once-did, once-refused}
 
 -- the session holds a process, the writes are not refused, and the record and the leases are theirs
 pub record IsBegun (plant : List Actuator) (held : Option ℕ) (writes : List Setting) (policy : Policy) (seq n : ℕ) (transaction : Tracked) (leases : List Lease) (d : Persistent) : Type 0 where

@@ -6,9 +6,9 @@ use Rattle.boss_model.specs.declared.command.Setting.{Setting}
 use Rattle.boss_model.specs.declared.state.Actuator.{Actuator}
 use Rattle.boss_model.specs.State.{Persistent}
 use Rattle.boss_model.specs.Submit.{is_within, submit_refused}
-use Rattle.boss_soundness.proofs.NotRefused.{IsWrite, submit-not-refused}
-use Rattle.boss_time.proofs.Orders.{each-map}
-use Rattle.boss_soundness.proofs.RenewSound.{positive}
+use Rattle.law_soundness.proofs.NotRefused.{IsWrite, submit-not-refused}
+use Rattle.law_time.proofs.Orders.{each-map}
+use Rattle.law_soundness.proofs.RenewSound.{positive}
 use Rattle.boss_engine.specs.Writing.{IsWritable}
 
 within : (z : ℤ) (most : ℕ) → is_within (pos 1) (pos most) z ≡ true → (pos 1 ≤ℤ z) × (z ≤ℤ pos most)

@@ -10,7 +10,7 @@ use Rattle.boss_model.specs.Submit.{begun, first_until, granted, submitted}
 use Rattle.boss_engine.specs.declared.ready.Ready.{Ready}
 use Rattle.boss_engine.specs.declared.ready.Ready.TheVariants as ready
 use Rattle.boss_engine.specs.Ready.{CanTakeOn}
-use Rattle.boss_lasting.specs.Replying.{with_reply}
+use Rattle.boss_persistent.specs.Replying.{with_reply}
 
 -- the record and the leases of a new transaction
 abbrev pub IsReadyToBegin : ℕ → Policy → List Setting → ℕ → Ready → Persistent → Type 0

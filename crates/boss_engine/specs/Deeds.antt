@@ -1,5 +1,5 @@
 use Rattle.std.specs.Prelude.{◌≡◌, ℕ, ◌≤◌, Bool, true, false, List}
-use Rattle.boss_effects.specs.Changes.{changes}
+use Rattle.law_effects.specs.Changes.{changes}
 use Rattle.boss_model.specs.declared.answer.Answer.{Answer}
 use Rattle.boss_model.specs.declared.command.Command.{Command}
 use Rattle.boss_model.specs.declared.command.Command.TheVariants as command
@@ -11,7 +11,7 @@ use Rattle.boss_model.specs.Limits.{last_moment}
 use Rattle.boss_model.specs.Sound.{IsAllowed, IsSound}
 use Rattle.boss_model.specs.State.{State}
 use Rattle.boss_model.specs.Time.{moment_of}
-use Rattle.boss_lasting.specs.Lasting.{persistent_of}
+use Rattle.boss_persistent.specs.Lasting.{persistent_of}
 use Rattle.boss_engine.specs.declared.done.Deed.{Deed}
 use Rattle.boss_engine.specs.declared.machine.Machine.{Machine}
 use Rattle.boss_engine.specs.declared.reply.Reply.{Reply}

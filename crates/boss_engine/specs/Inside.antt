@@ -7,7 +7,7 @@ use Rattle.boss_model.specs.State.{State}
 use Rattle.boss_engine.specs.declared.engine.Engine.TheInside.{Inside}
 use Rattle.boss_engine.specs.declared.machine.Machine.{Machine}
 use Rattle.boss_engine.specs.Running.{Running}
-use Rattle.boss_lasting.specs.Lasting.{persistent_of, IsKept}
+use Rattle.boss_persistent.specs.Lasting.{persistent_of, IsKept}
 
 -- the state that the rows stand for
 abbrev pub state_of : Machine → State

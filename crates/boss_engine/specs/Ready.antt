@@ -9,7 +9,7 @@ use Rattle.boss_model.specs.Processes.{attach_refused, process_named, process_of
 use Rattle.boss_model.specs.State.{Persistent, State}
 use Rattle.boss_model.specs.Submit.{begun, granted, submit_refused}
 use Rattle.boss_notices.specs.Rings.{no_notices}
-use Rattle.boss_lasting.specs.Replying.{decided, decision_answer}
+use Rattle.boss_persistent.specs.Replying.{decided, decision_answer}
 use Rattle.boss_engine.specs.declared.machine.Machine.{Machine}
 use Rattle.boss_engine.specs.declared.ready.Ready.{Ready}
 use Rattle.boss_engine.specs.declared.ready.Ready.TheVariants as ready

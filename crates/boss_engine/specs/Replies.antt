@@ -7,7 +7,7 @@ use Rattle.boss_model.specs.Queries.{array, notices, status}
 use Rattle.boss_model.specs.State.{Persistent}
 use Rattle.boss_engine.specs.declared.reply.Reply.{Reply}
 use Rattle.boss_engine.specs.declared.reply.Reply.TheVariants as reply
-use Rattle.boss_lasting.specs.Replying.{decision_answer}
+use Rattle.boss_persistent.specs.Replying.{decision_answer}
 
 -- the answer that a reply is, where this is what outlasts a stop
 abbrev pub told : Persistent → Reply → Answer

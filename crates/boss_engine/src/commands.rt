@@ -19,28 +19,28 @@ ghost use Rattle.boss_model.specs.Submit.{first_until, submitted};
 ghost use Rattle.boss_model.specs.Target.{in_force};
 ghost use Rattle.boss_holdings.specs.Held.{AreApart};
 ghost use Rattle.boss_engine.specs.Inside.{CanAct, CanRun, HasPlaces, state_of};
-ghost use Rattle.boss_lasting.specs.Lasting.{IsSomeSubmit, IsSubmit, persistent_of};
-ghost use Rattle.boss_effects.specs.Changes.{changes, failure_changes, may_be_told, renewal_changes};
-ghost use Rattle.boss_books.specs.Passed.{IsPassed};
-ghost use Rattle.boss_dues.specs.Playing.{IsPlayable};
+ghost use Rattle.boss_persistent.specs.Lasting.{IsSomeSubmit, IsSubmit, persistent_of};
+ghost use Rattle.law_effects.specs.Changes.{changes, failure_changes, may_be_told, renewal_changes};
+ghost use Rattle.boss_booking.specs.Passed.{IsPassed};
+ghost use Rattle.law_due.specs.Playing.{IsPlayable};
 ghost use Rattle.boss_engine.specs.Replies.{IsTellable, is_told_apart, told};
 ghost use Rattle.boss_engine.specs.Ready.{CanTakeOn, HasRoomFor, IsReadyToAttach, IsReadyToList, IsReadyToSubmit};
-ghost use Rattle.boss_lasting.specs.Replying.{renewed_until, with_reply};
-ghost use Rattle.boss_lasting.specs.Showing.{ShowsAsBefore};
+ghost use Rattle.boss_persistent.specs.Replying.{renewed_until, with_reply};
+ghost use Rattle.boss_persistent.specs.Showing.{ShowsAsBefore};
 
 use crate::done::Done;
 use crate::machine::Machine;
 use crate::ready::Ready;
 use crate::reply::{Reading, Reply};
-use boss_books::{Happening, Telling};
-use boss_lasting::{
-    Decision, Which, attach, basis_of, cancel_refused, detach, first_until, process_of,
-    renew_refused, target_of,
-};
+use boss_booking::{Happening, Telling};
 use boss_marks::Reported;
 use boss_model::{
     Acceptance, Actuator, Cause, DriverId, Lease, Name, PointId, ProcId, Refusal, SessionId, Txn,
     What,
+};
+use boss_persistent::{
+    Decision, Which, attach, basis_of, cancel_refused, detach, first_until, process_of,
+    renew_refused, target_of,
 };
 use boss_policy::{Decision as Policing, on_fault};
 use boss_stages::Transaction;

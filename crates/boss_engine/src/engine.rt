@@ -14,7 +14,7 @@ ghost use Rattle.boss_model.specs.Seen.{seen};
 ghost use Rattle.boss_model.specs.Settle.{first_state, opened};
 ghost use Rattle.boss_model.specs.Sound.{IsAllowed, IsSound, IsSoundPersistent};
 ghost use Rattle.boss_points.specs.Seen.{seen as seen_point};
-ghost use Rattle.boss_spelled.specs.Ranges.{IsSpelled};
+ghost use Rattle.law_spelling.specs.Ranges.{IsSpelled};
 ghost use Rattle.boss_engine.specs.Again.{TakesOn};
 ghost use Rattle.boss_engine.specs.Deeds.{is_a_drivers, is_answered_apart, IsStep, IsTold, takes_memory};
 ghost use Rattle.boss_engine.specs.Ready.{MayNeedMemory};
@@ -25,13 +25,13 @@ use crate::machine::Machine;
 use crate::reply::{Reading, Reply, answer_of_reading, answer_of_want};
 use crate::restoring::RestoreRefusal;
 use crate::room::Room;
-use boss_lasting::Decision;
 use boss_model::{
     Acceptance, Actuator, Answer, Command, DriverId, Effect, Event, Kept, Name, NoMemory, PointId,
     Refusal, SessionId, Txn,
 };
+use boss_persistent::Decision;
 use boss_points::{Catalogue, Point};
-use boss_sound::is_sound;
+use boss_state_check::is_sound;
 use std::alloc::Global;
 use std::marker::Model;
 

@@ -7,27 +7,27 @@ ghost use Rattle.boss_model.specs.Machine.{act, pass_time};
 ghost use Rattle.boss_model.specs.Sound.{IsAllowed, IsSound};
 ghost use Rattle.boss_model.specs.Settle.{first_state};
 ghost use Rattle.boss_model.specs.State.{State};
-ghost use Rattle.boss_effects.specs.Changes.{changes};
+ghost use Rattle.law_effects.specs.Changes.{changes};
 ghost use Rattle.boss_engine.specs.declared.ready.Ready.{Ready};
 ghost use Rattle.boss_engine.specs.Deeds.{is_answered_apart, IsBegun, IsDone, IsStep, takes_memory};
 ghost use Rattle.boss_engine.specs.Replies.{IsTellable, is_told_apart, told};
 ghost use Rattle.boss_engine.specs.Inside.{CanRun, HasPlaces, IsRunnable, seen_state, state_of};
-ghost use Rattle.boss_lasting.specs.Lasting.{persistent_of};
-ghost use Rattle.boss_books.specs.Passed.{IsPassed};
+ghost use Rattle.boss_persistent.specs.Lasting.{persistent_of};
+ghost use Rattle.boss_booking.specs.Passed.{IsPassed};
 ghost use Rattle.boss_engine.specs.Ready.{HasRoomFor, IsReadyFor, MayNeedMemory};
-ghost use Rattle.boss_lasting.specs.Showing.{ShowsAsBefore};
+ghost use Rattle.boss_persistent.specs.Showing.{ShowsAsBefore};
 
 use crate::done::{Deed, Done};
 use crate::effects::effect_of;
 use crate::ready::Ready;
 use crate::reply::Reply;
 use crate::settling::settle;
-use boss_books::Telling;
-use boss_lasting::{Attachment, Lasting};
+use boss_booking::Telling;
 use boss_marks::Marks;
 use boss_model::{
     Actuator, Command, DriverId, Effect, Items, MOST_PROCESSES, NoMemory, ProcId, SessionId,
 };
+use boss_persistent::{Attachment, Lasting};
 use std::alloc::Global;
 
 /// The most that one step tells of a point's slots: of each that a lease ended, and that its reversion did.

@@ -6,19 +6,19 @@ ghost use Rattle.boss_model.specs.Processes.{attach_refused, process_named, proc
 ghost use Rattle.boss_model.specs.Sound.{IsAllowed};
 ghost use Rattle.boss_model.specs.Submit.{begun, granted, lease_of};
 ghost use Rattle.boss_engine.specs.Inside.{CanRun, HasPlaces, state_of};
-ghost use Rattle.boss_lasting.specs.Lasting.{persistent_of};
+ghost use Rattle.boss_persistent.specs.Lasting.{persistent_of};
 ghost use Rattle.boss_engine.specs.Again.{IsReadyToBegin};
 ghost use Rattle.boss_engine.specs.Ready.{CanTakeOn, HasRoomFor, IsReadyFor, IsReadyToAttach, IsReadyToList, IsReadyToSubmit, MayList, MaySubmit, MayTakeOn, MayNeedMemory};
 ghost use Rattle.boss_engine.specs.Writing.{IsWritable};
 
 use crate::machine::Machine;
 use crate::ready::Ready;
-use boss_lasting::{attach_refused, process_of, submit_refused};
 use boss_model::{
     Actuator, Command, Items, Lease, Name, NoMemory, PointId, Policy, Priority, ProcId, Refusal,
     SessionId, Setting, Step, Txn,
 };
 use boss_notices::Ring;
+use boss_persistent::{attach_refused, process_of, submit_refused};
 use boss_stages::Transaction;
 use std::alloc::Global;
 

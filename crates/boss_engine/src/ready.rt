@@ -1,6 +1,6 @@
-use boss_lasting::Decision;
 use boss_model::{Lease, Notice, Refusal};
 use boss_notices::Ring;
+use boss_persistent::Decision;
 use boss_stages::Transaction;
 
 /// What was taken for a command before time passes, so that it wants no memory when it acts. A command is refused, or answered

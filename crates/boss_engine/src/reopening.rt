@@ -3,15 +3,15 @@
 ghost use Rattle.std.specs.Prelude.{◌≡◌, length};
 ghost use Rattle.std.specs.List.{AllByRecursion};
 ghost use Rattle.boss_model.specs.Settle.{opened};
-ghost use Rattle.boss_dues.specs.Playing.{IsPlayable};
+ghost use Rattle.law_due.specs.Playing.{IsPlayable};
 ghost use Rattle.boss_engine.specs.Inside.{CanAct, HasPlaces, seen_state, state_of};
-ghost use Rattle.boss_lasting.specs.Lasting.{persistent_of};
+ghost use Rattle.boss_persistent.specs.Lasting.{persistent_of};
 ghost use Rattle.boss_engine.specs.Settling.{opened_by};
 
 use crate::machine::Machine;
-use boss_lasting::{Lasting, target_of};
 use boss_marks::Marks;
 use boss_model::{Actuator, PointId};
+use boss_persistent::{Lasting, target_of};
 
 impl Machine {
     /// Lets every point want its device to be written at its target, as if it had not been told anything yet. Nobody is attached

@@ -8,19 +8,19 @@ ghost use Rattle.boss_model.specs.Acts.{act_on, replay};
 ghost use Rattle.boss_model.specs.Limits.{last_moment};
 ghost use Rattle.boss_model.specs.Submit.{submit_refused};
 ghost use Rattle.boss_model.specs.Time.{tick_to};
-ghost use Rattle.boss_books.specs.Passed.{IsPassed};
-ghost use Rattle.boss_effects.specs.Changes.{makes};
-ghost use Rattle.boss_effects.specs.Early.{early};
-ghost use Rattle.boss_spelled.specs.Ranges.{IsAct, IsSpelled};
+ghost use Rattle.boss_booking.specs.Passed.{IsPassed};
+ghost use Rattle.law_effects.specs.Changes.{makes};
+ghost use Rattle.law_effects.specs.Early.{early};
+ghost use Rattle.law_spelling.specs.Ranges.{IsAct, IsSpelled};
 ghost use Rattle.boss_engine.specs.Again.{IsReadyAgain, IsReadyToBegin, TakesOn, begun_with};
 ghost use Rattle.boss_engine.specs.Inside.{CanAct, HasPlaces};
-ghost use Rattle.boss_lasting.specs.Lasting.{persistent_of};
+ghost use Rattle.boss_persistent.specs.Lasting.{persistent_of};
 ghost use Rattle.boss_engine.specs.Ready.{HasRoomFor};
 
 use crate::machine::Machine;
 use crate::ready::Ready;
-use boss_lasting::is_allowed;
 use boss_model::{Act, Actuator, Event, NoMemory};
+use boss_persistent::is_allowed;
 
 impl Machine {
     /// Does an event again, if it is effective, which is the answer: its act is not refused, and it or time changes something.

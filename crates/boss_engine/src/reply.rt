@@ -3,14 +3,14 @@
 ghost use Rattle.std.specs.Prelude.{◌≡◌, List};
 ghost use Rattle.boss_model.specs.declared.state.Actuator.{Actuator};
 ghost use Rattle.boss_engine.specs.Inside.{CanAct};
-ghost use Rattle.boss_lasting.specs.Lasting.{persistent_of};
+ghost use Rattle.boss_persistent.specs.Lasting.{persistent_of};
 ghost use Rattle.boss_engine.specs.Replies.{IsTellable, told};
 ghost use Rattle.boss_model.specs.declared.answer.Answer.TheVariants as answer;
 
 use crate::machine::Machine;
-use boss_lasting::{Decision, notices, slots_of, status};
 use boss_marks::Want;
 use boss_model::{Answer, Basis, Mark, Name, Notice, PointId, ProcId, Refusal, Txn};
+use boss_persistent::{Decision, notices, slots_of, status};
 
 /// The value that a point is to have, what it rests on, and how far the device has come.
 #[derive(Clone, Copy)]

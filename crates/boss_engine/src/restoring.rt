@@ -5,12 +5,12 @@ ghost use Rattle.boss_model.specs.Limits.{most_points};
 ghost use Rattle.boss_model.specs.Seen.{seen};
 ghost use Rattle.boss_model.specs.Sound.{IsSoundPersistent};
 ghost use Rattle.boss_engine.specs.Inside.{HasPlaces};
-ghost use Rattle.boss_lasting.specs.Lasting.{persistent_of};
+ghost use Rattle.boss_persistent.specs.Lasting.{persistent_of};
 
 use crate::machine::{Machine, TOLD_OF_A_POINT, devices_of};
-use boss_lasting::Lasting;
 use boss_marks::Marks;
 use boss_model::{Actuator, Kept, MOST_PROCESSES, NoMemory};
+use boss_persistent::Lasting;
 use std::alloc::Global;
 use std::error::Error;
 use std::fmt;

@@ -1,6 +1,6 @@
 ghost use Rattle.std.specs.Prelude.{◌≡◌, ◌+◌, ◌*◌, ◌<◌, ◌≤◌, length, vec_capacity};
 ghost use Rattle.boss_model.specs.Limits.{done_kept, most_processes};
-ghost use Rattle.boss_lasting.specs.Lasting.{IsKept};
+ghost use Rattle.boss_persistent.specs.Lasting.{IsKept};
 
 use crate::machine::Machine;
 

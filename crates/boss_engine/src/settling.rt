@@ -1,14 +1,14 @@
 ghost use Rattle.std.specs.Prelude.{◌≡◌, ℕ, ◌≤◌, false, length};
 ghost use Rattle.std.specs.List.{AllByRecursion};
 ghost use Rattle.boss_model.specs.Limits.{most_points};
-ghost use Rattle.boss_dues.specs.Playing.{IsPlayable};
+ghost use Rattle.law_due.specs.Playing.{IsPlayable};
 ghost use Rattle.boss_holdings.specs.Held.{is_touched};
-ghost use Rattle.boss_lasting.specs.Lasting.{persistent_of};
+ghost use Rattle.boss_persistent.specs.Lasting.{persistent_of};
 ghost use Rattle.boss_engine.specs.Settling.{AreCurrent, settled_by};
 
-use boss_lasting::{Lasting, target_of};
 use boss_marks::Marks;
 use boss_model::Actuator;
+use boss_persistent::{Lasting, target_of};
 
 /// Compares the touched points' targets with their commanded values, and lets those that differ want their devices to be written.
 /// The other points have their targets already. Then no point is touched.

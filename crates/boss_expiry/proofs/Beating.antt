@@ -6,14 +6,14 @@ use Rattle.boss_model.specs.declared.answer.Answer.{Answer}
 use Rattle.boss_model.specs.declared.command.Command.{Command}
 use Rattle.boss_model.specs.declared.command.Command.TheVariants.{Tick}
 use Rattle.boss_model.specs.declared.state.Actuator.{Actuator}
-use Rattle.boss_history.specs.declared.entry.Entry.{Entry}
-use Rattle.boss_history.specs.declared.entry.Entry.TheVariants.{Did}
-use Rattle.boss_history.specs.History.{deeds}
-use Rattle.boss_lanes.specs.Lanes.{of_time, lane_of}
-use Rattle.boss_lanes.specs.Parts.{AreTimed, Added}
-use Rattle.boss_lanes.specs.Waits.{paused}
-use Rattle.boss_lanes.proofs.Choices.{deeds-append}
-use Rattle.boss_lanes.proofs.Moments.{timed-front, timed-next}
+use Rattle.def_history.specs.declared.entry.Entry.{Entry}
+use Rattle.def_history.specs.declared.entry.Entry.TheVariants.{Did}
+use Rattle.def_history.specs.History.{deeds}
+use Rattle.def_lanes.specs.Lanes.{of_time, lane_of}
+use Rattle.def_lanes.specs.Parts.{AreTimed, Added}
+use Rattle.def_lanes.specs.Waits.{paused}
+use Rattle.def_lanes.proofs.Choices.{deeds-append}
+use Rattle.def_lanes.proofs.Moments.{timed-front, timed-next}
 use Rattle.boss_expiry.specs.Beats.{IsBeatOf}
 use Rattle.boss_expiry.specs.declared.end.WorkEnd.{WorkEnd}
 use Rattle.boss_expiry.specs.declared.end.WorkEnd.TheVariants.{Finished, Closed, ClockFault, Stopped, DiskFault}

@@ -2,8 +2,8 @@
 use Rattle.std.proofs.Common.{List, [], ◌∷◌, ◌++◌}
 use Rattle.boss_model.specs.declared.state.Actuator.{Actuator}
 use Rattle.boss_model.specs.State.{State}
-use Rattle.boss_history.specs.declared.entry.Entry.{Entry}
-use Rattle.boss_history.specs.History.{after_entry, run, IsEntryAt, IsLegal}
+use Rattle.def_history.specs.declared.entry.Entry.{Entry}
+use Rattle.def_history.specs.History.{after_entry, run, IsEntryAt, IsLegal}
 
 pub last_is_legal : (plant : List Actuator) (first : List Entry) (entry : Entry) (s : State) → IsLegal plant (first ++ entry ∷ []) s →
     IsEntryAt plant (run plant first s) entry

@@ -3,14 +3,14 @@ use Rattle.std.proofs.Common.{◌≡◌, Bool, ℕ, suc, ◌+◌, ◌<◌, List,
 use Rattle.boss_model.specs.declared.answer.Answer.{Answer}
 use Rattle.boss_model.specs.declared.command.Command.{Command}
 use Rattle.boss_model.specs.declared.command.Command.TheVariants.{Tick}
-use Rattle.boss_workers.specs.declared.waiter.Woke.{Woke}
-use Rattle.boss_workers.specs.declared.waiter.Woke.TheVariants.{Again, Close}
-use Rattle.boss_workers.specs.Waits.{one_pause_more, CloseCause}
-use Rattle.boss_history.specs.declared.entry.Entry.{Entry}
-use Rattle.boss_history.specs.declared.entry.Entry.TheVariants.{Did}
+use Rattle.boss_outside_server.specs.declared.waiter.Woke.{Woke}
+use Rattle.boss_outside_server.specs.declared.waiter.Woke.TheVariants.{Again, Close}
+use Rattle.boss_outside_server.specs.Waits.{one_pause_more, CloseCause}
+use Rattle.def_history.specs.declared.entry.Entry.{Entry}
+use Rattle.def_history.specs.declared.entry.Entry.TheVariants.{Did}
 use Rattle.boss_expiry.specs.declared.end.WorkEnd.{WorkEnd}
 use Rattle.boss_expiry.specs.declared.end.WorkEnd.TheVariants.{Finished, Closed, ClockFault, Stopped, DiskFault}
-use Rattle.boss_lanes.specs.Waits.{paused}
+use Rattle.def_lanes.specs.Waits.{paused}
 use Rattle.boss_expiry.specs.Ends.{mark, unused, ClockCause, EndCause, IsCut, TookTurns}
 use Rattle.boss_expiry.specs.Ticking.{ticks, moments, Expired, Ticked}
 

@@ -2,10 +2,10 @@
 use Rattle.std.specs.Prelude.{◌≡◌, ℕ, List, [], ◌∷◌, ◌++◌, length}
 use Rattle.boss_model.specs.declared.answer.Answer.{Answer}
 use Rattle.boss_model.specs.declared.command.Command.TheVariants.{Tick}
-use Rattle.boss_history.specs.declared.entry.Entry.{Entry}
-use Rattle.boss_history.specs.declared.entry.Entry.TheVariants.{Did}
+use Rattle.def_history.specs.declared.entry.Entry.{Entry}
+use Rattle.def_history.specs.declared.entry.Entry.TheVariants.{Did}
 use Rattle.boss_expiry.specs.declared.end.WorkEnd.{WorkEnd}
-use Rattle.boss_lanes.specs.Waits.{paused}
+use Rattle.def_lanes.specs.Waits.{paused}
 use Rattle.boss_expiry.specs.Ends.{mark, unused, TookTurns}
 
 -- a tick of session 0 for each turn: a moment and what was answered at it

@@ -1,13 +1,13 @@
 ghost use Rattle.std.specs.Prelude.{◌≡◌, ℕ, List};
-ghost use Rattle.boss_history.specs.declared.entry.Entry.{Entry};
-ghost use Rattle.boss_lanes.specs.Lanes.{of_time};
-ghost use Rattle.boss_lanes.specs.Parts.{Added};
+ghost use Rattle.def_history.specs.declared.entry.Entry.{Entry};
+ghost use Rattle.def_lanes.specs.Lanes.{of_time};
+ghost use Rattle.def_lanes.specs.Parts.{Added};
 ghost use Rattle.boss_model.specs.declared.state.Actuator.{Actuator};
 ghost use Rattle.boss_expiry.specs.Beats.{IsBeatOf};
 ghost use Rattle.boss_expiry.specs.declared.end.WorkEnd.{WorkEnd};
 ghost use Rattle.boss_expiry.specs.Ticking.{Expired};
 
-use boss_workers::{Clock, Waiter};
+use boss_outside_server::{Clock, Waiter};
 
 /// What the worker that lets time pass added to the history is all in the lane of time: a tick for each pause, at moments that
 /// its clock gave. Its waiter has not paused before.

@@ -4,15 +4,15 @@ ghost use Rattle.boss_model.specs.Machine.{step};
 ghost use Rattle.boss_model.specs.State.{State};
 ghost use Rattle.boss_model.specs.Tellable.{IsTellable};
 ghost use Rattle.boss_lock.specs.Places.{entries_at};
-ghost use Rattle.boss_history.specs.declared.entry.Entry.TheVariants.{Did};
-ghost use Rattle.boss_history.specs.History.{MayCall};
-ghost use Rattle.boss_history.specs.Made.{is_growing};
+ghost use Rattle.def_history.specs.declared.entry.Entry.TheVariants.{Did};
+ghost use Rattle.def_history.specs.History.{MayCall};
+ghost use Rattle.def_history.specs.Made.{is_growing};
 ghost use Rattle.boss_expiry.specs.Ends.{IsCut};
 
 use crate::WorkEnd;
-use boss_history::Outcome;
 use boss_model::{Answer, Command, SessionId};
 use boss_shared::Desk;
+use def_history::Outcome;
 
 /// The session of the workers that serve no connection.
 const WORKERS: SessionId = SessionId(0);

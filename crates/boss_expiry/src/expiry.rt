@@ -5,8 +5,8 @@ ghost use Rattle.boss_expiry.specs.Ends.{ClockCause, EndCause};
 
 use crate::{WorkEnd, work};
 use boss_model::Command;
+use boss_outside_server::{Clock, Waiter, Woke};
 use boss_shared::Desk;
-use boss_workers::{Clock, Waiter, Woke};
 
 /// How long a pause between two ticks is, in milliseconds.
 const PAUSE: u64 = 100;

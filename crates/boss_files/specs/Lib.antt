@@ -1,2 +1,4 @@
 pub mod Files
 pub mod Shelf
+pub mod Names
+pub mod Stores

@@ -2,7 +2,7 @@
 use Rattle.std.proofs.Common.{◌≡◌, ℕ, zero, suc, ◌+◌, List, [], ◌∷◌, ◌++◌, length, get_or, ◌<◌, Bool, true, false, refl, ap, sym, ◌∙◌, append_assoc, append-nil, arith}
 use Rattle.std.specs.List.{filter}
 use Rattle.std.proofs.lemmas.List.{length-append}
-use Rattle.boss_time.proofs.Filters.{filter-append}
+use Rattle.law_time.proofs.Filters.{filter-append}
 use Rattle.boss_slots.specs.Slots.{gather}
 
 module _ {Y : Type 0} where

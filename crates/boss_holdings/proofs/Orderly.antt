@@ -13,9 +13,9 @@ use Rattle.boss_model.specs.declared.state.Pending.{Pending}
 use Rattle.boss_model.specs.Ends.{shortened, shortened_if}
 use Rattle.boss_model.specs.Reversions.{courses, end_of, reversion_of}
 use Rattle.boss_model.specs.Time.{live, under_way}
-use Rattle.boss_books.specs.Books.{Telling}
-use Rattle.boss_books.specs.Gathered.{end_tellings, ended_with}
-use Rattle.boss_dues.specs.Playing.{IsEndable}
+use Rattle.boss_booking.specs.Books.{Telling}
+use Rattle.boss_booking.specs.Gathered.{end_tellings, ended_with}
+use Rattle.law_due.specs.Playing.{IsEndable}
 use Rattle.boss_slots.specs.Slots.{all, keep}
 use Rattle.boss_slots.specs.Tables.{IsKept, IsMoved, IsTimed, lease_at, pending_at}
 use Rattle.boss_slots.specs.Ending.{IsOrderly, dues, left_by, outstays, silent, told_by}

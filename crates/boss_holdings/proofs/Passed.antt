@@ -11,10 +11,10 @@ use Rattle.boss_model.specs.declared.state.Lease.{Lease}
 use Rattle.boss_model.specs.declared.state.Pending.{Pending}
 use Rattle.boss_model.specs.Happenings.{reverted}
 use Rattle.boss_model.specs.Reversions.{end_of, reversion_of}
-use Rattle.boss_books.specs.Books.{Telling}
-use Rattle.boss_dues.specs.Due.{last_of_lease}
-use Rattle.boss_books.specs.Gathered.{lease_tellings, pending_tellings, plain}
-use Rattle.boss_dues.specs.Playing.{IsEndable, IsPlayable, last_turn}
+use Rattle.boss_booking.specs.Books.{Telling}
+use Rattle.law_due.specs.Due.{last_of_lease}
+use Rattle.boss_booking.specs.Gathered.{lease_tellings, pending_tellings, plain}
+use Rattle.law_due.specs.Playing.{IsEndable, IsPlayable, last_turn}
 use Rattle.boss_slots.specs.Slots.{all, keep}
 use Rattle.boss_slots.specs.Tables.{IsAwaited, IsBy, IsKept, IsMoved, IsTimed, lease_at, number, pending_at}
 use Rattle.boss_slots.specs.Ending.{AreBy, IsAllBy, IsLeaseBy, IsPassable, IsPassing, IsPendingBy, dues, is_due, left_at, outlives}

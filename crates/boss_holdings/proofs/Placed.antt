@@ -12,11 +12,11 @@ use Rattle.boss_model.specs.Order.{comes_before}
 use Rattle.boss_model.specs.Reversions.{end_of, turns, reversion_of, courses}
 use Rattle.boss_model.specs.Sound.{Rising}
 use Rattle.boss_model.specs.State.{lease_slot, pending_slot}
-use Rattle.boss_soundness.proofs.SubmitSound.{apart-turn, Rising-Pairs, Pairs-unordered, Pairs-cross}
-use Rattle.boss_time.proofs.Filters.{each-always, each-unmapped, Apart}
-use Rattle.boss_time.proofs.Orders.{each-map, each-both, in_order-Rising}
-use Rattle.boss_time.proofs.Slots.{any-append}
-use Rattle.boss_time.proofs.TickSound.{Pairs}
+use Rattle.law_soundness.proofs.SubmitSound.{apart-turn, Rising-Pairs, Pairs-unordered, Pairs-cross}
+use Rattle.law_time.proofs.Filters.{each-always, each-unmapped, Apart}
+use Rattle.law_time.proofs.Orders.{each-map, each-both, in_order-Rising}
+use Rattle.law_time.proofs.Slots.{any-append}
+use Rattle.law_time.proofs.TickSound.{Pairs}
 use Rattle.boss_slots.specs.Ending.{AreBy}
 use Rattle.boss_holdings.specs.Held.{AreApart, is_at}
 use Rattle.boss_holdings.specs.Putting.{ArePlacedApart, in_place}

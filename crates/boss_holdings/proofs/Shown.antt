@@ -12,8 +12,8 @@ use Rattle.boss_model.specs.Order.{least}
 use Rattle.boss_model.specs.Submit.{cut, is_taken, superseded}
 use Rattle.boss_model.specs.Reversions.{reversion_of}
 use Rattle.boss_model.specs.Target.{in_force, playing, value_of}
-use Rattle.boss_time.proofs.Filters.{few-filter}
-use Rattle.boss_books.specs.Gathered.{end_tellings, ended_with, plain}
+use Rattle.law_time.proofs.Filters.{few-filter}
+use Rattle.boss_booking.specs.Gathered.{end_tellings, ended_with, plain}
 use Rattle.boss_model.specs.Ends.{shortened}
 use Rattle.boss_slots.specs.Slots.{all}
 use Rattle.boss_holdings.specs.Held.{is_at}

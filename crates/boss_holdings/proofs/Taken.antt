@@ -13,10 +13,10 @@ use Rattle.boss_model.specs.declared.state.Pending.{Pending}
 use Rattle.boss_model.specs.Order.{in_order}
 use Rattle.boss_model.specs.State.{lease_slot}
 use Rattle.boss_model.specs.Submit.{cut, is_taken, superseded}
-use Rattle.boss_time.proofs.Orders.{each-both, each-map}
-use Rattle.boss_time.proofs.Slots.{any-append}
-use Rattle.boss_books.specs.Books.{Telling}
-use Rattle.boss_books.specs.Gathered.{plain}
+use Rattle.law_time.proofs.Orders.{each-both, each-map}
+use Rattle.law_time.proofs.Slots.{any-append}
+use Rattle.boss_booking.specs.Books.{Telling}
+use Rattle.boss_booking.specs.Gathered.{plain}
 use Rattle.boss_slots.specs.Slots.{all, keep}
 use Rattle.boss_holdings.specs.Held.{AreApart, is_at}
 use Rattle.boss_slots.specs.Tables.{IsKept, IsMoved, IsTimed, lease_at, pending_at}

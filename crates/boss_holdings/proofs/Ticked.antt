@@ -17,11 +17,11 @@ use Rattle.boss_model.specs.Happenings.{reverted}
 use Rattle.boss_model.specs.declared.command.Step.{Step}
 use Rattle.boss_model.specs.declared.notice.Cause.TheVariants as cause
 use Rattle.std.proofs.lemmas.List.Sorted.{IsPermutation-sym}
-use Rattle.boss_time.proofs.Orders.{each-filter, each-map, each-passed, least-of}
-use Rattle.boss_books.specs.Books.{Telling}
-use Rattle.boss_dues.specs.Due.{last_of_lease, last_of_pending}
-use Rattle.boss_books.specs.Gathered.{ended_with, lease_tellings, pending_tellings, plain}
-use Rattle.boss_dues.specs.Playing.{IsEndable, IsPlayable}
+use Rattle.law_time.proofs.Orders.{each-filter, each-map, each-passed, least-of}
+use Rattle.boss_booking.specs.Books.{Telling}
+use Rattle.law_due.specs.Due.{last_of_lease, last_of_pending}
+use Rattle.boss_booking.specs.Gathered.{ended_with, lease_tellings, pending_tellings, plain}
+use Rattle.law_due.specs.Playing.{IsEndable, IsPlayable}
 use Rattle.boss_slots.specs.Slots.{all, keep}
 use Rattle.boss_slots.specs.Tables.{IsAwaited, IsBy, IsKept, IsTimed, lease_at, number, pending_at}
 use Rattle.boss_slots.specs.Ending.{IsAllBy, IsLeaseBy, IsPassable, IsPassing, IsPendingBy, dues, is_due, left_at, outlives}

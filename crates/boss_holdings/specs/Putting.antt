@@ -3,7 +3,7 @@ use Rattle.std.specs.Prelude.{◌≡◌, ℕ, ◌==◌, ◌<◌, ◌≤◌, ◌&
 use Rattle.std.specs.List.{list_any}
 use Rattle.boss_model.specs.declared.state.Pending.{Pending}
 use Rattle.boss_model.specs.Reversions.{end_of}
-use Rattle.boss_dues.specs.Playing.{IsPlayable}
+use Rattle.law_due.specs.Playing.{IsPlayable}
 
 abbrev pub in_place : ℕ → ℕ → Pending → Bool
 in_place point priority reversion = (reversion.point == point) && (reversion.priority == priority)

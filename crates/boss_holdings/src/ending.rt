@@ -6,9 +6,9 @@ ghost use Rattle.boss_model.specs.declared.state.Lease.{Lease};
 ghost use Rattle.boss_model.specs.Ends.{is_owned_by, shortened};
 ghost use Rattle.boss_model.specs.Limits.{last_moment};
 ghost use Rattle.boss_model.specs.Reversions.{end_of, reversion_of};
-ghost use Rattle.boss_books.specs.Books.{Telling as Told};
-ghost use Rattle.boss_books.specs.Gathered.{ended_with};
-ghost use Rattle.boss_dues.specs.Playing.{IsEndable};
+ghost use Rattle.boss_booking.specs.Books.{Telling as Told};
+ghost use Rattle.boss_booking.specs.Gathered.{ended_with};
+ghost use Rattle.law_due.specs.Playing.{IsEndable};
 ghost use Rattle.boss_slots.specs.Ending.{IsOrderly, told_by};
 ghost use Rattle.boss_holdings.specs.Held.{in_slots};
 ghost use Rattle.boss_slots.specs.Slots.{keep};
@@ -17,7 +17,7 @@ ghost use Rattle.boss_slots.specs.declared.tables.Tables.{Tables};
 
 use crate::passing::{reversion_of, start_reversion};
 use crate::telling::ended;
-use boss_books::Telling;
+use boss_booking::Telling;
 use boss_model::{Cause, PointId, Priority, ProcId};
 use boss_slots::{Flags, Place, Tables, lease_key, take_lease};
 

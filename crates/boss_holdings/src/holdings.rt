@@ -12,9 +12,9 @@ ghost use Rattle.boss_model.specs.State.{lease_slot, pending_slot};
 ghost use Rattle.boss_model.specs.Submit.{cut, is_taken, superseded};
 ghost use Rattle.boss_model.specs.Target.{in_force, playing};
 ghost use Rattle.boss_model.specs.Time.{live, under_way};
-ghost use Rattle.boss_dues.specs.Due.{last_of_lease, last_of_pending};
-ghost use Rattle.boss_books.specs.Gathered.{end_tellings, lease_tellings, pending_tellings, plain};
-ghost use Rattle.boss_dues.specs.Playing.{IsEndable, IsPlayable};
+ghost use Rattle.law_due.specs.Due.{last_of_lease, last_of_pending};
+ghost use Rattle.boss_booking.specs.Gathered.{end_tellings, lease_tellings, pending_tellings, plain};
+ghost use Rattle.law_due.specs.Playing.{IsEndable, IsPlayable};
 ghost use Rattle.boss_slots.specs.Flags.{IsFirst};
 ghost use Rattle.boss_holdings.specs.Held.{AreApart, in_slots, is_touched, shown};
 ghost use Rattle.boss_holdings.specs.Putting.{IsUnderWay};
@@ -25,7 +25,7 @@ use crate::listing::{all_leases, all_pending};
 use crate::passing::pass_to;
 use crate::putting::put_reversions;
 use crate::taking::{clear_slots, put_leases};
-use boss_books::Telling;
+use boss_booking::Telling;
 use boss_model::{Cause, Lease, NoMemory, Pending, PointId, Priority, ProcId, Txn};
 use boss_slots::{
     Flags, Place, Tables, empty_tables, extend_slot, force_on, lease_in, pending_in, playing_on,

@@ -7,15 +7,15 @@ ghost use Rattle.boss_model.specs.declared.state.Lease.{Lease};
 ghost use Rattle.boss_model.specs.declared.state.Pending.{Pending};
 ghost use Rattle.boss_model.specs.Limits.{last_moment};
 ghost use Rattle.boss_model.specs.Reversions.{end_of, reversion_of};
-ghost use Rattle.boss_books.specs.Books.{Telling as Told};
-ghost use Rattle.boss_dues.specs.Playing.{IsPlayable};
+ghost use Rattle.boss_booking.specs.Books.{Telling as Told};
+ghost use Rattle.law_due.specs.Playing.{IsPlayable};
 ghost use Rattle.boss_slots.specs.Ending.{AreBy, IsPassable, IsPassing, is_due};
 ghost use Rattle.boss_slots.specs.Slots.{keep};
 ghost use Rattle.boss_slots.specs.Tables.{IsAwaited, IsBy, IsKept, IsMoved, IsTimed, entry_in, number};
 ghost use Rattle.boss_slots.specs.declared.tables.Tables.{Tables};
 
 use crate::telling::{last_of_lease, tell_lease, tell_pending};
-use boss_books::Telling;
+use boss_booking::Telling;
 use boss_model::{Lease, Pending};
 use boss_reversion::{last_turn, next_boundary};
 use boss_slots::{

@@ -10,7 +10,7 @@ ghost use Rattle.boss_slots.specs.Tables.{IsKept, IsMoved, IsTimed, entry_in, le
 
 use crate::telling::{cut, superseded};
 use boss_array::Entry;
-use boss_books::Telling;
+use boss_booking::Telling;
 use boss_model::{Lease, PointId, Priority, Txn};
 use boss_slots::{Flags, Tables, entry_at, pending_of, put_lease, take_lease, take_pending};
 

@@ -4,11 +4,11 @@ ghost use Rattle.std.specs.Prelude.{◌≡◌, ◌≤◌, ◌+◌, ◌++◌, len
 ghost use Rattle.boss_model.specs.Ends.{shortened};
 ghost use Rattle.boss_model.specs.Reversions.{reversion_of};
 ghost use Rattle.boss_model.specs.Submit.{cut, superseded};
-ghost use Rattle.boss_dues.specs.Due.{last_of_lease};
-ghost use Rattle.boss_books.specs.Gathered.{ended_with, lease_tellings, pending_tellings, plain};
-ghost use Rattle.boss_dues.specs.Playing.{IsEndable, IsPlayable};
+ghost use Rattle.law_due.specs.Due.{last_of_lease};
+ghost use Rattle.boss_booking.specs.Gathered.{ended_with, lease_tellings, pending_tellings, plain};
+ghost use Rattle.law_due.specs.Playing.{IsEndable, IsPlayable};
 
-use boss_books::{Happening, Telling};
+use boss_booking::{Happening, Telling};
 use boss_model::{Cause, Lease, Pending, PointId, ProcId, Txn, What};
 use boss_reversion::{end_of, last_turn, over};
 

@@ -2,7 +2,7 @@
 use Rattle.std.proofs.Common.{◌≡◌, ℕ, ◌+◌, List, [], ◌∷◌, ◌++◌, length, take, drop, set, refl, sym, ap, ◌∙◌, append_assoc, length-append, length-drop, arith}
 use Rattle.std.proofs.lemmas.List.{take_at, drop_at, set_at}
 use Rattle.std.specs.Int.{w32, to_be_bytes}
-use Rattle.boss_logs.specs.Log.{framed, spelled}
+use Rattle.def_log.specs.Log.{framed, spelled}
 
 -- a list of one
 pub lone : (l : List ℕ) → length l ≡ 1 → (x : ℕ) × (l ≡ x ∷ [])

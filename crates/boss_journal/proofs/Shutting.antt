@@ -8,7 +8,7 @@ use Rattle.boss_disk.specs.Story.{Story}
 use Rattle.boss_disk.specs.Window.{Window, settled, overwritten}
 use Rattle.boss_disk.proofs.Runs.{stands, write_leaves}
 use Rattle.boss_disk.proofs.Torn.{synced_image, write_over, overwritten_parts}
-use Rattle.boss_logs.specs.Log.{spelled}
+use Rattle.def_log.specs.Log.{spelled}
 use Rattle.boss_journal.specs.Places.{IsAtEnd, IsAtRest}
 use Rattle.boss_journal.specs.Reads.{Repairs}
 use Rattle.boss_journal.proofs.Appends.{at_gate, from_gate}

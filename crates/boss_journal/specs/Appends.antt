@@ -3,7 +3,7 @@ use Rattle.std.specs.Prelude.{◌≡◌, ◌≢◌, ℕ, ◌⊎◌, Bool, true, 
 use Rattle.boss_outside.specs.Counts.{Rose}
 use Rattle.boss_journal.specs.declared.appending.Appended.{Appended}
 use Rattle.boss_journal.specs.declared.appending.Appended.TheVariants.{Done, DiskFault, Stopped}
-use Rattle.boss_logs.specs.Log.{framed, spelled}
+use Rattle.def_log.specs.Log.{framed, spelled}
 
 -- a front, these records, and a gate that is 0
 pub record IsShutLog (front : List ℕ) (records : List (List ℕ)) (bytes : List ℕ) : Type 0 where

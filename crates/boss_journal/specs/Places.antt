@@ -1,7 +1,7 @@
 -- Where a journal stands in the bytes of its disk: a front, records behind open gates, and the gate that it is at.
 use Rattle.std.specs.Prelude.{◌≡◌, ℕ, List, ◌∷◌, ◌++◌, length}
 use Rattle.boss_disk.specs.Window.{Window, settled}
-use Rattle.boss_logs.specs.Log.{spelled, AreRecords, IsLog}
+use Rattle.def_log.specs.Log.{spelled, AreRecords, IsLog}
 
 -- these records were passed, and a gate stands at the place
 pub record IsAt (front : List ℕ) (records : List (List ℕ)) (place : ℕ) (reads : List ℕ) : Type 0 where

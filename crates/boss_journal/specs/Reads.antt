@@ -4,7 +4,7 @@ use Rattle.boss_outside.specs.Counts.{Rose}
 use Rattle.boss_journal.specs.declared.reading.NextRecord.{NextRecord}
 use Rattle.boss_journal.specs.declared.reading.NextRecord.TheVariants.{Bytes, Finish, Damaged, DiskFault}
 use Rattle.boss_journal.specs.Places.{IsAt, IsAtEnd}
-use Rattle.boss_logs.specs.Log.{spelled, IsDamaged}
+use Rattle.def_log.specs.Log.{spelled, IsDamaged}
 
 -- The bytes of the next record, where there is one; else that the log ends here, or that it is damaged.
 abbrev pub Tells : List ℕ → List (List ℕ) → ℕ → List ℕ → List ℕ → NextRecord → Type 0

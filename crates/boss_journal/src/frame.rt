@@ -2,7 +2,7 @@ ghost use Rattle.std.specs.Prelude.{◌≡◌, ◌+◌, ◌≤◌, ◌^◌, ◌<
 ghost use Rattle.boss_outside.specs.Counts.{HasCause};
 ghost use Rattle.boss_disk.specs.Runs.{WritesThrough};
 ghost use Rattle.boss_disk.specs.Window.{overwritten};
-ghost use Rattle.boss_logs.specs.Log.{framed};
+ghost use Rattle.def_log.specs.Log.{framed};
 
 use boss_disk::{Disk, write_through};
 use boss_outside::Failed;

@@ -6,7 +6,7 @@ use Rattle.std.specs.Prelude.{IsUtf8}
 use Rattle.std.specs.Str.{is_utf8}
 use Rattle.serde_json.specs.Data.{Data}
 use Rattle.serde_json.specs.Read.{read}
-use Rattle.boss_wire.specs.Requests.{value_in}
+use Rattle.def_wire.specs.Requests.{value_in}
 
 pub value_in-text : (line : List ℕ) (d : Data) → IsUtf8 line → read line ≡ Some d → value_in line ≡ Some d
 value_in-text line d text is = rw (is_utf8-from_IsUtf8 line text, is)

@@ -10,7 +10,7 @@ use Rattle.serde_json.specs.Find.{as_i64, as_str}
 use Rattle.serde_json.specs.Read.{number_of}
 use Rattle.serde_json.specs.View as plain
 use Rattle.serde_json.specs.declared.value.Value.{Value}
-use Rattle.boss_wire.specs.Keys.{list_of, whole}
+use Rattle.def_wire.specs.Keys.{list_of, whole}
 use Rattle.boss_json.specs.Trees.{number_data, data_of, items_data, view}
 
 list_of-items_of : (ds : List Data) → list_of (plain.items_of ds) ≡ ds

@@ -1,7 +1,7 @@
 -- What a line was read as.
 use Rattle.std.specs.Prelude.{◌≡◌, ℕ, List, Some, None, Result, Ok, Err}
 use Rattle.serde_json.specs.Data.{Data}
-use Rattle.boss_wire.specs.Requests.{value_in}
+use Rattle.def_wire.specs.Requests.{value_in}
 use Rattle.boss_json.specs.declared.unread.Unread.{Unread}
 use Rattle.boss_json.specs.declared.unread.Unread.TheVariants.{Malformed, NoMemory}
 

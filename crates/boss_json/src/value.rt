@@ -1,7 +1,7 @@
 ghost use Rattle.std.specs.Prelude.{◌≡◌, map, option_copied, option_map};
 ghost use Rattle.serde_json.specs.Data.{Data};
 ghost use Rattle.serde_json.specs.Find.{as_str, get};
-ghost use Rattle.boss_wire.specs.Keys.{list, whole};
+ghost use Rattle.def_wire.specs.Keys.{list, whole};
 
 /// A value of JSON, as far as requests look into one. What it means is the value that serde_json reads.
 pub trait JsonValue: Sized {

@@ -11,15 +11,15 @@ use Rattle.boss_files.specs.declared.files.Files as files
 use Rattle.boss_outside.specs.declared.sink.Sink as sink
 use Rattle.boss_outside.specs.declared.source.Source as source
 use Rattle.boss_points.specs.declared.CatalogueRefusal.{CatalogueRefusal}
-use Rattle.boss_finding.specs.declared.refusal.DurableRefusal.{DurableRefusal}
-use Rattle.boss_history.specs.History.{is_broken}
+use Rattle.boss_pair_find.specs.declared.refusal.DurableRefusal.{DurableRefusal}
+use Rattle.def_history.specs.History.{is_broken}
 use Rattle.boss_scripts.specs.declared.broken.Broken.{Broken}
 use Rattle.boss_scripts.specs.declared.broken.Broken.TheVariants.{WriteFault, NoMemory}
 use Rattle.boss_scripts.specs.Causes.{ReadCause, WriteCause}
 use Rattle.boss_scripts.specs.Ends.{EndsOver, has_too_long}
 use Rattle.boss_scripts.specs.Outside.{Outside}
 use Rattle.boss_scripts.specs.Scripts.{RanScript}
-use Rattle.boss_stores.specs.Names.{second_name}
+use Rattle.boss_files.specs.Names.{second_name}
 use Rattle.boss_manager.specs.Checks.{CheckedKept, ChecksJournal, ChecksMemory, KeepsFiles, ToldNew}
 use Rattle.boss_manager.specs.Ends.{status_of}
 use Rattle.boss_manager.specs.Jobs.{HadNoCatalogue, RefusedCatalogue, TellsLine, World}

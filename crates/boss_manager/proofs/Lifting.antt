@@ -11,9 +11,9 @@ use Rattle.boss_outside.specs.declared.source.Source as source
 use Rattle.boss_opening.specs.Checks.{ChecksPair}
 use Rattle.boss_opening.specs.Opens.{digest_of, OpenedAt, OpenRefuses}
 use Rattle.boss_opening.specs.UnderWay.{MayComeTo}
-use Rattle.boss_pairs.specs.Pairs.{OpensCleanly}
-use Rattle.boss_two_disks.specs.Images.{OpensToOne}
-use Rattle.boss_stores.specs.Names.{second_name}
+use Rattle.def_disk_pair.specs.Pairs.{OpensCleanly}
+use Rattle.boss_disk_pair.specs.Images.{OpensToOne}
+use Rattle.boss_files.specs.Names.{second_name}
 use Rattle.boss_manager.specs.Journals.{Beside, ChecksOver, FoundJournal, HadNoJournal, HoldsAfter, in_files, on_disks, Pair, RanJournal, RefusedJournal, RunsOver, StillStands}
 
 -- something said of two lists is said of the same two

@@ -1,6 +1,6 @@
 -- What is told of a load whose line could not be written.
 use Rattle.std.proofs.Common.{◌≡◌, ℕ, inl, inr, refl, subst, Err}
-use Rattle.boss_loading.specs.Load.{TellsLoad}
+use Rattle.boss_load_run.specs.Load.{TellsLoad}
 use Rattle.boss_manager.specs.LoadJobs.{TellsSummary}
 use Rattle.boss_outside.specs.declared.sink.Sink as sink
 use Rattle.boss_scripts.specs.declared.broken.Broken.{Broken}

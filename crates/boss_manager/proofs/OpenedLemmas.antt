@@ -14,16 +14,16 @@ use Rattle.boss_outside.specs.declared.source.Source as source
 use Rattle.boss_disk.specs.declared.disk.Disk as disk
 use Rattle.boss_durable.specs.declared.durable.Durable.{Durable}
 use Rattle.boss_durable.specs.Words.{faults, keeps, lasting, leaves}
-use Rattle.boss_history.specs.declared.entry.Entry.{Entry}
-use Rattle.boss_history.specs.History.{events, is_broken, run, run_tried}
-use Rattle.boss_history.proofs.Going.{tried_whole}
+use Rattle.def_history.specs.declared.entry.Entry.{Entry}
+use Rattle.def_history.specs.History.{events, is_broken, run, run_tried}
+use Rattle.def_history.proofs.Going.{tried_whole}
 use Rattle.boss_opening.specs.Opens.{digest_of, OpenedAt}
-use Rattle.boss_pairs.specs.Pairs.{OpensCleanly}
+use Rattle.def_disk_pair.specs.Pairs.{OpensCleanly}
 use Rattle.boss_shared.specs.Keeping.{shortened}
 use Rattle.boss_shared.proofs.Holding.{whole_shortened}
-use Rattle.boss_two_disks.specs.Causes.{counts_of}
-use Rattle.boss_two_disks.specs.Images.{OpensTo, OpensToOne}
-use Rattle.boss_two_disks.specs.Rests.{counted}
+use Rattle.boss_disk_pair.specs.Causes.{counts_of}
+use Rattle.boss_disk_pair.specs.Images.{OpensTo, OpensToOne}
+use Rattle.boss_disk_pair.specs.Rests.{counted}
 use Rattle.boss_manager.specs.Journals.{Beside, HoldsAfter, on_disks, RanJournal}
 use Rattle.boss_manager.specs.Openings.{RunsFrom}
 use Rattle.boss_manager.proofs.Refusals.{both}

@@ -3,13 +3,13 @@ use Rattle.std.proofs.Common.{◌≡◌, ◌⊎◌, inl, inr, ℕ, ◌+◌, Resu
 use Rattle.boss_model.specs.Catalogue.{Catalogue, actuators}
 use Rattle.boss_outside.specs.Counts.{Rose}
 use Rattle.boss_outside.specs.declared.sink.Sink as sink
-use Rattle.boss_finding.specs.declared.refusal.DurableRefusal.{DurableRefusal}
-use Rattle.boss_finding.specs.declared.refusal.DurableRefusal.TheVariants.{NotAJournal, Version, Catalogue as OtherCatalogue, Damaged, DiskFault, NoMemory}
-use Rattle.boss_finding.specs.Refusals.{IsOfBytes, PairCause}
+use Rattle.boss_pair_find.specs.declared.refusal.DurableRefusal.{DurableRefusal}
+use Rattle.boss_pair_find.specs.declared.refusal.DurableRefusal.TheVariants.{NotAJournal, Version, Catalogue as OtherCatalogue, Damaged, DiskFault, NoMemory}
+use Rattle.boss_pair_find.specs.Refusals.{IsOfBytes, PairCause}
 use Rattle.boss_opening.specs.declared.checking.Checked.{Checked}
 use Rattle.boss_opening.specs.Checks.{CheckCause, ChecksPair}
 use Rattle.boss_opening.specs.Opens.{digest_of, OpenRefuses}
-use Rattle.boss_two_disks.specs.Causes.{Counts, OneRose}
+use Rattle.boss_disk_pair.specs.Causes.{Counts, OneRose}
 use Rattle.boss_manager.specs.Journals.{ChecksOver, HadNoJournal, HoldSame, Pair, RefusedJournal}
 use Rattle.boss_manager.specs.Openings.{TellsFound, TellsJournal}
 

@@ -1,17 +1,17 @@
 -- A journal that opens cleanly is opened at what it opens to.
 use Rattle.std.proofs.Common.{◌≡◌, ℕ, ◌+◌, ◌<◌, min, List, [], length, refl, ap, ◌∙◌, arith}
-use Rattle.boss_logs.specs.InForce.{InForce, Foreign, Neither, First, Second}
-use Rattle.boss_logs.specs.Kinds.{kind_of, in_force}
+use Rattle.def_log.specs.InForce.{InForce, Foreign, Neither, First, Second}
+use Rattle.def_log.specs.Kinds.{kind_of, in_force}
 use Rattle.boss_model.specs.declared.event.Event.{Event}
 use Rattle.boss_model.specs.declared.state.Actuator.{Actuator}
 use Rattle.boss_model.specs.Limits.{last_number}
 use Rattle.boss_model.specs.Settle.{opened}
 use Rattle.boss_model.specs.State.{Persistent, State, first_persistent}
 use Rattle.boss_opening.specs.Opens.{OpenedAt}
-use Rattle.boss_pairs.specs.Contents.{joined, HoldsCleanly}
-use Rattle.boss_pairs.specs.Pairs.{HasEvents, IsNew, OfThatInForce, OpensCleanly}
-use Rattle.boss_pairs.proofs.Disks.{clean_opens, opens_to_one, stands_for_one}
-use Rattle.boss_two_disks.specs.Images.{OpensTo}
+use Rattle.def_disk_pair.specs.Contents.{joined, HoldsCleanly}
+use Rattle.def_disk_pair.specs.Pairs.{HasEvents, IsNew, OfThatInForce, OpensCleanly}
+use Rattle.def_disk_pair.proofs.Disks.{clean_opens, opens_to_one, stands_for_one}
+use Rattle.boss_disk_pair.specs.Images.{OpensTo}
 
 module _ (plant : List Actuator) (digest : List ℕ) (d : Persistent) (count : ℕ) (first second : List ℕ) where
   -- what stands on a clean pair has as many events

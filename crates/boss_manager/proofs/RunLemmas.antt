@@ -6,10 +6,10 @@ use Rattle.boss_model.specs.Lines.{lines}
 use Rattle.boss_model.specs.declared.state.Actuator.{Actuator}
 use Rattle.boss_model.specs.State.{Persistent}
 use Rattle.boss_outside.specs.Counts.{Rose}
-use Rattle.boss_pairs.specs.Pairs.{OpensCleanly}
-use Rattle.boss_two_disks.specs.Images.{OpensToOne}
-use Rattle.boss_history.specs.declared.entry.Entry.{Entry}
-use Rattle.boss_history.specs.History.{is_broken}
+use Rattle.def_disk_pair.specs.Pairs.{OpensCleanly}
+use Rattle.boss_disk_pair.specs.Images.{OpensToOne}
+use Rattle.def_history.specs.declared.entry.Entry.{Entry}
+use Rattle.def_history.specs.History.{is_broken}
 use Rattle.boss_shared.specs.declared.keeper.Keeper as keeper
 use Rattle.boss_scripts.specs.declared.broken.Broken.{Broken}
 use Rattle.boss_scripts.specs.Ends.{CarriesOut, EndsOver, LeavesOff}

@@ -8,15 +8,15 @@ use Rattle.boss_outside.specs.declared.actuators.Actuators as actuators_of
 use Rattle.boss_outside.specs.declared.sink.Sink as sink
 use Rattle.boss_outside.specs.declared.source.Source as source
 use Rattle.boss_files.specs.declared.files.Files as files
-use Rattle.boss_workers.specs.declared.clock.Clock as clock
-use Rattle.boss_workers.specs.declared.host.Host as host
-use Rattle.boss_workers.specs.declared.spawner.Spawner as spawner
-use Rattle.boss_workers.specs.declared.waiter.Waiter as waiter
-use Rattle.boss_finding.specs.declared.refusal.DurableRefusal.{DurableRefusal}
-use Rattle.boss_history.specs.declared.entry.Entry.{Entry}
-use Rattle.boss_history.specs.History.{is_broken}
-use Rattle.boss_serving.specs.Together.{RoseWhere}
-use Rattle.boss_stores.specs.Names.{second_name}
+use Rattle.boss_outside_server.specs.declared.clock.Clock as clock
+use Rattle.boss_outside_server.specs.declared.host.Host as host
+use Rattle.boss_outside_server.specs.declared.spawner.Spawner as spawner
+use Rattle.boss_outside_server.specs.declared.waiter.Waiter as waiter
+use Rattle.boss_pair_find.specs.declared.refusal.DurableRefusal.{DurableRefusal}
+use Rattle.def_history.specs.declared.entry.Entry.{Entry}
+use Rattle.def_history.specs.History.{is_broken}
+use Rattle.boss_server.specs.Together.{RoseWhere}
+use Rattle.boss_files.specs.Names.{second_name}
 use Rattle.boss_manager.specs.Journals.{AsksFront, HadNoJournal, in_files, IsRefused, Pair, RefusedJournal}
 use Rattle.boss_manager.specs.Programs.{usable}
 use Rattle.boss_manager.specs.ServeJobs.{DoesServe, EndsBy, Faults, faults_at, NoneRose, outside_at, ServedCatalogue, ServedFiles, ServerWorld, ServesInMemory, ServesNone}

@@ -5,10 +5,10 @@ use Rattle.boss_model.specs.State.{State}
 use Rattle.boss_outside.specs.declared.actuators.Actuators as actuators_of
 use Rattle.boss_outside.specs.declared.sink.Sink as sink
 use Rattle.boss_outside.specs.declared.source.Source as source
-use Rattle.boss_workers.specs.declared.clock.Clock as clock
-use Rattle.boss_workers.specs.declared.host.Host as host
-use Rattle.boss_workers.specs.declared.spawner.Spawner as spawner
-use Rattle.boss_workers.specs.declared.waiter.Waiter as waiter
+use Rattle.boss_outside_server.specs.declared.clock.Clock as clock
+use Rattle.boss_outside_server.specs.declared.host.Host as host
+use Rattle.boss_outside_server.specs.declared.spawner.Spawner as spawner
+use Rattle.boss_outside_server.specs.declared.waiter.Waiter as waiter
 use Rattle.boss_opening.specs.Opens.{digest_of, OpenedAt}
 use Rattle.boss_manager.specs.Journals.{HoldsAfter, Pair}
 use Rattle.boss_manager.specs.Serving.{Outside, Served, ServedFrom, ServedJournal, ServesOver}

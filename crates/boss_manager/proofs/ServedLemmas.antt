@@ -9,17 +9,17 @@ use Rattle.boss_model.specs.State.{Persistent, State}
 use Rattle.boss_outside.specs.declared.actuators.Actuators as actuators_of
 use Rattle.boss_outside.specs.declared.sink.Sink as sink
 use Rattle.boss_outside.specs.declared.source.Source as source
-use Rattle.boss_workers.specs.declared.clock.Clock as clock
-use Rattle.boss_workers.specs.declared.host.Host as host
-use Rattle.boss_workers.specs.declared.spawner.Spawner as spawner
-use Rattle.boss_workers.specs.declared.waiter.Waiter as waiter
-use Rattle.boss_history.specs.declared.entry.Entry.{Entry}
-use Rattle.boss_history.specs.History.{events, is_broken, IsLegal, run}
-use Rattle.boss_unkept.specs.contracts.unkept.UnkeptKeeper.TheImpl.{ghosts as unkept}
-use Rattle.boss_unkept.specs.declared.unkept.Unkept.{Unkept}
+use Rattle.boss_outside_server.specs.declared.clock.Clock as clock
+use Rattle.boss_outside_server.specs.declared.host.Host as host
+use Rattle.boss_outside_server.specs.declared.spawner.Spawner as spawner
+use Rattle.boss_outside_server.specs.declared.waiter.Waiter as waiter
+use Rattle.def_history.specs.declared.entry.Entry.{Entry}
+use Rattle.def_history.specs.History.{events, is_broken, IsLegal, run}
+use Rattle.boss_memory_keeper.specs.contracts.unkept.UnkeptKeeper.TheImpl.{ghosts as unkept}
+use Rattle.boss_memory_keeper.specs.declared.unkept.Unkept.{Unkept}
 use Rattle.boss_shared.specs.Keeping.{IsHeld}
-use Rattle.boss_reports.specs.Reports.{summary_line}
-use Rattle.boss_two_disks.specs.Rests.{counted}
+use Rattle.boss_journal_lines.specs.Reports.{summary_line}
+use Rattle.boss_disk_pair.specs.Rests.{counted}
 use Rattle.boss_manager.specs.declared.serving.Run.{Run}
 use Rattle.boss_manager.specs.declared.serving.Run.TheVariants.{NotBound as not_bound, NoMemory, Ended}
 use Rattle.boss_manager.specs.Serving.{EndsRun, NoneRan, NotBound, outside, parts, Served, status_of, TellsEnd, TellsLast}

@@ -13,9 +13,9 @@ use Rattle.boss_files.specs.Files.{FileCause}
 use Rattle.boss_opening.specs.Opens.{digest_of, Meanwhile}
 use Rattle.boss_opening.specs.UnderWay.{MayComeTo}
 use Rattle.boss_outside.specs.Counts.{Rose}
-use Rattle.boss_pairs.specs.Pairs.{OpensCleanly}
-use Rattle.boss_stores.specs.Names.{second_name}
-use Rattle.boss_two_disks.specs.Images.{OpensToOne}
+use Rattle.def_disk_pair.specs.Pairs.{OpensCleanly}
+use Rattle.boss_files.specs.Names.{second_name}
+use Rattle.boss_disk_pair.specs.Images.{OpensToOne}
 use Rattle.boss_manager.specs.Journals.{in_files, on_disks, Pair, StillStands}
 use Rattle.boss_manager.proofs.Lifting.{same-two}
 

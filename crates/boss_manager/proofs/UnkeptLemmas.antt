@@ -6,9 +6,9 @@ use Rattle.boss_model.specs.Catalogue.{Catalogue, actuators}
 use Rattle.boss_model.specs.Lines.{lines}
 use Rattle.boss_model.specs.Settle.{first_state}
 use Rattle.boss_model.specs.State.{State}
-use Rattle.boss_wire.specs.Script.{script}
-use Rattle.boss_history.specs.declared.entry.Entry.{Entry}
-use Rattle.boss_history.specs.History.{deeds, is_broken}
+use Rattle.def_wire.specs.Script.{script}
+use Rattle.def_history.specs.declared.entry.Entry.{Entry}
+use Rattle.def_history.specs.History.{deeds, is_broken}
 use Rattle.boss_shared.specs.declared.keeper.Keeper as keeper
 use Rattle.boss_scripts.specs.declared.broken.Broken.{Broken}
 use Rattle.boss_scripts.specs.Ends.{CarriesOut, EndsOver, LeavesOff}

@@ -11,10 +11,10 @@ use Rattle.boss_outside.specs.declared.source.Source as source
 use Rattle.boss_disk.specs.declared.disk.Disk as disk
 use Rattle.boss_disk.specs.Window.{settled}
 use Rattle.boss_files.specs.declared.files.Files as files
-use Rattle.boss_stores.specs.Names.{second_name}
+use Rattle.boss_files.specs.Names.{second_name}
 use Rattle.boss_lines.specs.declared.reader.Next.{Next}
-use Rattle.boss_history.specs.declared.entry.Entry.{Entry}
-use Rattle.boss_history.specs.History.{events, is_broken, IsLegal, run, run_tried}
+use Rattle.def_history.specs.declared.entry.Entry.{Entry}
+use Rattle.def_history.specs.History.{events, is_broken, IsLegal, run, run_tried}
 use Rattle.boss_shared.specs.Keeping.{shortened}
 use Rattle.boss_scripts.specs.declared.broken.Broken.{Broken}
 use Rattle.boss_scripts.specs.Causes.{ReadCause, WriteCause}
@@ -22,16 +22,16 @@ use Rattle.boss_scripts.specs.Ends.{EndsOver}
 use Rattle.boss_scripts.specs.Outside.{Outside, outside}
 use Rattle.boss_scripts.specs.Runs.{IsFrontOf}
 use Rattle.boss_scripts.specs.Scripts.{BrokeScript, RanScript}
-use Rattle.boss_pairs.specs.Pairs.{OpensCleanly}
-use Rattle.boss_two_disks.specs.Images.{OpensTo, OpensToOne}
-use Rattle.boss_finding.specs.declared.refusal.DurableRefusal.{DurableRefusal}
-use Rattle.boss_finding.specs.Refusals.{IsOfBytes}
+use Rattle.def_disk_pair.specs.Pairs.{OpensCleanly}
+use Rattle.boss_disk_pair.specs.Images.{OpensTo, OpensToOne}
+use Rattle.boss_pair_find.specs.declared.refusal.DurableRefusal.{DurableRefusal}
+use Rattle.boss_pair_find.specs.Refusals.{IsOfBytes}
 use Rattle.boss_opening.specs.declared.checking.Checked.{Checked}
 use Rattle.boss_opening.specs.declared.checking.Checked.TheVariants.{New, Found}
 use Rattle.boss_opening.specs.Checks.{ChecksPair}
 use Rattle.boss_opening.specs.Opens.{digest_of, OpenedAt, OpenRefuses}
 use Rattle.boss_opening.specs.UnderWay.{MayComeTo}
-use Rattle.boss_reports.specs.Reports.{new_line, refusal_line, summary_line}
+use Rattle.boss_journal_lines.specs.Reports.{new_line, refusal_line, summary_line}
 use Rattle.boss_manager.specs.Ends.{status_of}
 use Rattle.boss_manager.specs.Jobs.{TellsLine, World}
 

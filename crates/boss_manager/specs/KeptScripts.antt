@@ -8,8 +8,8 @@ use Rattle.boss_outside.specs.declared.actuators.Actuators as actuators
 use Rattle.boss_files.specs.declared.files.Files as files
 use Rattle.boss_outside.specs.declared.sink.Sink as sink
 use Rattle.boss_outside.specs.declared.source.Source as source
-use Rattle.boss_finding.specs.declared.refusal.DurableRefusal.{DurableRefusal}
-use Rattle.boss_stores.specs.Names.{second_name}
+use Rattle.boss_pair_find.specs.declared.refusal.DurableRefusal.{DurableRefusal}
+use Rattle.boss_files.specs.Names.{second_name}
 use Rattle.boss_scripts.specs.Ends.{has_too_long}
 use Rattle.boss_manager.specs.Jobs.{HadNoCatalogue, RefusedCatalogue, Spells, World}
 use Rattle.boss_manager.specs.Journals.{AsksFront, beside_files, in_files, IsRefused, RunsOver}

@@ -4,9 +4,9 @@ use Rattle.boss_outside.specs.declared.actuators.Actuators as actuators
 use Rattle.boss_files.specs.declared.files.Files as files
 use Rattle.boss_outside.specs.declared.sink.Sink as sink
 use Rattle.boss_outside.specs.declared.source.Source as source
-use Rattle.boss_loading.specs.declared.summary.Summary.{Summary}
-use Rattle.boss_loading.specs.Lines.{summary_line}
-use Rattle.boss_loading.specs.Load.{Summarizes}
+use Rattle.boss_load_run.specs.declared.summary.Summary.{Summary}
+use Rattle.boss_load_run.specs.Lines.{summary_line}
+use Rattle.boss_load_run.specs.Load.{Summarizes}
 use Rattle.boss_manager.specs.Jobs.{TellsLine, World}
 
 module _ {K : Type 0} (k : sink.Ghosts K) where

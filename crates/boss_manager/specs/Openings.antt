@@ -12,19 +12,19 @@ use Rattle.boss_disk.specs.declared.disk.Disk as disk
 use Rattle.boss_durable.specs.declared.durable.Durable.{Durable}
 use Rattle.boss_durable.specs.Words.{faults, keeps, lasting, leaves}
 use Rattle.boss_lines.specs.declared.reader.Next.{Next}
-use Rattle.boss_history.specs.declared.entry.Entry.{Entry}
-use Rattle.boss_history.specs.History.{events, is_broken, IsLegal, run, run_tried}
+use Rattle.def_history.specs.declared.entry.Entry.{Entry}
+use Rattle.def_history.specs.History.{events, is_broken, IsLegal, run, run_tried}
 use Rattle.boss_shared.specs.Keeping.{shortened}
-use Rattle.boss_pairs.specs.Pairs.{OpensCleanly}
+use Rattle.def_disk_pair.specs.Pairs.{OpensCleanly}
 use Rattle.boss_scripts.specs.declared.broken.Broken.{Broken}
 use Rattle.boss_scripts.specs.Causes.{ReadCause, WriteCause}
 use Rattle.boss_scripts.specs.Ends.{EndsOver}
 use Rattle.boss_scripts.specs.Scripts.{BrokeScript, RanScript}
-use Rattle.boss_two_disks.specs.Images.{OpensToOne}
-use Rattle.boss_finding.specs.declared.refusal.DurableRefusal.{DurableRefusal}
-use Rattle.boss_finding.specs.declared.refusal.DurableRefusal.TheVariants.{NotAJournal, Version, Catalogue as OtherCatalogue, Damaged, DiskFault, NoMemory}
+use Rattle.boss_disk_pair.specs.Images.{OpensToOne}
+use Rattle.boss_pair_find.specs.declared.refusal.DurableRefusal.{DurableRefusal}
+use Rattle.boss_pair_find.specs.declared.refusal.DurableRefusal.TheVariants.{NotAJournal, Version, Catalogue as OtherCatalogue, Damaged, DiskFault, NoMemory}
 use Rattle.boss_opening.specs.declared.checking.Checked.{Checked}
-use Rattle.boss_reports.specs.Reports.{refusal_line}
+use Rattle.boss_journal_lines.specs.Reports.{refusal_line}
 use Rattle.boss_manager.specs.Ends.{status_of}
 use Rattle.boss_manager.specs.Jobs.{TellsLine}
 use Rattle.boss_manager.specs.Journals.{Beside, checked_line, outside_of}

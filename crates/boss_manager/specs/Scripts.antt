@@ -2,7 +2,7 @@
 use Rattle.std.specs.Prelude.{◌≡◌, ℕ, Bool, false, List, [], ◌++◌, None}
 use Rattle.boss_model.specs.DeviceCall.{DeviceCall}
 use Rattle.boss_model.specs.Catalogue.{Catalogue, actuators}
-use Rattle.boss_wire.specs.Script.{Run, script}
+use Rattle.def_wire.specs.Script.{Run, script}
 use Rattle.boss_model.specs.Settle.{first_state}
 use Rattle.boss_scripts.specs.Outside.{Answered, Trace}
 use Rattle.boss_scripts.specs.Runs.{dealt, IsFrontOf}

@@ -6,12 +6,12 @@ use Rattle.boss_outside.specs.declared.actuators.Actuators as actuators
 use Rattle.boss_outside.specs.declared.sink.Sink as sink
 use Rattle.boss_outside.specs.declared.source.Source as source
 use Rattle.boss_files.specs.declared.files.Files as files
-use Rattle.boss_workers.specs.declared.clock.Clock as clock
-use Rattle.boss_workers.specs.declared.host.Host as host
-use Rattle.boss_workers.specs.declared.spawner.Spawner as spawner
-use Rattle.boss_workers.specs.declared.waiter.Waiter as waiter
-use Rattle.boss_finding.specs.declared.refusal.DurableRefusal.{DurableRefusal}
-use Rattle.boss_stores.specs.Names.{second_name}
+use Rattle.boss_outside_server.specs.declared.clock.Clock as clock
+use Rattle.boss_outside_server.specs.declared.host.Host as host
+use Rattle.boss_outside_server.specs.declared.spawner.Spawner as spawner
+use Rattle.boss_outside_server.specs.declared.waiter.Waiter as waiter
+use Rattle.boss_pair_find.specs.declared.refusal.DurableRefusal.{DurableRefusal}
+use Rattle.boss_files.specs.Names.{second_name}
 use Rattle.boss_words.specs.declared.job.Job.{Job}
 use Rattle.boss_words.specs.declared.job.Job.TheVariants.{Script, Serve, Check, Load}
 use Rattle.boss_manager.specs.Jobs.{HadNoCatalogue, RefusedCatalogue, Spells, World}

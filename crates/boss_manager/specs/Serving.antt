@@ -9,26 +9,26 @@ use Rattle.boss_outside.specs.Streams.{TakesFront}
 use Rattle.boss_outside.specs.declared.actuators.Actuators as actuators_of
 use Rattle.boss_outside.specs.declared.sink.Sink as sink
 use Rattle.boss_outside.specs.declared.source.Source as source
-use Rattle.boss_workers.specs.declared.clock.Clock as clock
-use Rattle.boss_workers.specs.declared.host.Host as host
-use Rattle.boss_workers.specs.declared.spawner.Spawner as spawner
-use Rattle.boss_workers.specs.declared.waiter.Waiter as waiter
+use Rattle.boss_outside_server.specs.declared.clock.Clock as clock
+use Rattle.boss_outside_server.specs.declared.host.Host as host
+use Rattle.boss_outside_server.specs.declared.spawner.Spawner as spawner
+use Rattle.boss_outside_server.specs.declared.waiter.Waiter as waiter
 use Rattle.boss_disk.specs.declared.disk.Disk as disk
 use Rattle.boss_durable.specs.declared.durable.Durable.{Durable}
 use Rattle.boss_durable.specs.Words.{faults}
-use Rattle.boss_history.specs.declared.entry.Entry.{Entry}
-use Rattle.boss_history.specs.History.{events, is_broken, IsLegal, run}
+use Rattle.def_history.specs.declared.entry.Entry.{Entry}
+use Rattle.def_history.specs.History.{events, is_broken, IsLegal, run}
 use Rattle.boss_shared.specs.declared.keeper.Keeper as keeper
 use Rattle.boss_shared.specs.Keeping.{IsHeld}
-use Rattle.boss_duties.specs.declared.flags.Flags.{Flags}
-use Rattle.boss_duties.specs.Saying.{terms_of}
-use Rattle.boss_serving.specs.Accounts.{Account}
-use Rattle.boss_serving.specs.Kept.{drives_of}
-use Rattle.boss_serving.specs.Making.{GainsNoPause, StaysClock, StaysHost}
-use Rattle.boss_serving.specs.Together.{RoseWhere}
-use Rattle.boss_two_disks.specs.Rests.{counted}
+use Rattle.boss_worker.specs.declared.flags.Flags.{Flags}
+use Rattle.boss_worker.specs.Saying.{terms_of}
+use Rattle.boss_server.specs.Accounts.{Account}
+use Rattle.boss_server.specs.Kept.{drives_of}
+use Rattle.boss_server.specs.Making.{GainsNoPause, StaysClock, StaysHost}
+use Rattle.boss_server.specs.Together.{RoseWhere}
+use Rattle.boss_disk_pair.specs.Rests.{counted}
 use Rattle.boss_opening.specs.Opens.{digest_of, OpenedAt}
-use Rattle.boss_reports.specs.Reports.{summary_line}
+use Rattle.boss_journal_lines.specs.Reports.{summary_line}
 use Rattle.boss_manager.specs.declared.serving.Run.{Run}
 use Rattle.boss_manager.specs.declared.serving.Run.TheVariants.{NotBound as not_bound, NoMemory, Ended}
 use Rattle.boss_manager.specs.Journals.{HadNoJournal, HoldsAfter, Pair, RefusedJournal, StillStands}

@@ -6,11 +6,11 @@ use crate::Status;
 use crate::journal::say_journal;
 use crate::saying::say;
 use boss_disk::Disk;
-use boss_finding::DurableRefusal;
+use boss_journal_lines::{new_line, summary_line};
 use boss_opening::{Checked, check};
 use boss_outside::Sink;
+use boss_pair_find::DurableRefusal;
 use boss_points::Catalogue;
-use boss_reports::{new_line, summary_line};
 use std::alloc::Global;
 
 /// Tells what a journal on two disks stands for, as one line. The disks come back as they were: nothing is written, cut or synced.

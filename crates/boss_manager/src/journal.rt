@@ -11,12 +11,12 @@ use crate::saying::say;
 use crate::script::status_of;
 use boss_disk::Disk;
 use boss_durable::Durable;
-use boss_finding::DurableRefusal;
+use boss_journal_lines::refusal_line;
 use boss_lines::Next;
 use boss_opening::open;
 use boss_outside::{Actuators, Sink, Source};
+use boss_pair_find::DurableRefusal;
 use boss_points::Catalogue;
-use boss_reports::refusal_line;
 use boss_scripts::{Broken, run_script};
 use std::alloc::Global;
 

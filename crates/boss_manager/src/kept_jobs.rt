@@ -1,7 +1,7 @@
 ghost use Rattle.std.specs.Prelude.{◌≡◌, ◌≢◌, ℕ, List, [], ◌∷◌, vec_len};
 ghost use Rattle.boss_model.specs.Catalogue.{actuators};
 ghost use Rattle.boss_scripts.specs.Devices.{HasDevices};
-ghost use Rattle.boss_stores.specs.Names.{second_name};
+ghost use Rattle.boss_files.specs.Names.{second_name};
 ghost use Rattle.boss_manager.specs.Checks.{ChecksJournal, KeepsFiles};
 ghost use Rattle.boss_manager.specs.Jobs.{world};
 ghost use Rattle.boss_manager.specs.Journals.{AsksFront, beside, ChecksOver, in_files, RunsOver};
@@ -12,11 +12,10 @@ use crate::catalogue::{Unusable, load};
 use crate::checking::check_on_disks;
 use crate::journal::script_on_disks;
 use crate::saying::say_refusal;
-use boss_files::{FileFault, Files};
+use boss_files::{FileFault, Files, close_stores, open_stores, second_name};
 use boss_model::NoMemory;
 use boss_outside::{Actuators, Sink, Source};
 use boss_points::Catalogue;
-use boss_stores::{close_stores, open_stores, second_name};
 use std::alloc::Global;
 
 /// Runs the script of a catalogue's file over a journal that is kept in two files: that of its name, and that of its name with `.b`

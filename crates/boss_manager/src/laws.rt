@@ -1,5 +1,5 @@
 ghost use Rattle.std.specs.Prelude.{◌≡◌, ℕ, ◌+◌, ◌<◌, false, List, length};
-ghost use Rattle.boss_history.specs.History.{events, is_broken, run};
+ghost use Rattle.def_history.specs.History.{events, is_broken, run};
 ghost use Rattle.boss_model.specs.Catalogue.{Catalogue, actuators};
 ghost use Rattle.boss_model.specs.Limits.{last_number};
 ghost use Rattle.boss_model.specs.Settle.{opened};

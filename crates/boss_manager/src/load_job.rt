@@ -1,7 +1,7 @@
 ghost use Rattle.boss_manager.specs.LoadJobs.{TellsSummary};
 
 use crate::Status;
-use boss_loading::run_load;
+use boss_load_run::run_load;
 use boss_outside::Sink;
 use boss_scripts::Broken;
 use std::alloc::Global;

@@ -7,8 +7,8 @@ use crate::catalogue::{Unusable, load};
 use crate::saying::{say, say_refusal};
 use crate::script::script_run;
 use boss_files::Files;
+use boss_journal_lines::new_line;
 use boss_outside::{Actuators, Sink, Source};
-use boss_reports::new_line;
 use std::alloc::Global;
 
 /// Runs the script of a catalogue's file, with its journal in memory alone.

@@ -9,10 +9,10 @@ ghost use Rattle.boss_manager.specs.Scripts.{BrokeScript};
 
 use crate::Status;
 use boss_lines::Next;
+use boss_memory_keeper::Unkept;
 use boss_outside::{Actuators, Sink, Source};
 use boss_points::Catalogue;
 use boss_scripts::{Broken, run_script};
-use boss_unkept::Unkept;
 use std::alloc::Global;
 
 /// Runs a script: the wants of the beginning are served, and then each line of the source is answered, and the wants

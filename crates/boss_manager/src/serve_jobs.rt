@@ -1,5 +1,5 @@
 ghost use Rattle.std.specs.Prelude.{◌≡◌, ◌≢◌, ℕ, ◌≤◌, List, [], ◌∷◌, vec_len};
-ghost use Rattle.boss_stores.specs.Names.{second_name};
+ghost use Rattle.boss_files.specs.Names.{second_name};
 ghost use Rattle.boss_manager.specs.Jobs.{world};
 ghost use Rattle.boss_manager.specs.Journals.{AsksFront, in_files};
 ghost use Rattle.boss_manager.specs.ServeJobs.{DoesServe, ServesInMemory, server_world};
@@ -9,11 +9,10 @@ use crate::Status;
 use crate::catalogue::{Unusable, load};
 use crate::saying::say_refusal;
 use crate::serving::{serve_in_memory, serve_on_disks};
-use boss_files::{FileFault, Files};
+use boss_files::{FileFault, Files, close_stores, open_stores, second_name};
 use boss_outside::{Actuators, Sink, Source};
+use boss_outside_server::{Clock, Host, Spawner, Waiter};
 use boss_points::Catalogue;
-use boss_stores::{close_stores, open_stores, second_name};
-use boss_workers::{Clock, Host, Spawner, Waiter};
 use std::alloc::Global;
 use std::sync::Wait;
 

@@ -5,8 +5,8 @@ ghost use Rattle.boss_model.specs.declared.event.Event.{Event};
 ghost use Rattle.boss_model.specs.Settle.{first_state};
 ghost use Rattle.boss_model.specs.Sound.{IsSound};
 ghost use Rattle.boss_opening.specs.Opens.{digest_of};
-ghost use Rattle.boss_reports.specs.Reports.{longest_summary, summary_line};
-ghost use Rattle.boss_two_disks.specs.Rests.{counted};
+ghost use Rattle.boss_journal_lines.specs.Reports.{longest_summary, summary_line};
+ghost use Rattle.boss_disk_pair.specs.Rests.{counted};
 ghost use Rattle.boss_manager.specs.Journals.{on_disks};
 ghost use Rattle.boss_manager.specs.Serving.{
   outside,
@@ -25,15 +25,15 @@ use crate::Status;
 use crate::journal::{LOG_LIMIT, say_journal};
 use boss_disk::Disk;
 use boss_durable::Durable;
+use boss_journal_lines::{LONGEST_SUMMARY, summary_in_room};
+use boss_memory_keeper::Unkept;
 use boss_model::NoMemory;
 use boss_opening::open;
 use boss_outside::{Actuators, Failed, Sink};
+use boss_outside_server::{Clock, Host, Spawner, Waiter};
 use boss_points::Catalogue;
-use boss_reports::{LONGEST_SUMMARY, summary_in_room};
-use boss_serving::{Ended, serve_keeper};
+use boss_server::{Ended, serve_keeper};
 use boss_shared::Keeper;
-use boss_unkept::Unkept;
-use boss_workers::{Clock, Host, Spawner, Waiter};
 use std::alloc::Global;
 use std::sync::Wait;
 

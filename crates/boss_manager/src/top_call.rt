@@ -16,8 +16,8 @@ use crate::saying::say_usage;
 use crate::serve_jobs::{do_kept_serve, do_memory_serve};
 use boss_files::Files;
 use boss_outside::{Actuators, Sink, Source};
+use boss_outside_server::{Clock, Host, Spawner, Waiter};
 use boss_words::{Job, WordsRefusal, read_words};
-use boss_workers::{Clock, Host, Spawner, Waiter};
 use std::alloc::Global;
 use std::sync::Wait;
 

@@ -6,23 +6,23 @@ use Rattle.boss_disk.specs.Legs.{Legs, LeaveBoth, Two}
 use Rattle.boss_disk.specs.Window.{settled}
 use Rattle.boss_disk.proofs.Legs.{weaker_legs}
 use Rattle.boss_durable.specs.declared.durable.Durable.{Durable}
-use Rattle.boss_finding.specs.declared.refusal.DurableRefusal.{DurableRefusal}
-use Rattle.boss_finding.specs.declared.refusal.DurableRefusal.TheVariants.{DiskFault, NoMemory}
-use Rattle.boss_finding.specs.Holds.{IsNewPair}
-use Rattle.boss_finding.specs.Refusals.{IsOfBytes, PairCause}
-use Rattle.boss_finding.specs.Two.{counts, two}
-use Rattle.boss_logs.specs.Kinds.{in_force, kind_of}
+use Rattle.boss_pair_find.specs.declared.refusal.DurableRefusal.{DurableRefusal}
+use Rattle.boss_pair_find.specs.declared.refusal.DurableRefusal.TheVariants.{DiskFault, NoMemory}
+use Rattle.boss_pair_find.specs.Holds.{IsNewPair}
+use Rattle.boss_pair_find.specs.Refusals.{IsOfBytes, PairCause}
+use Rattle.boss_pair_find.specs.Two.{counts, two}
+use Rattle.def_log.specs.Kinds.{in_force, kind_of}
 use Rattle.boss_model.specs.declared.event.Event.{Event}
 use Rattle.boss_model.specs.declared.state.Actuator.{Actuator}
 use Rattle.boss_model.specs.Settle.{opened}
 use Rattle.boss_model.specs.State.{Persistent, State, first_persistent}
-use Rattle.boss_pairs.specs.Contents.{HoldsCleanly}
-use Rattle.boss_pairs.specs.Pairs.{HasEvents, IsNew, OfThatInForce, OpensCleanly, StandsFor}
-use Rattle.boss_two_disks.specs.declared.two_disks.TwoDisks.{TwoDisks}
-use Rattle.boss_two_disks.specs.Causes.{counts_of, first_disk, second_disk}
-use Rattle.boss_two_disks.specs.Images.{OpensToOne}
-use Rattle.boss_two_disks.specs.Orders.{first_of, second_of}
-use Rattle.boss_two_disks.specs.Reads.{is_settled}
+use Rattle.def_disk_pair.specs.Contents.{HoldsCleanly}
+use Rattle.def_disk_pair.specs.Pairs.{HasEvents, IsNew, OfThatInForce, OpensCleanly, StandsFor}
+use Rattle.boss_disk_pair.specs.declared.two_disks.TwoDisks.{TwoDisks}
+use Rattle.boss_disk_pair.specs.Causes.{counts_of, first_disk, second_disk}
+use Rattle.boss_disk_pair.specs.Images.{OpensToOne}
+use Rattle.boss_disk_pair.specs.Orders.{first_of, second_of}
+use Rattle.boss_disk_pair.specs.Reads.{is_settled}
 use Rattle.boss_opening.specs.Opens.{Finishing, OpenedAt, OpenRefuses, Opening, Stays}
 use Rattle.boss_opening.proofs.GoingOn.{closed_counts}
 use Rattle.boss_opening.proofs.Openings.{finished, finished_legs, nothing_moved, refused}

@@ -6,20 +6,20 @@ use Rattle.boss_disk.specs.Legs.{Legs, LeaveBoth, Two}
 use Rattle.boss_durable.specs.declared.durable.Durable.{Durable}
 use Rattle.boss_durable.specs.Words.{keeps, lasting, leaves}
 use Rattle.boss_engine.specs.Running.{Running}
-use Rattle.boss_finding.specs.declared.refusal.DurableRefusal.{DurableRefusal}
-use Rattle.boss_finding.specs.Refusals.{PairCause}
-use Rattle.boss_finding.specs.Two.{counts, two}
+use Rattle.boss_pair_find.specs.declared.refusal.DurableRefusal.{DurableRefusal}
+use Rattle.boss_pair_find.specs.Refusals.{PairCause}
+use Rattle.boss_pair_find.specs.Two.{counts, two}
 use Rattle.boss_model.specs.declared.event.Event.{Event}
 use Rattle.boss_model.specs.declared.state.Actuator.{Actuator}
 use Rattle.boss_model.specs.Settle.{opened}
 use Rattle.boss_model.specs.Sound.{IsSound}
 use Rattle.boss_model.specs.State.{Persistent, State}
-use Rattle.boss_two_disks.specs.declared.two_disks.TwoDisks.{TwoDisks}
-use Rattle.boss_two_disks.specs.Causes.{Counts, counts_of, first_disk, second_disk}
-use Rattle.boss_two_disks.specs.Images.{OpensToOne}
-use Rattle.boss_two_disks.specs.Rests as pairs
-use Rattle.boss_two_disks.specs.Rests.{counted, passes, rests}
-use Rattle.boss_two_disks.proofs.Words.{rests_leaves}
+use Rattle.boss_disk_pair.specs.declared.two_disks.TwoDisks.{TwoDisks}
+use Rattle.boss_disk_pair.specs.Causes.{Counts, counts_of, first_disk, second_disk}
+use Rattle.boss_disk_pair.specs.Images.{OpensToOne}
+use Rattle.boss_disk_pair.specs.Rests as pairs
+use Rattle.boss_disk_pair.specs.Rests.{counted, passes, rests}
+use Rattle.boss_disk_pair.proofs.Words.{rests_leaves}
 use Rattle.boss_opening.specs.Opens.{Finishing}
 use Rattle.boss_opening.specs.Reading.{IsOfNoBytes}
 use Rattle.boss_opening.proofs.GoingOn.{closed_counts, run_legs}

@@ -4,23 +4,23 @@ use Rattle.std.specs.Prelude.{Result, Ok, Err}
 use Rattle.boss_disk.specs.declared.disk.Disk as disk
 use Rattle.boss_disk.specs.Legs.{Legs, LeaveBoth, Two}
 use Rattle.boss_durable.specs.declared.durable.Durable.{Durable}
-use Rattle.boss_finding.specs.declared.refusal.DurableRefusal.{DurableRefusal}
-use Rattle.boss_finding.specs.declared.refusal.DurableRefusal.TheVariants.{Damaged}
-use Rattle.boss_finding.specs.Refusals.{IsOfBytes, PairCause}
-use Rattle.boss_finding.specs.Two.{counts, two}
-use Rattle.boss_finding.proofs.Orders.{first_stays, into_order, out_of_order, second_stays, stories_are}
+use Rattle.boss_pair_find.specs.declared.refusal.DurableRefusal.{DurableRefusal}
+use Rattle.boss_pair_find.specs.declared.refusal.DurableRefusal.TheVariants.{Damaged}
+use Rattle.boss_pair_find.specs.Refusals.{IsOfBytes, PairCause}
+use Rattle.boss_pair_find.specs.Two.{counts, two}
+use Rattle.boss_pair_find.proofs.Orders.{first_stays, into_order, out_of_order, second_stays, stories_are}
 use Rattle.boss_model.specs.declared.event.Event.{Event}
 use Rattle.boss_model.specs.declared.state.Actuator.{Actuator}
 use Rattle.boss_model.specs.Limits.{last_number}
 use Rattle.boss_model.specs.Settle.{opened}
 use Rattle.boss_model.specs.State.{Persistent, State}
-use Rattle.boss_pairs.specs.Pairs.{DamagedAt, OpensCleanly, StandsFor}
-use Rattle.boss_two_disks.specs.declared.two_disks.TwoDisks.{TwoDisks}
-use Rattle.boss_two_disks.specs.Causes.{CallCause, Counts, OneRose, counts_of, first_disk, second_disk}
-use Rattle.boss_two_disks.specs.Images.{OpensToOne}
-use Rattle.boss_two_disks.specs.Orders.{InOrder, first_of, second_of}
-use Rattle.boss_two_disks.specs.Reads.{ends_at, is_clean, is_damaged_at, is_settled, reads_to, stands_for}
-use Rattle.boss_two_disks.specs.Rests.{passes, rests, stories}
+use Rattle.def_disk_pair.specs.Pairs.{DamagedAt, OpensCleanly, StandsFor}
+use Rattle.boss_disk_pair.specs.declared.two_disks.TwoDisks.{TwoDisks}
+use Rattle.boss_disk_pair.specs.Causes.{CallCause, Counts, OneRose, counts_of, first_disk, second_disk}
+use Rattle.boss_disk_pair.specs.Images.{OpensToOne}
+use Rattle.boss_disk_pair.specs.Orders.{InOrder, first_of, second_of}
+use Rattle.boss_disk_pair.specs.Reads.{ends_at, is_clean, is_damaged_at, is_settled, reads_to, stands_for}
+use Rattle.boss_disk_pair.specs.Rests.{passes, rests, stories}
 use Rattle.boss_opening.specs.Opens.{Finishing, OpenedAt, Opening, Stays}
 use Rattle.boss_opening.specs.Reading.{GoesOn, IsOfLog, IsReadOn, ReadWhole, ShutsCleanly}
 use Rattle.boss_opening.proofs.Openings.{finished, finished_legs, of_damage, of_log, refused}

@@ -2,11 +2,11 @@
 use Rattle.std.proofs.Common.{◌≡◌, ℕ, ◌+◌, min, List, [], length, refl, sym, ap, subst, ◌∙◌, arith}
 use Rattle.std.specs.Prelude.{Result, Ok, Err, IfOk, IfErr}
 use Rattle.boss_disk.specs.declared.disk.Disk as disk
-use Rattle.boss_finding.specs.declared.refusal.DurableRefusal.{DurableRefusal}
-use Rattle.boss_finding.specs.declared.refusal.DurableRefusal.TheVariants.{Damaged}
-use Rattle.boss_finding.specs.Holds.{IsNewPair}
-use Rattle.boss_finding.specs.Refusals.{PairCause}
-use Rattle.boss_finding.specs.Two.{counts}
+use Rattle.boss_pair_find.specs.declared.refusal.DurableRefusal.{DurableRefusal}
+use Rattle.boss_pair_find.specs.declared.refusal.DurableRefusal.TheVariants.{Damaged}
+use Rattle.boss_pair_find.specs.Holds.{IsNewPair}
+use Rattle.boss_pair_find.specs.Refusals.{PairCause}
+use Rattle.boss_pair_find.specs.Two.{counts}
 use Rattle.boss_model.specs.declared.state.Actuator.{Actuator}
 use Rattle.boss_model.specs.Limits.{last_number}
 use Rattle.boss_model.specs.State.{Persistent}
@@ -15,9 +15,9 @@ use Rattle.boss_opening.specs.declared.checking.Checked.TheVariants.{New, Found}
 use Rattle.boss_opening.specs.Checks.{CheckCause, ChecksLog, ChecksPair, IsCheck, IsSummed}
 use Rattle.boss_opening.specs.Opens.{OpenRefuses}
 use Rattle.boss_opening.specs.Reading.{IsOfLog, IsReadOn, ReadWhole}
-use Rattle.boss_two_disks.specs.declared.two_disks.TwoDisks.{TwoDisks}
-use Rattle.boss_two_disks.specs.Causes.{Counts, counts_of, first_disk, second_disk}
-use Rattle.boss_two_disks.specs.Reads.{is_damaged_at, reads_to}
+use Rattle.boss_disk_pair.specs.declared.two_disks.TwoDisks.{TwoDisks}
+use Rattle.boss_disk_pair.specs.Causes.{Counts, counts_of, first_disk, second_disk}
+use Rattle.boss_disk_pair.specs.Reads.{is_damaged_at, reads_to}
 use Rattle.boss_opening.proofs.GoingOn.{back_first, back_second, closed_counts, damaged_out, stands_out}
 use Rattle.boss_opening.proofs.Openings.{of_log}
 use Rattle.boss_opening.proofs.ReadOn.{stood_for}

@@ -8,22 +8,22 @@ use Rattle.boss_disk.specs.Window.{Window, settled}
 use Rattle.boss_disk.proofs.Legs.{then_legs, weaker_legs}
 use Rattle.boss_disk.proofs.Torn.{synced_image}
 use Rattle.boss_durable.specs.declared.durable.Durable.{Durable}
-use Rattle.boss_finding.specs.declared.refusal.DurableRefusal.{DurableRefusal}
-use Rattle.boss_finding.specs.declared.refusal.DurableRefusal.TheVariants.{NotAJournal, Version, Catalogue, Damaged, DiskFault, NoMemory}
-use Rattle.boss_finding.specs.Refusals.{AnswerCause, FindRefuses, IsOfBytes, PairCause}
-use Rattle.boss_finding.specs.Two.{counts, two, MightLeave}
-use Rattle.boss_finding.proofs.Orders.{into_order, out_of_order, stories_are}
+use Rattle.boss_pair_find.specs.declared.refusal.DurableRefusal.{DurableRefusal}
+use Rattle.boss_pair_find.specs.declared.refusal.DurableRefusal.TheVariants.{NotAJournal, Version, Catalogue, Damaged, DiskFault, NoMemory}
+use Rattle.boss_pair_find.specs.Refusals.{AnswerCause, FindRefuses, IsOfBytes, PairCause}
+use Rattle.boss_pair_find.specs.Two.{counts, two, MightLeave}
+use Rattle.boss_pair_find.proofs.Orders.{into_order, out_of_order, stories_are}
 use Rattle.boss_model.specs.declared.event.Event.{Event}
 use Rattle.boss_model.specs.declared.state.Actuator.{Actuator}
 use Rattle.boss_model.specs.Settle.{opened}
 use Rattle.boss_model.specs.State.{Persistent, State}
-use Rattle.boss_pairs.specs.Pairs.{DamagedAt, OpensCleanly, StandsFor}
-use Rattle.boss_two_disks.specs.declared.two_disks.TwoDisks.{TwoDisks}
-use Rattle.boss_two_disks.specs.Causes.{Counts, counts_of, first_disk, second_disk}
-use Rattle.boss_two_disks.specs.Images.{OpensToOne}
-use Rattle.boss_two_disks.specs.Orders.{InOrder, first_of, second_of}
-use Rattle.boss_two_disks.specs.Reads.{is_clean, is_damaged_at, is_settled, stands_for}
-use Rattle.boss_two_disks.specs.Rests.{passes, stories}
+use Rattle.def_disk_pair.specs.Pairs.{DamagedAt, OpensCleanly, StandsFor}
+use Rattle.boss_disk_pair.specs.declared.two_disks.TwoDisks.{TwoDisks}
+use Rattle.boss_disk_pair.specs.Causes.{Counts, counts_of, first_disk, second_disk}
+use Rattle.boss_disk_pair.specs.Images.{OpensToOne}
+use Rattle.boss_disk_pair.specs.Orders.{InOrder, first_of, second_of}
+use Rattle.boss_disk_pair.specs.Reads.{is_clean, is_damaged_at, is_settled, stands_for}
+use Rattle.boss_disk_pair.specs.Rests.{passes, stories}
 use Rattle.boss_opening.specs.Opens.{Finishing, IsReady, Meanwhile, OpenedAt, OpenRefuses, Opening, Stays, first_left, second_left}
 use Rattle.boss_opening.specs.Reading.{GoesOn, IsOfLog, IsOfNoBytes, ShutsCleanly}
 use Rattle.boss_opening.specs.UnderWay.{MayComeTo}

@@ -4,23 +4,23 @@ use Rattle.boss_disk.specs.declared.disk.Disk as disk
 use Rattle.boss_disk.specs.Legs.{Legs, LeaveBoth, Two}
 use Rattle.boss_disk.specs.Story.{Story}
 use Rattle.boss_disk.specs.Window.{settled}
-use Rattle.boss_finding.specs.declared.refusal.DurableRefusal.{DurableRefusal}
-use Rattle.boss_finding.specs.Refusals.{DiskCause, PairCause}
-use Rattle.boss_finding.specs.Two.{counts}
-use Rattle.boss_finding.proofs.Told.{disk_cause, none_rose}
+use Rattle.boss_pair_find.specs.declared.refusal.DurableRefusal.{DurableRefusal}
+use Rattle.boss_pair_find.specs.Refusals.{DiskCause, PairCause}
+use Rattle.boss_pair_find.specs.Two.{counts}
+use Rattle.boss_pair_find.proofs.Told.{disk_cause, none_rose}
 use Rattle.boss_model.specs.declared.event.Event.{Event}
 use Rattle.boss_model.specs.declared.state.Actuator.{Actuator}
 use Rattle.boss_model.specs.State.{Persistent}
-use Rattle.boss_pairs.specs.Pairs.{DamagedAt, OpensCleanly, StandsFor}
-use Rattle.boss_pairs.proofs.Replays.{replay_join}
-use Rattle.boss_two_disks.specs.declared.two_disks.TwoDisks.{TwoDisks}
-use Rattle.boss_two_disks.specs.Causes.{Counts, counts_of}
-use Rattle.boss_two_disks.specs.Images.{OpensToOne}
-use Rattle.boss_two_disks.specs.Orders.{InOrder, first_of, second_of, stories_of}
-use Rattle.boss_two_disks.specs.Reads.{ends_at, is_clean, is_damaged_at, is_settled, reads_to, stands_for}
-use Rattle.boss_two_disks.specs.Rests.{passes, stories}
-use Rattle.boss_two_disks.proofs.Orders.{both_stand}
-use Rattle.boss_two_disks.proofs.Words.{synced_leaves}
+use Rattle.def_disk_pair.specs.Pairs.{DamagedAt, OpensCleanly, StandsFor}
+use Rattle.def_disk_pair.proofs.Replays.{replay_join}
+use Rattle.boss_disk_pair.specs.declared.two_disks.TwoDisks.{TwoDisks}
+use Rattle.boss_disk_pair.specs.Causes.{Counts, counts_of}
+use Rattle.boss_disk_pair.specs.Images.{OpensToOne}
+use Rattle.boss_disk_pair.specs.Orders.{InOrder, first_of, second_of, stories_of}
+use Rattle.boss_disk_pair.specs.Reads.{ends_at, is_clean, is_damaged_at, is_settled, reads_to, stands_for}
+use Rattle.boss_disk_pair.specs.Rests.{passes, stories}
+use Rattle.boss_disk_pair.proofs.Orders.{both_stand}
+use Rattle.boss_disk_pair.proofs.Words.{synced_leaves}
 use Rattle.boss_opening.specs.Reading.{IsAtLast, IsReadOn, ReadsOn, ReadWhole}
 
 module _ {D : Type 0} {g : disk.Ghosts D} where

@@ -9,11 +9,11 @@ use Rattle.boss_model.specs.declared.state.Actuator.{Actuator}
 use Rattle.boss_model.specs.Run.{replay_all}
 use Rattle.boss_model.specs.Settle.{opened}
 use Rattle.boss_model.specs.State.{Persistent, State}
-use Rattle.boss_bytes.specs.Batches.{act_number, batch_text, IsOfVersion}
-use Rattle.boss_bytes.specs.Events.{event}
-use Rattle.boss_pairs.specs.Contents.{IsNext}
-use Rattle.boss_pairs.proofs.Replays.{all_join, all_split, replay_join, replay_split, some-is}
-use Rattle.boss_two_disks.specs.Reads.{NoneLeads}
+use Rattle.def_bytes.specs.Batches.{act_number, batch_text, IsOfVersion}
+use Rattle.def_bytes.specs.Events.{event}
+use Rattle.def_disk_pair.specs.Contents.{IsNext}
+use Rattle.def_disk_pair.proofs.Replays.{all_join, all_split, replay_join, replay_split, some-is}
+use Rattle.boss_disk_pair.specs.Reads.{NoneLeads}
 use Rattle.boss_opening.specs.Again.{BeginsOn, Leads, LeadsOn, NoneBegins}
 use Rattle.boss_opening.proofs.Splits.{AllFit, IsLonger, batch_long, same_start}
 

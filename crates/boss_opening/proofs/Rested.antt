@@ -5,9 +5,9 @@ use Rattle.boss_model.specs.declared.event.Event.{Event}
 use Rattle.boss_model.specs.declared.state.Actuator.{Actuator}
 use Rattle.boss_model.specs.Limits.{last_number}
 use Rattle.boss_model.specs.State.{Persistent}
-use Rattle.boss_pairs.specs.Contents.{joined}
-use Rattle.boss_two_disks.specs.declared.two_disks.TwoDisks.{TwoDisks}
-use Rattle.boss_two_disks.specs.Rests.{Resting, counted, rests}
+use Rattle.def_disk_pair.specs.Contents.{joined}
+use Rattle.boss_disk_pair.specs.declared.two_disks.TwoDisks.{TwoDisks}
+use Rattle.boss_disk_pair.specs.Rests.{Resting, counted, rests}
 
 module _ {D : Type 0} {g : disk.Ghosts D} where
   -- any number that counts the same does

@@ -7,7 +7,7 @@ use Rattle.std.specs.Option.{option_map_or}
 use Rattle.std.specs.Ordering.{int_eq}
 use Rattle.std.proofs.lemmas.Bool.{cond_both, ltb-true, leb-true}
 use Rattle.std.proofs.lemmas.Bool.Decides.{nat_tests}
-use Rattle.boss_fields.specs.Fields.{Field, number, byte, counted}
+use Rattle.def_bytes.specs.Fields.{Field, number, byte, counted}
 use Rattle.boss_model.specs.declared.command.Setting.{Setting}
 use Rattle.boss_model.specs.declared.command.Step.{Step}
 use Rattle.boss_model.specs.declared.event.Act.{Act}
@@ -20,14 +20,14 @@ use Rattle.boss_model.specs.Sound.{IsSoundPersistent}
 use Rattle.boss_model.specs.State.{Persistent}
 use Rattle.boss_model.specs.Submit.{is_within, is_length, is_step, submit_refused}
 use Rattle.boss_model.specs.Time.{moment_of}
-use Rattle.boss_soundness.proofs.NotRefused.{IsWrite, submit-not-refused}
-use Rattle.boss_spelled.specs.Ranges.{IsOwner, IsPoint, IsSigned, IsBetween, IsStep, AreSteps, IsWritten, IsAct, IsSpelled}
-use Rattle.boss_bytes.specs.Parts.{signed64, natural, within, moment, name, policy, step, steps}
-use Rattle.boss_bytes.specs.Events.{setting, writes, points, submission, renewal, is_number, owned, numbered, by_number, act_tag, act_fits, event}
-use Rattle.boss_bytes.proofs.Spelling.{left_true, right_true, both_true}
-use Rattle.boss_effects.specs.Changes.{is_new}
-use Rattle.boss_effects.specs.Early.{early}
-use Rattle.boss_effects.proofs.Early.{replay-refused}
+use Rattle.law_soundness.proofs.NotRefused.{IsWrite, submit-not-refused}
+use Rattle.law_spelling.specs.Ranges.{IsOwner, IsPoint, IsSigned, IsBetween, IsStep, AreSteps, IsWritten, IsAct, IsSpelled}
+use Rattle.def_bytes.specs.Parts.{signed64, natural, within, moment, name, policy, step, steps}
+use Rattle.def_bytes.specs.Events.{setting, writes, points, submission, renewal, is_number, owned, numbered, by_number, act_tag, act_fits, event}
+use Rattle.def_bytes.proofs.Spelling.{left_true, right_true, both_true}
+use Rattle.law_effects.specs.Changes.{is_new}
+use Rattle.law_effects.specs.Early.{early}
+use Rattle.law_effects.proofs.Early.{replay-refused}
 use Rattle.boss_opening.specs.Bounds.{is_held, is_bounded, is_modest}
 
 -- ---- numbers

@@ -1,12 +1,12 @@
 -- How the bytes of a record are split into events: in one way.
 use Rattle.std.proofs.Common.{◌≡◌, ℕ, ◌+◌, ◌≤◌, true, List, [], ◌∷◌, ◌++◌, length, take, length-take, refl, sym, ap, ◌∙◌, append_assoc, length-append, arith}
 use Rattle.std.specs.List.{AllByRecursion}
-use Rattle.boss_fields.proofs.Exact.{one-spelling}
+use Rattle.def_bytes.proofs.Exact.{one-spelling}
 use Rattle.boss_model.specs.declared.event.Event.{Event}
-use Rattle.boss_bytes.specs.Batches.{batch_text}
-use Rattle.boss_bytes.specs.Events.{act_text, event}
-use Rattle.boss_bytes.specs.Parts.{moment}
-use Rattle.boss_bytes.proofs.OfEvents.{event_spelled}
+use Rattle.def_bytes.specs.Batches.{batch_text}
+use Rattle.def_bytes.specs.Events.{act_text, event}
+use Rattle.def_bytes.specs.Parts.{moment}
+use Rattle.def_bytes.proofs.OfEvents.{event_spelled}
 
 abbrev pub AllFit : List Event → Type 0
 AllFit events = AllByRecursion (λ e. event.fits e ≡ true) events

@@ -2,24 +2,24 @@
 use Rattle.std.proofs.Common.{◌≡◌, inl, inr, ◌⊎◌, ⊎_elim, ℕ, ◌+◌, Bool, List, [], ◌∷◌, ◌++◌, length, drop, refl, sym, ap, subst, ◌∙◌, append_assoc}
 use Rattle.std.specs.Prelude.{map}
 use Rattle.std.proofs.lemmas.List.{drop_at}
-use Rattle.boss_bytes.specs.Batches.{batch_text}
+use Rattle.def_bytes.specs.Batches.{batch_text}
 use Rattle.boss_disk.specs.declared.disk.Disk as disk
-use Rattle.boss_finding.proofs.Orders.{out_of_order}
-use Rattle.boss_logs.specs.Log.{spelled}
+use Rattle.boss_pair_find.proofs.Orders.{out_of_order}
+use Rattle.def_log.specs.Log.{spelled}
 use Rattle.boss_model.specs.declared.event.Event.{Event}
 use Rattle.boss_model.specs.declared.state.Actuator.{Actuator}
 use Rattle.boss_model.specs.State.{Persistent}
-use Rattle.boss_pairs.specs.Contents.{HoldsCleanly, IsNext}
-use Rattle.boss_pairs.specs.Pairs.{OfPair, OpensCleanly}
-use Rattle.boss_two_disks.specs.declared.two_disks.TwoDisks.{TwoDisks}
-use Rattle.boss_two_disks.specs.Causes.{first_disk, second_disk}
-use Rattle.boss_two_disks.specs.Orders.{InOrder}
-use Rattle.boss_two_disks.specs.Reads.{AtEnd, IsUnderWay, MayCome, ends_at, is_clean, is_settled, reads_to}
-use Rattle.boss_two_disks.specs.Rests.{passes}
-use Rattle.boss_two_disks.proofs.Forced.{from_order}
-use Rattle.boss_two_disks.proofs.Readings.{of_that_in_force}
-use Rattle.boss_two_disks.proofs.Repairs.{IsOneEnd, clean_holds, one_end}
-use Rattle.boss_two_disks.proofs.Words.{passes_before}
+use Rattle.def_disk_pair.specs.Contents.{HoldsCleanly, IsNext}
+use Rattle.def_disk_pair.specs.Pairs.{OfPair, OpensCleanly}
+use Rattle.boss_disk_pair.specs.declared.two_disks.TwoDisks.{TwoDisks}
+use Rattle.boss_disk_pair.specs.Causes.{first_disk, second_disk}
+use Rattle.boss_disk_pair.specs.Orders.{InOrder}
+use Rattle.boss_disk_pair.specs.Reads.{AtEnd, IsUnderWay, MayCome, ends_at, is_clean, is_settled, reads_to}
+use Rattle.boss_disk_pair.specs.Rests.{passes}
+use Rattle.boss_disk_pair.proofs.Forced.{from_order}
+use Rattle.boss_disk_pair.proofs.Readings.{of_that_in_force}
+use Rattle.boss_disk_pair.proofs.Repairs.{IsOneEnd, clean_holds, one_end}
+use Rattle.boss_disk_pair.proofs.Words.{passes_before}
 use Rattle.boss_opening.specs.Reading.{IsReadOn, ReadWhole, ShutsCleanly}
 use Rattle.boss_opening.specs.UnderWay.{IsUnderWayTo, MayComeTo}
 use Rattle.boss_opening.proofs.ReadOn.{back, stays_clean, still_clean, still_settled}

@@ -1,12 +1,12 @@
 -- What is said of records that are done again.
 use Rattle.std.specs.Prelude.{◌≡◌, ℕ, ◌≤◌, true, List, ◌++◌, length, take, Some}
-use Rattle.boss_bytes.specs.Batches.{act_number, batch_text}
-use Rattle.boss_bytes.specs.Events.{event}
+use Rattle.def_bytes.specs.Batches.{act_number, batch_text}
+use Rattle.def_bytes.specs.Events.{event}
 use Rattle.boss_model.specs.declared.event.Event.{Event}
 use Rattle.boss_model.specs.declared.state.Actuator.{Actuator}
 use Rattle.boss_model.specs.Acts.{replay}
 use Rattle.boss_model.specs.State.{Persistent}
-use Rattle.boss_pairs.specs.Contents.{IsNext}
+use Rattle.def_disk_pair.specs.Contents.{IsNext}
 
 abbrev pub HasSpelling : Event → Type 0
 HasSpelling e = event.fits e ≡ true

@@ -1,10 +1,10 @@
 -- What a check tells of a pair.
 use Rattle.std.specs.Prelude.{◌≡◌, ℕ, ◌+◌, List, length, Some, Result, Ok, Err, IfOk, IfErr}
 use Rattle.boss_disk.specs.declared.disk.Disk as disk
-use Rattle.boss_finding.specs.declared.refusal.DurableRefusal.{DurableRefusal}
-use Rattle.boss_finding.specs.Holds.{IsNewPair}
-use Rattle.boss_finding.specs.Refusals.{PairCause}
-use Rattle.boss_finding.specs.Two.{counts}
+use Rattle.boss_pair_find.specs.declared.refusal.DurableRefusal.{DurableRefusal}
+use Rattle.boss_pair_find.specs.Holds.{IsNewPair}
+use Rattle.boss_pair_find.specs.Refusals.{PairCause}
+use Rattle.boss_pair_find.specs.Two.{counts}
 use Rattle.boss_model.specs.declared.event.Event.{Event}
 use Rattle.boss_model.specs.declared.state.Actuator.{Actuator}
 use Rattle.boss_model.specs.Run.{replay_all}
@@ -12,11 +12,11 @@ use Rattle.boss_model.specs.State.{Persistent}
 use Rattle.boss_opening.specs.declared.checking.Checked.{Checked}
 use Rattle.boss_opening.specs.declared.checking.Checked.TheVariants.{New, Found}
 use Rattle.boss_opening.specs.Opens.{OpenRefuses}
-use Rattle.boss_pairs.specs.Pairs.{StandsFor}
-use Rattle.boss_two_disks.specs.Causes.{Counts}
-use Rattle.boss_two_disks.specs.declared.two_disks.TwoDisks.{TwoDisks}
-use Rattle.boss_two_disks.specs.Reads.{stands_for}
-use Rattle.boss_two_disks.specs.Rests.{counted}
+use Rattle.def_disk_pair.specs.Pairs.{StandsFor}
+use Rattle.boss_disk_pair.specs.Causes.{Counts}
+use Rattle.boss_disk_pair.specs.declared.two_disks.TwoDisks.{TwoDisks}
+use Rattle.boss_disk_pair.specs.Reads.{stands_for}
+use Rattle.boss_disk_pair.specs.Rests.{counted}
 
 -- So many events were counted, and of the state that they lead to these are the moment of the last change, the number of live leases
 -- and that of the reversions under way.

@@ -5,11 +5,11 @@ use Rattle.boss_disk.specs.Legs.{Legs, LeaveBoth}
 use Rattle.boss_disk.specs.Story.{Story}
 use Rattle.boss_durable.specs.declared.durable.Durable.{Durable}
 use Rattle.boss_durable.specs.Words.{keeps, lasting, leaves}
-use Rattle.boss_finding.specs.declared.refusal.DurableRefusal.{DurableRefusal}
-use Rattle.boss_finding.specs.declared.refusal.DurableRefusal.TheVariants.{NotAJournal, Version, Catalogue, Damaged, DiskFault, NoMemory}
-use Rattle.boss_finding.specs.Holds.{IsStatePair}
-use Rattle.boss_finding.specs.Refusals.{AnswerCause, FindRefuses, IsOfBytes}
-use Rattle.boss_finding.specs.Two.{counts, two, MightLeave}
+use Rattle.boss_pair_find.specs.declared.refusal.DurableRefusal.{DurableRefusal}
+use Rattle.boss_pair_find.specs.declared.refusal.DurableRefusal.TheVariants.{NotAJournal, Version, Catalogue, Damaged, DiskFault, NoMemory}
+use Rattle.boss_pair_find.specs.Holds.{IsStatePair}
+use Rattle.boss_pair_find.specs.Refusals.{AnswerCause, FindRefuses, IsOfBytes}
+use Rattle.boss_pair_find.specs.Two.{counts, two, MightLeave}
 use Rattle.boss_model.specs.Catalogue.{Catalogue as Points, actuators}
 use Rattle.boss_model.specs.declared.event.Event.{Event}
 use Rattle.boss_model.specs.declared.state.Actuator.{Actuator}
@@ -17,12 +17,12 @@ use Rattle.boss_model.specs.Run.{replay_all}
 use Rattle.boss_model.specs.Settle.{opened}
 use Rattle.boss_model.specs.Sound.{IsSound, IsSoundPersistent}
 use Rattle.boss_model.specs.State.{Persistent, State}
-use Rattle.boss_pairs.specs.Pairs.{DamagedAt, OpensCleanly, StandsFor}
+use Rattle.def_disk_pair.specs.Pairs.{DamagedAt, OpensCleanly, StandsFor}
 use Rattle.boss_points.specs.Canonical.{canonical}
-use Rattle.boss_two_disks.specs.Causes.{counts_of, first_disk, second_disk}
-use Rattle.boss_two_disks.specs.Images.{OpensToOne}
-use Rattle.boss_two_disks.specs.declared.two_disks.TwoDisks.{TwoDisks}
-use Rattle.boss_two_disks.specs.Rests.{counted}
+use Rattle.boss_disk_pair.specs.Causes.{counts_of, first_disk, second_disk}
+use Rattle.boss_disk_pair.specs.Images.{OpensToOne}
+use Rattle.boss_disk_pair.specs.declared.two_disks.TwoDisks.{TwoDisks}
+use Rattle.boss_disk_pair.specs.Rests.{counted}
 use Rattle.boss_opening.specs.Reading.{IsOfNoBytes}
 use Rattle.boss_opening.specs.UnderWay.{MayComeTo}
 use Rattle.sha2.specs.Sha256.{sha256}

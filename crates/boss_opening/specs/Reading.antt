@@ -1,16 +1,16 @@
 -- What is said of a pair whose log is read, and whose events are done again.
 use Rattle.std.specs.Prelude.{◌≡◌, ℕ, ◌+◌, List, [], ◌++◌, length, Some, Result, Ok, Err, OnOk}
 use Rattle.boss_disk.specs.declared.disk.Disk as disk
-use Rattle.boss_finding.specs.declared.refusal.DurableRefusal.{DurableRefusal}
-use Rattle.boss_finding.specs.declared.refusal.DurableRefusal.TheVariants.{NotAJournal, Version, Catalogue, Damaged, DiskFault, NoMemory}
+use Rattle.boss_pair_find.specs.declared.refusal.DurableRefusal.{DurableRefusal}
+use Rattle.boss_pair_find.specs.declared.refusal.DurableRefusal.TheVariants.{NotAJournal, Version, Catalogue, Damaged, DiskFault, NoMemory}
 use Rattle.boss_model.specs.declared.event.Event.{Event}
 use Rattle.boss_model.specs.declared.state.Actuator.{Actuator}
 use Rattle.boss_model.specs.Run.{replay_all}
 use Rattle.boss_model.specs.State.{Persistent}
-use Rattle.boss_two_disks.specs.declared.two_disks.TwoDisks.{TwoDisks}
-use Rattle.boss_two_disks.specs.Causes.{first_disk, second_disk}
-use Rattle.boss_two_disks.specs.Reads.{ends_at, is_damaged_at, reads_to, stands_for}
-use Rattle.boss_two_disks.specs.Rests.{counted, passes, rests}
+use Rattle.boss_disk_pair.specs.declared.two_disks.TwoDisks.{TwoDisks}
+use Rattle.boss_disk_pair.specs.Causes.{first_disk, second_disk}
+use Rattle.boss_disk_pair.specs.Reads.{ends_at, is_damaged_at, reads_to, stands_for}
+use Rattle.boss_disk_pair.specs.Rests.{counted, passes, rests}
 use Rattle.boss_opening.specs.UnderWay.{MayComeTo}
 
 -- what a log is refused for as its records are read

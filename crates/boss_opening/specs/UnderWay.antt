@@ -1,12 +1,12 @@
 -- A record that was under way as a stop came.
 use Rattle.std.specs.Prelude.{◌≡◌, ◌≢◌, ◌⊎◌, ℕ, List, ◌∷◌, ◌++◌}
-use Rattle.boss_bytes.specs.Batches.{batch_text}
-use Rattle.boss_logs.specs.Log.{framed}
+use Rattle.def_bytes.specs.Batches.{batch_text}
+use Rattle.def_log.specs.Log.{framed}
 use Rattle.boss_model.specs.declared.event.Event.{Event}
 use Rattle.boss_model.specs.declared.state.Actuator.{Actuator}
 use Rattle.boss_model.specs.State.{Persistent}
-use Rattle.boss_pairs.specs.Contents.{HoldsCleanly, IsNext}
-use Rattle.boss_pairs.specs.Pairs.{OfPair}
+use Rattle.def_disk_pair.specs.Contents.{HoldsCleanly, IsNext}
+use Rattle.def_disk_pair.specs.Pairs.{OfPair}
 
 -- The bytes are clean and come to a state, and behind their last gate, which is not 0, stands a whole record that leads on from there.
 pub record IsUnderWayTo (plant : List Actuator) (digest : List ℕ) (d : Persistent) (count : ℕ) (after : Persistent) (bytes : List ℕ) : Type 0 where

@@ -1,9 +1,9 @@
 ghost use Rattle.std.specs.Prelude.{◌≡◌, ℕ, [], IfErr, IfOk, false};
-ghost use Rattle.boss_finding.specs.declared.refusal.DurableRefusal.TheVariants.{Damaged};
-ghost use Rattle.boss_finding.specs.Finds.{Finds, IsAtFirst, IsAtStart, Starts, found_first, found_second};
-ghost use Rattle.boss_finding.specs.Holds.{IsNewPair, IsPlainPair, IsStatePair};
-ghost use Rattle.boss_finding.specs.Refusals.{PairCause};
-ghost use Rattle.boss_finding.specs.Two.{counts};
+ghost use Rattle.boss_pair_find.specs.declared.refusal.DurableRefusal.TheVariants.{Damaged};
+ghost use Rattle.boss_pair_find.specs.Finds.{Finds, IsAtFirst, IsAtStart, Starts, found_first, found_second};
+ghost use Rattle.boss_pair_find.specs.Holds.{IsNewPair, IsPlainPair, IsStatePair};
+ghost use Rattle.boss_pair_find.specs.Refusals.{PairCause};
+ghost use Rattle.boss_pair_find.specs.Two.{counts};
 ghost use Rattle.boss_model.specs.Catalogue.{actuators};
 ghost use Rattle.boss_model.specs.Seen.{seen};
 ghost use Rattle.boss_model.specs.Sound.{IsSound, IsSoundPersistent};
@@ -11,17 +11,17 @@ ghost use Rattle.boss_model.specs.State.{first_persistent};
 ghost use Rattle.boss_opening.specs.Checks.{CheckCause, ChecksLog, ChecksPair, IsCheck};
 ghost use Rattle.boss_opening.specs.Opens.{OpenRefuses, digest_of};
 ghost use Rattle.boss_opening.specs.Reading.{IsOfLog, IsReadOn};
-ghost use Rattle.boss_two_disks.specs.Causes.{counts_of, first_disk, second_disk};
-ghost use Rattle.boss_two_disks.specs.Reads.{is_damaged_at, reads_to};
+ghost use Rattle.boss_disk_pair.specs.Causes.{counts_of, first_disk, second_disk};
+ghost use Rattle.boss_disk_pair.specs.Reads.{is_damaged_at, reads_to};
 
 use crate::opening::STATE_PLACE;
 use crate::reading::read_log;
 use boss_disk::Disk;
+use boss_disk_pair::TwoDisks;
 use boss_engine::{Engine, RestoreRefusal};
-use boss_finding::{DurableRefusal, Found, find};
 use boss_model::{Kept, LAST_NUMBER, NoMemory};
+use boss_pair_find::{DurableRefusal, Found, find};
 use boss_points::Catalogue;
-use boss_two_disks::TwoDisks;
 use std::alloc::Global;
 
 /// What a check finds on a pair of disks.

@@ -1,25 +1,25 @@
 ghost use Rattle.std.specs.Prelude.{◌≡◌, ◌≤◌, ℕ, false, true, [], IfErr, IfOk, OnOk};
-ghost use Rattle.boss_bytes.specs.States.{state};
-ghost use Rattle.boss_finding.specs.declared.refusal.DurableRefusal.TheVariants.{Damaged};
-ghost use Rattle.boss_finding.specs.Refusals.{PairCause};
+ghost use Rattle.def_bytes.specs.States.{state};
+ghost use Rattle.boss_pair_find.specs.declared.refusal.DurableRefusal.TheVariants.{Damaged};
+ghost use Rattle.boss_pair_find.specs.Refusals.{PairCause};
 ghost use Rattle.boss_model.specs.Plants.{IsPlant};
 ghost use Rattle.boss_model.specs.Seen.{seen};
 ghost use Rattle.boss_model.specs.Sound.{IsSound, IsSoundPersistent};
 ghost use Rattle.boss_model.specs.State.{Persistent};
 ghost use Rattle.boss_opening.specs.Opens.{Finishing, Opening, Stays};
 ghost use Rattle.boss_opening.specs.Reading.{GoesOn, IsOfLog, IsOfNoBytes, ShutsCleanly};
-ghost use Rattle.boss_two_disks.specs.Causes.{counts_of, first_disk, second_disk};
-ghost use Rattle.boss_two_disks.specs.Reads.{is_clean, is_damaged_at, is_settled, reads_to};
-ghost use Rattle.boss_two_disks.specs.Rests.{passes, rests};
+ghost use Rattle.boss_disk_pair.specs.Causes.{counts_of, first_disk, second_disk};
+ghost use Rattle.boss_disk_pair.specs.Reads.{is_clean, is_damaged_at, is_settled, reads_to};
+ghost use Rattle.boss_disk_pair.specs.Rests.{passes, rests};
 
 use crate::reading::{RECORD_ROOM, read_log};
 use boss_disk::Disk;
+use boss_disk_pair::TwoDisks;
 use boss_durable::Durable;
 use boss_engine::Engine;
-use boss_finding::DurableRefusal;
 use boss_model::{Buffer, Kept, NoMemory};
 use boss_outside::Failed;
-use boss_two_disks::TwoDisks;
+use boss_pair_find::DurableRefusal;
 use std::alloc::Global;
 
 /// The version in which disks are written.

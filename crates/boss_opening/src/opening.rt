@@ -1,10 +1,10 @@
 ghost use Rattle.std.specs.Prelude.{◌≡◌, ◌≤◌, ℕ, List, [], length, IfOk, IfErr, false};
 ghost use Rattle.boss_disk.specs.Window.{settled};
 ghost use Rattle.boss_durable.specs.Words.{keeps, lasting, leaves};
-ghost use Rattle.boss_finding.specs.Finds.{Finds, IsAtFirst, IsAtStart, IsSettled, Starts, found_first, found_second};
-ghost use Rattle.boss_finding.specs.Holds.{IsNewPair, IsStatePair};
-ghost use Rattle.boss_finding.specs.Refusals.{AnswerCause, IsOfBytes};
-ghost use Rattle.boss_finding.specs.Two.{counts};
+ghost use Rattle.boss_pair_find.specs.Finds.{Finds, IsAtFirst, IsAtStart, IsSettled, Starts, found_first, found_second};
+ghost use Rattle.boss_pair_find.specs.Holds.{IsNewPair, IsStatePair};
+ghost use Rattle.boss_pair_find.specs.Refusals.{AnswerCause, IsOfBytes};
+ghost use Rattle.boss_pair_find.specs.Two.{counts};
 ghost use Rattle.boss_model.specs.Catalogue.{actuators};
 ghost use Rattle.boss_model.specs.declared.event.Event.{Event};
 ghost use Rattle.boss_model.specs.Plants.{IsPlant};
@@ -13,20 +13,20 @@ ghost use Rattle.boss_model.specs.Sound.{IsSound, IsSoundPersistent};
 ghost use Rattle.boss_model.specs.State.{Persistent, first_persistent};
 ghost use Rattle.boss_opening.specs.Opens.{Meanwhile, OpenedAt, OpenRefuses, Opening, Stays, digest_of, first_left, second_left};
 ghost use Rattle.boss_opening.specs.UnderWay.{MayComeTo};
-ghost use Rattle.boss_pairs.specs.Pairs.{OpensCleanly};
-ghost use Rattle.boss_two_disks.specs.Causes.{first_disk, second_disk};
-ghost use Rattle.boss_two_disks.specs.Reads.{is_settled, reads_to};
-ghost use Rattle.boss_two_disks.specs.Rests.{counted};
+ghost use Rattle.def_disk_pair.specs.Pairs.{OpensCleanly};
+ghost use Rattle.boss_disk_pair.specs.Causes.{first_disk, second_disk};
+ghost use Rattle.boss_disk_pair.specs.Reads.{is_settled, reads_to};
+ghost use Rattle.boss_disk_pair.specs.Rests.{counted};
 
 use crate::going_on::{finish, go_on};
 use boss_disk::Disk;
+use boss_disk_pair::TwoDisks;
 use boss_durable::Durable;
 use boss_engine::{Engine, RestoreRefusal};
-use boss_finding::{DurableRefusal, Found, find, make, sync_both};
 use boss_model::{Kept, NoMemory};
 use boss_outside::Failed;
+use boss_pair_find::{DurableRefusal, Found, find, make, sync_both};
 use boss_points::Catalogue;
-use boss_two_disks::TwoDisks;
 use std::alloc::Global;
 
 /// Where a kept state that is not sound is told as damaged: its first byte.

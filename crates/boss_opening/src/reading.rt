@@ -1,18 +1,18 @@
 ghost use Rattle.std.specs.Prelude.{◌≡◌, ◌+◌, ◌≤◌, ℕ, [], None, IfOk, IfErr, IfSome, false};
-ghost use Rattle.boss_finding.specs.declared.refusal.DurableRefusal.TheVariants.{Damaged};
-ghost use Rattle.boss_finding.specs.Refusals.{DiskCause, PairCause};
+ghost use Rattle.boss_pair_find.specs.declared.refusal.DurableRefusal.TheVariants.{Damaged};
+ghost use Rattle.boss_pair_find.specs.Refusals.{DiskCause, PairCause};
 ghost use Rattle.boss_model.specs.Sound.{IsSound};
 ghost use Rattle.boss_opening.specs.Reading.{IsAtLast, IsDamaged, IsOfLog, IsReadOn, ReadsOn, ReadWhole};
-ghost use Rattle.boss_two_disks.specs.Causes.{counts_of};
-ghost use Rattle.boss_two_disks.specs.Reads.{is_damaged_at, reads_to};
+ghost use Rattle.boss_disk_pair.specs.Causes.{counts_of};
+ghost use Rattle.boss_disk_pair.specs.Reads.{is_damaged_at, reads_to};
 
 use crate::replaying::replay_record;
 use boss_disk::Disk;
+use boss_disk_pair::TwoDisks;
 use boss_engine::Engine;
-use boss_finding::DurableRefusal;
 use boss_journal::NextRecord;
 use boss_model::{Buffer, NoMemory};
-use boss_two_disks::TwoDisks;
+use boss_pair_find::DurableRefusal;
 use std::alloc::Global;
 
 /// How many bytes the records of a call may have.

@@ -1,9 +1,9 @@
 ghost use Rattle.std.specs.Prelude.{◌≡◌, ◌≤◌, Some, None, IfOk, IfSome, ◌↔◌, true, false};
-ghost use Rattle.boss_bytes.specs.Batches.{act_number};
+ghost use Rattle.def_bytes.specs.Batches.{act_number};
 ghost use Rattle.boss_model.specs.Sound.{IsSound};
 ghost use Rattle.boss_model.specs.State.{Persistent};
 ghost use Rattle.boss_opening.specs.Again.{BeginsOn, HasSpelling, Leads, LeadsOn, NoneBegins};
-ghost use Rattle.boss_two_disks.specs.Reads.{NoneLeads};
+ghost use Rattle.boss_disk_pair.specs.Reads.{NoneLeads};
 
 use crate::ranges::is_modest;
 use boss_engine::Engine;

@@ -1,6 +1,6 @@
 -- So many bytes are read at once, and not one by one.
 use Rattle.std.proofs.Common.{◌≡◌, ℕ, zero, suc, ◌<◌, ◌≤◌, List, [], ◌∷◌, length, take, drop, Some, None, refl, ap, arith}
-use Rattle.boss_fields.specs.Fields.{◌>>=◌, byte, next_items, items_at}
+use Rattle.def_bytes.specs.Fields.{◌>>=◌, byte, next_items, items_at}
 
 pub some_bytes : (n : ℕ) (bytes : List ℕ) → n ≤ length bytes → items_at byte n bytes ≡ Some (take n bytes, drop n bytes)
 some_bytes zero bytes enough = refl

@@ -1,6 +1,6 @@
 -- Items read one by one are items read at once.
 use Rattle.std.proofs.Common.{◌≡◌, ℕ, suc, List, [], ◌∷◌, ◌++◌, Option, Some, None, refl, sym, ap, ◌∙◌, append_assoc, append-nil}
-use Rattle.boss_fields.specs.Fields.{Field, ◌>>=◌, next_items, items_at}
+use Rattle.def_bytes.specs.Fields.{Field, ◌>>=◌, next_items, items_at}
 use Rattle.boss_records.specs.declared.unread.Unread.{Unread}
 use Rattle.boss_records.specs.declared.unread.Unread.TheVariants as unread
 use Rattle.boss_records.specs.Given.{Misses}

@@ -4,8 +4,8 @@ use Rattle.std.specs.Prelude.{FitsSigned}
 use Rattle.std.specs.Option.{option_map_or}
 use Rattle.std.specs.Int.{w64, cast_unsigned}
 use Rattle.std.proofs.lemmas.Bool.{lt-ltb}
-use Rattle.boss_fields.specs.Fields.{number_text}
-use Rattle.boss_bytes.specs.Parts.{bits_of, signed64}
+use Rattle.def_bytes.specs.Fields.{number_text}
+use Rattle.def_bytes.specs.Parts.{bits_of, signed64}
 
 pub signed_bits : (z : ℤ) → FitsSigned w64 z → bits_of z ≡ Some (cast_unsigned w64 z)
 signed_bits (pos n) fits = ap (λ b. cond b (Some n) None) (lt-ltb n (2 ^ 63) fits.sfits)

@@ -2,8 +2,8 @@
 use Rattle.std.proofs.Common.{◌≡◌, ℕ, zero, suc, ◌+◌, ◌*◌, ◌<◌, ◌≤◌, Bool, true, List, [], ◌∷◌, ◌++◌, length, get_or, take, map, refl, sym, ap, ◌∙◌, append_assoc, append-nil, arith, length-append}
 use Rattle.std.specs.Prelude.{flat_map}
 use Rattle.std.specs.List.{list_all}
-use Rattle.boss_fields.specs.Fields.{byte}
-use Rattle.boss_bytes.proofs.Spelling.{left_true, right_true}
+use Rattle.def_bytes.specs.Fields.{byte}
+use Rattle.def_bytes.proofs.Spelling.{left_true, right_true}
 
 module _ {A X : Type 0} (view : A → X) where
   pub fits_at : (fits : X → Bool) (xs : List A) (i : ℕ) (x : A) → i < length xs → x ≡ get_or xs i x → list_all fits (map view xs) ≡ true → fits (view x) ≡ true

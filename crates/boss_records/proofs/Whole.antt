@@ -1,11 +1,11 @@
 -- What the reader of an event answers, from what the bytes begin with.
 use Rattle.std.proofs.Common.{◌≡◌, ℕ, ◌+◌, ◌-◌, ◌≤◌, true, List, ◌++◌, length, take, Option, Some, None, refl, sym, ap, ◌∙◌, arith, length-append}
 use Rattle.std.proofs.lemmas.List.{take_at}
-use Rattle.boss_fields.specs.Exact.{IsBytes, Took}
+use Rattle.def_bytes.specs.Exact.{IsBytes, Took}
 use Rattle.boss_model.specs.declared.event.Event.{Event}
-use Rattle.boss_bytes.specs.Events.{event}
-use Rattle.boss_bytes.proofs.OfEvents.{event_spelled}
-use Rattle.boss_bytes.proofs.Spelling.{some-is}
+use Rattle.def_bytes.specs.Events.{event}
+use Rattle.def_bytes.proofs.OfEvents.{event_spelled}
+use Rattle.def_bytes.proofs.Spelling.{some-is}
 
 module _ (bytes rest : List ℕ) (e : Event) (are : IsBytes bytes) (is : event.at bytes ≡ Some (e, rest)) where
   took : Took event bytes e rest

@@ -1,9 +1,9 @@
 ghost use Rattle.std.specs.Prelude.{◌≡◌, ◌≤◌, ◌<◌, ℕ, length};
 ghost use Rattle.std.specs.Int.{w16, w32, w64};
-ghost use Rattle.boss_fields.specs.Fields.{number, only};
+ghost use Rattle.def_bytes.specs.Fields.{number, only};
 ghost use Rattle.boss_model.specs.declared.event.Act.TheVariants as act;
-ghost use Rattle.boss_bytes.specs.Events.{is_number, kind_at, numbered, owned, points, renewal, submission, writes};
-ghost use Rattle.boss_bytes.specs.Parts.{moment, name};
+ghost use Rattle.def_bytes.specs.Events.{is_number, kind_at, numbered, owned, points, renewal, submission, writes};
+ghost use Rattle.def_bytes.specs.Parts.{moment, name};
 ghost use Rattle.boss_records.specs.Given.{Finds, Gives};
 
 use crate::{
@@ -17,7 +17,7 @@ use std::alloc::Global;
 
 impl Spelled for Setting {
     ghost use Rattle.boss_model.specs.declared.command.Setting.{Setting};
-    ghost use Rattle.boss_bytes.specs.Events.{setting};
+    ghost use Rattle.def_bytes.specs.Events.{setting};
 
     ghost Value = { Setting };
 
@@ -45,7 +45,7 @@ impl Spelled for Setting {
 impl Spelled for PointId {
     ghost use Rattle.std.specs.Prelude.{ℕ};
     ghost use Rattle.std.specs.Int.{w32};
-    ghost use Rattle.boss_fields.specs.Fields.{number};
+    ghost use Rattle.def_bytes.specs.Fields.{number};
 
     ghost Value = { ℕ };
 

@@ -1,8 +1,8 @@
 ghost use Rattle.std.specs.Prelude.{◌≡◌, ℕ};
-ghost use Rattle.boss_fields.specs.Fields.{tagged};
+ghost use Rattle.def_bytes.specs.Fields.{tagged};
 ghost use Rattle.boss_model.specs.declared.notice.What.TheVariants as what;
-ghost use Rattle.boss_bytes.specs.Events.{kind_at};
-ghost use Rattle.boss_bytes.specs.States.{causes, end, ended, reply, whats};
+ghost use Rattle.def_bytes.specs.Events.{kind_at};
+ghost use Rattle.def_bytes.specs.States.{causes, end, ended, reply, whats};
 ghost use Rattle.boss_records.specs.Given.{Finds};
 
 use crate::{
@@ -18,7 +18,7 @@ use std::alloc::Global;
 impl Spelled for Txn {
     ghost use Rattle.std.specs.Prelude.{ℕ};
     ghost use Rattle.std.specs.Int.{w64};
-    ghost use Rattle.boss_fields.specs.Fields.{number};
+    ghost use Rattle.def_bytes.specs.Fields.{number};
 
     ghost Value = { ℕ };
 
@@ -34,7 +34,7 @@ impl Spelled for Txn {
 
 impl Spelled for Lease {
     ghost use Rattle.boss_model.specs.declared.state.Lease.{Lease};
-    ghost use Rattle.boss_bytes.specs.States.{lease};
+    ghost use Rattle.def_bytes.specs.States.{lease};
 
     ghost Value = { Lease };
 
@@ -67,7 +67,7 @@ impl Spelled for Lease {
 
 impl Spelled for Pending {
     ghost use Rattle.boss_model.specs.declared.state.Pending.{Pending};
-    ghost use Rattle.boss_bytes.specs.States.{pending};
+    ghost use Rattle.def_bytes.specs.States.{pending};
 
     ghost Value = { Pending };
 
@@ -115,7 +115,7 @@ pub fn read_cause(bytes: &[u8]) -> Result<(Cause, &[u8]), NoSpelling>
 impl Spelled for KeptPart {
     ghost use Rattle.boss_model.specs.Records.{Part};
     ghost use Rattle.boss_model.specs.Seen.{seen_part};
-    ghost use Rattle.boss_bytes.specs.States.{part};
+    ghost use Rattle.def_bytes.specs.States.{part};
 
     ghost Value = { Part };
 
@@ -170,7 +170,7 @@ fn read_end(bytes: &[u8]) -> Result<((Cause, u64), &[u8]), NoSpelling>
 impl Spelled for KeptTxn {
     ghost use Rattle.boss_model.specs.Records.{Transaction};
     ghost use Rattle.boss_model.specs.Seen.{seen_txn};
-    ghost use Rattle.boss_bytes.specs.States.{transaction};
+    ghost use Rattle.def_bytes.specs.States.{transaction};
 
     ghost Value = { Transaction };
 
@@ -238,7 +238,7 @@ fn read_ended(bytes: &[u8]) -> Result<(What, &[u8]), NoSpelling>
 impl Spelled for Notice {
     ghost use Rattle.std.specs.Prelude.{ℕ};
     ghost use Rattle.boss_model.specs.declared.notice.What.{What};
-    ghost use Rattle.boss_bytes.specs.States.{told, told_of};
+    ghost use Rattle.def_bytes.specs.States.{told, told_of};
 
     ghost Value = { ℕ × (ℕ × What) };
 

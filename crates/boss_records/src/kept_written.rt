@@ -1,7 +1,7 @@
 ghost use Rattle.std.specs.Prelude.{◌≡◌, ℕ, ◌+◌, ◌≤◌, ◌++◌, length, Option, Some};
 ghost use Rattle.std.specs.Option.{option_map};
-ghost use Rattle.boss_fields.specs.Fields.{tagged};
-ghost use Rattle.boss_bytes.specs.States.{causes, ends, replies, whats};
+ghost use Rattle.def_bytes.specs.Fields.{tagged};
+ghost use Rattle.def_bytes.specs.States.{causes, ends, replies, whats};
 
 use crate::{Room, Written, put_i64, put_policy, put_steps, put_u8, put_u16, put_u32, put_u64};
 use boss_model::{Acceptance, Cause, KeptPart, KeptReply, Lease, Notice, Pending, Txn, What};
@@ -9,8 +9,8 @@ use boss_model::{Acceptance, Cause, KeptPart, KeptReply, Lease, Notice, Pending,
 impl Written for Txn {
     ghost use Rattle.std.specs.Prelude.{ℕ};
     ghost use Rattle.std.specs.Int.{w64};
-    ghost use Rattle.boss_fields.specs.Fields.{number};
-    ghost use Rattle.boss_bytes.proofs.Spelling.{word64};
+    ghost use Rattle.def_bytes.specs.Fields.{number};
+    ghost use Rattle.def_bytes.proofs.Spelling.{word64};
 
     ghost Value = { ℕ };
 
@@ -27,8 +27,8 @@ impl Written for Txn {
 
 impl Written for Lease {
     ghost use Rattle.boss_model.specs.declared.state.Lease.{Lease};
-    ghost use Rattle.boss_bytes.specs.States.{lease};
-    ghost use Rattle.boss_bytes.proofs.OfStates.{a_lease};
+    ghost use Rattle.def_bytes.specs.States.{lease};
+    ghost use Rattle.def_bytes.proofs.OfStates.{a_lease};
 
     ghost Value = { Lease };
 
@@ -52,8 +52,8 @@ impl Written for Lease {
 
 impl Written for Pending {
     ghost use Rattle.boss_model.specs.declared.state.Pending.{Pending};
-    ghost use Rattle.boss_bytes.specs.States.{pending};
-    ghost use Rattle.boss_bytes.proofs.OfStates.{a_pending};
+    ghost use Rattle.def_bytes.specs.States.{pending};
+    ghost use Rattle.def_bytes.proofs.OfStates.{a_pending};
 
     ghost Value = { Pending };
 
@@ -112,8 +112,8 @@ fn put_end<R: Room>(into: &mut R, end: Option<(Cause, u64)>)
 impl Written for KeptPart {
     ghost use Rattle.boss_model.specs.Records.{Part};
     ghost use Rattle.boss_model.specs.Seen.{seen_part};
-    ghost use Rattle.boss_bytes.specs.States.{part};
-    ghost use Rattle.boss_bytes.proofs.OfStates.{a_part};
+    ghost use Rattle.def_bytes.specs.States.{part};
+    ghost use Rattle.def_bytes.proofs.OfStates.{a_part};
 
     ghost Value = { Part };
 
@@ -163,8 +163,8 @@ fn put_what<R: Room>(into: &mut R, what: What)
 impl Written for Notice {
     ghost use Rattle.std.specs.Prelude.{ℕ};
     ghost use Rattle.boss_model.specs.declared.notice.What.{What};
-    ghost use Rattle.boss_bytes.specs.States.{told, told_of};
-    ghost use Rattle.boss_bytes.proofs.OfStates.{a_notice};
+    ghost use Rattle.def_bytes.specs.States.{told, told_of};
+    ghost use Rattle.def_bytes.proofs.OfStates.{a_notice};
 
     ghost Value = { ℕ × (ℕ × What) };
 

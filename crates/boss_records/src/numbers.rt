@@ -1,7 +1,7 @@
 ghost use Rattle.std.specs.Prelude.{◌≡◌, ◌≤◌, ◌<◌, ℕ, length};
 ghost use Rattle.std.specs.Int.{w16, w32, w64};
-ghost use Rattle.boss_fields.specs.Fields.{number, byte};
-ghost use Rattle.boss_bytes.specs.Parts.{within, signed64, natural};
+ghost use Rattle.def_bytes.specs.Fields.{number, byte};
+ghost use Rattle.def_bytes.specs.Parts.{within, signed64, natural};
 ghost use Rattle.boss_records.specs.Given.{Finds};
 
 use crate::NoSpelling;
@@ -17,7 +17,7 @@ pub fn read_u8(bytes: &[u8]) -> Result<(u8, &[u8]), NoSpelling>
 }
 
 /// A number of 16 bits, the highest byte first.
-#[tactic(auto, unfolding(boss_fields::specs::Fields::number_at))]
+#[tactic(auto, unfolding(def_bytes::specs::Fields::number_at))]
 pub fn read_u16(bytes: &[u8]) -> Result<(u16, &[u8]), NoSpelling>
     ensures { Finds (λ x. (x.0, x.1.now)) result ((number w16).at bytes.now) }
 {
@@ -28,7 +28,7 @@ pub fn read_u16(bytes: &[u8]) -> Result<(u16, &[u8]), NoSpelling>
 }
 
 /// A number of 32 bits, the highest byte first.
-#[tactic(auto, unfolding(boss_fields::specs::Fields::number_at))]
+#[tactic(auto, unfolding(def_bytes::specs::Fields::number_at))]
 pub fn read_u32(bytes: &[u8]) -> Result<(u32, &[u8]), NoSpelling>
     ensures { Finds (λ x. (x.0, x.1.now)) result ((number w32).at bytes.now) }
 {
@@ -39,7 +39,7 @@ pub fn read_u32(bytes: &[u8]) -> Result<(u32, &[u8]), NoSpelling>
 }
 
 /// A number of 64 bits, the highest byte first.
-#[tactic(auto, unfolding(boss_fields::specs::Fields::number_at))]
+#[tactic(auto, unfolding(def_bytes::specs::Fields::number_at))]
 pub fn read_u64(bytes: &[u8]) -> Result<(u64, &[u8]), NoSpelling>
     ensures { Finds (λ x. (x.0, x.1.now)) result ((number w64).at bytes.now) }
 {

@@ -1,6 +1,6 @@
 ghost use Rattle.std.specs.Prelude.{◌≡◌, ◌≤◌, ◌<◌, ℕ, length, map};
-ghost use Rattle.boss_fields.specs.Fields.{byte, items_at};
-ghost use Rattle.boss_bytes.specs.Parts.{name, policy, steps};
+ghost use Rattle.def_bytes.specs.Fields.{byte, items_at};
+ghost use Rattle.def_bytes.specs.Parts.{name, policy, steps};
 ghost use Rattle.boss_records.specs.Given.{Finds, Gives};
 
 use crate::{
@@ -50,7 +50,7 @@ pub fn read_name(bytes: &[u8]) -> Result<(Name, &[u8]), NoSpelling>
 
 impl Spelled for Step {
     ghost use Rattle.boss_model.specs.declared.command.Step.{Step};
-    ghost use Rattle.boss_bytes.specs.Parts.{step};
+    ghost use Rattle.def_bytes.specs.Parts.{step};
 
     ghost Value = { Step };
 

@@ -1,7 +1,7 @@
 ghost use Rattle.std.specs.Prelude.{◌≡◌, ℕ, ◌+◌, ◌≤◌, true, ◌++◌, length};
 ghost use Rattle.std.specs.Int.{w16, w32, w64};
-ghost use Rattle.boss_fields.specs.Fields.{byte, number};
-ghost use Rattle.boss_bytes.specs.Parts.{natural, signed64};
+ghost use Rattle.def_bytes.specs.Fields.{byte, number};
+ghost use Rattle.def_bytes.specs.Parts.{natural, signed64};
 
 use crate::Room;
 
@@ -16,7 +16,7 @@ pub fn put_u8<R: Room>(into: &mut R, number: u8)
 }
 
 /// A number of 16 bits, the highest byte first.
-#[tactic(auto, unfolding(boss_fields::specs::Fields::number_text))]
+#[tactic(auto, unfolding(def_bytes::specs::Fields::number_text))]
 pub fn put_u16<R: Room>(into: &mut R, n: u16)
     requires { length (R.bytes into.old) + 2 ≤ R.capacity into.old }
     ensures bytes { R.bytes into.new ≡ R.bytes into.old ++ (number w16).text n }
@@ -27,7 +27,7 @@ pub fn put_u16<R: Room>(into: &mut R, n: u16)
 }
 
 /// A number of 32 bits, the highest byte first.
-#[tactic(auto, unfolding(boss_fields::specs::Fields::number_text))]
+#[tactic(auto, unfolding(def_bytes::specs::Fields::number_text))]
 pub fn put_u32<R: Room>(into: &mut R, n: u32)
     requires { length (R.bytes into.old) + 4 ≤ R.capacity into.old }
     ensures bytes { R.bytes into.new ≡ R.bytes into.old ++ (number w32).text n }
@@ -38,7 +38,7 @@ pub fn put_u32<R: Room>(into: &mut R, n: u32)
 }
 
 /// A number of 64 bits, the highest byte first.
-#[tactic(auto, unfolding(boss_fields::specs::Fields::number_text))]
+#[tactic(auto, unfolding(def_bytes::specs::Fields::number_text))]
 pub fn put_u64<R: Room>(into: &mut R, n: u64)
     requires { length (R.bytes into.old) + 8 ≤ R.capacity into.old }
     ensures bytes { R.bytes into.new ≡ R.bytes into.old ++ (number w64).text n }

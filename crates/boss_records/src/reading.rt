@@ -1,6 +1,6 @@
 ghost use Rattle.std.specs.Prelude.{◌≡◌, ◌≤◌, ◌-◌, ℕ, true, List, ◌++◌, length, take, Option, Some, None, IfOk, IfSome};
 ghost use Rattle.boss_model.specs.declared.event.Event.{Event};
-ghost use Rattle.boss_bytes.specs.Events.{act_at, event};
+ghost use Rattle.def_bytes.specs.Events.{act_at, event};
 ghost use Rattle.boss_records.specs.Given.{Gives};
 
 use crate::acts::{

@@ -1,5 +1,5 @@
 ghost use Rattle.std.specs.Prelude.{◌≡◌, ◌-◌, ℕ, map};
-ghost use Rattle.boss_fields.specs.Fields.{Field, items_at};
+ghost use Rattle.def_bytes.specs.Fields.{Field, items_at};
 ghost use Rattle.boss_records.specs.Given.{Gives};
 
 use crate::Unread;

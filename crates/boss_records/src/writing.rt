@@ -3,8 +3,8 @@ ghost use Rattle.boss_model.specs.declared.event.Act.TheVariants as act;
 ghost use Rattle.boss_model.specs.declared.event.Effect.TheVariants.{Unchanged};
 ghost use Rattle.boss_model.specs.declared.event.Event.{Event};
 ghost use Rattle.boss_model.specs.Effects.{act_of, event_of};
-ghost use Rattle.boss_bytes.specs.Events.{act_fits, act_text, event, numbered, owned, points, renewal, submission, writes};
-ghost use Rattle.boss_bytes.specs.Parts.{moment};
+ghost use Rattle.def_bytes.specs.Events.{act_fits, act_text, event, numbered, owned, points, renewal, submission, writes};
+ghost use Rattle.def_bytes.specs.Parts.{moment};
 
 use crate::{
     Room, put_name, put_natural32, put_policy, put_u8, put_u16, put_u32, put_u64, write_items,

@@ -1,7 +1,7 @@
 ghost use Rattle.std.specs.Prelude.{◌≡◌, ℕ, ◌+◌, ◌*◌, ◌≤◌, true, List, ◌++◌, length, map, flat_map};
 ghost use Rattle.std.specs.List.{list_all};
-ghost use Rattle.boss_fields.specs.Exact.{IsShort};
-ghost use Rattle.boss_fields.specs.Fields.{Field};
+ghost use Rattle.def_bytes.specs.Exact.{IsShort};
+ghost use Rattle.def_bytes.specs.Fields.{Field};
 
 use crate::Room;
 

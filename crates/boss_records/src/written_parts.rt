@@ -1,5 +1,5 @@
 ghost use Rattle.std.specs.Prelude.{◌≡◌, ℕ, ◌+◌, ◌≤◌, true, ◌++◌, length};
-ghost use Rattle.boss_bytes.specs.Parts.{moment, name, policy, steps};
+ghost use Rattle.def_bytes.specs.Parts.{moment, name, policy, steps};
 
 use crate::{Room, Written, put_i64, put_natural8, put_natural32, put_u8, put_u32, write_items};
 use boss_model::{Name, PointId, Policy, Setting, Step};
@@ -30,8 +30,8 @@ pub fn put_policy<R: Room>(into: &mut R, kept: Policy)
 
 impl Written for Step {
     ghost use Rattle.boss_model.specs.declared.command.Step.{Step};
-    ghost use Rattle.boss_bytes.specs.Parts.{step};
-    ghost use Rattle.boss_bytes.proofs.OfParts.{one_step};
+    ghost use Rattle.def_bytes.specs.Parts.{step};
+    ghost use Rattle.def_bytes.proofs.OfParts.{one_step};
 
     ghost Value = { Step };
 
@@ -60,8 +60,8 @@ pub fn put_steps<R: Room>(into: &mut R, written: &[Step])
 
 impl Written for Setting {
     ghost use Rattle.boss_model.specs.declared.command.Setting.{Setting};
-    ghost use Rattle.boss_bytes.specs.Events.{setting};
-    ghost use Rattle.boss_bytes.proofs.OfEvents.{one_setting};
+    ghost use Rattle.def_bytes.specs.Events.{setting};
+    ghost use Rattle.def_bytes.proofs.OfEvents.{one_setting};
 
     ghost Value = { Setting };
 
@@ -83,8 +83,8 @@ impl Written for Setting {
 impl Written for PointId {
     ghost use Rattle.std.specs.Prelude.{ℕ};
     ghost use Rattle.std.specs.Int.{w32};
-    ghost use Rattle.boss_fields.specs.Fields.{number};
-    ghost use Rattle.boss_bytes.proofs.Spelling.{word32};
+    ghost use Rattle.def_bytes.specs.Fields.{number};
+    ghost use Rattle.def_bytes.proofs.Spelling.{word32};
 
     ghost Value = { ℕ };
 

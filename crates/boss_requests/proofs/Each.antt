@@ -3,8 +3,8 @@ use Rattle.std.proofs.Common.{◌≡◌, ℕ, ◌+◌, true, false, List, [], �
 use Rattle.std.proofs.lemmas.Bool.{cases_Bool}
 use Rattle.std.specs.List.{list_all}
 use Rattle.boss_model.specs.declared.answer.Refusal.TheVariants.{Malformed}
-use Rattle.boss_wire.specs.Keys.{all_of}
-use Rattle.boss_wire.specs.Requests.{Parsed, asks, wrong, formed, each_from, ◌>>=◌}
+use Rattle.def_wire.specs.Keys.{all_of}
+use Rattle.def_wire.specs.Requests.{Parsed, asks, wrong, formed, each_from, ◌>>=◌}
 use Rattle.boss_requests.specs.declared.refusal.ReadRefusal.{ReadRefusal}
 use Rattle.boss_requests.specs.declared.refusal.ReadRefusal.TheVariants.{Refused}
 use Rattle.boss_requests.specs.Given.{IsTold}

@@ -7,8 +7,8 @@ use Rattle.boss_model.specs.declared.answer.Refusal.{Refusal}
 use Rattle.boss_model.specs.declared.answer.Refusal.TheVariants.{Malformed}
 use Rattle.boss_model.specs.declared.command.Step.{Step}
 use Rattle.boss_model.specs.Catalogue.{Catalogue}
-use Rattle.boss_wire.specs.Keys.{Write, steps, under, under_or, whole, write}
-use Rattle.boss_wire.specs.Requests.{formed, wrong}
+use Rattle.def_wire.specs.Keys.{Write, steps, under, under_or, whole, write}
+use Rattle.def_wire.specs.Requests.{formed, wrong}
 use Rattle.boss_requests.specs.declared.refusal.ReadRefusal.{ReadRefusal}
 use Rattle.boss_requests.specs.declared.refusal.ReadRefusal.TheVariants.{Refused, NoMemory}
 use Rattle.boss_requests.specs.Given.{IsTold}

@@ -1,8 +1,8 @@
 -- A line that writes no value is malformed.
 use Rattle.std.proofs.Common.{ℕ, List, refl}
 use Rattle.boss_model.specs.Catalogue.{Catalogue}
-use Rattle.boss_wire.specs.declared.form.Form.{Form}
-use Rattle.boss_wire.specs.Requests.{parsed}
+use Rattle.def_wire.specs.declared.form.Form.{Form}
+use Rattle.def_wire.specs.Requests.{parsed}
 use Rattle.boss_json.specs.declared.unread.Unread.{Unread}
 use Rattle.boss_json.specs.declared.unread.Unread.TheVariants.{Malformed, NoMemory}
 use Rattle.boss_json.specs.Read.{IsUnread}

@@ -4,13 +4,13 @@ use Rattle.boss_model.specs.declared.state.Actuator.{Actuator}
 use Rattle.boss_model.specs.Limits.{last_session}
 use Rattle.boss_model.specs.Names.{is_name}
 use Rattle.boss_model.specs.Sound.{IsAllowed}
-use Rattle.boss_wire.specs.declared.form.Form.{Form}
-use Rattle.boss_wire.specs.declared.form.Form.TheVariants.{Script, FirstLine, LaterLine}
-use Rattle.boss_wire.specs.declared.form.Op.{Op}
-use Rattle.boss_wire.specs.declared.form.Op.TheVariants as op
-use Rattle.boss_wire.specs.declared.request.Ask.{Ask}
-use Rattle.boss_wire.specs.declared.request.Ask.TheVariants.{Command, Watch}
-use Rattle.boss_wire.specs.Requests.{Parsed, asks, wrong}
+use Rattle.def_wire.specs.declared.form.Form.{Form}
+use Rattle.def_wire.specs.declared.form.Form.TheVariants.{Script, FirstLine, LaterLine}
+use Rattle.def_wire.specs.declared.form.Op.{Op}
+use Rattle.def_wire.specs.declared.form.Op.TheVariants as op
+use Rattle.def_wire.specs.declared.request.Ask.{Ask}
+use Rattle.def_wire.specs.declared.request.Ask.TheVariants.{Command, Watch}
+use Rattle.def_wire.specs.Requests.{Parsed, asks, wrong}
 use Rattle.boss_json.specs.declared.unread.Unread.{Unread}
 use Rattle.boss_json.specs.declared.unread.Unread.TheVariants as unread
 use Rattle.boss_requests.specs.declared.refusal.ReadRefusal.{ReadRefusal}

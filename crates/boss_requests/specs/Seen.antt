@@ -4,8 +4,8 @@ use Rattle.serde_json.specs.Data.{Data}
 use Rattle.serde_json.specs.Find.{as_str}
 use Rattle.boss_model.specs.declared.command.Setting.{Setting}
 use Rattle.boss_model.specs.Catalogue.{Catalogue}
-use Rattle.boss_wire.specs.Keys.{write}
-use Rattle.boss_wire.specs.Requests.{Parsed, formed, point_at, setting_at, ◌>>=◌}
+use Rattle.def_wire.specs.Keys.{write}
+use Rattle.def_wire.specs.Requests.{Parsed, formed, point_at, setting_at, ◌>>=◌}
 
 -- the point of the text at this place, which has to be a text and to name a point
 abbrev pub point_in : Catalogue → ℕ → Data → Parsed ℕ

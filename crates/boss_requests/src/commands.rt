@@ -1,11 +1,11 @@
 ghost use Rattle.std.specs.Prelude.{◌≡◌, ◌<◌, codes, length, List, IfOk, IfSome};
-ghost use Rattle.boss_wire.specs.declared.form.Form.{Form};
-ghost use Rattle.boss_wire.specs.declared.form.Form.TheVariants.{Script, FirstLine};
-ghost use Rattle.boss_wire.specs.declared.form.Op.TheVariants.{Attach, Submit, Renew, Cancel, Read, Array, Status, Notices};
+ghost use Rattle.def_wire.specs.declared.form.Form.{Form};
+ghost use Rattle.def_wire.specs.declared.form.Form.TheVariants.{Script, FirstLine};
+ghost use Rattle.def_wire.specs.declared.form.Op.TheVariants.{Attach, Submit, Renew, Cancel, Read, Array, Status, Notices};
 ghost use Rattle.boss_model.specs.declared.state.Actuator.{Actuator};
 ghost use Rattle.boss_model.specs.Catalogue.{actuators};
-ghost use Rattle.boss_wire.specs.Keys.{number_from, under};
-ghost use Rattle.boss_wire.specs.Requests.{array_of, ask_of, attach_of, cancel_of, common_op, formed, notices_of, op_named, point_of, read_of, renew_of, status_of, submit_of, watch_of};
+ghost use Rattle.def_wire.specs.Keys.{number_from, under};
+ghost use Rattle.def_wire.specs.Requests.{array_of, ask_of, attach_of, cancel_of, common_op, formed, notices_of, op_named, point_of, read_of, renew_of, status_of, submit_of, watch_of};
 ghost use Rattle.boss_requests.specs.Given.{Gives, IsAskOf, IsOpOf, MayAsk};
 
 use crate::ReadRefusal;
@@ -19,7 +19,7 @@ use crate::writes::settings_in;
 use boss_json::JsonValue;
 use boss_model::{Command, MOST_TOLD, PointId, Txn};
 use boss_points::Catalogue;
-use boss_wire::{Ask, Form, Op};
+use def_wire::{Ask, Form, Op};
 use std::alloc::Global;
 
 /// What the text under `op` asks for.

@@ -1,6 +1,6 @@
 ghost use Rattle.std.specs.Prelude.{◌≡◌, ◌≤◌, ◌<◌, [], codes, map, pos, Some, None, length, option_copied, option_map, IfSome};
 ghost use Rattle.serde_json.specs.Find.{as_str};
-ghost use Rattle.boss_wire.specs.Keys.{at_least, name, number_from, number_within, policy, seq, short_list, step, under, under_or, whole, within};
+ghost use Rattle.def_wire.specs.Keys.{at_least, name, number_from, number_within, policy, seq, short_list, step, under, under_or, whole, within};
 ghost use Rattle.boss_model.specs.declared.Policy.TheVariants.{Abort as AbortPolicy};
 ghost use Rattle.boss_model.specs.Limits.{last_number, most_writes};
 ghost use Rattle.boss_model.specs.Sound.{IsName};

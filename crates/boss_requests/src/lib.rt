@@ -1,5 +1,5 @@
 //! Lines as requests: what a line of JSON asks of the transaction manager, or why it is refused.
-//! The definitions are those of boss_wire: `specs/Requests.antt` and `specs/Keys.antt`.
+//! The definitions are those of def_wire: `specs/Requests.antt` and `specs/Keys.antt`.
 #![tactic(auto)]
 
 mod blank;
@@ -12,7 +12,7 @@ mod request;
 mod writes;
 
 pub use blank::is_blank;
-pub use boss_wire::{Ask, Form, Request};
+pub use def_wire::{Ask, Form, Request};
 pub use reader::{RequestReader, read_by};
 pub use refusal::ReadRefusal;
 pub use request::read_request;

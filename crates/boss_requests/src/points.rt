@@ -4,7 +4,7 @@ ghost use Rattle.serde_json.specs.Find.{as_str};
 ghost use Rattle.boss_model.specs.declared.answer.Refusal.TheVariants.{Malformed};
 ghost use Rattle.boss_model.specs.Catalogue.{place_of};
 ghost use Rattle.boss_model.specs.Limits.{most_writes};
-ghost use Rattle.boss_wire.specs.Requests.{each_from, point_at, points_of};
+ghost use Rattle.def_wire.specs.Requests.{each_from, point_at, points_of};
 ghost use Rattle.boss_requests.specs.declared.refusal.ReadRefusal.TheVariants.{Refused};
 ghost use Rattle.boss_requests.specs.Given.{Gives};
 ghost use Rattle.boss_requests.specs.Seen.{point_in};

@@ -1,14 +1,14 @@
 ghost use Rattle.std.specs.Prelude.{◌≤◌, IfOk};
 ghost use Rattle.boss_model.specs.Catalogue.{actuators};
 ghost use Rattle.boss_model.specs.Limits.{last_moment};
-ghost use Rattle.boss_wire.specs.Requests.{parsed};
+ghost use Rattle.def_wire.specs.Requests.{parsed};
 ghost use Rattle.boss_requests.specs.Given.{Gives, IsOfForm, IsSession, MayAsk};
 
 use crate::ReadRefusal;
 use crate::request::request_in;
 use boss_json::ValueReader;
 use boss_points::Catalogue;
-use boss_wire::{Form, Request};
+use def_wire::{Form, Request};
 use std::alloc::Global;
 
 /// The room that reading requests takes, kept from line to line. It grows up to the longest line.
@@ -31,7 +31,7 @@ impl RequestReader {
 /// # Errors
 ///
 /// Those of `read_request`.
-#[tactic(auto, using(crate::proofs::Values::told), unfolding(boss_wire::specs::Requests::parsed))]
+#[tactic(auto, using(crate::proofs::Values::told), unfolding(def_wire::specs::Requests::parsed))]
 pub fn read_by(
     alloc: Global,
     catalogue: &Catalogue,

@@ -1,7 +1,7 @@
 ghost use Rattle.std.specs.Prelude.{◌≡◌, ◌≤◌, IfOk, IfSome};
 ghost use Rattle.boss_model.specs.Catalogue.{actuators};
 ghost use Rattle.boss_model.specs.Limits.{last_moment};
-ghost use Rattle.boss_wire.specs.Requests.{moment_of, parsed, request_of, session_of};
+ghost use Rattle.def_wire.specs.Requests.{moment_of, parsed, request_of, session_of};
 ghost use Rattle.boss_requests.specs.Given.{Gives, IsOfForm, IsSession, MayAsk};
 
 use crate::ReadRefusal;
@@ -11,7 +11,7 @@ use crate::refusal::MALFORMED;
 use boss_json::{JsonValue, read_value};
 use boss_model::{LAST_MOMENT, LAST_SESSION, Refusal, SessionId};
 use boss_points::Catalogue;
-use boss_wire::{Form, Request};
+use def_wire::{Form, Request};
 use std::alloc::Global;
 
 /// What a line asks, as a line of this form, or why it is refused. Only the first line of a connection may ask to watch. The line
@@ -20,7 +20,7 @@ use std::alloc::Global;
 /// # Errors
 ///
 /// `Refused` with `Malformed`, `UnknownOp` or `UnknownPoint`, which is the answer to the line, or `NoMemory`.
-#[tactic(auto, using(crate::proofs::Values::told), unfolding(boss_wire::specs::Requests::parsed))]
+#[tactic(auto, using(crate::proofs::Values::told), unfolding(def_wire::specs::Requests::parsed))]
 pub fn read_request(
     alloc: Global,
     catalogue: &Catalogue,

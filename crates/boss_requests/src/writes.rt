@@ -2,8 +2,8 @@ ghost use Rattle.std.specs.Prelude.{◌≡◌, ◌≤◌, ◌<◌, true, false, 
 ghost use Rattle.std.specs.List.{list_all};
 ghost use Rattle.boss_model.specs.declared.answer.Refusal.TheVariants.{Malformed};
 ghost use Rattle.boss_model.specs.Limits.{most_writes};
-ghost use Rattle.boss_wire.specs.Keys.{all_of, step, steps, under_or, write};
-ghost use Rattle.boss_wire.specs.Requests.{each_from, formed, settings_of};
+ghost use Rattle.def_wire.specs.Keys.{all_of, step, steps, under_or, write};
+ghost use Rattle.def_wire.specs.Requests.{each_from, formed, settings_of};
 ghost use Rattle.boss_requests.specs.declared.refusal.ReadRefusal.TheVariants.{Refused};
 ghost use Rattle.boss_requests.specs.Given.{Gives};
 ghost use Rattle.boss_requests.specs.Seen.{setting_in};

@@ -10,10 +10,10 @@ use Rattle.boss_model.specs.Reversions.{hold}
 use Rattle.boss_model.specs.Sound.{IsLease, IsPart, IsPending, IsSoundPersistent, IsTransaction}
 use Rattle.boss_model.specs.State.{Persistent}
 use Rattle.boss_model.specs.Submit.{is_level, is_step, is_reversion}
-use Rattle.boss_time.proofs.Orders.{each-map}
-use Rattle.boss_time.proofs.TickSound.{known-lease, known-pending}
-use Rattle.boss_soundness.proofs.RenewSound.{positive}
-use Rattle.boss_dues.specs.Playing.{CanPlay}
+use Rattle.law_time.proofs.Orders.{each-map}
+use Rattle.law_time.proofs.TickSound.{known-lease, known-pending}
+use Rattle.law_soundness.proofs.RenewSound.{positive}
+use Rattle.law_due.specs.Playing.{CanPlay}
 use Rattle.boss_holdings.specs.Putting.{IsUnderWay}
 
 pub within-levels : (priority : ℕ) → is_level (pos priority) ≡ true → (1 ≤ priority) × (priority ≤ 16)

@@ -11,12 +11,12 @@ use Rattle.boss_model.specs.Order.{comes_before}
 use Rattle.boss_model.specs.Records.{Part, Transaction}
 use Rattle.boss_model.specs.Sound.{Rising, IsPending, IsSoundPersistent}
 use Rattle.boss_model.specs.State.{pending_slot, Persistent}
-use Rattle.boss_time.proofs.Filters.{any-map, each-always, each-found}
-use Rattle.boss_time.proofs.Orders.{each-map}
-use Rattle.boss_books.specs.Books.{reverts_on}
-use Rattle.boss_books.proofs.Changed.{any-filter}
-use Rattle.boss_dues.proofs.Keys.{IsPartAt, found-any, found-has, found_part, is_some, own-parts, part_at, pending_key, pending-found}
-use Rattle.boss_books.proofs.Overs.{passed-any}
+use Rattle.law_time.proofs.Filters.{any-map, each-always, each-found}
+use Rattle.law_time.proofs.Orders.{each-map}
+use Rattle.boss_booking.specs.Books.{reverts_on}
+use Rattle.boss_booking.proofs.Changed.{any-filter}
+use Rattle.law_due.proofs.Keys.{IsPartAt, found-any, found-has, found_part, is_some, own-parts, part_at, pending_key, pending-found}
+use Rattle.boss_booking.proofs.Overs.{passed-any}
 use Rattle.boss_stages.specs.Stages.{is_live}
 use Rattle.boss_holdings.specs.Putting.{in_place}
 use Rattle.boss_restore.specs.Restoring.{is_played, reverting_points}

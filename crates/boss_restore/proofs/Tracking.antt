@@ -12,10 +12,10 @@ use Rattle.boss_model.specs.Records.{Part, Transaction}
 use Rattle.boss_model.specs.Seen.{seen_part, seen_txn}
 use Rattle.boss_model.specs.Sound.{Rising, IsSoundPersistent, number_rank}
 use Rattle.boss_model.specs.State.{Persistent}
-use Rattle.boss_time.proofs.Filters.{each-mapped, each-unmapped}
-use Rattle.boss_time.proofs.Orders.{each-map}
-use Rattle.boss_books.specs.Books.{StandsFor, reverts_on}
-use Rattle.boss_dues.proofs.Ordering.{each-at}
+use Rattle.law_time.proofs.Filters.{each-mapped, each-unmapped}
+use Rattle.law_time.proofs.Orders.{each-map}
+use Rattle.boss_booking.specs.Books.{StandsFor, reverts_on}
+use Rattle.law_due.proofs.Ordering.{each-at}
 use Rattle.boss_stages.specs.Stages.{Stages, Tracked, number}
 use Rattle.boss_restore.specs.Restoring.{tracked}
 use Rattle.boss_restore.proofs.Played.{all-told}

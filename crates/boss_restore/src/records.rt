@@ -6,7 +6,7 @@ ghost use Rattle.std.specs.Option.{option_map_or};
 ghost use Rattle.boss_model.specs.Limits.{done_kept};
 ghost use Rattle.boss_model.specs.Seen.{seen, seen_part, seen_txn};
 ghost use Rattle.boss_model.specs.Sound.{Rising, number_rank};
-ghost use Rattle.boss_books.specs.Books.{StandsFor};
+ghost use Rattle.boss_booking.specs.Books.{StandsFor};
 ghost use Rattle.boss_holdings.specs.Putting.{in_place};
 ghost use Rattle.boss_restore.specs.Restoring.{IsSoundOver, is_played, reverting_points, tracked};
 

@@ -4,7 +4,7 @@ use Rattle.std.proofs.lemmas.Bool.Decides.{nat_tests}
 use Rattle.std.proofs.lemmas.List.{drop_more}
 use Rattle.boss_model.specs.declared.command.Step.{Step}
 use Rattle.boss_model.specs.Reversions.{hold, over, value_from}
-use Rattle.boss_time.proofs.Courses.{over-later}
+use Rattle.law_time.proofs.Courses.{over-later}
 
 -- before the first step there is no value
 pub value-before : (start : ℕ) (steps : List Step) (moment : ℕ) → moment < start → value_from start steps moment ≡ None

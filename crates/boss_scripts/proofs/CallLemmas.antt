@@ -10,15 +10,15 @@ use Rattle.boss_model.specs.Devices.{wanting}
 use Rattle.boss_model.specs.Machine.{step}
 use Rattle.boss_model.specs.Sound.{IsSound}
 use Rattle.boss_model.specs.State.{State}
-use Rattle.boss_wire.specs.Script.{answered}
-use Rattle.boss_wire.specs.Texts.{answer_text, device_text, line_of, stopped_text}
-use Rattle.boss_history.specs.declared.entry.Entry.TheVariants as entry
-use Rattle.boss_history.specs.declared.outcome.Outcome.{Outcome}
-use Rattle.boss_history.specs.declared.outcome.Outcome.TheVariants.{Done, Stopped, DiskFault, NoMemory}
-use Rattle.boss_history.specs.History.{IsLegal}
-use Rattle.boss_history.specs.Made.{is_growing, made_by}
-use Rattle.boss_laws.proofs.Weighing.{report-lighter}
-use Rattle.boss_laws.specs.Draining.{weight}
+use Rattle.def_wire.specs.Script.{answered}
+use Rattle.def_wire.specs.Texts.{answer_text, device_text, line_of, stopped_text}
+use Rattle.def_history.specs.declared.entry.Entry.TheVariants as entry
+use Rattle.def_history.specs.declared.outcome.Outcome.{Outcome}
+use Rattle.def_history.specs.declared.outcome.Outcome.TheVariants.{Done, Stopped, DiskFault, NoMemory}
+use Rattle.def_history.specs.History.{IsLegal}
+use Rattle.def_history.specs.Made.{is_growing, made_by}
+use Rattle.law_machine.proofs.Weighing.{report-lighter}
+use Rattle.law_machine.specs.Draining.{weight}
 use Rattle.boss_outside.specs.Streams.{TakesFront}
 use Rattle.boss_shared.specs.Calls.{is_stopped, MayWant}
 use Rattle.boss_shared.specs.declared.keeper.Keeper as keeper

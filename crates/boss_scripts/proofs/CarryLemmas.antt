@@ -3,9 +3,9 @@ use Rattle.std.proofs.Common.{◌≡◌, ◌≢◌, ℕ, true, false, ◌||◌, 
 use Rattle.boss_model.specs.Catalogue.{Catalogue, actuators}
 use Rattle.boss_model.specs.Limits.{most_lines}
 use Rattle.boss_model.specs.Lines.{lines}
-use Rattle.boss_wire.specs.Texts.{line_of, too_long_text}
-use Rattle.boss_history.specs.declared.entry.Entry.{Entry}
-use Rattle.boss_history.specs.History.{is_broken}
+use Rattle.def_wire.specs.Texts.{line_of, too_long_text}
+use Rattle.def_history.specs.declared.entry.Entry.{Entry}
+use Rattle.def_history.specs.History.{is_broken}
 use Rattle.boss_lines.specs.declared.reader.Next.{Next}
 use Rattle.boss_lines.specs.declared.reader.Next.TheVariants.{TooLong}
 use Rattle.boss_lines.specs.Given.{GivesLines}

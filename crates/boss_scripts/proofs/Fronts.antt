@@ -7,18 +7,18 @@ use Rattle.boss_model.specs.declared.answer.Answer.TheVariants as answer
 use Rattle.boss_model.specs.declared.command.Command.{Command}
 use Rattle.boss_model.specs.declared.command.Command.TheVariants as command
 use Rattle.boss_model.specs.declared.event.Event.{Event}
-use Rattle.boss_wire.specs.declared.form.Form.TheVariants as form
+use Rattle.def_wire.specs.declared.form.Form.TheVariants as form
 use Rattle.boss_model.specs.DeviceCall.{DeviceCall}
 use Rattle.boss_model.specs.Catalogue.{Catalogue, actuators}
 use Rattle.boss_model.specs.Effects.{event_of, step_effect}
 use Rattle.boss_model.specs.Machine.{step}
 use Rattle.boss_model.specs.Lines.{is_blank}
-use Rattle.boss_wire.specs.declared.request.Ask.{Ask}
-use Rattle.boss_wire.specs.declared.request.Ask.TheVariants as ask
-use Rattle.boss_wire.specs.declared.request.Request.{Request}
-use Rattle.boss_wire.specs.Requests.{Parsed, asks, wrong, parsed}
-use Rattle.boss_wire.specs.Script.{Run, cut_short, say, made, halted, stepping, stepping_with, rest, written, reported, serve, next_driver, carry_out, if_wanting, drain, is_too_long, answered, taken_up, replied, line_read}
-use Rattle.boss_wire.specs.Texts.{answer_text, device_text, line_of, refusal_text, stopped_text, too_long_text}
+use Rattle.def_wire.specs.declared.request.Ask.{Ask}
+use Rattle.def_wire.specs.declared.request.Ask.TheVariants as ask
+use Rattle.def_wire.specs.declared.request.Request.{Request}
+use Rattle.def_wire.specs.Requests.{Parsed, asks, wrong, parsed}
+use Rattle.def_wire.specs.Script.{Run, cut_short, say, made, halted, stepping, stepping_with, rest, written, reported, serve, next_driver, carry_out, if_wanting, drain, is_too_long, answered, taken_up, replied, line_read}
+use Rattle.def_wire.specs.Texts.{answer_text, device_text, line_of, refusal_text, stopped_text, too_long_text}
 use Rattle.boss_scripts.specs.Runs.{IsFrontOf, Covers, served, line_taken, lines_taken}
 
 -- ---- fronts

@@ -2,7 +2,7 @@
 use Rattle.std.proofs.Common.{◌≡◌, ℕ, ◌≤◌, Bool, true, false, ◌||◌, List, [], ◌∷◌, ◌++◌, length, refl, ap, ◌∙◌}
 use Rattle.std.specs.List.{list_any}
 use Rattle.boss_model.specs.Limits.{longest_line}
-use Rattle.boss_wire.specs.Script.{is_too_long}
+use Rattle.def_wire.specs.Script.{is_too_long}
 use Rattle.boss_lines.specs.Given.{BreaksOff}
 use Rattle.boss_scripts.specs.Ends.{has_too_long}
 use Rattle.boss_scripts.proofs.LineLemmas.{is-long, not-long}

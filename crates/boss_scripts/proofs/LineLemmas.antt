@@ -4,21 +4,21 @@ use Rattle.std.proofs.lemmas.Bool.Decides.{nat_tests}
 use Rattle.boss_model.specs.declared.answer.Answer.{Answer}
 use Rattle.boss_model.specs.declared.answer.Refusal.{Refusal}
 use Rattle.boss_model.specs.declared.command.Command.{Command}
-use Rattle.boss_wire.specs.declared.form.Form.TheVariants as form
+use Rattle.def_wire.specs.declared.form.Form.TheVariants as form
 use Rattle.boss_model.specs.declared.event.Event.{Event}
 use Rattle.boss_model.specs.DeviceCall.{DeviceCall}
 use Rattle.boss_model.specs.Catalogue.{Catalogue, actuators}
 use Rattle.boss_model.specs.Effects.{event_of, step_effect}
 use Rattle.boss_model.specs.Lines.{is_blank}
 use Rattle.boss_model.specs.Machine.{step}
-use Rattle.boss_wire.specs.declared.request.Ask.TheVariants as ask
-use Rattle.boss_wire.specs.declared.request.Request.{Request}
-use Rattle.boss_wire.specs.Requests.{Parsed, asks, wrong, parsed}
-use Rattle.boss_wire.specs.Script.{Run, drain, is_too_long, answered, say, taken_up, replied, line_read}
+use Rattle.def_wire.specs.declared.request.Ask.TheVariants as ask
+use Rattle.def_wire.specs.declared.request.Request.{Request}
+use Rattle.def_wire.specs.Requests.{Parsed, asks, wrong, parsed}
+use Rattle.def_wire.specs.Script.{Run, drain, is_too_long, answered, say, taken_up, replied, line_read}
 use Rattle.boss_model.specs.State.{State}
-use Rattle.boss_wire.specs.Texts.{answer_text, line_of, refusal_text, stopped_text}
-use Rattle.boss_history.specs.declared.entry.Entry.{Entry}
-use Rattle.boss_history.specs.declared.entry.Entry.TheVariants as entry
+use Rattle.def_wire.specs.Texts.{answer_text, line_of, refusal_text, stopped_text}
+use Rattle.def_history.specs.declared.entry.Entry.{Entry}
+use Rattle.def_history.specs.declared.entry.Entry.TheVariants as entry
 use Rattle.boss_outside.specs.Streams.{TakesFront}
 use Rattle.boss_shared.specs.declared.keeper.Keeper as keeper
 use Rattle.boss_scripts.specs.Keepers.{Breaks, Kept, Through}

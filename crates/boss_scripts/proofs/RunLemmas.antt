@@ -7,11 +7,11 @@ use Rattle.boss_model.specs.declared.event.Event.{Event}
 use Rattle.boss_model.specs.declared.state.Actuator.{Actuator}
 use Rattle.boss_model.specs.DeviceCall.{DeviceCall}
 use Rattle.boss_model.specs.Catalogue.{driver_of}
-use Rattle.boss_wire.specs.Script.{Run}
-use Rattle.boss_history.specs.declared.entry.Entry.{Entry}
-use Rattle.boss_history.specs.declared.entry.Entry.TheVariants as entry
-use Rattle.boss_history.specs.History.{events, is_broken, run}
-use Rattle.boss_history.proofs.Going.{broken_append, events_append, run_append}
+use Rattle.def_wire.specs.Script.{Run}
+use Rattle.def_history.specs.declared.entry.Entry.{Entry}
+use Rattle.def_history.specs.declared.entry.Entry.TheVariants as entry
+use Rattle.def_history.specs.History.{events, is_broken, run}
+use Rattle.def_history.proofs.Going.{broken_append, events_append, run_append}
 use Rattle.boss_outside.specs.Streams.{TakesFront}
 use Rattle.boss_scripts.specs.Outside.{Answered, Trace}
 use Rattle.boss_scripts.specs.Runs.{after, at, Broke, Covers, dealt, Did, gained, IsFrontOf, IsLeft, Leads, left_before, one_step_more, stop, Under}

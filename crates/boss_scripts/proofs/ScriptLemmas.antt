@@ -4,11 +4,11 @@ use Rattle.boss_model.specs.declared.event.Event.{Event}
 use Rattle.boss_model.specs.DeviceCall.{DeviceCall}
 use Rattle.boss_model.specs.Catalogue.{Catalogue, actuators}
 use Rattle.boss_model.specs.State.{State}
-use Rattle.boss_wire.specs.Script.{Run, is_too_long, script}
-use Rattle.boss_wire.specs.Texts.{line_of, too_long_text}
-use Rattle.boss_history.specs.declared.entry.Entry.{Entry}
-use Rattle.boss_history.specs.declared.entry.Entry.TheVariants as entry
-use Rattle.boss_history.specs.History.{deeds, events, is_broken}
+use Rattle.def_wire.specs.Script.{Run, is_too_long, script}
+use Rattle.def_wire.specs.Texts.{line_of, too_long_text}
+use Rattle.def_history.specs.declared.entry.Entry.{Entry}
+use Rattle.def_history.specs.declared.entry.Entry.TheVariants as entry
+use Rattle.def_history.specs.History.{deeds, events, is_broken}
 use Rattle.boss_outside.specs.Streams.{TakesFront}
 use Rattle.boss_scripts.specs.Outside.{Trace}
 use Rattle.boss_scripts.specs.Runs.{after, at, Did, Broke, Covers, dealt, IsFrontOf, IsLeft, left_before, lines_taken, one_step_more, served, stop, Under}

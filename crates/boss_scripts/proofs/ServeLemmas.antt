@@ -2,7 +2,7 @@
 use Rattle.std.proofs.Common.{◌≡◌, ℕ, zero, suc, ℤ, Bool, List, [], ◌∷◌, ◌++◌, Some, None, refl, ap, ap₂, sym, ◌∙◌, append-nil, true, false, ◌^◌, ◌<◌, ◌≤◌, length, subst, arith, if◌then◌else◌}
 use Rattle.std.specs.Option.{option_to_list}
 use Rattle.std.proofs.lemmas.List.{length-map}
-use Rattle.boss_laws.proofs.Weighing.{want-of}
+use Rattle.law_machine.proofs.Weighing.{want-of}
 use Rattle.boss_model.specs.declared.answer.Answer.{Answer}
 use Rattle.boss_model.specs.declared.answer.Answer.TheVariants as answer
 use Rattle.boss_model.specs.declared.command.Command.{Command}
@@ -13,11 +13,11 @@ use Rattle.boss_model.specs.Catalogue.{Catalogue, actuators, driver_of}
 use Rattle.boss_model.specs.Devices.{wanting}
 use Rattle.boss_model.specs.Effects.{event_of, step_effect}
 use Rattle.boss_model.specs.Machine.{step}
-use Rattle.boss_wire.specs.Script.{Run, cut_short, drain, serve, carry_out, if_wanting, reported, rest}
+use Rattle.def_wire.specs.Script.{Run, cut_short, drain, serve, carry_out, if_wanting, reported, rest}
 use Rattle.boss_model.specs.Sound.{IsSound}
 use Rattle.boss_model.specs.State.{State}
-use Rattle.boss_wire.specs.Texts.{device_text, line_of}
-use Rattle.boss_history.specs.declared.entry.Entry.TheVariants as entry
+use Rattle.def_wire.specs.Texts.{device_text, line_of}
+use Rattle.def_history.specs.declared.entry.Entry.TheVariants as entry
 use Rattle.boss_outside.specs.Streams.{TakesFront}
 use Rattle.boss_scripts.specs.Devices.{HasDevices}
 use Rattle.boss_scripts.specs.Outside.{Answered, Trace}

@@ -8,8 +8,8 @@ use Rattle.boss_model.specs.DeviceCall.{DeviceCall}
 use Rattle.boss_model.specs.Catalogue.{Catalogue, actuators}
 use Rattle.boss_model.specs.Effects.{event_of, step_effect}
 use Rattle.boss_model.specs.Machine.{step}
-use Rattle.boss_wire.specs.Script.{Run, stepping}
-use Rattle.boss_history.specs.History.{if_event}
+use Rattle.def_wire.specs.Script.{Run, stepping}
+use Rattle.def_history.specs.History.{if_event}
 use Rattle.boss_scripts.specs.Runs.{at, one_step_more, Under}
 
 module _ (catalogue : Catalogue) (session : ℕ) (command : Command) (moment : ℕ) (go : Answer → Run → Run) (halt : Run → Run)

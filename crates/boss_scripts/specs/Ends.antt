@@ -7,9 +7,9 @@ use Rattle.boss_lines.specs.Given.{GivesLines}
 use Rattle.boss_model.specs.Catalogue.{Catalogue, actuators}
 use Rattle.boss_model.specs.Limits.{most_lines}
 use Rattle.boss_model.specs.Lines.{lines, whole_lines}
-use Rattle.boss_wire.specs.Script.{is_too_long}
-use Rattle.boss_history.specs.declared.entry.Entry.{Entry}
-use Rattle.boss_history.specs.History.{is_broken}
+use Rattle.def_wire.specs.Script.{is_too_long}
+use Rattle.def_history.specs.declared.entry.Entry.{Entry}
+use Rattle.def_history.specs.History.{is_broken}
 use Rattle.boss_outside.specs.Counts.{Rose}
 use Rattle.boss_shared.specs.declared.keeper.Keeper as keeper
 use Rattle.boss_scripts.specs.Keepers.{Kept, Through}

@@ -1,8 +1,8 @@
 -- A part of a script that a keeper carries out.
 use Rattle.std.specs.Prelude.{◌≡◌, false, List}
 use Rattle.boss_model.specs.declared.state.Actuator.{Actuator}
-use Rattle.boss_wire.specs.Script.{Run}
-use Rattle.boss_history.specs.declared.entry.Entry.{Entry}
+use Rattle.def_wire.specs.Script.{Run}
+use Rattle.def_history.specs.declared.entry.Entry.{Entry}
 use Rattle.boss_shared.specs.declared.keeper.Keeper as keeper
 use Rattle.boss_shared.specs.Keeping.{Keeps}
 use Rattle.boss_scripts.specs.Outside.{Trace}

@@ -4,11 +4,11 @@ use Rattle.boss_model.specs.declared.event.Event.{Event}
 use Rattle.boss_model.specs.declared.state.Actuator.{Actuator}
 use Rattle.boss_model.specs.DeviceCall.{DeviceCall}
 use Rattle.boss_model.specs.Catalogue.{Catalogue, driver_of}
-use Rattle.boss_wire.specs.Script.{Run, drain, line_read}
+use Rattle.def_wire.specs.Script.{Run, drain, line_read}
 use Rattle.boss_model.specs.State.{State}
-use Rattle.boss_history.specs.declared.entry.Entry.{Entry}
-use Rattle.boss_history.specs.declared.entry.Entry.TheVariants as entry
-use Rattle.boss_history.specs.History as history
+use Rattle.def_history.specs.declared.entry.Entry.{Entry}
+use Rattle.def_history.specs.declared.entry.Entry.TheVariants as entry
+use Rattle.def_history.specs.History as history
 use Rattle.boss_scripts.specs.Outside.{Answered, Trace}
 
 -- how far a script is: the machine's state, and whether a step was not made

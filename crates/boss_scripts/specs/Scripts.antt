@@ -3,9 +3,9 @@ use Rattle.std.specs.Prelude.{◌≡◌, ℕ, Bool, false, if◌then◌else◌, 
 use Rattle.boss_model.specs.DeviceCall.{DeviceCall}
 use Rattle.boss_model.specs.Catalogue.{Catalogue, actuators}
 use Rattle.boss_model.specs.State.{State}
-use Rattle.boss_wire.specs.Script.{Run, script}
-use Rattle.boss_history.specs.declared.entry.Entry.{Entry}
-use Rattle.boss_history.specs.History.{deeds, events, is_broken, run}
+use Rattle.def_wire.specs.Script.{Run, script}
+use Rattle.def_history.specs.declared.entry.Entry.{Entry}
+use Rattle.def_history.specs.History.{deeds, events, is_broken, run}
 use Rattle.boss_scripts.specs.Outside.{Answered, Trace}
 use Rattle.boss_scripts.specs.Runs.{dealt, IsFrontOf}
 

@@ -1,5 +1,5 @@
 ghost use Rattle.std.specs.Prelude.{◌≡◌, ◌<◌, ◌≤◌, false, if◌then◌else◌, Some, None, OnOk, OnErr, vec_len};
-ghost use Rattle.boss_laws.specs.Draining.{weight};
+ghost use Rattle.law_machine.specs.Draining.{weight};
 ghost use Rattle.boss_model.specs.Catalogue.{actuators};
 ghost use Rattle.boss_model.specs.Devices.{wanting};
 ghost use Rattle.boss_model.specs.Limits.{last_moment};
@@ -12,11 +12,11 @@ ghost use Rattle.boss_scripts.specs.Runs.{served, stop};
 
 use crate::devices::command_device;
 use boss_answers::tell_write;
-use boss_history::Outcome;
 use boss_model::{Answer, Buffer, Command, DriverId, SessionId};
 use boss_outside::{Actuators, Failed, Sink};
 use boss_points::Catalogue;
 use boss_shared::Keeper;
+use def_history::Outcome;
 
 /// The session of commands that no line asks for.
 const OWN: SessionId = SessionId(0);

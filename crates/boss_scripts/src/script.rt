@@ -3,7 +3,7 @@ ghost use Rattle.boss_model.specs.Catalogue.{actuators};
 ghost use Rattle.boss_model.specs.Limits.{last_moment, longest_line};
 ghost use Rattle.boss_model.specs.Lines.{lines};
 ghost use Rattle.boss_model.specs.Sound.{IsAllowed, IsSound};
-ghost use Rattle.boss_wire.specs.Script.{answered};
+ghost use Rattle.def_wire.specs.Script.{answered};
 ghost use Rattle.boss_scripts.specs.Causes.{ReadCause, WriteCause};
 ghost use Rattle.boss_scripts.specs.Devices.{HasDevices};
 ghost use Rattle.boss_scripts.specs.Ends.{CarriesOut, LeavesOff, TookLines};
@@ -14,13 +14,13 @@ ghost use Rattle.boss_scripts.specs.Runs.{line_taken, lines_taken, stop};
 use crate::broken::Broken;
 use crate::draining::drain;
 use boss_answers::{tell_answer, tell_stopped, tell_too_long};
-use boss_history::Outcome;
 use boss_lines::{Lines, Next};
 use boss_model::{Answer, Buffer, Command, MOST_LINES, SessionId};
 use boss_outside::{Actuators, Sink, Source};
 use boss_points::Catalogue;
 use boss_requests::{Ask, Form, ReadRefusal, RequestReader, is_blank, read_by};
 use boss_shared::Keeper;
+use def_history::Outcome;
 use std::alloc::Global;
 
 /// How many bytes there is room for where a line is written.

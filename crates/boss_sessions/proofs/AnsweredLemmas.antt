@@ -5,8 +5,8 @@ use Rattle.std.proofs.lemmas.List.{length-drop, drop-drop}
 use Rattle.boss_model.specs.declared.command.Command.{Command}
 use Rattle.boss_model.specs.declared.state.Actuator.{Actuator}
 use Rattle.boss_model.specs.Limits.{last_moment}
-use Rattle.boss_history.specs.History.{MayCall}
-use Rattle.boss_talks.specs.Speech.{Speech, last_or}
+use Rattle.def_history.specs.History.{MayCall}
+use Rattle.def_connection.specs.Speech.{Speech, last_or}
 use Rattle.boss_sessions.specs.declared.halt.Halt.{Halt}
 use Rattle.boss_sessions.specs.Turns.{Voice, Replied}
 use Rattle.boss_sessions.proofs.TurnLemmas.{replied-nothing, replied-then}

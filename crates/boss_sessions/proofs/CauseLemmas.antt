@@ -1,10 +1,10 @@
 -- Which count rose, by the end of a session.
 use Rattle.std.proofs.Common.{◌≡◌, ℕ, Bool, true, Some, Result, Ok, Err, refl}
 use Rattle.boss_outside.specs.Counts.{Rose, HasCause}
-use Rattle.boss_hearing.specs.declared.heard.Heard.{Heard}
-use Rattle.boss_hearing.specs.declared.heard.Heard.TheVariants as heard
-use Rattle.boss_hearing.specs.Places.{SourceCause}
-use Rattle.boss_hearing.specs.Requests.{ClockCause as HeardClock}
+use Rattle.boss_sessions.specs.declared.heard.Heard.{Heard}
+use Rattle.boss_sessions.specs.declared.heard.Heard.TheVariants as heard
+use Rattle.boss_sessions.specs.Places.{SourceCause}
+use Rattle.boss_sessions.specs.Requests.{ClockCause as HeardClock}
 use Rattle.boss_sessions.specs.declared.end.SessionEnd.{SessionEnd}
 use Rattle.boss_sessions.specs.declared.end.SessionEnd.TheVariants as end
 use Rattle.boss_sessions.specs.declared.halt.Halt.{Halt}

@@ -1,7 +1,7 @@
 -- How a served connection ended.
 use Rattle.std.proofs.Common.{◌≡◌, inl, inr, ℕ, Bool, true, false, List, Some, refl, arith}
-use Rattle.boss_workers.specs.Hosts.{Served}
-use Rattle.boss_talks.specs.Talks.{IsEnded, IsWhole}
+use Rattle.boss_outside_server.specs.Hosts.{Served}
+use Rattle.def_connection.specs.Talks.{IsEnded, IsWhole}
 use Rattle.boss_sessions.specs.declared.end.SessionEnd.{SessionEnd}
 use Rattle.boss_sessions.specs.declared.end.SessionEnd.TheVariants as end
 use Rattle.boss_sessions.specs.Connected.{Lost, LostAt}

@@ -1,3 +1,6 @@
+pub mod GatheredLemmas
+pub mod PlaceLemmas
+pub mod RequestLemmas
 pub mod AnsweredLemmas
 pub mod CauseLemmas
 pub mod EndedLemmas

@@ -5,18 +5,18 @@ use mathlib.Core.List.{IsPrefix}
 use Rattle.boss_model.specs.declared.answer.Answer.{Answer}
 use Rattle.boss_model.specs.Limits.{most_lines}
 use Rattle.boss_model.specs.declared.command.Command.TheVariants as command
-use Rattle.boss_history.specs.declared.entry.Entry.{Entry}
-use Rattle.boss_history.specs.declared.entry.Entry.TheVariants.{Did, Broke}
-use Rattle.boss_history.specs.declared.outcome.Outcome.{Outcome}
-use Rattle.boss_history.specs.declared.outcome.Outcome.TheVariants as came
-use Rattle.boss_history.specs.History.{deeds, is_broken}
-use Rattle.boss_history.specs.Made.{made_by}
-use Rattle.boss_history.proofs.Going.{broken_append}
-use Rattle.boss_hearing.specs.Places.{Place}
-use Rattle.boss_lanes.proofs.Choices.{deeds-append}
+use Rattle.def_history.specs.declared.entry.Entry.{Entry}
+use Rattle.def_history.specs.declared.entry.Entry.TheVariants.{Did, Broke}
+use Rattle.def_history.specs.declared.outcome.Outcome.{Outcome}
+use Rattle.def_history.specs.declared.outcome.Outcome.TheVariants as came
+use Rattle.def_history.specs.History.{deeds, is_broken}
+use Rattle.def_history.specs.Made.{made_by}
+use Rattle.def_history.proofs.Going.{broken_append}
+use Rattle.boss_sessions.specs.Places.{Place}
+use Rattle.def_lanes.proofs.Choices.{deeds-append}
 use Rattle.boss_shared.specs.Calls.{is_stopped}
-use Rattle.boss_talks.specs.Speech.{of_answer, of_memory, of_stop, Speech, Exchange, unread, refused, called, attaches_by, attached_in, deeds_in, parting_of}
-use Rattle.boss_talks.specs.Talks.{standing}
+use Rattle.def_connection.specs.Speech.{of_answer, of_memory, of_stop, Speech, Exchange, unread, refused, called, attaches_by, attached_in, deeds_in, parting_of}
+use Rattle.def_connection.specs.Talks.{standing}
 use Rattle.boss_sessions.specs.declared.end.SessionEnd.{SessionEnd}
 use Rattle.boss_sessions.specs.declared.end.SessionEnd.TheVariants as end
 use Rattle.boss_sessions.specs.Connected.{Connected}

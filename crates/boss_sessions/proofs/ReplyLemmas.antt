@@ -6,15 +6,15 @@ use Rattle.boss_model.specs.declared.answer.Answer.{Answer}
 use Rattle.boss_model.specs.declared.command.Command.{Command}
 use Rattle.boss_model.specs.declared.command.Command.TheVariants as command
 use Rattle.boss_model.specs.Catalogue.{Catalogue}
-use Rattle.boss_wire.specs.Texts.{answer_text, line_of, memory_text, stopped_text}
-use Rattle.boss_history.specs.declared.entry.Entry.TheVariants.{Did}
-use Rattle.boss_history.specs.declared.outcome.Outcome.{Outcome}
-use Rattle.boss_history.specs.declared.outcome.Outcome.TheVariants.{Done, Stopped, DiskFault, NoMemory}
-use Rattle.boss_history.specs.Made.{done_by}
+use Rattle.def_wire.specs.Texts.{answer_text, line_of, memory_text, stopped_text}
+use Rattle.def_history.specs.declared.entry.Entry.TheVariants.{Did}
+use Rattle.def_history.specs.declared.outcome.Outcome.{Outcome}
+use Rattle.def_history.specs.declared.outcome.Outcome.TheVariants.{Done, Stopped, DiskFault, NoMemory}
+use Rattle.def_history.specs.Made.{done_by}
 use Rattle.boss_outside.specs.Streams.{TakesFront}
-use Rattle.boss_hearing.specs.Speaking.{speech_of}
-use Rattle.boss_talks.specs.Batches.{deeds_by, texts_by}
-use Rattle.boss_talks.specs.Speech.{Reply, of_answer, of_memory, of_stop, Speech, attaches_by, entry_of}
+use Rattle.boss_sessions.specs.Speaking.{speech_of}
+use Rattle.def_connection.specs.Batches.{deeds_by, texts_by}
+use Rattle.def_connection.specs.Speech.{Reply, of_answer, of_memory, of_stop, Speech, attaches_by, entry_of}
 use Rattle.boss_sessions.specs.Turns.{last_reply, replies_of, rest_of, attached_by, AreGoing, StopsOnce}
 
 -- ---- texts

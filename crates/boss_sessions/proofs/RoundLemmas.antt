@@ -2,18 +2,18 @@
 use Rattle.std.proofs.Common.{◌≡◌, ℕ, Bool, true, false, ◌||◌, List, [], ◌∷◌, ◌++◌, length, map, drop, Result, Ok, Err, refl, ap, sym, ◌∙◌, subst, append_assoc, append-nil}
 use Rattle.boss_model.specs.declared.command.Command.{Command}
 use Rattle.boss_model.specs.declared.answer.Refusal.{Refusal}
-use Rattle.boss_history.specs.declared.entry.Entry.{Entry}
-use Rattle.boss_history.specs.History.{deeds}
+use Rattle.def_history.specs.declared.entry.Entry.{Entry}
+use Rattle.def_history.specs.History.{deeds}
 use Rattle.boss_outside.specs.Counts.{HasCause}
 use Rattle.boss_outside.specs.Streams.{Writes}
-use Rattle.boss_hearing.specs.declared.heard.Heard.{Heard}
-use Rattle.boss_hearing.specs.declared.heard.Heard.TheVariants as heard
-use Rattle.boss_hearing.specs.Gathered.{spoken_of, IsBehind, Gathered, HeardEnd}
-use Rattle.boss_hearing.specs.Places.{Place, Advances}
-use Rattle.boss_talks.specs.Batches.{AreAsked, batch}
-use Rattle.boss_talks.specs.Speech.{Reading, refuses, Reply, of_memory, Speech, unread, refused, is_later, last_or, attaches_by, attached_in, EndsOnce}
-use Rattle.boss_talks.specs.Talks.{Told, Standing, Goes, Stops, end_text}
-use Rattle.boss_talks.proofs.TalkLemmas.{goes-then, stops-then, stops-here, goes-batch, stops-batch}
+use Rattle.boss_sessions.specs.declared.heard.Heard.{Heard}
+use Rattle.boss_sessions.specs.declared.heard.Heard.TheVariants as heard
+use Rattle.boss_sessions.specs.Gathered.{spoken_of, IsBehind, Gathered, HeardEnd}
+use Rattle.boss_sessions.specs.Places.{Place, Advances}
+use Rattle.def_connection.specs.Batches.{AreAsked, batch}
+use Rattle.def_connection.specs.Speech.{Reading, refuses, Reply, of_memory, Speech, unread, refused, is_later, last_or, attaches_by, attached_in, EndsOnce}
+use Rattle.def_connection.specs.Talks.{Told, Standing, Goes, Stops, end_text}
+use Rattle.def_connection.proofs.TalkLemmas.{goes-then, stops-then, stops-here, goes-batch, stops-batch}
 use Rattle.boss_lines.specs.Window.{IsTooLong}
 use Rattle.boss_sessions.specs.declared.end.SessionEnd.{SessionEnd}
 use Rattle.boss_sessions.specs.declared.end.SessionEnd.TheVariants as end

@@ -5,16 +5,16 @@ use Rattle.std.proofs.lemmas.List.Elements.{filter-append}
 use Rattle.boss_model.specs.declared.answer.Answer.{Answer}
 use Rattle.boss_model.specs.Limits.{most_lines}
 use Rattle.boss_model.specs.Lines.{lines, is_blank}
-use Rattle.boss_history.specs.History.{deeds}
+use Rattle.def_history.specs.History.{deeds}
 use Rattle.boss_lines.specs.declared.reader.Next.TheVariants as next
-use Rattle.boss_hearing.specs.Gathered.{spoken_of}
-use Rattle.boss_hearing.specs.Places.{Place, Takes, to_come}
-use Rattle.boss_hearing.proofs.GatheredLemmas.{later-append}
-use Rattle.boss_hearing.proofs.PlaceLemmas.{advances-then, advances-nothing, has-long, loses, Loses}
-use Rattle.boss_talks.specs.Speech.{Speech, is_later, parting_of}
-use Rattle.boss_talks.specs.Talks.{Standing, Goes, Stops, Talked, end_text, spoken}
-use Rattle.boss_talks.proofs.TalkLemmas.{goes-nothing, goes-then, stops-then, stops-here, talked-of}
-use Rattle.boss_talks.proofs.Telling.{told-whole}
+use Rattle.boss_sessions.specs.Gathered.{spoken_of}
+use Rattle.boss_sessions.specs.Places.{Place, Takes, to_come}
+use Rattle.boss_sessions.proofs.GatheredLemmas.{later-append}
+use Rattle.boss_sessions.proofs.PlaceLemmas.{advances-then, advances-nothing, has-long, loses, Loses}
+use Rattle.def_connection.specs.Speech.{Speech, is_later, parting_of}
+use Rattle.def_connection.specs.Talks.{Standing, Goes, Stops, Talked, end_text, spoken}
+use Rattle.def_connection.proofs.TalkLemmas.{goes-nothing, goes-then, stops-then, stops-here, talked-of}
+use Rattle.def_connection.proofs.Telling.{told-whole}
 use Rattle.boss_sessions.specs.declared.end.SessionEnd.{SessionEnd}
 use Rattle.boss_sessions.specs.declared.end.SessionEnd.TheVariants as end
 use Rattle.boss_sessions.specs.Connected.{WatchesAt, LostAt, Connected}

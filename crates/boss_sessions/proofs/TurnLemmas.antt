@@ -3,17 +3,17 @@ use Rattle.std.proofs.Common.{◌≡◌, ℕ, ◌+◌, ◌≤◌, Bool, true, fa
 use Rattle.std.proofs.lemmas.List.{length-append, length-drop}
 use Rattle.boss_model.specs.declared.answer.Answer.{Answer}
 use Rattle.boss_model.specs.declared.command.Command.{Command}
-use Rattle.boss_history.specs.declared.outcome.Outcome.{Outcome}
-use Rattle.boss_history.specs.declared.outcome.Outcome.TheVariants.{Done, Stopped, DiskFault, NoMemory}
-use Rattle.boss_history.specs.History.{deeds, is_broken}
-use Rattle.boss_history.specs.Made.{done_by}
+use Rattle.def_history.specs.declared.outcome.Outcome.{Outcome}
+use Rattle.def_history.specs.declared.outcome.Outcome.TheVariants.{Done, Stopped, DiskFault, NoMemory}
+use Rattle.def_history.specs.History.{deeds, is_broken}
+use Rattle.def_history.specs.Made.{done_by}
 use Rattle.boss_outside.specs.Counts.{Rose, HasCause}
 use Rattle.boss_outside.specs.Streams.{TakesFront, Writes}
 use Rattle.boss_shared.specs.Calls.{has_failed_rest, RestFits}
-use Rattle.boss_talks.specs.Batches.{deeds_by, texts_by}
-use Rattle.boss_talks.specs.Speech.{Reply, of_answer, of_memory, of_stop, Speech}
-use Rattle.boss_talks.specs.Talks.{Told}
-use Rattle.boss_talks.proofs.Telling.{went-on, told-whole, told-behind}
+use Rattle.def_connection.specs.Batches.{deeds_by, texts_by}
+use Rattle.def_connection.specs.Speech.{Reply, of_answer, of_memory, of_stop, Speech}
+use Rattle.def_connection.specs.Talks.{Told}
+use Rattle.def_connection.proofs.Telling.{went-on, told-whole, told-behind}
 use Rattle.boss_sessions.specs.declared.halt.Halt.{Halt}
 use Rattle.boss_sessions.specs.declared.halt.Halt.TheVariants as halt
 use Rattle.boss_sessions.specs.Turns.{IsRest, replies_of, turned, attached_by, Voice, Goes, Comes, Replied}

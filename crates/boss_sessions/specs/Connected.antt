@@ -3,8 +3,8 @@ use Rattle.std.specs.Prelude.{◌≡◌, ℕ, ◌≤◌, Bool, true, false, List
 use Rattle.std.specs.List.{list_any}
 use Rattle.boss_model.specs.Limits.{most_lines}
 use Rattle.boss_model.specs.Lines.{lines}
-use Rattle.boss_talks.specs.Speech.{Speech, watches}
-use Rattle.boss_talks.specs.Talks.{Standing, Talked, spoken, is_too_long}
+use Rattle.def_connection.specs.Speech.{Speech, watches}
+use Rattle.def_connection.specs.Talks.{Standing, Talked, spoken, is_too_long}
 use Rattle.boss_sessions.specs.declared.end.SessionEnd.{SessionEnd}
 use Rattle.boss_sessions.specs.declared.end.SessionEnd.TheVariants.{End, Watch, TooLong, Limit}
 use Rattle.boss_sessions.specs.Ends.{is_stop_end}

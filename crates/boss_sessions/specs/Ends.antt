@@ -1,9 +1,9 @@
 -- Why a session ends.
 use Rattle.std.specs.Prelude.{◌≡◌, ℕ, Bool, true, false, List, [], Option, Some, None, Result, Ok, Err}
 use Rattle.boss_outside.specs.Counts.{Rose}
-use Rattle.boss_talks.specs.Speech.{of_memory, Speech}
-use Rattle.boss_hearing.specs.declared.heard.Heard.{Heard}
-use Rattle.boss_hearing.specs.declared.heard.Heard.TheVariants as heard
+use Rattle.def_connection.specs.Speech.{of_memory, Speech}
+use Rattle.boss_sessions.specs.declared.heard.Heard.{Heard}
+use Rattle.boss_sessions.specs.declared.heard.Heard.TheVariants as heard
 use Rattle.boss_sessions.specs.declared.halt.Halt.{Halt}
 use Rattle.boss_sessions.specs.declared.halt.Halt.TheVariants as halt
 use Rattle.boss_sessions.specs.declared.end.SessionEnd.{SessionEnd}

@@ -1,3 +1,7 @@
+pub mod Gathered
+pub mod Places
+pub mod Requests
+pub mod Speaking
 pub mod Connected
 pub mod Ends
 pub mod Parting

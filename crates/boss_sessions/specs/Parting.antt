@@ -1,13 +1,13 @@
 -- The last call of a session, which tells that its process is lost.
 use Rattle.std.specs.Prelude.{◌≡◌, ℕ, Bool, true, false, ◌||◌, List, [], ◌∷◌, ◌++◌}
 use Rattle.boss_model.specs.declared.command.Command.TheVariants as command
-use Rattle.boss_history.specs.declared.entry.Entry.{Entry}
-use Rattle.boss_history.specs.declared.entry.Entry.TheVariants.{Did, Broke}
-use Rattle.boss_history.specs.declared.outcome.Outcome.{Outcome}
-use Rattle.boss_history.specs.declared.outcome.Outcome.TheVariants as came
-use Rattle.boss_history.specs.History.{deeds}
-use Rattle.boss_history.specs.Made.{made_by}
-use Rattle.boss_talks.specs.Speech.{of_answer, attaches_by}
+use Rattle.def_history.specs.declared.entry.Entry.{Entry}
+use Rattle.def_history.specs.declared.entry.Entry.TheVariants.{Did, Broke}
+use Rattle.def_history.specs.declared.outcome.Outcome.{Outcome}
+use Rattle.def_history.specs.declared.outcome.Outcome.TheVariants as came
+use Rattle.def_history.specs.History.{deeds}
+use Rattle.def_history.specs.Made.{made_by}
+use Rattle.def_connection.specs.Speech.{of_answer, attaches_by}
 use Rattle.boss_sessions.specs.declared.end.SessionEnd.{SessionEnd}
 use Rattle.boss_sessions.specs.declared.end.SessionEnd.TheVariants.{Stopped, DiskFault}
 

@@ -2,10 +2,10 @@
 use Rattle.std.specs.Prelude.{◌≡◌, ℕ, ◌≤◌, Bool, true, false, List, [], ◌∷◌, Option, Some, None, vec_capacity}
 use Rattle.boss_model.specs.Limits.{last_moment}
 use Rattle.boss_lines.specs.Window.{IsTooLong}
-use Rattle.boss_hearing.specs.Gathered.{spoken_of}
-use Rattle.boss_hearing.specs.Places.{Place, Advances, IsOpen}
-use Rattle.boss_talks.specs.Speech.{Speech, watches, is_later}
-use Rattle.boss_talks.specs.Talks.{Standing, Goes, Stops, end_text}
+use Rattle.boss_sessions.specs.Gathered.{spoken_of}
+use Rattle.boss_sessions.specs.Places.{Place, Advances, IsOpen}
+use Rattle.def_connection.specs.Speech.{Speech, watches, is_later}
+use Rattle.def_connection.specs.Talks.{Standing, Goes, Stops, end_text}
 use Rattle.boss_sessions.specs.declared.end.SessionEnd.{SessionEnd}
 use Rattle.boss_sessions.specs.declared.end.SessionEnd.TheVariants.{End, Watch, TooLong, Limit}
 use Rattle.boss_sessions.specs.declared.session.Session.{Session}

@@ -3,15 +3,15 @@ use Rattle.std.specs.Prelude.{◌≡◌, ℕ, ◌+◌, ◌≤◌, Bool, true, fa
 use Rattle.std.specs.List.{AllByRecursion}
 use Rattle.boss_model.specs.declared.answer.Answer.{Answer}
 use Rattle.boss_model.specs.declared.command.Command.{Command}
-use Rattle.boss_wire.specs.Texts.{line_of, memory_text, stopped_text}
-use Rattle.boss_history.specs.declared.entry.Entry.{Entry}
-use Rattle.boss_history.specs.declared.outcome.Outcome.{Outcome}
-use Rattle.boss_history.specs.declared.outcome.Outcome.TheVariants.{Done, Stopped, DiskFault, NoMemory}
-use Rattle.boss_history.specs.History.{deeds, is_broken}
+use Rattle.def_wire.specs.Texts.{line_of, memory_text, stopped_text}
+use Rattle.def_history.specs.declared.entry.Entry.{Entry}
+use Rattle.def_history.specs.declared.outcome.Outcome.{Outcome}
+use Rattle.def_history.specs.declared.outcome.Outcome.TheVariants.{Done, Stopped, DiskFault, NoMemory}
+use Rattle.def_history.specs.History.{deeds, is_broken}
 use Rattle.boss_outside.specs.Counts.{Rose}
-use Rattle.boss_talks.specs.Batches.{deeds_by, texts_by}
-use Rattle.boss_talks.specs.Speech.{Reply, of_answer, of_memory, of_stop, Speech, attaches_by, is_stop}
-use Rattle.boss_talks.specs.Talks.{Told}
+use Rattle.def_connection.specs.Batches.{deeds_by, texts_by}
+use Rattle.def_connection.specs.Speech.{Reply, of_answer, of_memory, of_stop, Speech, attaches_by, is_stop}
+use Rattle.def_connection.specs.Talks.{Told}
 use Rattle.boss_sessions.specs.declared.halt.Halt.{Halt}
 use Rattle.boss_sessions.specs.declared.halt.Halt.TheVariants as halt
 

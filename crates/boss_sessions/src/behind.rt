@@ -2,13 +2,13 @@ ghost use Rattle.std.specs.Prelude.{◌≡◌, ◌≤◌};
 ghost use Rattle.boss_outside.specs.Counts.{HasCause};
 ghost use Rattle.boss_outside.specs.Streams.{Writes};
 ghost use Rattle.boss_model.specs.Catalogue.{Catalogue};
-ghost use Rattle.boss_hearing.specs.Speaking.{speech_of};
+ghost use Rattle.boss_sessions.specs.Speaking.{speech_of};
 ghost use Rattle.boss_sessions.specs.Ends.{end_at, end_behind, end_of, text_behind};
 
 use crate::SessionEnd;
 use crate::halt::Halt;
+use crate::heard::Heard;
 use boss_answers::{tell_memory, tell_refusal, tell_too_long};
-use boss_hearing::Heard;
 use boss_model::Buffer;
 use boss_outside::{Failed, Sink};
 

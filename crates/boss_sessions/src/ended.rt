@@ -1,6 +1,6 @@
 ghost use Rattle.std.specs.Prelude.{◌≡◌, ℕ, Bool, false, List, Some};
-ghost use Rattle.boss_talks.specs.Talks.{IsEnded};
-ghost use Rattle.boss_workers.specs.Hosts.{Served};
+ghost use Rattle.def_connection.specs.Talks.{IsEnded};
+ghost use Rattle.boss_outside_server.specs.Hosts.{Served};
 ghost use Rattle.boss_sessions.specs.declared.end.SessionEnd.{SessionEnd};
 ghost use Rattle.boss_sessions.specs.Connected.{Lost};
 ghost use Rattle.boss_sessions.specs.Ends.{is_cut, is_stop_end, is_watch, ReadCause, WriteCause};

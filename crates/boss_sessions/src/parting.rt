@@ -1,13 +1,13 @@
 ghost use Rattle.std.specs.Prelude.{◌≡◌, ◌≤◌};
 ghost use Rattle.boss_model.specs.Limits.{last_moment};
-ghost use Rattle.boss_history.specs.History.{is_broken};
+ghost use Rattle.def_history.specs.History.{is_broken};
 ghost use Rattle.boss_lock.specs.Places.{entries_at};
 ghost use Rattle.boss_sessions.specs.Parting.{Parts};
 
 use crate::SessionEnd;
-use boss_history::Outcome;
 use boss_model::{Command, SessionId};
 use boss_shared::Desk;
+use def_history::Outcome;
 
 /// Tells that the session's process is lost, at a moment in milliseconds, and gives why the session ends then: as it had, where
 /// this was done, and else by what came of it.

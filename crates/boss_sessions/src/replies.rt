@@ -1,18 +1,18 @@
 ghost use Rattle.std.specs.Prelude.{◌≡◌, ◌≤◌};
 ghost use Rattle.std.specs.List.{AllByRecursion, flat_map};
 ghost use Rattle.boss_model.specs.Tellable.{IsTellable};
-ghost use Rattle.boss_wire.specs.Texts.{answer_text, line_of};
+ghost use Rattle.def_wire.specs.Texts.{answer_text, line_of};
 ghost use Rattle.boss_outside.specs.Counts.{HasCause};
 ghost use Rattle.boss_outside.specs.Streams.{Writes};
-ghost use Rattle.boss_hearing.specs.Speaking.{speech_of};
-ghost use Rattle.boss_talks.specs.Batches.{texts_by};
+ghost use Rattle.boss_sessions.specs.Speaking.{speech_of};
+ghost use Rattle.def_connection.specs.Batches.{texts_by};
 ghost use Rattle.boss_sessions.specs.Turns.{replies_of, rest_of, IsRest};
 
 use boss_answers::{tell_answer, tell_memory, tell_stopped};
-use boss_history::Outcome;
 use boss_model::{Answer, Buffer};
 use boss_outside::{Failed, Sink};
 use boss_points::Catalogue;
+use def_history::Outcome;
 
 /// Tells the answers to commands, and behind them why no more were done.
 pub(crate) fn tell_replies<K: Sink>(

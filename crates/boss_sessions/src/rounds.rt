@@ -1,24 +1,24 @@
 ghost use Rattle.std.specs.Prelude.{◌≡◌, ◌<◌, map, IfNone};
 ghost use Rattle.boss_model.specs.Catalogue.{actuators};
-ghost use Rattle.boss_history.specs.History.{is_broken};
-ghost use Rattle.boss_hearing.specs.Places.{place_of, IsOpen};
-ghost use Rattle.boss_hearing.specs.Speaking.{speech_of};
+ghost use Rattle.def_history.specs.History.{is_broken};
+ghost use Rattle.boss_sessions.specs.Places.{place_of, IsOpen};
+ghost use Rattle.boss_sessions.specs.Speaking.{speech_of};
 ghost use Rattle.boss_lock.specs.Places.{entries_at};
-ghost use Rattle.boss_talks.specs.Speech.{last_or};
-ghost use Rattle.boss_talks.specs.Talks.{standing};
+ghost use Rattle.def_connection.specs.Speech.{last_or};
+ghost use Rattle.def_connection.specs.Talks.{standing};
 ghost use Rattle.boss_sessions.specs.Ends.{ReadCause, WriteCause, ClockCause, DiskCause};
 ghost use Rattle.boss_sessions.specs.Rounds.{HasRoom, Rounded};
 
 use crate::SessionEnd;
 use crate::behind::{end_at, end_behind, tell_behind};
+use crate::gathering::gather;
 use crate::session::Session;
 use crate::turns::answer_all;
-use boss_hearing::gather;
 use boss_model::{Command, SessionId};
 use boss_outside::{Sink, Source};
+use boss_outside_server::Clock;
 use boss_points::Catalogue;
 use boss_shared::Desk;
-use boss_workers::Clock;
 use std::alloc::Global;
 
 /// Takes what has come of the requests, has them done and answers them, and answers what came behind them. Gives why the session

@@ -1,10 +1,10 @@
 ghost use Rattle.std.specs.Prelude.{◌≡◌, false, Some};
 ghost use Rattle.boss_model.specs.Catalogue.{actuators};
-ghost use Rattle.boss_history.specs.History.{is_broken};
-ghost use Rattle.boss_hearing.specs.Places.{place_of, IsOpen};
-ghost use Rattle.boss_hearing.specs.Speaking.{speech_of};
+ghost use Rattle.def_history.specs.History.{is_broken};
+ghost use Rattle.boss_sessions.specs.Places.{place_of, IsOpen};
+ghost use Rattle.boss_sessions.specs.Speaking.{speech_of};
 ghost use Rattle.boss_lock.specs.Places.{entries_at};
-ghost use Rattle.boss_talks.specs.Talks.{standing};
+ghost use Rattle.def_connection.specs.Talks.{standing};
 ghost use Rattle.boss_sessions.specs.Connected.{Connected};
 ghost use Rattle.boss_sessions.specs.Ends.{ReadCause, WriteCause, ClockCause, DiskCause};
 ghost use Rattle.boss_sessions.specs.Parting.{FailsLast};
@@ -16,9 +16,9 @@ use crate::rounds::round;
 use crate::session::Session;
 use boss_model::SessionId;
 use boss_outside::{Sink, Source};
+use boss_outside_server::Clock;
 use boss_points::Catalogue;
 use boss_shared::Desk;
-use boss_workers::Clock;
 use std::alloc::Global;
 
 /// Serves a connection, up to its end, its first line that asks to watch, or whatever else ends it.

@@ -1,7 +1,8 @@
 ghost use Rattle.std.specs.Prelude.{◌≡◌, ◌≤◌, false, [], None, IfOk, vec_capacity};
 ghost use Rattle.boss_model.specs.Limits.{most_lines};
 
-use boss_hearing::{Hearing, MOST_HELD};
+use crate::gathering::MOST_HELD;
+use crate::hearing::Hearing;
 use boss_model::{Answer, Buffer, NoMemory};
 use boss_requests::RequestReader;
 use std::alloc::Global;

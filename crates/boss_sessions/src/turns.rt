@@ -1,19 +1,19 @@
 ghost use Rattle.std.specs.Prelude.{◌≡◌, ◌≤◌, length, map, drop, IfOk, vec_capacity};
 ghost use Rattle.std.specs.List.{AllByRecursion};
 ghost use Rattle.boss_model.specs.Catalogue.{actuators};
-ghost use Rattle.boss_history.specs.History.{is_broken, MayCall};
-ghost use Rattle.boss_hearing.specs.Speaking.{speech_of};
+ghost use Rattle.def_history.specs.History.{is_broken, MayCall};
+ghost use Rattle.boss_sessions.specs.Speaking.{speech_of};
 ghost use Rattle.boss_lock.specs.Places.{entries_at};
-ghost use Rattle.boss_talks.specs.Speech.{attaches_by, of_answer};
+ghost use Rattle.def_connection.specs.Speech.{attaches_by, of_answer};
 ghost use Rattle.boss_sessions.specs.Turns.{attached_by, counted, Replied, replied_to, turned, voice};
 
 use crate::halt::Halt;
 use crate::replies::tell_replies;
-use boss_history::Outcome;
 use boss_model::{Answer, Buffer, Command, Items, SessionId};
 use boss_outside::{Failed, Sink};
 use boss_points::Catalogue;
 use boss_shared::Desk;
+use def_history::Outcome;
 
 /// Has all commands done in order, each at its moment in milliseconds, and tells a reply to each. One for which there is no memory
 /// is told so, and the ones behind it are done all the same.

@@ -5,10 +5,10 @@ use Rattle.boss_model.specs.declared.state.Actuator.{Actuator}
 use Rattle.boss_model.specs.Sound.{IsSound}
 use Rattle.boss_model.specs.State.{Persistent, State}
 use Rattle.boss_outside.specs.Counts.{Rose}
-use Rattle.boss_history.specs.declared.entry.Entry.{Entry}
-use Rattle.boss_history.specs.declared.entry.Entry.TheVariants.{Did, Broke}
-use Rattle.boss_history.specs.History.{events, is_broken, IsLegal, run, run_tried}
-use Rattle.boss_history.proofs.Going.{run_append, events_append, broken_append, tried_append, tried_whole, legal_append}
+use Rattle.def_history.specs.declared.entry.Entry.{Entry}
+use Rattle.def_history.specs.declared.entry.Entry.TheVariants.{Did, Broke}
+use Rattle.def_history.specs.History.{events, is_broken, IsLegal, run, run_tried}
+use Rattle.def_history.proofs.Going.{run_append, events_append, broken_append, tried_append, tried_whole, legal_append}
 use Rattle.boss_shared.specs.Keeping.{shortened, Keeps, IsHeld}
 
 -- a history without a mark stays as it is

@@ -3,7 +3,7 @@ use Rattle.std.proofs.Common.{◌≡◌, ℕ, ◌≤◌, nat_lt, Bool, true, fal
 use Rattle.std.specs.List.{AllByRecursion}
 use Rattle.boss_lock.specs.Places.{AllAbove, ArePlacesOf, Rises, put_in, woven, entry_at, entries_at, IsLonger}
 use Rattle.boss_lock.proofs.Entries.{entries_at_more}
-use Rattle.boss_history.specs.declared.entry.Entry.{Entry}
+use Rattle.def_history.specs.declared.entry.Entry.{Entry}
 use Rattle.boss_shared.specs.Passes.{only}
 
 first_nil : (xs ys : List Entry) → xs ++ ys ≡ [] → xs ≡ []

@@ -9,16 +9,16 @@ use Rattle.boss_model.specs.Machine.{step}
 use Rattle.boss_model.specs.Sound.{IsSound}
 use Rattle.boss_model.specs.State.{State}
 use Rattle.boss_model.specs.Tellable.{IsTellable}
-use Rattle.boss_soundness.proofs.StepSound.{step-sound}
-use Rattle.boss_laws.proofs.Tellable.{tellable}
-use Rattle.boss_history.specs.declared.entry.Entry.{Entry}
-use Rattle.boss_history.specs.declared.entry.Entry.TheVariants.{Did, Broke}
-use Rattle.boss_history.specs.declared.outcome.Outcome.{Outcome}
-use Rattle.boss_history.specs.declared.outcome.Outcome.TheVariants.{Done, Stopped, DiskFault, NoMemory}
-use Rattle.boss_history.specs.History.{after_entry, run, IsLegal}
-use Rattle.boss_history.specs.Made.{made_by, done_by, made_by_all, mark_by}
-use Rattle.boss_history.proofs.Going.{legal_front}
-use Rattle.boss_history.proofs.Sound.{legal-sound}
+use Rattle.law_soundness.proofs.StepSound.{step-sound}
+use Rattle.law_machine.proofs.Tellable.{tellable}
+use Rattle.def_history.specs.declared.entry.Entry.{Entry}
+use Rattle.def_history.specs.declared.entry.Entry.TheVariants.{Did, Broke}
+use Rattle.def_history.specs.declared.outcome.Outcome.{Outcome}
+use Rattle.def_history.specs.declared.outcome.Outcome.TheVariants.{Done, Stopped, DiskFault, NoMemory}
+use Rattle.def_history.specs.History.{after_entry, run, IsLegal}
+use Rattle.def_history.specs.Made.{made_by, done_by, made_by_all, mark_by}
+use Rattle.def_history.proofs.Going.{legal_front}
+use Rattle.def_history.proofs.Sound.{legal-sound}
 use Rattle.boss_shared.specs.Calls.{IsTold, RestFits}
 
 legal_behind : (plant : List Actuator) (xs ys : List Entry) (s : State) → IsLegal plant (xs ++ ys) s → IsLegal plant ys (run plant xs s)

@@ -9,13 +9,13 @@ use Rattle.boss_model.specs.State.{State}
 use Rattle.boss_lock.specs.Places.{numbers_from, ArePlacesOf, entries_at}
 use Rattle.boss_lock.specs.Seats.{Lock, Standing, IsSeatOf, found, own_entries, with_turn, after_turn}
 use Rattle.boss_lock.proofs.Histories.{prefix_more}
-use Rattle.boss_history.specs.declared.entry.Entry.{Entry}
-use Rattle.boss_history.specs.declared.entry.Entry.TheVariants.{Did, Broke}
-use Rattle.boss_history.specs.declared.outcome.Outcome.{Outcome}
-use Rattle.boss_history.specs.declared.outcome.Outcome.TheVariants.{Done, Stopped, DiskFault, NoMemory}
-use Rattle.boss_history.specs.History.{is_broken, IsLegal, deeds}
-use Rattle.boss_history.specs.Made.{made_by, done_by, mark_by, made_by_all}
-use Rattle.boss_history.proofs.Going.{broken_append}
+use Rattle.def_history.specs.declared.entry.Entry.{Entry}
+use Rattle.def_history.specs.declared.entry.Entry.TheVariants.{Did, Broke}
+use Rattle.def_history.specs.declared.outcome.Outcome.{Outcome}
+use Rattle.def_history.specs.declared.outcome.Outcome.TheVariants.{Done, Stopped, DiskFault, NoMemory}
+use Rattle.def_history.specs.History.{is_broken, IsLegal, deeds}
+use Rattle.def_history.specs.Made.{made_by, done_by, mark_by, made_by_all}
+use Rattle.def_history.proofs.Going.{broken_append}
 use Rattle.boss_shared.specs.Calls.{is_stopped, has_failed, is_stopped_rest, has_failed_rest}
 use Rattle.boss_shared.specs.Passes.{Batch, IsPassOf, Turn}
 

@@ -3,9 +3,9 @@ use Rattle.std.specs.Prelude.{◌≡◌, ℕ, zero, suc, ◌<◌, Bool, true, fa
 use Rattle.boss_model.specs.declared.command.Command.{Command}
 use Rattle.boss_model.specs.Catalogue.{Catalogue}
 use Rattle.boss_model.specs.Tellable.{IsTellable}
-use Rattle.boss_history.specs.Made.{is_growing}
-use Rattle.boss_history.specs.declared.outcome.Outcome.{Outcome}
-use Rattle.boss_history.specs.declared.outcome.Outcome.TheVariants.{Done, Stopped, DiskFault, NoMemory}
+use Rattle.def_history.specs.Made.{is_growing}
+use Rattle.def_history.specs.declared.outcome.Outcome.{Outcome}
+use Rattle.def_history.specs.declared.outcome.Outcome.TheVariants.{Done, Stopped, DiskFault, NoMemory}
 
 -- the disk had failed before
 abbrev pub is_stopped : Outcome → Bool

@@ -7,10 +7,10 @@ use Rattle.boss_model.specs.declared.state.Actuator.{Actuator}
 use Rattle.boss_model.specs.Sound.{IsSound}
 use Rattle.boss_model.specs.State.{State}
 use Rattle.boss_lock.specs.Places.{numbers_from, ArePlacesOf, entries_at}
-use Rattle.boss_history.specs.declared.entry.Entry.{Entry}
-use Rattle.boss_history.specs.declared.outcome.Outcome.{Outcome}
-use Rattle.boss_history.specs.History.{is_broken, IsLegal, deeds}
-use Rattle.boss_history.specs.Made.{done_by}
+use Rattle.def_history.specs.declared.entry.Entry.{Entry}
+use Rattle.def_history.specs.declared.outcome.Outcome.{Outcome}
+use Rattle.def_history.specs.History.{is_broken, IsLegal, deeds}
+use Rattle.def_history.specs.Made.{done_by}
 use Rattle.boss_shared.specs.Calls.{has_failed_rest}
 
 -- the entries of which this holds

@@ -5,14 +5,14 @@ ghost use Rattle.boss_model.specs.Catalogue.{actuators, Catalogue};
 ghost use Rattle.boss_model.specs.State.{State};
 ghost use Rattle.boss_model.specs.Tellable.{IsTellable};
 ghost use Rattle.boss_lock.specs.Places.{entries_at, woven, IsLonger};
-ghost use Rattle.boss_history.specs.declared.entry.Entry.{Entry};
-ghost use Rattle.boss_history.specs.History.{is_broken, MayCall};
-ghost use Rattle.boss_history.specs.Made.{made_by};
+ghost use Rattle.def_history.specs.declared.entry.Entry.{Entry};
+ghost use Rattle.def_history.specs.History.{is_broken, MayCall};
+ghost use Rattle.def_history.specs.Made.{made_by};
 ghost use Rattle.boss_shared.specs.Calls.{has_failed, is_stopped, IsTold, MayWant, RestFits};
 ghost use Rattle.boss_shared.specs.Passes.{only, Batch, IsPassOf, Turn};
 
-use boss_history::{Outcome, Outcomes};
 use boss_model::{Answer, Command, Items, SessionId};
+use def_history::{Outcome, Outcomes};
 
 /// Where callers have their commands done, each with a pass of its own. All passes of a desk agree on one history: each has
 /// seen a beginning of it, and each entry is of one pass.

@@ -2,8 +2,8 @@ ghost use Rattle.std.specs.Prelude.{◌≡◌};
 ghost use Rattle.boss_shared.specs.Keeping.{IsHeld};
 
 use crate::Keeper;
-use boss_history::Entry;
 use boss_lock::{Seat, Stands};
+use def_history::Entry;
 
 /// The value behind the lock: a keeper, which stands for the history from the keeper as it was handed over.
 pub struct Held<K: Keeper> {

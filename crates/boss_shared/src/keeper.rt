@@ -4,13 +4,13 @@ ghost use Rattle.boss_model.specs.declared.event.Event.{Event};
 ghost use Rattle.boss_model.specs.declared.state.Actuator.{Actuator};
 ghost use Rattle.boss_model.specs.Devices.{wanting};
 ghost use Rattle.boss_model.specs.State.{Persistent, State};
-ghost use Rattle.boss_history.specs.History.{MayCall};
-ghost use Rattle.boss_history.specs.Made.{made_by, made_by_all};
+ghost use Rattle.def_history.specs.History.{MayCall};
+ghost use Rattle.def_history.specs.Made.{made_by, made_by_all};
 ghost use Rattle.boss_shared.specs.Calls.{is_stopped, is_stopped_rest, MayWant, NoneDone, RestFits};
 ghost use Rattle.boss_shared.specs.Keeping.{Keeps};
 
-use boss_history::{Outcome, Outcomes};
 use boss_model::{Answer, Command, DriverId, Items, SessionId};
+use def_history::{Outcome, Outcomes};
 
 /// A machine that keeps what it does, as on a disk. Once its disk has failed it does no more.
 pub trait Keeper {

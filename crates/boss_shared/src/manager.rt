@@ -6,16 +6,16 @@ ghost use Rattle.boss_model.specs.Sound.{IsSound};
 ghost use Rattle.boss_model.specs.Tellable.{IsTellable};
 ghost use Rattle.boss_lock.specs.Places.{numbers_from};
 ghost use Rattle.boss_lock.specs.Seats.{first_seat, IsSeatOf};
-ghost use Rattle.boss_history.specs.History.{MayCall};
-ghost use Rattle.boss_history.specs.Made.{made_by, made_by_all};
+ghost use Rattle.def_history.specs.History.{MayCall};
+ghost use Rattle.def_history.specs.Made.{made_by, made_by_all};
 ghost use Rattle.boss_shared.specs.Calls.{has_failed_rest, is_stopped_rest, NoneDone, RestFits};
 ghost use Rattle.boss_shared.specs.Keeping.{IsHeld};
 ghost use Rattle.boss_shared.specs.Passes.{Batch, IsPassOf, Turn};
 
 use crate::{Desk, Held, Keeper, Pass};
-use boss_history::{Entry, Outcome, Outcomes};
 use boss_lock::{Made, Ruled};
 use boss_model::{Answer, Command, Items, NoMemory, SessionId};
+use def_history::{Entry, Outcome, Outcomes};
 use std::alloc::Global;
 use std::sync::Wait;
 

@@ -9,9 +9,9 @@ use Rattle.std.proofs.lemmas.List.{length-append}
 use Rattle.std.proofs.lemmas.List.Sorted.{IsPermutation-refl, IsPermutation-trans, IsPermutation-cons, IsPermutation-middle, length_permutation}
 use Rattle.boss_model.specs.Order.{in_order}
 use Rattle.boss_model.specs.Sound.{Rising}
-use Rattle.boss_time.proofs.Filters.{filter-none, filter-all}
-use Rattle.boss_time.proofs.Orders.{each-map, in_order-Rising}
-use Rattle.boss_dues.proofs.Ordering.{in_order-moved}
+use Rattle.law_time.proofs.Filters.{filter-none, filter-all}
+use Rattle.law_time.proofs.Orders.{each-map, in_order-Rising}
+use Rattle.law_due.proofs.Ordering.{in_order-moved}
 use Rattle.boss_slots.specs.Slots.{gather, row, all, keep}
 use Rattle.boss_slots.proofs.Gathers.{gather-same, gather-none, gather-one, gather-both, gather-permuted, gather-swapped, filter-gather, map-gather, each-gather, each-ungather, length-gather, length-gather_one, Rising-gather, IsSwapped, swapped-within}
 

@@ -8,7 +8,7 @@ use Rattle.std.proofs.lemmas.List.{get_or-set_same, get_or-set_other, length-set
 use Rattle.std.proofs.lemmas.List.Sorted.{IsPermutation-refl, IsPermutation-sym, IsPermutation-trans, IsPermutation-append, IsPermutation-append_right, IsPermutation-append_left, IsPermutation-append_comm}
 use Rattle.boss_model.specs.declared.state.Lease.{Lease}
 use Rattle.boss_model.specs.declared.state.Pending.{Pending}
-use Rattle.boss_books.specs.Books.{Telling}
+use Rattle.boss_booking.specs.Books.{Telling}
 use Rattle.boss_slots.specs.Slots.{all, keep}
 use Rattle.boss_slots.specs.Tables.{IsMoved, lease_at, pending_at}
 use Rattle.boss_slots.specs.Ending.{IsEnding, dues}

@@ -7,8 +7,8 @@ use Rattle.std.proofs.lemmas.List.{map-append, length-append}
 use Rattle.std.proofs.lemmas.List.Sorted.{IsPermutation-refl, IsPermutation-trans, IsPermutation-append, IsPermutation-append_right, IsPermutation-append_left, IsPermutation-append_comm}
 use Rattle.boss_model.specs.Order.{comes_before}
 use Rattle.boss_model.specs.Sound.{Rising}
-use Rattle.boss_time.proofs.Filters.{filter-append}
-use Rattle.boss_time.proofs.Orders.{each-map, each-append, each-front, each-back}
+use Rattle.law_time.proofs.Filters.{filter-append}
+use Rattle.law_time.proofs.Orders.{each-map, each-append, each-front, each-back}
 use Rattle.boss_slots.specs.Slots.{gather}
 
 pub flat_map-append : {X Y : Type 0} (t : X → List Y) (xs ys : List X) → flat_map t (xs ++ ys) ≡ flat_map t xs ++ flat_map t ys

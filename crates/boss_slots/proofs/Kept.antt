@@ -6,7 +6,7 @@ use Rattle.std.proofs.lemmas.List.{get_or-set_same, get_or-set_other, get_or_pas
 use Rattle.std.proofs.lemmas.List.Sums.{sum_by-set}
 use Rattle.boss_array.specs.declared.array.Entry.{Entry}
 use Rattle.boss_model.specs.Reversions.{turns}
-use Rattle.boss_time.proofs.Orders.{each-map}
+use Rattle.law_time.proofs.Orders.{each-map}
 use Rattle.boss_array.specs.declared.array.Entry.TheVariants as entry
 use Rattle.boss_model.specs.declared.state.Lease.{Lease}
 use Rattle.boss_model.specs.declared.state.Pending.{Pending}

@@ -10,7 +10,7 @@ use Rattle.boss_model.specs.declared.state.Lease.{Lease}
 use Rattle.boss_model.specs.declared.state.Pending.{Pending}
 use Rattle.boss_model.specs.Order.{least, lesser}
 use Rattle.boss_model.specs.Target.{in_force, playing}
-use Rattle.boss_time.proofs.Orders.{least-of}
+use Rattle.law_time.proofs.Orders.{least-of}
 use Rattle.boss_slots.specs.Slots.{key_of, all, gather}
 use Rattle.boss_slots.specs.Tables.{IsKept, IsTimed, entry_in, lease_at, lease_of, pending_at, pending_of}
 use Rattle.boss_slots.specs.declared.tables.Tables.{Tables}

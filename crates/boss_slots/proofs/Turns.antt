@@ -7,10 +7,10 @@ use Rattle.boss_model.specs.declared.command.Step.{Step}
 use Rattle.boss_model.specs.declared.state.Lease.{Lease}
 use Rattle.boss_model.specs.declared.state.Pending.{Pending}
 use Rattle.boss_model.specs.Reversions.{hold, over, turns, value_from}
-use Rattle.boss_time.proofs.Orders.{each-map}
-use Rattle.boss_time.proofs.Courses.{over-later}
-use Rattle.boss_dues.specs.Due.{last_of_lease, last_of_pending}
-use Rattle.boss_dues.specs.Playing.{last_turn}
+use Rattle.law_time.proofs.Orders.{each-map}
+use Rattle.law_time.proofs.Courses.{over-later}
+use Rattle.law_due.specs.Due.{last_of_lease, last_of_pending}
+use Rattle.law_due.specs.Playing.{last_turn}
 use Rattle.boss_reversion.specs.Playing.{next_boundary}
 use Rattle.boss_slots.specs.Ending.{AreBy, IsLeaseBy, IsPendingBy}
 use Rattle.boss_slots.specs.Tables.{IsAwaited}

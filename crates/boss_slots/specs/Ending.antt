@@ -9,9 +9,9 @@ use Rattle.boss_model.specs.declared.notice.Cause.{Cause}
 use Rattle.boss_model.specs.Ends.{shortened}
 use Rattle.boss_model.specs.Submit.{cut, is_taken, superseded}
 use Rattle.boss_model.specs.Reversions.{end_of, reversion_of, turns}
-use Rattle.boss_books.specs.Books.{Telling}
-use Rattle.boss_books.specs.Gathered.{ended_with, lease_tellings, pending_tellings, plain}
-use Rattle.boss_dues.specs.Playing.{IsEndable, IsPlayable}
+use Rattle.boss_booking.specs.Books.{Telling}
+use Rattle.boss_booking.specs.Gathered.{ended_with, lease_tellings, pending_tellings, plain}
+use Rattle.law_due.specs.Playing.{IsEndable, IsPlayable}
 use Rattle.boss_slots.specs.Slots.{all, keep}
 use Rattle.boss_slots.specs.Tables.{IsAwaited, IsKept, IsTimed, lease_at, number, pending_at}
 use Rattle.boss_slots.specs.declared.tables.Tables.{Tables}

@@ -4,16 +4,16 @@ use Rattle.std.specs.Int.{w64, from_be_bytes}
 use Rattle.std.proofs.lemmas.Bool.Decides.{nat_tests}
 use Rattle.std.proofs.lemmas.List.{take_at, drop_at, drop-drop}
 use Rattle.std.proofs.lemmas.Nat.{from_be_bytes-to_be_bytes_8}
-use Rattle.boss_bytes.specs.States.{state}
-use Rattle.boss_bytes.proofs.OfStates.{state_spelled}
-use Rattle.boss_bytes.proofs.Spelling.{some-is}
-use Rattle.boss_fields.specs.Fields.{number_text}
-use Rattle.boss_logs.specs.declared.kind.DiskKind.TheVariants.{State}
-use Rattle.boss_logs.specs.Kinds.{kind_of, state_mark, generation_of}
+use Rattle.def_bytes.specs.States.{state}
+use Rattle.def_bytes.proofs.OfStates.{state_spelled}
+use Rattle.def_bytes.proofs.Spelling.{some-is}
+use Rattle.def_bytes.specs.Fields.{number_text}
+use Rattle.def_log.specs.declared.kind.DiskKind.TheVariants.{State}
+use Rattle.def_log.specs.Kinds.{kind_of, state_mark, generation_of}
 use Rattle.boss_model.specs.Limits.{last_number}
 use Rattle.boss_model.specs.State.{Persistent}
-use Rattle.boss_pairs.proofs.OfKinds.{state_kind}
-use Rattle.boss_pairs.specs.Fronts.{heading, kept_state}
+use Rattle.def_disk_pair.proofs.OfKinds.{state_kind}
+use Rattle.def_disk_pair.specs.Fronts.{heading, kept_state}
 use Rattle.boss_snapshot.specs.declared.refusal.SnapshotRefusal.{SnapshotRefusal}
 use Rattle.boss_snapshot.specs.declared.refusal.SnapshotRefusal.TheVariants.{Version, Catalogue, Damaged, DiskFault, NoMemory}
 use Rattle.boss_snapshot.specs.Fronts.{version_of, digest_of, events_of, size_of, text_of, HasCounts}

@@ -4,10 +4,10 @@ use Rattle.std.specs.Int.{w64, from_be_bytes}
 use Rattle.std.proofs.lemmas.Bool.{cases_lt}
 use Rattle.std.proofs.lemmas.List.{take_all, take-append-drop, length-take, length-drop, get_or-drop, get_or-take, get_or_past, drop-drop, drop-take, take-take}
 use Rattle.std.proofs.lemmas.Nat.{be_bytes_8}
-use Rattle.boss_fields.specs.Exact.{IsBytes}
-use Rattle.boss_fields.specs.Fields.{number_text}
-use Rattle.boss_fields.proofs.Exact.{wide64}
-use Rattle.boss_logs.specs.Kinds.{generation_of}
+use Rattle.def_bytes.specs.Exact.{IsBytes}
+use Rattle.def_bytes.specs.Fields.{number_text}
+use Rattle.def_bytes.proofs.Exact.{wide64}
+use Rattle.def_log.specs.Kinds.{generation_of}
 use Rattle.boss_snapshot.specs.Fronts.{events_of, HasCounts}
 
 bytes_drop : (n : ℕ) (bytes : List ℕ) → IsBytes bytes → IsBytes (drop n bytes)

@@ -4,16 +4,16 @@ use Rattle.std.specs.Int.{w64}
 use Rattle.std.proofs.lemmas.List.{length-take, length-drop, get_or-drop, drop-drop}
 use Rattle.std.proofs.lemmas.Slice.Eq.{bytes_eq-Decides}
 use Rattle.std.proofs.Math.Seq.{take-add}
-use Rattle.boss_bytes.specs.States.{state}
-use Rattle.boss_bytes.proofs.Spelling.{right_true}
-use Rattle.boss_fields.specs.Fields.{number_text}
-use Rattle.boss_logs.specs.declared.kind.DiskKind.TheVariants.{Idle, Plain, State, Other}
-use Rattle.boss_logs.specs.Kinds.{kind_of, is_idle, mark_is, plain_mark, state_mark, generation_of}
+use Rattle.def_bytes.specs.States.{state}
+use Rattle.def_bytes.proofs.Spelling.{right_true}
+use Rattle.def_bytes.specs.Fields.{number_text}
+use Rattle.def_log.specs.declared.kind.DiskKind.TheVariants.{Idle, Plain, State, Other}
+use Rattle.def_log.specs.Kinds.{kind_of, is_idle, mark_is, plain_mark, state_mark, generation_of}
 use Rattle.boss_model.specs.declared.state.Actuator.{Actuator}
 use Rattle.boss_model.specs.Limits.{last_number}
 use Rattle.boss_model.specs.Sound.{IsSoundPersistent}
 use Rattle.boss_model.specs.State.{Persistent}
-use Rattle.boss_pairs.specs.Fronts.{heading, kept_state, IsStateFront}
+use Rattle.def_disk_pair.specs.Fronts.{heading, kept_state, IsStateFront}
 use Rattle.boss_snapshot.specs.Fronts.{version_of, digest_of, events_of, size_of, text_of}
 use Rattle.boss_snapshot.specs.Refusals.{IsKeptState}
 use Rattle.boss_snapshot.specs.Writes.{state_front, state_text}

@@ -2,13 +2,13 @@
 use Rattle.std.proofs.Common.{◌≡◌, ℕ, Bool, true, false, cond, ◌&&◌, List, [], ◌++◌, length, map, Option, Some, None, refl, sym, ap, ◌∙◌, append_assoc}
 use Rattle.std.specs.Option.{option_map_or}
 use Rattle.std.specs.Int.{w16, w32, w64}
-use Rattle.boss_fields.specs.Fields.{number, number_text, tagged}
+use Rattle.def_bytes.specs.Fields.{number, number_text, tagged}
 use Rattle.boss_model.specs.State.{Process, Persistent}
 use Rattle.boss_model.specs.declared.notice.What.{What}
 use Rattle.boss_model.specs.declared.kept.KeptReply.{KeptReply}
-use Rattle.boss_bytes.specs.Parts.{listed, name}
-use Rattle.boss_bytes.specs.States.{lease, pending, process, sent, state, replies, told_of, transaction, is_numbered_from, first_of_last}
-use Rattle.boss_bytes.proofs.Spelling.{left_true, right_true}
+use Rattle.def_bytes.specs.Parts.{listed, name}
+use Rattle.def_bytes.specs.States.{lease, pending, process, sent, state, replies, told_of, transaction, is_numbered_from, first_of_last}
+use Rattle.def_bytes.proofs.Spelling.{left_true, right_true}
 use Rattle.boss_snapshot.specs.Writes.{state_text}
 
 abbrev fits_by : Process → Bool → Bool

@@ -5,8 +5,8 @@ use Rattle.std.specs.Int.{w64, from_be_bytes}
 use Rattle.std.proofs.lemmas.List.{take-take, drop-take, get_or-take}
 use Rattle.std.proofs.lemmas.Bool.{cases_lt}
 use Rattle.std.proofs.lemmas.Bool.Decides.{nat_tests}
-use Rattle.boss_logs.specs.declared.kind.DiskKind.TheVariants.{Idle, Plain, State, Other}
-use Rattle.boss_logs.specs.Kinds.{kind_of, is_idle, mark_is, plain_mark, state_mark, generation_of}
+use Rattle.def_log.specs.declared.kind.DiskKind.TheVariants.{Idle, Plain, State, Other}
+use Rattle.def_log.specs.Kinds.{kind_of, is_idle, mark_is, plain_mark, state_mark, generation_of}
 use Rattle.boss_snapshot.specs.Fronts.{version_of, digest_of, events_of, size_of}
 use Rattle.boss_snapshot.specs.Refusals.{IsState}
 

@@ -1,7 +1,7 @@
 -- The first bytes tell the kind of all.
 use Rattle.std.proofs.Common.{◌≡◌, ℕ, List, length, take, drop, get_or, refl, ap, ◌∙◌, arith}
 use Rattle.std.proofs.lemmas.List.{take-take, drop-take, get_or-take}
-use Rattle.boss_logs.specs.Kinds.{kind_of}
+use Rattle.def_log.specs.Kinds.{kind_of}
 use Rattle.boss_snapshot.specs.Firsts.{kind_by}
 
 pub kind_of_all : (bytes : List ℕ) → kind_by (length bytes) (take 49 bytes) ≡ kind_of bytes

@@ -3,11 +3,11 @@ use Rattle.std.proofs.Common.{◌≡◌, ℕ, zero, suc, ◌+◌, ◌-◌, ◌<�
 use Rattle.std.specs.Prelude.{IfSome}
 use Rattle.std.specs.Int.{w16, w64}
 use Rattle.std.proofs.lemmas.Bool.Decides.{nat_tests}
-use Rattle.boss_fields.specs.Fields.{◌>>=◌, number, second_at, if_passes, counted, next_items, items_at}
+use Rattle.def_bytes.specs.Fields.{◌>>=◌, number, second_at, if_passes, counted, next_items, items_at}
 use Rattle.boss_model.specs.declared.notice.Notice.{Notice}
 use Rattle.boss_model.specs.declared.notice.What.{What}
 use Rattle.boss_model.specs.Limits.{notices_kept}
-use Rattle.boss_bytes.specs.States.{told, numbered_from, first_of_last, are_sent}
+use Rattle.def_bytes.specs.States.{told, numbered_from, first_of_last, are_sent}
 use Rattle.boss_records.proofs.Items.{with_front}
 use Rattle.boss_records.specs.declared.unread.Unread.{Unread}
 use Rattle.boss_records.specs.declared.unread.Unread.TheVariants as unread

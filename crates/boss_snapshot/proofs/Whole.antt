@@ -1,11 +1,11 @@
 -- What is read of all bytes is spelled so, and the other way round.
 use Rattle.std.proofs.Common.{◌≡◌, ℕ, ◌==◌, Bool, true, false, List, [], ◌∷◌, ◌++◌, length, Option, Some, None, refl, sym, ap, ◌∙◌, append-nil, arith}
 use Rattle.std.proofs.lemmas.Bool.Decides.{nat_tests}
-use Rattle.boss_fields.specs.Exact.{IsBytes, Took}
+use Rattle.def_bytes.specs.Exact.{IsBytes, Took}
 use Rattle.boss_model.specs.State.{Persistent}
-use Rattle.boss_bytes.specs.States.{state}
-use Rattle.boss_bytes.proofs.OfStates.{state_spelled}
-use Rattle.boss_bytes.proofs.Spelling.{some-is}
+use Rattle.def_bytes.specs.States.{state}
+use Rattle.def_bytes.proofs.OfStates.{state_spelled}
+use Rattle.def_bytes.proofs.Spelling.{some-is}
 use Rattle.boss_snapshot.specs.Spells.{SpellsState}
 
 pub spelled_so : (version : ℕ) (bytes rest : List ℕ) (d : Persistent) → IsBytes bytes → (state version).at bytes ≡ Some (d, rest) → rest ≡ []

@@ -7,9 +7,9 @@ use Rattle.boss_disk.specs.Story.{Story, Steps}
 use Rattle.boss_disk.specs.Window.{Window, settled, overwritten}
 use Rattle.boss_disk.proofs.Runs.{stands, tries_on, then_through, weaker, write_leaves}
 use Rattle.boss_disk.proofs.Torn.{settled_image, overwritten_parts, write_over}
-use Rattle.boss_fields.specs.Fields.{number_text}
+use Rattle.def_bytes.specs.Fields.{number_text}
 use Rattle.boss_model.specs.State.{Persistent}
-use Rattle.boss_logs.specs.Kinds.{state_mark}
+use Rattle.def_log.specs.Kinds.{state_mark}
 use Rattle.boss_snapshot.specs.Drafts.{Goes}
 use Rattle.boss_snapshot.specs.Writes.{Clearing, Marking, WhileWriting, state_front, state_opening, state_text}
 use Rattle.boss_snapshot.proofs.Clearings.{zero_image}

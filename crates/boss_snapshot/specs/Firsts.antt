@@ -1,8 +1,8 @@
 -- The kind of bytes by their length and the first of them.
 use Rattle.std.specs.Prelude.{ℕ, ◌==◌, nat_le, ◌&&◌, ◌||◌, if◌then◌else◌, List, slice_index_or}
-use Rattle.boss_logs.specs.declared.kind.DiskKind.{DiskKind}
-use Rattle.boss_logs.specs.declared.kind.DiskKind.TheVariants.{Idle, Plain, State, Other}
-use Rattle.boss_logs.specs.Kinds.{mark_is, plain_mark, state_mark, generation_of}
+use Rattle.def_log.specs.declared.kind.DiskKind.{DiskKind}
+use Rattle.def_log.specs.declared.kind.DiskKind.TheVariants.{Idle, Plain, State, Other}
+use Rattle.def_log.specs.Kinds.{mark_is, plain_mark, state_mark, generation_of}
 
 -- up to the end of the generation
 abbrev pub first_bytes : ℕ

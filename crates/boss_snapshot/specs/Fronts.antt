@@ -1,8 +1,8 @@
 -- What stands before a kept state, by the bytes of its disk.
 use Rattle.std.specs.Prelude.{◌≡◌, ℕ, ◌+◌, ◌^◌, ◌<◌, ◌≤◌, ◌⊎◌, List, ◌++◌, length, take, drop, slice_index_or}
 use Rattle.std.specs.Int.{w64, from_be_bytes}
-use Rattle.boss_fields.specs.Fields.{number_text}
-use Rattle.boss_logs.specs.Kinds.{generation_of}
+use Rattle.def_bytes.specs.Fields.{number_text}
+use Rattle.def_log.specs.Kinds.{generation_of}
 use Rattle.boss_model.specs.Limits.{last_number}
 
 -- byte 8

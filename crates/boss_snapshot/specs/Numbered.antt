@@ -1,9 +1,9 @@
 -- Notices as a state has them: without their numbers, which go up to the number of notices so far.
 use Rattle.std.specs.Prelude.{ℕ, List, length, Option, Some}
-use Rattle.boss_fields.specs.Fields.{◌>>=◌}
+use Rattle.def_bytes.specs.Fields.{◌>>=◌}
 use Rattle.boss_model.specs.declared.notice.Notice.{Notice}
 use Rattle.boss_model.specs.declared.notice.What.{What}
-use Rattle.boss_bytes.specs.States.{numbered_from, first_of_last, sent}
+use Rattle.def_bytes.specs.States.{numbered_from, first_of_last, sent}
 
 -- what was read, with numbers from this one on
 abbrev pub numbered : ℕ → Option (List (ℕ × (ℕ × What)) × List ℕ) → Option (List Notice × List ℕ)

@@ -1,7 +1,7 @@
 -- When a kept state is read, and why it is not.
 use Rattle.std.specs.Prelude.{◌≡◌, ◌≢◌, ℕ, ◌+◌, ◌<◌, ◌≤◌, ◌⊎◌, List, length, Result, Ok, Err}
-use Rattle.boss_logs.specs.declared.kind.DiskKind.{DiskKind}
-use Rattle.boss_logs.specs.declared.kind.DiskKind.TheVariants.{Idle, Plain, State, Other}
+use Rattle.def_log.specs.declared.kind.DiskKind.{DiskKind}
+use Rattle.def_log.specs.declared.kind.DiskKind.TheVariants.{Idle, Plain, State, Other}
 use Rattle.boss_outside.specs.Counts.{Rose}
 use Rattle.boss_model.specs.Limits.{last_number}
 use Rattle.boss_model.specs.State.{Persistent}

@@ -1,7 +1,7 @@
 -- The bytes of a state.
 use Rattle.std.specs.Prelude.{◌≡◌, ℕ, true, List}
 use Rattle.boss_model.specs.State.{Persistent}
-use Rattle.boss_bytes.specs.States.{state}
+use Rattle.def_bytes.specs.States.{state}
 
 -- these bytes are the spelling of the state in this version
 pub record SpellsState (version : ℕ) (d : Persistent) (bytes : List ℕ) : Type 0 where

@@ -2,11 +2,11 @@
 use Rattle.std.specs.Prelude.{◌≡◌, ◌≢◌, ℕ, ◌≤◌, ◌⊎◌, List, [], ◌∷◌, ◌++◌, length}
 use Rattle.std.specs.Int.{w64}
 use Rattle.boss_disk.specs.Window.{Window, settled}
-use Rattle.boss_fields.specs.Fields.{number_text}
+use Rattle.def_bytes.specs.Fields.{number_text}
 use Rattle.boss_model.specs.State.{Persistent}
-use Rattle.boss_bytes.specs.States.{state}
-use Rattle.boss_logs.specs.Kinds.{state_mark}
-use Rattle.boss_pairs.specs.Fronts.{heading, kept_state}
+use Rattle.def_bytes.specs.States.{state}
+use Rattle.def_log.specs.Kinds.{state_mark}
+use Rattle.def_disk_pair.specs.Fronts.{heading, kept_state}
 
 -- a state's spelling in version 2
 unfoldable pub state_text : Persistent → List ℕ

@@ -1,8 +1,8 @@
 ghost use Rattle.std.specs.Prelude.{◌≡◌, ℕ, ◌+◌, ◌≤◌, true, ◌++◌, length, map, OnOk};
 ghost use Rattle.std.specs.Int.{w16, w32, w64};
-ghost use Rattle.boss_bytes.specs.Parts.{listed, name};
-ghost use Rattle.boss_bytes.specs.States.{lease, pending, process, replies, sent, state, told_of, transaction};
-ghost use Rattle.boss_fields.specs.Fields.{number, number_text, tagged};
+ghost use Rattle.def_bytes.specs.Parts.{listed, name};
+ghost use Rattle.def_bytes.specs.States.{lease, pending, process, replies, sent, state, told_of, transaction};
+ghost use Rattle.def_bytes.specs.Fields.{number, number_text, tagged};
 ghost use Rattle.boss_model.specs.Seen.{seen};
 ghost use Rattle.boss_outside.specs.Counts.{HasCause};
 ghost use Rattle.boss_snapshot.specs.Drafts.{Goes, so_far};
@@ -75,7 +75,7 @@ fn spill_reply<D: Disk>(
 impl Spilled for KeptProcess {
     ghost use Rattle.boss_model.specs.State.{Process};
     ghost use Rattle.boss_model.specs.Seen.{seen_process};
-    ghost use Rattle.boss_bytes.specs.States.{process};
+    ghost use Rattle.def_bytes.specs.States.{process};
 
     ghost Value = { Process };
 
@@ -94,7 +94,7 @@ impl Spilled for KeptProcess {
 impl Spilled for KeptTxn {
     ghost use Rattle.boss_model.specs.Records.{Transaction};
     ghost use Rattle.boss_model.specs.Seen.{seen_txn};
-    ghost use Rattle.boss_bytes.specs.States.{transaction};
+    ghost use Rattle.def_bytes.specs.States.{transaction};
 
     ghost Value = { Transaction };
 

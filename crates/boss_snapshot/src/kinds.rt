@@ -1,11 +1,11 @@
 ghost use Rattle.std.specs.Prelude.{◌≡◌, ◌↔◌, IsTrue, ℕ, ◌+◌, ◌-◌, ◌≤◌, List, length, take, drop, min, bytes_eq, IfOk};
 ghost use Rattle.boss_outside.specs.Counts.{HasCause};
-ghost use Rattle.boss_logs.specs.Kinds.{kind_of, mark_is, generation_of};
+ghost use Rattle.def_log.specs.Kinds.{kind_of, mark_is, generation_of};
 ghost use Rattle.boss_snapshot.specs.Firsts.{first_bytes, kind_by};
 
 use boss_disk::Disk;
-use boss_logs::DiskKind;
 use boss_outside::Failed;
+use def_log::DiskKind;
 
 /// The bytes 1 to 7 of a journal whose events begin at the first state.
 const PLAIN_MARK: [u8; 7] = *b"OSSJRNL";

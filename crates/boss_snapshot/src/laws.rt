@@ -1,13 +1,13 @@
 ghost use Rattle.std.specs.Prelude.{◌≡◌, ◌≢◌, ◌⊎◌, ℕ, ◌^◌, ◌<◌, ◌≤◌, true, List, length, take};
-ghost use Rattle.boss_bytes.specs.States.{state};
+ghost use Rattle.def_bytes.specs.States.{state};
 ghost use Rattle.boss_disk.specs.Window.{Window};
-ghost use Rattle.boss_logs.specs.declared.kind.DiskKind.TheVariants.{State};
-ghost use Rattle.boss_logs.specs.Kinds.{kind_of};
+ghost use Rattle.def_log.specs.declared.kind.DiskKind.TheVariants.{State};
+ghost use Rattle.def_log.specs.Kinds.{kind_of};
 ghost use Rattle.boss_model.specs.declared.state.Actuator.{Actuator};
 ghost use Rattle.boss_model.specs.Limits.{last_number};
 ghost use Rattle.boss_model.specs.Sound.{IsSoundPersistent};
 ghost use Rattle.boss_model.specs.State.{Persistent};
-ghost use Rattle.boss_pairs.specs.Fronts.{IsStateFront};
+ghost use Rattle.def_disk_pair.specs.Fronts.{IsStateFront};
 ghost use Rattle.boss_snapshot.specs.declared.refusal.SnapshotRefusal.{SnapshotRefusal};
 ghost use Rattle.boss_snapshot.specs.declared.refusal.SnapshotRefusal.TheVariants.{DiskFault, NoMemory};
 ghost use Rattle.boss_snapshot.specs.Fronts.{version_of};

@@ -1,6 +1,6 @@
 ghost use Rattle.std.specs.Prelude.{map};
 ghost use Rattle.std.specs.Int.{w16, w32};
-ghost use Rattle.boss_bytes.specs.Parts.{listed};
+ghost use Rattle.def_bytes.specs.Parts.{listed};
 ghost use Rattle.boss_records.specs.Given.{Gives};
 
 use boss_records::{Spelled, Unread, read_items, read_u16, read_u32};

@@ -1,8 +1,8 @@
 ghost use Rattle.std.specs.Prelude.{◌≡◌, ◌≢◌, ◌+◌, ◌-◌, ◌<◌, ◌^◌, ◌≤◌, ℕ, length, map};
-ghost use Rattle.boss_fields.specs.Fields.{items_at};
+ghost use Rattle.def_bytes.specs.Fields.{items_at};
 ghost use Rattle.std.specs.Int.{w16};
-ghost use Rattle.boss_bytes.specs.Parts.{listed};
-ghost use Rattle.boss_bytes.specs.States.{process, told};
+ghost use Rattle.def_bytes.specs.Parts.{listed};
+ghost use Rattle.def_bytes.specs.States.{process, told};
 ghost use Rattle.boss_model.specs.Seen.{seen_process};
 ghost use Rattle.boss_records.specs.Given.{Gives};
 ghost use Rattle.boss_snapshot.specs.Numbered.{numbered, sent_at};

@@ -1,5 +1,5 @@
 ghost use Rattle.std.specs.Prelude.{◌≡◌, ℕ, ◌+◌, ◌^◌, ◌≤◌, ◌<◌, List, length, take, drop, IfOk, IfErr};
-ghost use Rattle.boss_logs.specs.Kinds.{kind_of};
+ghost use Rattle.def_log.specs.Kinds.{kind_of};
 ghost use Rattle.boss_model.specs.Seen.{seen};
 ghost use Rattle.boss_snapshot.specs.Fronts.{IsStateHead};
 ghost use Rattle.boss_snapshot.specs.Refusals.{IsKeptState, IsState, ReadCause, Refuses};

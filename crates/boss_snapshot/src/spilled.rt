@@ -1,8 +1,8 @@
 ghost use Rattle.std.specs.Prelude.{◌≡◌, ℕ, ◌+◌, ◌≤◌, true, List, ◌++◌, length, map, flat_map, OnOk};
 ghost use Rattle.std.specs.Int.{w16, w32};
 ghost use Rattle.std.specs.List.{list_all};
-ghost use Rattle.boss_bytes.specs.Parts.{listed};
-ghost use Rattle.boss_fields.specs.Fields.{Field};
+ghost use Rattle.def_bytes.specs.Parts.{listed};
+ghost use Rattle.def_bytes.specs.Fields.{Field};
 ghost use Rattle.boss_outside.specs.Counts.{HasCause};
 ghost use Rattle.boss_snapshot.specs.Drafts.{Goes, so_far};
 
@@ -113,7 +113,7 @@ pub fn spill_list32<T: Spilled, D: Disk>(
 impl Spilled for Txn {
     ghost use Rattle.std.specs.Prelude.{ℕ};
     ghost use Rattle.std.specs.Int.{w64};
-    ghost use Rattle.boss_fields.specs.Fields.{number};
+    ghost use Rattle.def_bytes.specs.Fields.{number};
 
     ghost Value = { ℕ };
 
@@ -128,7 +128,7 @@ impl Spilled for Txn {
 
 impl Spilled for Lease {
     ghost use Rattle.boss_model.specs.declared.state.Lease.{Lease};
-    ghost use Rattle.boss_bytes.specs.States.{lease};
+    ghost use Rattle.def_bytes.specs.States.{lease};
 
     ghost Value = { Lease };
 
@@ -143,7 +143,7 @@ impl Spilled for Lease {
 
 impl Spilled for Pending {
     ghost use Rattle.boss_model.specs.declared.state.Pending.{Pending};
-    ghost use Rattle.boss_bytes.specs.States.{pending};
+    ghost use Rattle.def_bytes.specs.States.{pending};
 
     ghost Value = { Pending };
 
@@ -159,7 +159,7 @@ impl Spilled for Pending {
 impl Spilled for KeptPart {
     ghost use Rattle.boss_model.specs.Records.{Part};
     ghost use Rattle.boss_model.specs.Seen.{seen_part};
-    ghost use Rattle.boss_bytes.specs.States.{part};
+    ghost use Rattle.def_bytes.specs.States.{part};
 
     ghost Value = { Part };
 
@@ -175,7 +175,7 @@ impl Spilled for KeptPart {
 impl Spilled for Notice {
     ghost use Rattle.std.specs.Prelude.{ℕ};
     ghost use Rattle.boss_model.specs.declared.notice.What.{What};
-    ghost use Rattle.boss_bytes.specs.States.{told, told_of};
+    ghost use Rattle.def_bytes.specs.States.{told, told_of};
 
     ghost Value = { ℕ × (ℕ × What) };
 

@@ -1,7 +1,7 @@
 ghost use Rattle.std.specs.Prelude.{◌≡◌, IfOk, IfSome, MatchOption};
 ghost use Rattle.boss_model.specs.Seen.{seen};
 ghost use Rattle.boss_model.specs.State.{Persistent};
-ghost use Rattle.boss_bytes.specs.States.{state};
+ghost use Rattle.def_bytes.specs.States.{state};
 ghost use Rattle.boss_records.specs.Given.{Gives};
 ghost use Rattle.boss_snapshot.specs.Spells.{SpellsState};
 

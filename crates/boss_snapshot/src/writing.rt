@@ -1,11 +1,11 @@
 ghost use Rattle.std.specs.Prelude.{◌≡◌, ℕ, ◌+◌, ◌-◌, ◌^◌, ◌≤◌, true, List, [], ◌∷◌, ◌++◌, length, OnOk, IfOk};
 ghost use Rattle.std.specs.Int.{w64};
-ghost use Rattle.boss_bytes.specs.States.{state};
+ghost use Rattle.def_bytes.specs.States.{state};
 ghost use Rattle.boss_disk.specs.Fronts.{KeepsFront};
 ghost use Rattle.boss_disk.specs.Runs.{Since};
 ghost use Rattle.boss_disk.specs.Story.{Steps};
 ghost use Rattle.boss_disk.specs.Window.{overwritten, settled};
-ghost use Rattle.boss_fields.specs.Fields.{number_text};
+ghost use Rattle.def_bytes.specs.Fields.{number_text};
 ghost use Rattle.boss_model.specs.Limits.{last_number};
 ghost use Rattle.boss_model.specs.Seen.{seen};
 ghost use Rattle.boss_outside.specs.Counts.{HasCause};
@@ -145,7 +145,7 @@ fn put_opening(block: &mut Block, digest: &[u8; 32], generation: u64, events: u6
 }
 
 /// Writes the length of a state.
-#[tactic(auto, unfolding(boss_fields::specs::Fields::number_text), using(crate::proofs::Drafts::goes_on))]
+#[tactic(auto, unfolding(def_bytes::specs::Fields::number_text), using(crate::proofs::Drafts::goes_on))]
 fn write_size<D: Disk>(disk: &mut D, size: u64) -> Result<(), Failed>
     requires { D.tells → 65 ≤ length (D.reads disk.old) }
     ensures text { D.tells → OnOk result (D.reads disk.new ≡ overwritten 57 (number_text w64 size) (D.reads disk.old)) }

@@ -6,10 +6,11 @@
 mod advice;
 
 use crate::advice::advice;
-use boss_adapters::{RealFiles, StdSink, StdSource, idle_devices};
+use boss_adapters::{
+    RealClock, RealFiles, RealHost, RealSpawner, RealWaiter, StdSink, StdSource, idle_devices,
+};
 use boss_manager::{Status, boss};
 use boss_model::{MOST_DRIVERS, NoMemory};
-use boss_real::{RealClock, RealHost, RealSpawner, RealWaiter};
 use std::alloc::AllocError;
 use std::net::{Net, TcpListener, TcpStream};
 use std::process::ExitCode;

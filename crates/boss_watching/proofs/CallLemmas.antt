@@ -8,12 +8,12 @@ use Rattle.boss_model.specs.declared.notice.Notice.{Notice}
 use Rattle.boss_model.specs.declared.state.Actuator.{Actuator}
 use Rattle.boss_model.specs.State.{State}
 use Rattle.boss_lock.specs.Places.{entries_at}
-use Rattle.boss_history.specs.declared.entry.Entry.{Entry}
-use Rattle.boss_history.specs.declared.entry.Entry.TheVariants.{Did, Broke}
-use Rattle.boss_history.specs.declared.outcome.Outcome.TheVariants.{Done, DiskFault}
-use Rattle.boss_history.specs.History.{deeds, run, IsLegal}
-use Rattle.boss_history.specs.Made.{made_by}
-use Rattle.boss_lanes.proofs.Choices.{deeds-append}
+use Rattle.def_history.specs.declared.entry.Entry.{Entry}
+use Rattle.def_history.specs.declared.entry.Entry.TheVariants.{Did, Broke}
+use Rattle.def_history.specs.declared.outcome.Outcome.TheVariants.{Done, DiskFault}
+use Rattle.def_history.specs.History.{deeds, run, IsLegal}
+use Rattle.def_history.specs.Made.{made_by}
+use Rattle.def_lanes.proofs.Choices.{deeds-append}
 use Rattle.boss_shared.specs.Passes.{IsPassOf, Turn}
 use Rattle.boss_watching.specs.Notes.{sent}
 use Rattle.boss_watching.proofs.Pages.{IsPage, page-of-call, only-page}

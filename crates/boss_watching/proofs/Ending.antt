@@ -3,12 +3,12 @@ use Rattle.std.proofs.Common.{◌≡◌, inl, inr, ℕ, zero, suc, ◌+◌, ◌-
 use Rattle.std.specs.Prelude.{nat_le}
 use Rattle.std.proofs.lemmas.Bool.{cond_both}
 use Rattle.std.proofs.lemmas.Bool.Decides.{nat_tests}
-use Rattle.boss_history.specs.declared.entry.Entry.{Entry}
-use Rattle.boss_history.specs.History.{deeds}
-use Rattle.boss_workers.specs.declared.waiter.Woke.{Woke}
-use Rattle.boss_workers.specs.declared.waiter.Woke.TheVariants.{Again, Close}
-use Rattle.boss_workers.specs.Waits.{one_pause_more, CloseCause}
-use Rattle.boss_lanes.specs.Waits.{paused}
+use Rattle.def_history.specs.declared.entry.Entry.{Entry}
+use Rattle.def_history.specs.History.{deeds}
+use Rattle.boss_outside_server.specs.declared.waiter.Woke.{Woke}
+use Rattle.boss_outside_server.specs.declared.waiter.Woke.TheVariants.{Again, Close}
+use Rattle.boss_outside_server.specs.Waits.{one_pause_more, CloseCause}
+use Rattle.def_lanes.specs.Waits.{paused}
 use Rattle.boss_watching.specs.declared.end.WatchEnd.{WatchEnd}
 use Rattle.boss_watching.specs.declared.end.WatchEnd.TheVariants.{Idle, Closed, WriteFault, ClockFault, Stopped, DiskFault, NoMemory}
 use Rattle.boss_watching.specs.Ends.{IdleCause, IsCut, Lasted}

@@ -36,10 +36,10 @@ use Rattle.boss_model.specs.State.{lease_slot, Process, Persistent, State}
 use Rattle.boss_model.specs.Submit.{granted, begun, is_taken, superseded, cut, superseded_end, submitted, submit, submit_refused}
 use Rattle.boss_model.specs.Target.{in_force}
 use Rattle.boss_model.specs.Time.{live, under_way, record_after, due, moment_of}
-use Rattle.boss_soundness.proofs.OnceCases.{once-by}
-use Rattle.boss_history.specs.declared.entry.Entry.{Entry}
-use Rattle.boss_history.specs.declared.entry.Entry.TheVariants.{Did, Broke}
-use Rattle.boss_history.specs.History.{after_entry, run}
+use Rattle.law_soundness.proofs.OnceCases.{once-by}
+use Rattle.def_history.specs.declared.entry.Entry.{Entry}
+use Rattle.def_history.specs.declared.entry.Entry.TheVariants.{Did, Broke}
+use Rattle.def_history.specs.History.{after_entry, run}
 
 -- each of the one is at its place in the other, with as many notices or more
 abbrev pub Grown : List Process → List Process → Type 0

@@ -12,11 +12,11 @@ use Rattle.boss_model.specs.Processes.{process_named}
 use Rattle.boss_model.specs.Queries.{named, notices_named, notices_of, numbered_from, start}
 use Rattle.boss_model.specs.Sound.{IsProcess, IsSound, NumberedFrom}
 use Rattle.boss_model.specs.State.{Process, State}
-use Rattle.boss_history.specs.declared.entry.Entry.{Entry}
-use Rattle.boss_history.specs.declared.entry.Entry.TheVariants.{Did}
-use Rattle.boss_history.specs.History.{after_entry, run, IsEntryAt, IsLegal}
-use Rattle.boss_history.proofs.Going.{run_append}
-use Rattle.boss_history.proofs.Sound.{legal-sound}
+use Rattle.def_history.specs.declared.entry.Entry.{Entry}
+use Rattle.def_history.specs.declared.entry.Entry.TheVariants.{Did}
+use Rattle.def_history.specs.History.{after_entry, run, IsEntryAt, IsLegal}
+use Rattle.def_history.proofs.Going.{run_append}
+use Rattle.def_history.proofs.Sound.{legal-sound}
 use Rattle.boss_watching.specs.Notes.{GoesOn, is_some_list, sent}
 use Rattle.boss_watching.proofs.Growing.{Grown, run-grows}
 use Rattle.boss_watching.proofs.Sent.{count_of, sent-grown, start-first, start-on, end-within}

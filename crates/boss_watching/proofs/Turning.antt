@@ -6,12 +6,12 @@ use Rattle.boss_model.specs.declared.command.Command.TheVariants as command
 use Rattle.boss_model.specs.declared.notice.Notice.{Notice}
 use Rattle.boss_outside.specs.Counts.{Rose}
 use Rattle.boss_outside.specs.Streams.{TakesFront}
-use Rattle.boss_history.specs.declared.entry.Entry.{Entry}
-use Rattle.boss_history.specs.declared.entry.Entry.TheVariants.{Did}
-use Rattle.boss_history.specs.History.{deeds}
-use Rattle.boss_talks.specs.Talks.{Told, Standing}
-use Rattle.boss_talks.specs.Watching.{next_from, Watched, Watches}
-use Rattle.boss_talks.proofs.WatchLemmas.{watches-nothing, watched-of}
+use Rattle.def_history.specs.declared.entry.Entry.{Entry}
+use Rattle.def_history.specs.declared.entry.Entry.TheVariants.{Did}
+use Rattle.def_history.specs.History.{deeds}
+use Rattle.def_connection.specs.Talks.{Told, Standing}
+use Rattle.def_connection.specs.Watching.{next_from, Watched, Watches}
+use Rattle.def_connection.proofs.WatchLemmas.{watches-nothing, watched-of}
 use Rattle.boss_watching.specs.Notes.{is_some_list}
 use Rattle.boss_watching.specs.Turns.{AddsTurn}
 

@@ -1,8 +1,8 @@
 -- Why a connection is watched for no longer.
 use Rattle.std.specs.Prelude.{◌≡◌, ℕ, ◌<◌, Bool, true, List, length}
 use Rattle.boss_outside.specs.Counts.{Rose}
-use Rattle.boss_history.specs.declared.entry.Entry.{Entry}
-use Rattle.boss_history.specs.History.{deeds, is_broken}
+use Rattle.def_history.specs.declared.entry.Entry.{Entry}
+use Rattle.def_history.specs.History.{deeds, is_broken}
 use Rattle.boss_watching.specs.declared.end.WatchEnd.{WatchEnd}
 use Rattle.boss_watching.specs.declared.end.WatchEnd.TheVariants.{Idle, Closed, WriteFault, ClockFault, Stopped, DiskFault, NoMemory}
 use Rattle.boss_watching.specs.Turns.{Lasts}

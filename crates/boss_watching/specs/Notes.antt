@@ -9,7 +9,7 @@ use Rattle.boss_model.specs.Catalogue.{Catalogue}
 use Rattle.boss_model.specs.Processes.{process_named}
 use Rattle.boss_model.specs.Queries.{named}
 use Rattle.boss_model.specs.State.{State}
-use Rattle.boss_wire.specs.Texts.{line_of, notice_text}
+use Rattle.def_wire.specs.Texts.{line_of, notice_text}
 
 -- each notice is a line
 abbrev pub note_line : Catalogue → Notice → List ℕ

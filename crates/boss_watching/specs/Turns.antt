@@ -1,9 +1,9 @@
 -- Turns in a row without a notice, each of which pauses.
 use Rattle.std.specs.Prelude.{◌≡◌, ◌⊎◌, ℕ, ◌+◌, ◌<◌, Bool, true, false, if◌then◌else◌, List, [], ◌∷◌, ◌++◌}
-use Rattle.boss_history.specs.declared.entry.Entry.{Entry}
-use Rattle.boss_history.specs.declared.entry.Entry.TheVariants.{Did, Broke}
-use Rattle.boss_history.specs.History.{deeds}
-use Rattle.boss_lanes.specs.Waits.{paused}
+use Rattle.def_history.specs.declared.entry.Entry.{Entry}
+use Rattle.def_history.specs.declared.entry.Entry.TheVariants.{Did, Broke}
+use Rattle.def_history.specs.History.{deeds}
+use Rattle.def_lanes.specs.Waits.{paused}
 use Rattle.boss_watching.specs.Notes.{has_notices}
 
 -- the turn of this entry had a notice

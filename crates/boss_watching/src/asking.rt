@@ -6,16 +6,16 @@ ghost use Rattle.boss_model.specs.Catalogue.{actuators};
 ghost use Rattle.boss_model.specs.Limits.{last_moment};
 ghost use Rattle.boss_model.specs.Tellable.{IsTellableNotice};
 ghost use Rattle.boss_lock.specs.Places.{entries_at};
-ghost use Rattle.boss_history.specs.declared.entry.Entry.TheVariants.{Did};
-ghost use Rattle.boss_history.specs.History.{deeds, run};
+ghost use Rattle.def_history.specs.declared.entry.Entry.TheVariants.{Did};
+ghost use Rattle.def_history.specs.History.{deeds, run};
 ghost use Rattle.boss_watching.specs.Ends.{DiskCause, IsCall};
 ghost use Rattle.boss_watching.specs.Notes.{GoesOn, is_some_list, sent};
 
 use crate::WatchEnd;
-use boss_history::Outcome;
 use boss_model::{Answer, Command, Items, MOST_TOLD, Name, Notice, SessionId};
 use boss_points::Catalogue;
 use boss_shared::Desk;
+use def_history::Outcome;
 
 /// Notices of a process, and the number to ask from next.
 #[derive(Debug, Drop)]

@@ -1,9 +1,9 @@
 ghost use Rattle.std.specs.Prelude.{◌≡◌, ◌≤◌, false, IfOk, IfErr};
 ghost use Rattle.boss_model.specs.Catalogue.{actuators};
 ghost use Rattle.boss_lock.specs.Places.{entries_at};
-ghost use Rattle.boss_history.specs.History.{run};
-ghost use Rattle.boss_talks.specs.Talks.{standing};
-ghost use Rattle.boss_talks.specs.Watching.{Watched, Watches};
+ghost use Rattle.def_history.specs.History.{run};
+ghost use Rattle.def_connection.specs.Talks.{standing};
+ghost use Rattle.def_connection.specs.Watching.{Watched, Watches};
 ghost use Rattle.boss_watching.specs.Ends.{ClockCause, DiskCause, HasCalled, IsCut, WriteCause};
 ghost use Rattle.boss_watching.specs.Notes.{GoesOn, notes, sent};
 ghost use Rattle.boss_watching.specs.Turns.{AddsTold, AddsTurn};
@@ -13,9 +13,9 @@ use crate::asking::ask;
 use crate::telling::tell_notices;
 use boss_model::{Buffer, Name, SessionId};
 use boss_outside::Sink;
+use boss_outside_server::Clock;
 use boss_points::Catalogue;
 use boss_shared::Desk;
-use boss_workers::Clock;
 
 /// How a turn went.
 #[derive(Debug, Drop)]

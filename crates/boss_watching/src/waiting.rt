@@ -1,9 +1,9 @@
 ghost use Rattle.std.specs.Prelude.{◌≡◌, ◌≤◌, true, false, IfOk, IfErr};
 ghost use Rattle.boss_model.specs.Catalogue.{actuators};
 ghost use Rattle.boss_lock.specs.Places.{entries_at};
-ghost use Rattle.boss_history.specs.History.{run};
-ghost use Rattle.boss_talks.specs.Talks.{standing};
-ghost use Rattle.boss_talks.specs.Watching.{Watched, Watches};
+ghost use Rattle.def_history.specs.History.{run};
+ghost use Rattle.def_connection.specs.Talks.{standing};
+ghost use Rattle.def_connection.specs.Watching.{Watched, Watches};
 ghost use Rattle.boss_watching.specs.Ends.{ClockCause, CloseCause, DiskCause, HasCalled, Lasted, WriteCause};
 ghost use Rattle.boss_watching.specs.Notes.{GoesOn, notes, sent};
 ghost use Rattle.boss_watching.specs.Turns.{Lasts};
@@ -12,9 +12,9 @@ use crate::WatchEnd;
 use crate::turn::take_turn;
 use boss_model::{Buffer, Name, SessionId};
 use boss_outside::Sink;
+use boss_outside_server::{Clock, Waiter, Woke};
 use boss_points::Catalogue;
 use boss_shared::Desk;
-use boss_workers::{Clock, Waiter, Woke};
 
 /// How long a pause behind a turn without a notice is, in milliseconds.
 const PAUSE: u64 = 100;

@@ -1,8 +1,8 @@
 ghost use Rattle.std.specs.Prelude.{◌≡◌, ◌≤◌, false};
 ghost use Rattle.boss_model.specs.Catalogue.{actuators};
 ghost use Rattle.boss_lock.specs.Places.{entries_at};
-ghost use Rattle.boss_talks.specs.Talks.{standing};
-ghost use Rattle.boss_talks.specs.Watching.{Watched};
+ghost use Rattle.def_connection.specs.Talks.{standing};
+ghost use Rattle.def_connection.specs.Watching.{Watched};
 ghost use Rattle.boss_watching.specs.Ends.{ClockCause, CloseCause, DiskCause, HasCalled, Lasted, WriteCause};
 ghost use Rattle.boss_watching.specs.Notes.{notes};
 
@@ -10,9 +10,9 @@ use crate::WatchEnd;
 use crate::waiting::await_notices;
 use boss_model::{Buffer, Name, SessionId};
 use boss_outside::Sink;
+use boss_outside_server::{Clock, Waiter};
 use boss_points::Catalogue;
 use boss_shared::Desk;
-use boss_workers::{Clock, Waiter};
 use std::alloc::Global;
 
 /// How many bytes there is room for where a notice is written.

@@ -1,6 +1,6 @@
 use Rattle.std.proofs.Common.{◌*◌, ◌∷◌, take}
 use Rattle.std.specs.List.{flat_map}
-use Rattle.boss_wire.specs.Texts.{notice_text}
+use Rattle.def_wire.specs.Texts.{notice_text}
 use Rattle.boss_answers.specs.Room.{PutsAtMost}
 use Rattle.boss_answers.proofs.notice.put_others.Given as goal
 

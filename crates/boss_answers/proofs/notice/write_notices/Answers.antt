@@ -1,5 +1,5 @@
 use Rattle.std.proofs.Common.{◌≡◌, ◌∷◌, length, ap, arith}
-use Rattle.boss_wire.specs.Texts.{notice_text}
+use Rattle.def_wire.specs.Texts.{notice_text}
 use Rattle.boss_answers.proofs.Listing.{listed-cons}
 use Rattle.boss_answers.proofs.Puts.{puts_both, puts_within}
 use Rattle.boss_answers.proofs.notice.write_notices.Goals as goal

@@ -3,7 +3,7 @@ use Rattle.std.proofs.lemmas.Int.{to_z-of_z}
 use Rattle.std.proofs.Common.{w64, is_ok, rules, [], ◌∷◌, ◌++◌, ap, sym, ◌∙◌}
 use Rattle.boss_model.specs.declared.command.Command.TheVariants.{Next}
 use Rattle.boss_lock.specs.Places.{entries_at}
-use Rattle.boss_history.specs.declared.entry.Entry.TheVariants.{Did}
+use Rattle.def_history.specs.declared.entry.Entry.TheVariants.{Did}
 use Rattle.boss_drive.specs.Wants.{answer_to}
 use Rattle.boss_drive.specs.Driving.{Write}
 use Rattle.boss_drive.proofs.Turns.{cut_next, idle_turn, cut_reading, cut_report, served_turn}

@@ -1,6 +1,6 @@
 use Rattle.std.proofs.Common.{◌≡◌, [], ◌+◌, ◌++◌, length, Some, ap, ◌∙◌, subst}
-use Rattle.boss_bytes.specs.Batches.{batch_text}
-use Rattle.boss_history.specs.History.{if_event}
+use Rattle.def_bytes.specs.Batches.{batch_text}
+use Rattle.def_history.specs.History.{if_event}
 use Rattle.boss_model.specs.Effects.{event_of}
 use Rattle.boss_durable.proofs.Takings.{step_taken, want_grows}
 use Rattle.boss_durable.proofs.stepping.take_step.Goals as goal

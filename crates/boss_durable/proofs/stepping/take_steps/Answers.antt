@@ -1,9 +1,9 @@
 use Rattle.std.proofs.Common.{◌≡◌, ℕ, ◌<◌, List, [], ◌∷◌, ◌++◌, length, get_or, true, refl, ap, ◌∙◌, sym, subst, arith, length-append}
 use Rattle.boss_engine.specs.Running.{Running}
-use Rattle.boss_history.specs.declared.entry.Entry.{Entry}
-use Rattle.boss_history.specs.declared.entry.Entry.TheVariants.{Did}
-use Rattle.boss_history.specs.History.{MayCall}
-use Rattle.boss_history.specs.Made.{done_by}
+use Rattle.def_history.specs.declared.entry.Entry.{Entry}
+use Rattle.def_history.specs.declared.entry.Entry.TheVariants.{Did}
+use Rattle.def_history.specs.History.{MayCall}
+use Rattle.def_history.specs.Made.{done_by}
 use Rattle.boss_shared.specs.Calls.{is_growing_at}
 use Rattle.boss_durable.specs.declared.batch.Batch.{Batch}
 use Rattle.boss_durable.specs.Taken.{Taken}

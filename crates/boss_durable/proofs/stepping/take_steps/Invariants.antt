@@ -1,5 +1,5 @@
 use Rattle.std.proofs.Common.{◌≡◌, length, vec_capacity}
-use Rattle.boss_history.specs.Made.{done_by}
+use Rattle.def_history.specs.Made.{done_by}
 use Rattle.boss_durable.specs.Taken.{Taken}
 use Rattle.boss_durable.proofs.stepping.take_steps.Given as goal
 

@@ -1,7 +1,7 @@
 use Rattle.std.proofs.Common.{◌≡◌, drop}
 use Rattle.boss_model.specs.Order.{least}
 use Rattle.boss_engine.specs.Waiting.{drivers_of}
-use Rattle.boss_lasting.proofs.Untils.{earlier_of}
+use Rattle.boss_persistent.proofs.Untils.{earlier_of}
 use Rattle.boss_engine.proofs.engine.first_driver.Given as goal
 
 -- the first driver of those so far, and those that are left

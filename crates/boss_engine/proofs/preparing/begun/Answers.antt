@@ -2,8 +2,8 @@ use Rattle.std.proofs.Common.{◌≡◌, map, ap, ◌∙◌}
 use Rattle.std.proofs.lemmas.Result.{IfOk-weaker}
 use Rattle.boss_model.specs.Submit.{begun, part_of}
 use Rattle.boss_stages.specs.Stages.{HasLevel, Tracked, live_part, write_slot, begun as kept_begun}
-use Rattle.boss_books.proofs.Points.{map-map}
-use Rattle.boss_time.proofs.Orders.{each-map}
+use Rattle.boss_booking.proofs.Points.{map-map}
+use Rattle.law_time.proofs.Orders.{each-map}
 use Rattle.boss_engine.specs.Writing.{IsWritable}
 use Rattle.boss_engine.proofs.preparing.begun.Goals as goal
 

@@ -3,7 +3,7 @@ use Rattle.std.proofs.lemmas.Int.{to_z-of_z}
 use Rattle.boss_model.specs.Target.{target}
 use Rattle.boss_marks.specs.Marks.{started}
 use Rattle.boss_marks.proofs.Rounds.{turned, turned_below, turned_below-none, turned_below-more}
-use Rattle.boss_lasting.specs.Lasting.{persistent_of}
+use Rattle.boss_persistent.specs.Lasting.{persistent_of}
 use Rattle.boss_engine.proofs.Reopened.{any, anew, all-started}
 use Rattle.boss_engine.proofs.reopening.start_all.Goals as goal
 

@@ -1,6 +1,6 @@
 use Rattle.std.proofs.Common.{◌≡◌}
 use Rattle.boss_marks.proofs.Rounds.{turned_below}
-use Rattle.boss_lasting.specs.Lasting.{persistent_of}
+use Rattle.boss_persistent.specs.Lasting.{persistent_of}
 use Rattle.boss_engine.proofs.Reopened.{any, anew}
 use Rattle.boss_engine.proofs.reopening.start_all.Given as goal
 

@@ -1,7 +1,7 @@
 use Rattle.std.proofs.Common.{sym, ◌∙◌, arith}
 use Rattle.boss_model.specs.Settle.{is_moved, recommanded}
 use Rattle.boss_marks.proofs.Rounds.{turned_below-none}
-use Rattle.boss_lasting.specs.Lasting.{persistent_of}
+use Rattle.boss_persistent.specs.Lasting.{persistent_of}
 use Rattle.boss_engine.proofs.Turns.{settled-rest}
 use Rattle.boss_engine.proofs.settling.settle.Goals as goal
 

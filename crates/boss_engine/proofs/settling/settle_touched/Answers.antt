@@ -8,9 +8,9 @@ use Rattle.boss_model.specs.Target.{target}
 use Rattle.boss_holdings.specs.Held.{Held, is_touched, shown}
 use Rattle.boss_marks.specs.Marks.{settled}
 use Rattle.boss_marks.proofs.Rounds.{turned_below, turned_below-none}
-use Rattle.boss_lasting.specs.declared.lasting.Lasting.{Lasting}
+use Rattle.boss_persistent.specs.declared.lasting.Lasting.{Lasting}
 use Rattle.boss_slots.proofs.Cleared.{cleared-below}
-use Rattle.boss_lasting.specs.Lasting.{persistent_of}
+use Rattle.boss_persistent.specs.Lasting.{persistent_of}
 use Rattle.boss_engine.proofs.Turns.{settled-next, settled-rest}
 use Rattle.boss_engine.proofs.settling.settle_touched.Goals as goal
 

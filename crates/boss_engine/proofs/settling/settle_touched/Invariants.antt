@@ -2,7 +2,7 @@ use Rattle.std.proofs.Common.{◌≡◌, ℕ, ◌<◌, ◌≤◌, false, length,
 use Rattle.boss_model.specs.Settle.{is_moved, recommanded}
 use Rattle.boss_holdings.specs.Held.{is_touched}
 use Rattle.boss_marks.proofs.Rounds.{turned_below}
-use Rattle.boss_lasting.specs.Lasting.{persistent_of}
+use Rattle.boss_persistent.specs.Lasting.{persistent_of}
 use Rattle.boss_engine.proofs.settling.settle_touched.Given as goal
 
 -- the points below one are settled, and the flags from there on are as they were

@@ -1,6 +1,6 @@
 use Rattle.std.proofs.Common.{subst, [], ◌∷◌, ◌++◌}
-use Rattle.boss_history.specs.declared.entry.Entry.TheVariants.{Did}
-use Rattle.boss_history.specs.History.{IsLegal, run}
+use Rattle.def_history.specs.declared.entry.Entry.TheVariants.{Did}
+use Rattle.def_history.specs.History.{IsLegal, run}
 use Rattle.boss_expiry.proofs.Ending.{last_is_legal}
 use Rattle.boss_expiry.proofs.calls.work.Goals as goal
 

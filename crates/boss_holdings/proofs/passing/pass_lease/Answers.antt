@@ -2,7 +2,7 @@ use Rattle.std.proofs.Common.{◌≡◌, ◌≢◌, ◌∙◌, ◌+◌, ◌*◌,
 use Rattle.std.proofs.lemmas.List.{get_or-set_other}
 use Rattle.boss_slots.specs.Ending.{is_due}
 use Rattle.boss_slots.specs.Tables.{number}
-use Rattle.boss_dues.specs.Due.{last_of_lease}
+use Rattle.law_due.specs.Due.{last_of_lease}
 use Rattle.boss_slots.proofs.Kept.{empty-slot, number-apart, timed-later, within-of}
 use Rattle.boss_slots.proofs.Turns.{of_lease-by, of_lease-later, of_lease-reached}
 use Rattle.boss_holdings.proofs.Passed.{fewer-due, lease-endable, lease-room, passable-lease, passing-lease, slot-in}

@@ -1,6 +1,6 @@
 use Rattle.std.proofs.Common.{◌≡◌, ◌≢◌, ◌∙◌, ◌+◌, ◌*◌, Some, None, length, get_or, vec_capacity, ap, sym, arith}
 use Rattle.std.specs.Option.{option_copied}
-use Rattle.boss_dues.specs.Playing.{last_turn}
+use Rattle.law_due.specs.Playing.{last_turn}
 use Rattle.boss_slots.specs.Tables.{number}
 use Rattle.boss_slots.proofs.Kept.{number-apart, timed-later}
 use Rattle.boss_slots.proofs.Turns.{last_turn-by, last_turn-later}

@@ -1,7 +1,7 @@
 use Rattle.std.proofs.Common.{◌≡◌, ◌∙◌, [], ◌∷◌, ◌++◌, Some, None, length, get_or, refl, ap, sym, arith, append-nil}
 use Rattle.std.specs.Option.{option_copied}
 use Rattle.boss_model.specs.Submit.{cut, superseded}
-use Rattle.boss_books.specs.Gathered.{plain}
+use Rattle.boss_booking.specs.Gathered.{plain}
 use Rattle.boss_slots.specs.Ending.{replaced_at}
 use Rattle.boss_slots.specs.Tables.{entry_in, lease_at, pending_at}
 use Rattle.boss_slots.proofs.Kept.{lease-there, moved-not, no-lease-there, no-pending-there, nothing-there, pending-there}

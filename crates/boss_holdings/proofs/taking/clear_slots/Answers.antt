@@ -1,6 +1,6 @@
 use Rattle.std.proofs.Common.{◌≡◌, ◌∙◌, ◌<◌, ◌≤◌, true, false, None, length, get_or, set, take, vec_capacity, arith}
 use Rattle.boss_model.specs.Submit.{is_taken}
-use Rattle.boss_time.proofs.Orders.{each-map}
+use Rattle.law_time.proofs.Orders.{each-map}
 use Rattle.boss_slots.specs.Tables.{lease_at, pending_at}
 use Rattle.std.proofs.lemmas.List.{get_or-set_same}
 use Rattle.boss_holdings.proofs.Shown.{set-stays}

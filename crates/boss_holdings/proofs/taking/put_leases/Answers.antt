@@ -1,7 +1,7 @@
 use Rattle.std.proofs.Common.{◌≡◌, ◌∙◌, ◌<◌, ◌≤◌, [], ◌∷◌, ◌++◌, None, length, ap, sym, subst}
 use Rattle.std.specs.Option.{option_or}
 use Rattle.std.specs.List.{find, AllByRecursion}
-use Rattle.boss_time.proofs.Orders.{each-back, each-front}
+use Rattle.law_time.proofs.Orders.{each-back, each-front}
 use Rattle.boss_holdings.specs.Held.{AreApart, is_at}
 use Rattle.boss_slots.specs.Tables.{lease_at, pending_at}
 use Rattle.boss_slots.proofs.Kept.{empty-slot}

@@ -1,6 +1,6 @@
 use Rattle.std.proofs.Common.{◌≡◌, ◌+◌, [], ◌∷◌, ◌++◌, length, length-append, arith}
 use Rattle.boss_disk.proofs.Runs.{then_through}
-use Rattle.boss_logs.specs.Log.{framed}
+use Rattle.def_log.specs.Log.{framed}
 use Rattle.boss_journal.proofs.Frames.{length-framed}
 use Rattle.boss_journal.proofs.Appends.{first_step, second_step, is_framed, at_rest, next_inside}
 use Rattle.boss_journal.proofs.appending.put_record.Goals as goal

@@ -1,5 +1,5 @@
 use Rattle.std.proofs.Common.{refl}
-use Rattle.boss_finding.specs.Two.{counts}
+use Rattle.boss_pair_find.specs.Two.{counts}
 use Rattle.boss_manager.specs.Journals.{on_disks}
 use Rattle.boss_manager.proofs.Refusals.{found-so}
 use Rattle.boss_manager.proofs.checking.check_on_disks.Goals as goal

@@ -1,7 +1,7 @@
 use Rattle.std.proofs.Common.{◌≡◌, false, ◌+◌, ◌<◌, ◌++◌, if◌then◌else◌, length, sym, ap, subst, ◌∙◌}
 use Rattle.std.proofs.lemmas.List.{length-append}
 use Rattle.boss_durable.specs.Words.{faults}
-use Rattle.boss_history.specs.History.{events, IsLegal, run, run_tried}
+use Rattle.def_history.specs.History.{events, IsLegal, run, run_tried}
 use Rattle.boss_model.specs.Catalogue.{actuators}
 use Rattle.boss_model.specs.Limits.{last_number}
 use Rattle.boss_outside.specs.Counts.{Rose}

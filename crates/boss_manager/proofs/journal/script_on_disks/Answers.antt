@@ -1,5 +1,5 @@
 use Rattle.std.proofs.Common.{refl, inl, inr, ap}
-use Rattle.boss_finding.specs.Two.{counts}
+use Rattle.boss_pair_find.specs.Two.{counts}
 use Rattle.boss_manager.specs.Journals.{beside, on_disks}
 use Rattle.boss_manager.proofs.OpenedLemmas.{ran-journal}
 use Rattle.boss_manager.proofs.Refusals.{told-so}

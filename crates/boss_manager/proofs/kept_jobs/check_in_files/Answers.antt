@@ -1,6 +1,6 @@
 use Rattle.std.proofs.Common.{◌≡◌, ◌≢◌, List, ℕ, [], unwrap_or, ap, ◌∙◌, sym}
-use Rattle.boss_stores.proofs.Held.{of-each}
-use Rattle.boss_stores.specs.Names.{second_name}
+use Rattle.boss_files.proofs.Held.{of-each}
+use Rattle.boss_files.specs.Names.{second_name}
 use Rattle.boss_manager.specs.Journals.{in_files, on_disks}
 use Rattle.boss_manager.proofs.Lifting.{checks-so, stores-follow}
 use Rattle.boss_manager.proofs.kept_jobs.check_in_files.Goals as goal

@@ -1,5 +1,5 @@
 use Rattle.std.proofs.Common.{◌≡◌, refl, inl, inr, Err, ap, ◌∙◌}
-use Rattle.boss_stores.specs.Names.{second_name}
+use Rattle.boss_files.specs.Names.{second_name}
 use Rattle.boss_manager.specs.Journals.{in_files, on_disks}
 use Rattle.boss_manager.proofs.Lifting.{runs-so, stores-follow}
 use Rattle.boss_manager.proofs.StandingLemmas.{failed-rose, files-stand, lacking-stood, same-stands}

@@ -1,14 +1,14 @@
 use Rattle.std.proofs.Common.{◌≡◌, false, ◌+◌, ◌<◌, ◌++◌, List, length, sym, ap, subst, ◌∙◌}
 use Rattle.std.proofs.lemmas.List.{length-append}
 use Rattle.boss_durable.specs.Words.{faults, keeps}
-use Rattle.boss_history.specs.History.{events, is_broken, run, run_tried}
+use Rattle.def_history.specs.History.{events, is_broken, run, run_tried}
 use Rattle.boss_model.specs.Catalogue.{actuators}
 use Rattle.boss_model.specs.declared.event.Event.{Event}
 use Rattle.boss_model.specs.Limits.{last_number}
 use Rattle.boss_outside.specs.Counts.{Rose}
-use Rattle.boss_reports.specs.Reports.{summary_line}
+use Rattle.boss_journal_lines.specs.Reports.{summary_line}
 use Rattle.boss_shared.specs.Keeping.{shortened}
-use Rattle.boss_two_disks.specs.Rests.{counted}
+use Rattle.boss_disk_pair.specs.Rests.{counted}
 use Rattle.boss_manager.proofs.OpenedLemmas.{holds-so, many-events, some-events, within-last}
 use Rattle.boss_manager.proofs.RunLemmas.{one-as, opens-as}
 use Rattle.boss_manager.proofs.ServedLemmas.{gained-so, legal-so, served-end, state-so, summary-so}

@@ -1,5 +1,5 @@
 use Rattle.std.proofs.Common.{◌+◌, refl, inl, inr, ap, subst, ◌∙◌}
-use Rattle.boss_finding.specs.Two.{counts}
+use Rattle.boss_pair_find.specs.Two.{counts}
 use Rattle.boss_outside.specs.Counts.{Rose}
 use Rattle.boss_manager.specs.Journals.{on_disks}
 use Rattle.boss_manager.specs.Serving.{outside}

@@ -1,11 +1,11 @@
 use Rattle.std.proofs.Common.{◌≡◌, ◌+◌, List, [], length, min, sym, ap, ◌∙◌}
-use Rattle.boss_history.specs.History.{events, run}
+use Rattle.def_history.specs.History.{events, run}
 use Rattle.boss_model.specs.Catalogue.{actuators}
 use Rattle.boss_model.specs.declared.event.Event.{Event}
 use Rattle.boss_model.specs.Limits.{last_number}
 use Rattle.boss_model.specs.Settle.{first_state}
-use Rattle.boss_reports.specs.Reports.{summary_line}
-use Rattle.boss_two_disks.specs.Rests.{counted}
+use Rattle.boss_journal_lines.specs.Reports.{summary_line}
+use Rattle.boss_disk_pair.specs.Rests.{counted}
 use Rattle.boss_manager.specs.Serving.{outside, ServedFrom}
 use Rattle.boss_manager.proofs.ServedLemmas.{memory-legal, memory-number, memory-state, served-end, summary-so}
 use Rattle.boss_manager.proofs.serving.serve_unkept.Goals as goal

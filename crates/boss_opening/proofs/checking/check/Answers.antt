@@ -1,14 +1,14 @@
 use Rattle.std.proofs.Common.{◌∙◌, sym, subst}
 use Rattle.std.specs.Prelude.{IfOk, IfErr}
-use Rattle.boss_finding.specs.Finds.{Finds, Starts, found_first, found_second}
-use Rattle.boss_finding.specs.Refusals.{FindRefuses}
-use Rattle.boss_finding.specs.Two.{counts}
-use Rattle.boss_finding.proofs.Orders.{at_both}
+use Rattle.boss_pair_find.specs.Finds.{Finds, Starts, found_first, found_second}
+use Rattle.boss_pair_find.specs.Refusals.{FindRefuses}
+use Rattle.boss_pair_find.specs.Two.{counts}
+use Rattle.boss_pair_find.proofs.Orders.{at_both}
 use Rattle.boss_model.specs.Catalogue.{actuators}
 use Rattle.boss_opening.specs.Checks.{CheckCause, ChecksPair}
 use Rattle.boss_opening.specs.Opens.{OpenRefuses, digest_of}
 use Rattle.boss_opening.proofs.Openings.{of_find}
-use Rattle.boss_two_disks.specs.Causes.{Counts}
+use Rattle.boss_disk_pair.specs.Causes.{Counts}
 use Rattle.boss_opening.proofs.checking.check.Goals as goal
 
 pub check_found-requires-clause-finds : goal.check_found-requires-clause-finds

@@ -1,11 +1,11 @@
 use Rattle.std.proofs.Common.{refl, subst, sym}
 use Rattle.std.specs.Prelude.{Ok}
 use Rattle.boss_opening.specs.declared.checking.Checked.TheVariants.{New}
-use Rattle.boss_finding.specs.Finds.{Finds, Starts, found_first, found_second}
+use Rattle.boss_pair_find.specs.Finds.{Finds, Starts, found_first, found_second}
 use Rattle.boss_model.specs.Catalogue.{actuators}
 use Rattle.boss_opening.specs.Checks.{IsCheck}
 use Rattle.boss_opening.specs.Opens.{digest_of}
-use Rattle.boss_two_disks.specs.Reads.{reads_to}
+use Rattle.boss_disk_pair.specs.Reads.{reads_to}
 use Rattle.boss_opening.proofs.checking.check_found.Goals as goal
 
 pub returns-in-New : goal.returns-in-New

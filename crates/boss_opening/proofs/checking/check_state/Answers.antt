@@ -1,6 +1,6 @@
 use Rattle.std.proofs.Common.{inl, inr, List, [], refl, sym, subst}
-use Rattle.boss_finding.specs.declared.refusal.DurableRefusal.TheVariants.{Damaged, NoMemory}
-use Rattle.boss_finding.proofs.Apart.{new_not_kept}
+use Rattle.boss_pair_find.specs.declared.refusal.DurableRefusal.TheVariants.{Damaged, NoMemory}
+use Rattle.boss_pair_find.proofs.Apart.{new_not_kept}
 use Rattle.boss_model.specs.Catalogue.{actuators}
 use Rattle.boss_model.specs.declared.state.Actuator.{Actuator}
 use Rattle.boss_model.specs.Seen.{seen}
@@ -8,8 +8,8 @@ use Rattle.boss_model.specs.State.{State}
 use Rattle.boss_opening.specs.Checks.{IsCheck}
 use Rattle.boss_opening.specs.Opens.{digest_of}
 use Rattle.boss_opening.proofs.Looks.{unlooked}
-use Rattle.boss_two_disks.specs.Causes.{first_disk, second_disk}
-use Rattle.boss_two_disks.specs.Reads.{reads_to}
+use Rattle.boss_disk_pair.specs.Causes.{first_disk, second_disk}
+use Rattle.boss_disk_pair.specs.Reads.{reads_to}
 use Rattle.boss_opening.proofs.checking.check_state.Goals as goal
 
 pub check_pair-requires-clause-begins : goal.check_pair-requires-clause-begins

@@ -3,7 +3,7 @@ use Rattle.boss_model.specs.declared.state.Actuator.{Actuator}
 use Rattle.boss_model.specs.Plants.{IsPlant}
 use Rattle.boss_opening.specs.Opens.{Finishing}
 use Rattle.boss_opening.proofs.GoingOn.{went_on, went_on_cleanly, went_wrong, wrong_cleanly}
-use Rattle.boss_two_disks.specs.Rests.{rests}
+use Rattle.boss_disk_pair.specs.Rests.{rests}
 use Rattle.boss_opening.proofs.going_on.go_on.Goals as goal
 
 pub finish-requires-clause-whole : goal.finish-requires-clause-whole

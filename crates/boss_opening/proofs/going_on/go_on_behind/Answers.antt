@@ -1,5 +1,5 @@
 use Rattle.std.proofs.Common.{ℕ, sym, subst}
-use Rattle.boss_two_disks.specs.Rests.{rests}
+use Rattle.boss_disk_pair.specs.Rests.{rests}
 use Rattle.boss_opening.proofs.going_on.go_on_behind.Goals as goal
 
 pub returns-in-Ok-clause-rest : goal.returns-in-Ok-clause-rest

@@ -1,4 +1,4 @@
-use Rattle.boss_two_disks.proofs.Words.{rests_passes}
+use Rattle.boss_disk_pair.proofs.Words.{rests_passes}
 use Rattle.boss_opening.proofs.going_on.renew.Goals as goal
 
 pub returns-in-Err-clause-passes : goal.returns-in-Err-clause-passes

@@ -1,9 +1,9 @@
 use Rattle.std.proofs.Common.{◌≡◌, subst, sym}
 use Rattle.boss_disk.specs.Window.{settled}
-use Rattle.boss_finding.specs.Finds.{Finds, IsSettled, Starts, found_first, found_second}
+use Rattle.boss_pair_find.specs.Finds.{Finds, IsSettled, Starts, found_first, found_second}
 use Rattle.boss_model.specs.Catalogue.{actuators}
 use Rattle.boss_opening.specs.Opens.{Opening, Stays, digest_of}
-use Rattle.boss_two_disks.specs.Reads.{is_settled, reads_to}
+use Rattle.boss_disk_pair.specs.Reads.{is_settled, reads_to}
 use Rattle.boss_opening.proofs.opening.open_found.Goals as goal
 
 pub returns-in-New-clause-opening : goal.returns-in-New-clause-opening

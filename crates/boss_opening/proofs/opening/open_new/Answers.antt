@@ -1,8 +1,8 @@
 use Rattle.std.proofs.Common.{ℕ, List, [], refl, sym, ap, subst, ◌∙◌}
 use Rattle.boss_disk.specs.Legs.{Legs, LeaveBoth}
 use Rattle.boss_engine.specs.Running.{Running}
-use Rattle.boss_finding.specs.declared.refusal.DurableRefusal.TheVariants.{NoMemory}
-use Rattle.boss_finding.specs.Two.{two}
+use Rattle.boss_pair_find.specs.declared.refusal.DurableRefusal.TheVariants.{NoMemory}
+use Rattle.boss_pair_find.specs.Two.{two}
 use Rattle.boss_model.specs.Catalogue.{actuators}
 use Rattle.boss_model.specs.declared.state.Actuator.{Actuator}
 use Rattle.boss_model.specs.Plants.{IsPlant}
@@ -10,9 +10,9 @@ use Rattle.boss_model.specs.State.{State, first_persistent}
 use Rattle.boss_opening.specs.Opens.{Finishing, Opening, Stays, digest_of}
 use Rattle.boss_opening.proofs.Beginnings.{new_opening, new_stays, not_made, not_made_stays}
 use Rattle.boss_opening.proofs.Openings.{nothing_moved, refused}
-use Rattle.boss_pairs.specs.Pairs.{OpensCleanly}
-use Rattle.boss_two_disks.specs.Causes.{first_disk, second_disk}
-use Rattle.boss_two_disks.specs.Rests.{rests}
+use Rattle.def_disk_pair.specs.Pairs.{OpensCleanly}
+use Rattle.boss_disk_pair.specs.Causes.{first_disk, second_disk}
+use Rattle.boss_disk_pair.specs.Rests.{rests}
 use Rattle.boss_opening.proofs.opening.open_new.Goals as goal
 
 pub finish-requires-clause-whole : goal.finish-requires-clause-whole

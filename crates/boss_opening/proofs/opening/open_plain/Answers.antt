@@ -1,14 +1,14 @@
 use Rattle.std.proofs.Common.{ℕ, List, [], refl, sym, ap, subst, ◌∙◌}
 use Rattle.boss_engine.specs.Running.{Running}
-use Rattle.boss_finding.specs.declared.refusal.DurableRefusal.TheVariants.{NoMemory}
+use Rattle.boss_pair_find.specs.declared.refusal.DurableRefusal.TheVariants.{NoMemory}
 use Rattle.boss_model.specs.Catalogue.{actuators}
 use Rattle.boss_model.specs.declared.state.Actuator.{Actuator}
 use Rattle.boss_model.specs.Plants.{IsPlant}
 use Rattle.boss_model.specs.State.{first_persistent}
 use Rattle.boss_opening.specs.Opens.{Opening, Stays, digest_of}
 use Rattle.boss_opening.proofs.Beginnings.{unread, unread_stays}
-use Rattle.boss_two_disks.specs.Causes.{first_disk, second_disk}
-use Rattle.boss_two_disks.specs.Reads.{reads_to}
+use Rattle.boss_disk_pair.specs.Causes.{first_disk, second_disk}
+use Rattle.boss_disk_pair.specs.Reads.{reads_to}
 use Rattle.boss_opening.proofs.opening.open_plain.Goals as goal
 
 pub go_on-requires-clause-whole : goal.go_on-requires-clause-whole

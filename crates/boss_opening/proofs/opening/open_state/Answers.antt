@@ -1,5 +1,5 @@
 use Rattle.std.proofs.Common.{inl, inr, List, [], refl, sym, ap, subst, ◌∙◌}
-use Rattle.boss_finding.specs.declared.refusal.DurableRefusal.TheVariants.{Damaged, NoMemory}
+use Rattle.boss_pair_find.specs.declared.refusal.DurableRefusal.TheVariants.{Damaged, NoMemory}
 use Rattle.boss_model.specs.Catalogue.{actuators}
 use Rattle.boss_model.specs.declared.state.Actuator.{Actuator}
 use Rattle.boss_model.specs.Plants.{IsPlant}
@@ -7,8 +7,8 @@ use Rattle.boss_model.specs.Seen.{seen}
 use Rattle.boss_model.specs.State.{State}
 use Rattle.boss_opening.specs.Opens.{Opening, Stays, digest_of}
 use Rattle.boss_opening.proofs.Beginnings.{unread, unread_stays}
-use Rattle.boss_two_disks.specs.Causes.{first_disk, second_disk}
-use Rattle.boss_two_disks.specs.Reads.{reads_to}
+use Rattle.boss_disk_pair.specs.Causes.{first_disk, second_disk}
+use Rattle.boss_disk_pair.specs.Reads.{reads_to}
 use Rattle.boss_opening.proofs.opening.open_state.Goals as goal
 
 pub go_on-requires-clause-whole : goal.go_on-requires-clause-whole

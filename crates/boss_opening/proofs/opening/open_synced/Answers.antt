@@ -1,9 +1,9 @@
 use Rattle.std.proofs.Common.{List, ℕ, sym, ap, subst, ◌∙◌}
 use Rattle.boss_disk.specs.Story.{Story}
 use Rattle.boss_disk.specs.Window.{settled}
-use Rattle.boss_finding.specs.Finds.{Finds, Starts, found_first, found_second}
-use Rattle.boss_finding.specs.Refusals.{FindRefuses}
-use Rattle.boss_finding.proofs.Orders.{at_both}
+use Rattle.boss_pair_find.specs.Finds.{Finds, Starts, found_first, found_second}
+use Rattle.boss_pair_find.specs.Refusals.{FindRefuses}
+use Rattle.boss_pair_find.proofs.Orders.{at_both}
 use Rattle.boss_model.specs.Catalogue.{actuators}
 use Rattle.boss_opening.specs.Opens.{digest_of}
 use Rattle.boss_opening.proofs.Openings.{nothing_moved, of_find, refused, same_opening, same_stays}

@@ -1,7 +1,7 @@
 use Rattle.std.proofs.Common.{◌≡◌, sym, ap, subst, ◌∙◌}
 use Rattle.boss_model.specs.declared.event.Event.{Event}
 use Rattle.boss_opening.specs.Again.{LeadsOn}
-use Rattle.boss_pairs.proofs.Replays.{some-is}
+use Rattle.def_disk_pair.proofs.Replays.{some-is}
 use Rattle.boss_opening.proofs.Splits.{some_byte}
 use Rattle.boss_opening.proofs.replaying.replay_first.Goals as goal
 

@@ -1,5 +1,5 @@
 use Rattle.std.proofs.Common.{◌≡◌, ◌-◌, map}
-use Rattle.boss_fields.specs.Fields.{items_at}
+use Rattle.def_bytes.specs.Fields.{items_at}
 use Rattle.boss_records.proofs.Items.{with_front}
 use Rattle.boss_records.proofs.spelled.read_items.Given as goal
 

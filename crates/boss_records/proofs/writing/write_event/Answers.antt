@@ -1,9 +1,9 @@
 use Rattle.std.proofs.Common.{◌≡◌, Some, ap, nat_lt}
 use Rattle.boss_model.specs.declared.event.Event.{Event}
 use Rattle.boss_model.specs.Effects.{act_of, event_of}
-use Rattle.boss_bytes.specs.Events.{act_fits, act_tag}
-use Rattle.boss_bytes.specs.Parts.{moment}
-use Rattle.boss_bytes.proofs.Spelling.{right_true}
+use Rattle.def_bytes.specs.Events.{act_fits, act_tag}
+use Rattle.def_bytes.specs.Parts.{moment}
+use Rattle.def_bytes.proofs.Spelling.{right_true}
 use Rattle.boss_records.proofs.writing.write_event.Goals as goal
 
 pub write_whole-requires-clause-fits : goal.write_whole-requires-clause-fits

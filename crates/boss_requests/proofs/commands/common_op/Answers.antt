@@ -1,6 +1,6 @@
 use Rattle.std.proofs.Common.{◌≡◌, codes, sym, ap, ◌∙◌, arith, rules}
 use Rattle.std.proofs.lemmas.Slice.Eq.{text_from_reads}
-use Rattle.boss_wire.specs.Requests.{common_op}
+use Rattle.def_wire.specs.Requests.{common_op}
 use Rattle.boss_requests.proofs.commands.common_op.Goals as goal
 
 pub returns-in-attach-clause-op : goal.returns-in-attach-clause-op

@@ -1,5 +1,5 @@
 use Rattle.std.proofs.Common.{◌≡◌, ◌<◌, length, drop, map, All}
-use Rattle.boss_wire.specs.Requests.{each_from}
+use Rattle.def_wire.specs.Requests.{each_from}
 use Rattle.boss_requests.specs.Seen.{point_in}
 use Rattle.boss_requests.proofs.Each.{onto}
 use Rattle.boss_requests.proofs.points.known_points.Given as goal

@@ -1,6 +1,6 @@
 use Rattle.std.proofs.Common.{map, ◌∙◌}
 use Rattle.serde_json.specs.Find.{as_str}
-use Rattle.boss_wire.specs.Requests.{point_at}
+use Rattle.def_wire.specs.Requests.{point_at}
 use Rattle.boss_requests.proofs.Each.{all_read, both-asks, both-told}
 use Rattle.boss_requests.proofs.points.points_named.Goals as goal
 

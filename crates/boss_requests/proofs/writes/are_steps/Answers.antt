@@ -1,5 +1,5 @@
 use Rattle.std.proofs.Common.{◌∙◌}
-use Rattle.boss_wire.specs.Keys.{step}
+use Rattle.def_wire.specs.Keys.{step}
 use Rattle.boss_requests.proofs.Each.{all_read}
 use Rattle.boss_requests.proofs.writes.are_steps.Goals as goal
 

@@ -1,6 +1,6 @@
 use Rattle.std.proofs.Common.{map, ◌∙◌}
-use Rattle.boss_wire.specs.Keys.{write}
-use Rattle.boss_wire.specs.Requests.{setting_at}
+use Rattle.def_wire.specs.Keys.{write}
+use Rattle.def_wire.specs.Requests.{setting_at}
 use Rattle.boss_requests.proofs.Each.{all_read, both-asks, both-told}
 use Rattle.boss_requests.proofs.writes.settings_in.Goals as goal
 

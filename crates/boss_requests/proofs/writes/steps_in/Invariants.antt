@@ -1,5 +1,5 @@
 use Rattle.std.proofs.Common.{◌≡◌, drop, map}
-use Rattle.boss_wire.specs.Keys.{all_of, step}
+use Rattle.def_wire.specs.Keys.{all_of, step}
 use Rattle.boss_requests.proofs.Each.{behind}
 use Rattle.boss_requests.proofs.writes.steps_in.Given as goal
 

@@ -1,6 +1,6 @@
 use Rattle.std.proofs.Common.{◌-◌, pos, arith}
 use Rattle.std.proofs.lemmas.Bool.Decides.{nat_tests}
-use Rattle.boss_time.proofs.Courses.{end-later}
+use Rattle.law_time.proofs.Courses.{end-later}
 use Rattle.boss_reversion.proofs.Playing.{over-more}
 use Rattle.boss_reversion.proofs.reversions.outlasts.Goals as goal
 

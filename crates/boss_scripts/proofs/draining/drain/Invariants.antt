@@ -1,5 +1,5 @@
 use Rattle.std.proofs.Common.{◌≡◌, ◌+◌, if◌then◌else◌, vec_len}
-use Rattle.boss_laws.specs.Draining.{weight}
+use Rattle.law_machine.specs.Draining.{weight}
 use Rattle.boss_model.specs.Catalogue.{actuators}
 use Rattle.boss_scripts.specs.Keepers.{Went}
 use Rattle.boss_scripts.specs.Outside.{trace}

@@ -3,7 +3,7 @@ use Rattle.std.proofs.lemmas.Int.{to_z-of_z}
 use Rattle.std.proofs.lemmas.List.{length-map}
 use mir.Val.{SFits}
 use mir.Syntax.{w64}
-use Rattle.boss_laws.proofs.Weighing.{want-of}
+use Rattle.law_machine.proofs.Weighing.{want-of}
 use Rattle.boss_model.specs.declared.command.Command.TheVariants as command
 use Rattle.boss_scripts.specs.Outside.{trace}
 use Rattle.boss_scripts.proofs.CallLemmas.{broke-off-ask, still-running, want-lighter, went-ask, went-report, went-unasked}

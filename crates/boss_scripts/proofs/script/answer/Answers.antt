@@ -1,7 +1,7 @@
 use Rattle.std.proofs.Common.{[], sym, ◌∙◌}
-use Rattle.boss_history.specs.declared.outcome.Outcome.TheVariants.{Done}
+use Rattle.def_history.specs.declared.outcome.Outcome.TheVariants.{Done}
 use Rattle.boss_shared.proofs.Telling.{call_told}
-use Rattle.boss_wire.specs.Script.{answered}
+use Rattle.def_wire.specs.Script.{answered}
 use Rattle.boss_scripts.specs.Outside.{trace}
 use Rattle.boss_scripts.proofs.CallLemmas.{broke-off-answer, broke-off-halt, went-answer, went-halt}
 use Rattle.boss_scripts.proofs.Fronts.{answered-covers}

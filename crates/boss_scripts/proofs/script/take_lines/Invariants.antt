@@ -1,6 +1,6 @@
 use Rattle.std.proofs.Common.{Some, ◌≡◌, [], ◌++◌, ℕ, List, false, length, vec_len}
 use Rattle.boss_model.specs.Catalogue.{actuators}
-use Rattle.boss_history.specs.declared.entry.Entry.{Entry}
+use Rattle.def_history.specs.declared.entry.Entry.{Entry}
 use Rattle.boss_lines.specs.declared.reader.Next.TheVariants.{Line, Finish}
 use Rattle.boss_lines.specs.Lines.{StopsAt}
 use Rattle.boss_lines.proofs.TakenLemmas.{Taken}

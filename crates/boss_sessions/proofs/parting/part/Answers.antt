@@ -1,4 +1,4 @@
-use Rattle.boss_history.specs.declared.outcome.Outcome.TheVariants.{Done, Stopped, DiskFault}
+use Rattle.def_history.specs.declared.outcome.Outcome.TheVariants.{Done, Stopped, DiskFault}
 use Rattle.boss_sessions.proofs.PartingLemmas.{parts-of}
 use Rattle.boss_sessions.proofs.parting.part.Goals as goal
 use Rattle.boss_sessions.proofs.parting.part.Goals.{in-Done, in-Stopped, in-DiskFault}

@@ -1,4 +1,4 @@
-use Rattle.boss_wire.specs.Texts.{answer_text, line_of}
+use Rattle.def_wire.specs.Texts.{answer_text, line_of}
 use Rattle.boss_sessions.proofs.ReplyLemmas.{told-part}
 use Rattle.boss_sessions.proofs.replies.tell_answers.Goals as goal
 

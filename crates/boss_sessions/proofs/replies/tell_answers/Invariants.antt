@@ -1,6 +1,6 @@
 use Rattle.std.proofs.Common.{◌≡◌, ◌++◌, take}
 use Rattle.std.specs.List.{flat_map}
-use Rattle.boss_wire.specs.Texts.{answer_text, line_of}
+use Rattle.def_wire.specs.Texts.{answer_text, line_of}
 use Rattle.boss_sessions.proofs.replies.tell_answers.Given as goal
 
 -- the answers so far were told

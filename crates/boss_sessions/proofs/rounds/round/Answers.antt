@@ -1,11 +1,11 @@
 use Rattle.std.proofs.Common.{◌≡◌, [], map, ap, sym, ◌∙◌, subst, arith}
 use Rattle.boss_model.specs.Catalogue.{actuators}
-use Rattle.boss_hearing.specs.Gathered.{Gathered}
-use Rattle.boss_hearing.specs.Places.{place_of}
-use Rattle.boss_hearing.specs.Speaking.{speech_of}
+use Rattle.boss_sessions.specs.Gathered.{Gathered}
+use Rattle.boss_sessions.specs.Places.{place_of}
+use Rattle.boss_sessions.specs.Speaking.{speech_of}
 use Rattle.boss_lock.specs.Places.{entries_at}
-use Rattle.boss_talks.specs.Speech.{last_or}
-use Rattle.boss_talks.specs.Talks.{standing}
+use Rattle.def_connection.specs.Speech.{last_or}
+use Rattle.def_connection.specs.Talks.{standing}
 use Rattle.boss_sessions.specs.Rounds.{Ended, Rounded}
 use Rattle.boss_sessions.proofs.AnsweredLemmas.{last-soon}
 use Rattle.boss_sessions.proofs.RoundLemmas.{batch-goes, round-ends, round-halted}

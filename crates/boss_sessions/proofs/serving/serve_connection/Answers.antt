@@ -1,7 +1,7 @@
 use Rattle.std.proofs.Common.{refl, ap}
-use Rattle.boss_hearing.specs.Places.{place_of}
-use Rattle.boss_hearing.specs.Speaking.{speech_of}
-use Rattle.boss_history.specs.History.{is_broken}
+use Rattle.boss_sessions.specs.Places.{place_of}
+use Rattle.boss_sessions.specs.Speaking.{speech_of}
+use Rattle.def_history.specs.History.{is_broken}
 use Rattle.boss_lock.specs.Places.{entries_at}
 use Rattle.boss_sessions.proofs.PartingLemmas.{connected-parted, connected-whole, fails-whole, parts-clock, parts-disk, parts-fails, parts-read, parts-write}
 use Rattle.boss_sessions.proofs.SessionLemmas.{connected-none}

@@ -1,8 +1,8 @@
 use Rattle.std.proofs.Common.{refl, ◌∙◌, subst}
-use Rattle.boss_hearing.specs.Places.{place_of}
-use Rattle.boss_hearing.specs.Speaking.{speech_of}
+use Rattle.boss_sessions.specs.Places.{place_of}
+use Rattle.boss_sessions.specs.Speaking.{speech_of}
 use Rattle.boss_lock.specs.Places.{entries_at}
-use Rattle.boss_talks.specs.Talks.{standing}
+use Rattle.def_connection.specs.Talks.{standing}
 use Rattle.boss_sessions.specs.Rounds.{Ended}
 use Rattle.boss_sessions.proofs.SessionLemmas.{ended-then, goes-on-nothing, goes-on-then}
 use Rattle.boss_sessions.proofs.serving.talk.Goals as goal

@@ -1,9 +1,9 @@
 use Rattle.std.proofs.Common.{◌≡◌, true}
-use Rattle.boss_history.specs.History.{is_broken}
-use Rattle.boss_hearing.specs.Places.{place_of, IsOpen}
-use Rattle.boss_hearing.specs.Speaking.{speech_of}
+use Rattle.def_history.specs.History.{is_broken}
+use Rattle.boss_sessions.specs.Places.{place_of, IsOpen}
+use Rattle.boss_sessions.specs.Speaking.{speech_of}
 use Rattle.boss_lock.specs.Places.{entries_at}
-use Rattle.boss_talks.specs.Talks.{standing}
+use Rattle.def_connection.specs.Talks.{standing}
 use Rattle.boss_sessions.specs.Rounds.{GoesOn, HasRoom}
 use Rattle.boss_sessions.proofs.serving.talk.Given as goal
 

@@ -2,8 +2,8 @@ use Rattle.std.proofs.Common.{length, refl, ap, sym, ◌∙◌, subst, arith}
 use Rattle.std.specs.List.{AllByRecursion}
 use Rattle.std.proofs.lemmas.List.{length-drop}
 use Rattle.boss_model.specs.Catalogue.{actuators}
-use Rattle.boss_history.specs.History.{MayCall}
-use Rattle.boss_hearing.specs.Speaking.{speech_of}
+use Rattle.def_history.specs.History.{MayCall}
+use Rattle.boss_sessions.specs.Speaking.{speech_of}
 use Rattle.boss_sessions.proofs.AnsweredLemmas.{all-drop, answered-halted, answered-more, answered-nothing}
 use Rattle.boss_sessions.proofs.turns.answer_all.Goals as goal
 

@@ -1,8 +1,8 @@
 use Rattle.std.proofs.Common.{◌≡◌, ◌≤◌, length, vec_capacity}
 use Rattle.std.specs.List.{AllByRecursion}
 use Rattle.boss_model.specs.Catalogue.{actuators}
-use Rattle.boss_history.specs.History.{MayCall}
-use Rattle.boss_hearing.specs.Speaking.{speech_of}
+use Rattle.def_history.specs.History.{MayCall}
+use Rattle.boss_sessions.specs.Speaking.{speech_of}
 use Rattle.boss_lock.specs.Places.{entries_at}
 use Rattle.boss_sessions.specs.Turns.{voice}
 use Rattle.boss_sessions.proofs.AnsweredLemmas.{Answered}

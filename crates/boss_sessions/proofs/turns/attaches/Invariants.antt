@@ -1,5 +1,5 @@
 use Rattle.std.proofs.Common.{◌≡◌, drop, map}
-use Rattle.boss_talks.specs.Speech.{of_answer}
+use Rattle.def_connection.specs.Speech.{of_answer}
 use Rattle.boss_sessions.specs.Turns.{attached_by}
 use Rattle.boss_sessions.proofs.turns.attaches.Given as goal
 

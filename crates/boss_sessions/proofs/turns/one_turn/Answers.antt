@@ -1,11 +1,11 @@
 use Rattle.std.proofs.Common.{◌≡◌, ◌||◌, length, map, sym, ◌∙◌, subst, arith}
 use Rattle.std.proofs.lemmas.Grind.{common_steps}
-use Rattle.boss_hearing.specs.Speaking.{speech_of}
+use Rattle.boss_sessions.specs.Speaking.{speech_of}
 use Rattle.boss_lock.specs.Places.{entries_at}
 use Rattle.boss_outside.specs.Streams.{Writes}
 use Rattle.boss_shared.specs.Calls.{RestFits}
-use Rattle.boss_talks.specs.Batches.{texts_by}
-use Rattle.boss_talks.specs.Speech.{of_answer}
+use Rattle.def_connection.specs.Batches.{texts_by}
+use Rattle.def_connection.specs.Speech.{of_answer}
 use Rattle.boss_sessions.specs.Turns.{attached_by, replies_of, Replied, voice}
 use Rattle.boss_sessions.proofs.ReplyLemmas.{or-then, or-else}
 use Rattle.boss_sessions.proofs.TurnLemmas.{is-rest, turn-replied}

@@ -1,7 +1,7 @@
 use Rattle.std.proofs.Common.{◌≡◌, ℕ, ◌+◌, ◌-◌, suc, [], ◌∷◌, ◌++◌, sym, ap, ◌∙◌, arith}
-use Rattle.boss_fields.specs.Fields.{items_at}
+use Rattle.def_bytes.specs.Fields.{items_at}
 use Rattle.boss_model.specs.declared.notice.What.{What}
-use Rattle.boss_bytes.specs.States.{told}
+use Rattle.def_bytes.specs.States.{told}
 use Rattle.boss_records.proofs.Items.{with_front}
 use Rattle.boss_snapshot.specs.Numbered.{numbered}
 use Rattle.boss_snapshot.proofs.OfNotices.{notice, notice_more, notices_end}

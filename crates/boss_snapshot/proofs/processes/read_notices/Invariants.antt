@@ -1,6 +1,6 @@
 use Rattle.std.proofs.Common.{◌≡◌, ◌+◌, ◌-◌}
-use Rattle.boss_fields.specs.Fields.{items_at}
-use Rattle.boss_bytes.specs.States.{told}
+use Rattle.def_bytes.specs.Fields.{items_at}
+use Rattle.def_bytes.specs.States.{told}
 use Rattle.boss_records.proofs.Items.{with_front}
 use Rattle.boss_snapshot.specs.Numbered.{numbered}
 use Rattle.boss_snapshot.proofs.processes.read_notices.Given as goal

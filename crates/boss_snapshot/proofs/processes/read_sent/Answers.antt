@@ -1,5 +1,5 @@
 use Rattle.std.proofs.Common.{ap, ◌∙◌, Some, arith}
-use Rattle.boss_fields.specs.Fields.{◌>>=◌}
+use Rattle.def_bytes.specs.Fields.{◌>>=◌}
 use Rattle.boss_snapshot.proofs.OfNotices.{too_many, more_than_sent, sent_are}
 use Rattle.boss_snapshot.proofs.processes.read_sent.Goals as goal
 

@@ -1,7 +1,7 @@
 use Rattle.std.proofs.Common.{◌≡◌, ◌+◌, ◌-◌, suc, map, [], ◌∷◌, ◌++◌, sym, ◌∙◌, arith}
 use Rattle.std.proofs.lemmas.List.{map_push}
 use Rattle.std.proofs.lemmas.Result.{err_from_is_err_and}
-use Rattle.boss_bytes.specs.States.{process}
+use Rattle.def_bytes.specs.States.{process}
 use Rattle.boss_model.specs.Seen.{seen_process}
 use Rattle.boss_records.proofs.Items.{item_more, ends}
 use Rattle.boss_snapshot.proofs.processes.read_so_many.Goals as goal

@@ -1,6 +1,6 @@
 use Rattle.std.proofs.Common.{◌≡◌, ◌-◌, map}
-use Rattle.boss_bytes.specs.States.{process}
-use Rattle.boss_fields.specs.Fields.{items_at}
+use Rattle.def_bytes.specs.States.{process}
+use Rattle.def_bytes.specs.Fields.{items_at}
 use Rattle.boss_model.specs.Seen.{seen_process}
 use Rattle.boss_records.proofs.Items.{with_front}
 use Rattle.boss_snapshot.proofs.processes.read_so_many.Given as goal

@@ -2,7 +2,7 @@ use Rattle.std.proofs.Common.{◌≡◌, [], ◌∷◌, ◌++◌, ◌∙◌, sub
 use Rattle.std.specs.List.{flat_map}
 use Rattle.boss_model.specs.declared.answer.Answer.TheVariants as answer
 use Rattle.boss_lock.specs.Places.{entries_at}
-use Rattle.boss_talks.specs.Talks.{standing, Told}
+use Rattle.def_connection.specs.Talks.{standing, Told}
 use Rattle.boss_watching.specs.Notes.{is_some_list, note_line, notes}
 use Rattle.boss_watching.proofs.Called.{called-call, one-longer}
 use Rattle.boss_watching.proofs.Lines.{err-front, err-rose, err-said, ok-calm, ok-whole}

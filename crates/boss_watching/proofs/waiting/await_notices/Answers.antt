@@ -1,8 +1,8 @@
 use Rattle.std.proofs.Common.{◌+◌, ◌∙◌, refl, subst, arith, false}
 use Rattle.boss_lock.specs.Places.{entries_at}
-use Rattle.boss_history.specs.History.{run}
-use Rattle.boss_talks.specs.Talks.{standing}
-use Rattle.boss_talks.proofs.WatchLemmas.{watches-nothing, watches-then}
+use Rattle.def_history.specs.History.{run}
+use Rattle.def_connection.specs.Talks.{standing}
+use Rattle.def_connection.proofs.WatchLemmas.{watches-nothing, watches-then}
 use Rattle.boss_watching.specs.Notes.{GoesOn, notes, sent}
 use Rattle.boss_watching.specs.Turns.{AddsTurn}
 use Rattle.boss_watching.proofs.Called.{called-cut, lasts-called, lasts-longer, one-longer}

@@ -1,8 +1,8 @@
 use Rattle.std.proofs.Common.{◌≡◌, ◌≤◌, ◌<◌, false}
 use Rattle.boss_lock.specs.Places.{entries_at}
-use Rattle.boss_history.specs.History.{run}
-use Rattle.boss_talks.specs.Talks.{standing}
-use Rattle.boss_talks.specs.Watching.{Watches}
+use Rattle.def_history.specs.History.{run}
+use Rattle.def_connection.specs.Talks.{standing}
+use Rattle.def_connection.specs.Watching.{Watches}
 use Rattle.boss_watching.specs.Notes.{notes, sent}
 use Rattle.boss_watching.specs.Turns.{Lasts}
 use Rattle.boss_watching.proofs.Ending.{Began}

@@ -1,9 +1,9 @@
 use Rattle.std.proofs.Common.{◌≡◌, ◌∙◌, ap, refl, subst, arith, false}
 use Rattle.boss_model.specs.Held.{Held}
 use Rattle.boss_lock.specs.Places.{entries_at}
-use Rattle.boss_history.specs.History.{run}
-use Rattle.boss_talks.specs.Talks.{standing}
-use Rattle.boss_talks.proofs.WatchLemmas.{watches-nothing, watches-then}
+use Rattle.def_history.specs.History.{run}
+use Rattle.def_connection.specs.Talks.{standing}
+use Rattle.def_connection.proofs.WatchLemmas.{watches-nothing, watches-then}
 use Rattle.boss_watching.specs.Ends.{ClockCause, CloseCause, WriteCause}
 use Rattle.boss_watching.specs.Notes.{notes, sent}
 use Rattle.boss_watching.proofs.Called.{called-behind, lasts-longer}

@@ -1,9 +1,9 @@
 use Rattle.std.proofs.Common.{◌≡◌, ℕ, ◌+◌, length, sym, ap, ◌∙◌, subst, arith}
-use Rattle.boss_history.specs.History.{events}
+use Rattle.def_history.specs.History.{events}
 use Rattle.boss_model.specs.State.{Persistent}
 use Rattle.boss_snapshot.proofs.Whole as whole
-use Rattle.boss_two_disks.specs.Rests.{rests, passes}
-use Rattle.boss_two_disks.proofs.Words.{rests_passes}
+use Rattle.boss_disk_pair.specs.Rests.{rests, passes}
+use Rattle.boss_disk_pair.proofs.Words.{rests_passes}
 use Rattle.boss_durable.proofs.Takings.{taken_nothing}
 use Rattle.boss_durable.proofs.batch.Batch.append_to.Goals as goal
 

@@ -1,7 +1,7 @@
 use Rattle.std.proofs.Common.{◌≡◌, [], ◌++◌, sym, ap, ◌∙◌, append-nil}
-use Rattle.boss_bytes.specs.Batches.{batch_text}
-use Rattle.boss_bytes.specs.Events.{event}
-use Rattle.boss_history.specs.History.{if_event}
+use Rattle.def_bytes.specs.Batches.{batch_text}
+use Rattle.def_bytes.specs.Events.{event}
+use Rattle.def_history.specs.History.{if_event}
 use Rattle.boss_model.specs.Effects.{event_of}
 use Rattle.boss_durable.proofs.Events.{some_event}
 use Rattle.boss_durable.proofs.batch.Batch.put_event.Goals as goal

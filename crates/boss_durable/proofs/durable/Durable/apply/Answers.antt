@@ -1,5 +1,5 @@
 use Rattle.std.proofs.Common.{◌≡◌, [], ◌∷◌, refl, sym, ◌∙◌}
-use Rattle.boss_history.specs.Made.{made_by}
+use Rattle.def_history.specs.Made.{made_by}
 use Rattle.boss_durable.specs.declared.beginning.Begun.TheVariants.{Ready, NoMemory, DiskFault}
 use Rattle.boss_durable.proofs.Doing.{begun_does, begun_runs, idle_does, idle_runs, unbegun_does, unbegun_runs, unmoved_does}
 use Rattle.boss_durable.proofs.durable.Durable.apply.Goals as goal

@@ -1,5 +1,5 @@
 use Rattle.std.proofs.Common.{◌≡◌, ◌⊎◌, ℕ, ◌+◌, ◌≤◌, take, sym, ◌∙◌, subst}
-use Rattle.boss_history.specs.Made.{made_by_all}
+use Rattle.def_history.specs.Made.{made_by_all}
 use Rattle.boss_durable.specs.Begun.{WantNone}
 use Rattle.boss_durable.specs.Words.{Does, RunsThrough, log}
 use Rattle.boss_durable.proofs.Doing.{begun_does, begun_runs}

@@ -1,6 +1,6 @@
 use Rattle.std.proofs.Common.{sym, ◌∙◌}
 use Rattle.boss_durable.specs.Words.{keeps}
-use Rattle.boss_two_disks.specs.Rests.{rests}
+use Rattle.boss_disk_pair.specs.Rests.{rests}
 use Rattle.boss_durable.proofs.durable.Durable.events.Goals as goal
 
 pub returns-clause-kept : goal.returns-clause-kept

@@ -1,7 +1,7 @@
 use Rattle.std.proofs.Common.{length, sym, subst}
 use Rattle.boss_engine.specs.Running.{Running}
-use Rattle.boss_two_disks.specs.Rests as pair
-use Rattle.boss_two_disks.proofs.Words.{rests_leaves}
+use Rattle.boss_disk_pair.specs.Rests as pair
+use Rattle.boss_disk_pair.proofs.Words.{rests_leaves}
 use Rattle.boss_durable.specs.Words.{keeps, leaves}
 use Rattle.boss_durable.proofs.durable.Durable.resting.Goals as goal
 

@@ -1,5 +1,5 @@
 use Rattle.std.proofs.Common.{◌≡◌, ◌<◌, ◌≤◌, [], ◌∷◌, length, refl, sym, ap, ◌∙◌, subst, arith}
-use Rattle.boss_history.specs.declared.entry.Entry.TheVariants.{Did}
+use Rattle.def_history.specs.declared.entry.Entry.TheVariants.{Did}
 use Rattle.boss_durable.specs.Taken.{Taken}
 use Rattle.boss_durable.proofs.Doing.{done_does, done_runs, failed_does, failed_runs, unmoved_does, unmoved_keeps, unmoved_runs}
 use Rattle.boss_durable.proofs.Takings.{nothing_taken, short_log, taken_short}

@@ -1,5 +1,5 @@
 use Rattle.std.proofs.Common.{◌≡◌, ◌≤◌, ◌<◌, length, take, ap, sym, ◌∙◌, arith, length-take}
-use Rattle.boss_history.specs.Made.{done_by}
+use Rattle.def_history.specs.Made.{done_by}
 use Rattle.boss_durable.proofs.ManyDone.{all_done, all_done_runs, all_failed, all_failed_runs, done_within, rest_fits, stops_at}
 use Rattle.boss_durable.proofs.Takings.{done_few, short_log, taken_short}
 use Rattle.boss_durable.proofs.durable.Durable.take_all.Goals as goal

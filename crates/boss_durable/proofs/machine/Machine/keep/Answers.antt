@@ -1,14 +1,14 @@
 use Rattle.std.proofs.Common.{◌≡◌, true, List, sym, ap, ◌∙◌, subst}
 use Rattle.std.proofs.lemmas.Result.{IfOk-weaker}
-use Rattle.boss_bytes.specs.States.{reply, state}
-use Rattle.boss_kept.proofs.OfStates.{reply-fits, state-fits}
+use Rattle.def_bytes.specs.States.{reply, state}
+use Rattle.law_spelling.proofs.OfStates.{reply-fits, state-fits}
 use Rattle.boss_model.specs.declared.state.Actuator.{Actuator}
 use Rattle.boss_model.specs.Plants.{IsPlant}
 use Rattle.boss_model.specs.Sound.{IsSoundPersistent}
 use Rattle.boss_model.specs.State.{Persistent}
-use Rattle.boss_spelled.proofs.Stored.{storable}
-use Rattle.boss_spelled.specs.Ranges.{IsStoredProcess}
-use Rattle.boss_time.proofs.Orders.{each-map}
+use Rattle.law_spelling.proofs.Stored.{storable}
+use Rattle.law_spelling.specs.Ranges.{IsStoredProcess}
+use Rattle.law_time.proofs.Orders.{each-map}
 use Rattle.boss_durable.specs.Reached.{IsReached}
 use Rattle.boss_durable.proofs.machine.Machine.keep.Goals as goal
 

@@ -3,7 +3,7 @@ use Rattle.boss_model.specs.declared.state.Actuator.{Actuator}
 use Rattle.boss_model.specs.Seen.{seen}
 use Rattle.boss_model.specs.Settle.{opened}
 use Rattle.boss_model.specs.Sound.{IsSound, IsSoundPersistent}
-use Rattle.boss_soundness.proofs.Opened.{opened-sound}
+use Rattle.law_soundness.proofs.Opened.{opened-sound}
 use Rattle.boss_engine.specs.Inside.{HasPlaces}
 use Rattle.boss_engine.proofs.engine.Engine.for_kept.Goals as goal
 

@@ -2,7 +2,7 @@ use Rattle.std.proofs.Common.{◌≡◌, ap, sym, ◌∙◌, subst}
 use Rattle.boss_model.specs.Settle.{first_state}
 use Rattle.boss_model.specs.Sound.{IsSound}
 use Rattle.boss_model.specs.State.{first_persistent}
-use Rattle.boss_soundness.proofs.Opened.{first-sound, opened-sound}
+use Rattle.law_soundness.proofs.Opened.{first-sound, opened-sound}
 use Rattle.boss_engine.specs.Inside.{HasPlaces, state_of}
 use Rattle.boss_engine.proofs.engine.Engine.for_plant.Goals as goal
 

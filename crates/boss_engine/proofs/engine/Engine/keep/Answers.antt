@@ -2,7 +2,7 @@ use Rattle.std.proofs.Common.{◌≡◌, IfOk, sym, ap, ◌∙◌, subst}
 use Rattle.boss_model.specs.declared.kept.Kept.{Kept}
 use Rattle.boss_model.specs.Seen.{seen}
 use Rattle.boss_model.specs.State.{Persistent}
-use Rattle.boss_lasting.specs.Lasting.{persistent_of}
+use Rattle.boss_persistent.specs.Lasting.{persistent_of}
 use Rattle.boss_engine.proofs.Seen.{seen-persistent}
 use Rattle.boss_engine.proofs.engine.Engine.keep.Goals as goal
 

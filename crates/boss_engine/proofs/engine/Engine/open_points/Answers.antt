@@ -2,9 +2,9 @@ use Rattle.std.proofs.Common.{◌≡◌, List, sym, subst, ap, ◌∙◌}
 use Rattle.boss_model.specs.declared.state.Actuator.{Actuator}
 use Rattle.boss_model.specs.Settle.{opened}
 use Rattle.boss_model.specs.Sound.{IsSound}
-use Rattle.boss_soundness.proofs.Opened.{opened-sound}
+use Rattle.law_soundness.proofs.Opened.{opened-sound}
 use Rattle.boss_engine.specs.Inside.{CanAct, HasPlaces, state_of}
-use Rattle.boss_lasting.specs.Lasting.{persistent_of}
+use Rattle.boss_persistent.specs.Lasting.{persistent_of}
 use Rattle.boss_engine.proofs.Seen.{seen-act, seen-persistent, seen-sound}
 use Rattle.boss_engine.proofs.engine.Engine.open_points.Goals as goal
 

@@ -7,7 +7,7 @@ use Rattle.boss_model.specs.Settle.{opened}
 use Rattle.boss_model.specs.Sound.{IsSound}
 use Rattle.boss_model.specs.State.{Persistent}
 use Rattle.boss_engine.specs.Inside.{CanAct, seen_state}
-use Rattle.boss_lasting.specs.Lasting.{persistent_of}
+use Rattle.boss_persistent.specs.Lasting.{persistent_of}
 use Rattle.boss_engine.proofs.Seen.{seen-act, seen-again, seen-persistent, seen-still}
 use Rattle.boss_engine.proofs.engine.Engine.replay.Goals as goal
 

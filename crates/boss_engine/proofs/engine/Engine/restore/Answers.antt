@@ -3,7 +3,7 @@ use Rattle.boss_model.specs.declared.state.Actuator.{Actuator}
 use Rattle.boss_model.specs.Seen.{seen}
 use Rattle.boss_model.specs.Settle.{opened}
 use Rattle.boss_model.specs.Sound.{IsSound, IsSoundPersistent}
-use Rattle.boss_soundness.proofs.Opened.{opened-sound}
+use Rattle.law_soundness.proofs.Opened.{opened-sound}
 use Rattle.boss_engine.proofs.engine.Engine.restore.Goals as goal
 
 pub for_kept-requires-clause-sound : goal.for_kept-requires-clause-sound

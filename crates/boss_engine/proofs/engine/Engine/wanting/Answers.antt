@@ -2,7 +2,7 @@ use Rattle.std.proofs.Common.{Bool, ◌∙◌, ap, sym}
 use Rattle.boss_model.specs.Devices.{wanting}
 use Rattle.boss_model.specs.Order.{least}
 use Rattle.boss_engine.specs.Inside.{seen_state}
-use Rattle.boss_lasting.specs.Lasting.{persistent_of}
+use Rattle.boss_persistent.specs.Lasting.{persistent_of}
 use Rattle.boss_engine.specs.Waiting.{drivers_of}
 use Rattle.boss_engine.proofs.Seen.{all-drivers}
 use Rattle.boss_engine.proofs.Waiting.{wanting-is}

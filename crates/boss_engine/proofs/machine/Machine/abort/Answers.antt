@@ -2,9 +2,9 @@ use Rattle.std.proofs.Common.{◌≡◌, [], ◌∷◌, ◌++◌, map, refl, sub
 use Rattle.boss_model.specs.declared.notice.Cause.TheVariants as cause
 use Rattle.boss_model.specs.Ends.{end_leases, is_of}
 use Rattle.boss_model.specs.Happenings.{Happening}
-use Rattle.boss_books.specs.Gathered.{plain}
-use Rattle.boss_lasting.specs.Lasting.{persistent_of}
-use Rattle.boss_books.specs.Passed.{IsFirstTold, faulted}
+use Rattle.boss_booking.specs.Gathered.{plain}
+use Rattle.boss_persistent.specs.Lasting.{persistent_of}
+use Rattle.boss_booking.specs.Passed.{IsFirstTold, faulted}
 use Rattle.boss_engine.proofs.Keeping.{keeps-places}
 use Rattle.boss_engine.proofs.machine.Machine.abort.Goals as goal
 

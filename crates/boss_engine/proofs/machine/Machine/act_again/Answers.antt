@@ -4,12 +4,12 @@ use Rattle.boss_model.specs.declared.event.Act.{Act}
 use Rattle.boss_model.specs.Acts.{act_on}
 use Rattle.boss_model.specs.Ends.{is_owned_by}
 use Rattle.boss_model.specs.Renew.{renew_refused}
-use Rattle.boss_spelled.specs.Ranges.{IsAct}
+use Rattle.law_spelling.specs.Ranges.{IsAct}
 use Rattle.boss_engine.specs.declared.machine.Machine.{Machine}
 use Rattle.boss_engine.specs.Again.{IsReadyAgain}
-use Rattle.boss_lasting.specs.Lasting.{IsKept, persistent_of}
+use Rattle.boss_persistent.specs.Lasting.{IsKept, persistent_of}
 use Rattle.boss_engine.proofs.Again.{cancel-made, renew-made, submit-passed}
-use Rattle.boss_lasting.proofs.Counted.{any-counted}
+use Rattle.boss_persistent.proofs.Counted.{any-counted}
 use Rattle.boss_engine.proofs.Keeping.{keeps-places, kept-aside}
 use Rattle.boss_engine.proofs.machine.Machine.act_again.Goals as goal
 

@@ -4,8 +4,8 @@ use Rattle.boss_model.specs.Processes.{attached_too, next_notice, number_of, pro
 use Rattle.boss_holdings.specs.Held.{shown}
 use Rattle.boss_engine.specs.declared.machine.Machine.{Machine}
 use Rattle.boss_engine.specs.Inside.{state_of}
-use Rattle.boss_lasting.specs.Lasting.{IsKept}
-use Rattle.boss_lasting.proofs.Attaching.{few-attached}
+use Rattle.boss_persistent.specs.Lasting.{IsKept}
+use Rattle.boss_persistent.proofs.Attaching.{few-attached}
 use Rattle.boss_engine.proofs.Attaching.{ready-attach}
 use Rattle.boss_engine.proofs.Doing.{attach-leaves, next-enrolled}
 use Rattle.boss_engine.proofs.Keeping.{keeps-places, kept-aside}

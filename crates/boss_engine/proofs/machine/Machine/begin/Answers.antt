@@ -1,8 +1,8 @@
 use Rattle.std.proofs.Common.{◌≡◌, ap, ◌∙◌}
 use Rattle.boss_model.specs.declared.kept.Acceptance.TheVariants as acceptance
 use Rattle.boss_model.specs.Submit.{first_until}
-use Rattle.boss_lasting.specs.Lasting.{persistent_of}
-use Rattle.boss_lasting.specs.Replying.{accepted, with_reply}
+use Rattle.boss_persistent.specs.Lasting.{persistent_of}
+use Rattle.boss_persistent.specs.Replying.{accepted, with_reply}
 use Rattle.boss_engine.proofs.machine.Machine.begin.Goals as goal
 
 pub returns-clause-after : goal.returns-clause-after

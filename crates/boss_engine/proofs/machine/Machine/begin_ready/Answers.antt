@@ -6,9 +6,9 @@ use Rattle.boss_model.specs.Submit.{first_until, submitted}
 use Rattle.boss_holdings.specs.Held.{AreApart}
 use Rattle.boss_engine.specs.declared.ready.Ready.{Ready}
 use Rattle.boss_engine.specs.Again.{IsReadyToBegin}
-use Rattle.boss_lasting.specs.Lasting.{IsSubmit, persistent_of}
-use Rattle.boss_lasting.specs.Replying.{with_reply}
-use Rattle.boss_lasting.proofs.Granted.{granted-apart, granted-slots}
+use Rattle.boss_persistent.specs.Lasting.{IsSubmit, persistent_of}
+use Rattle.boss_persistent.specs.Replying.{with_reply}
+use Rattle.boss_persistent.proofs.Granted.{granted-apart, granted-slots}
 use Rattle.boss_engine.proofs.machine.Machine.begin_ready.Goals as goal
 
 pub begin-requires-clause-slots : goal.begin-requires-clause-slots

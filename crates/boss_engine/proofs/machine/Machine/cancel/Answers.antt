@@ -4,9 +4,9 @@ use Rattle.std.specs.Prelude.{unwrap_or}
 use Rattle.std.specs.Option.{option_map}
 use Rattle.boss_model.specs.Processes.{process_of}
 use Rattle.boss_engine.specs.Inside.{state_of}
-use Rattle.boss_lasting.specs.Lasting.{persistent_of}
-use Rattle.boss_lasting.specs.Replying.{decided, decision_answer}
-use Rattle.boss_lasting.proofs.Cancelling.{cancel-leaves}
+use Rattle.boss_persistent.specs.Lasting.{persistent_of}
+use Rattle.boss_persistent.specs.Replying.{decided, decision_answer}
+use Rattle.boss_persistent.proofs.Cancelling.{cancel-leaves}
 use Rattle.boss_engine.proofs.machine.Machine.cancel.Goals as goal
 
 pub returns-clause-state : goal.returns-clause-state

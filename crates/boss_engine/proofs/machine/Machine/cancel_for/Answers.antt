@@ -1,8 +1,8 @@
 use Rattle.std.proofs.Common.{[], refl, ap, ◌∙◌}
 use Rattle.boss_model.specs.declared.kept.Acceptance.TheVariants as acceptance
-use Rattle.boss_lasting.specs.Lasting.{persistent_of}
-use Rattle.boss_lasting.specs.Replying.{with_reply}
-use Rattle.boss_books.specs.Passed.{nothing}
+use Rattle.boss_persistent.specs.Lasting.{persistent_of}
+use Rattle.boss_persistent.specs.Replying.{with_reply}
+use Rattle.boss_booking.specs.Passed.{nothing}
 use Rattle.boss_engine.proofs.Keeping.{keeps-places, kept-aside}
 use Rattle.boss_engine.proofs.machine.Machine.cancel_for.Goals as goal
 

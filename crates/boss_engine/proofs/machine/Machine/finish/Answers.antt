@@ -5,11 +5,11 @@ use Rattle.boss_model.specs.declared.state.Actuator.{Actuator}
 use Rattle.boss_model.specs.Machine.{pass_time, step}
 use Rattle.boss_model.specs.Sound.{IsSound}
 use Rattle.boss_model.specs.State.{Persistent, State}
-use Rattle.boss_soundness.proofs.StepSound.{step-sound}
+use Rattle.law_soundness.proofs.StepSound.{step-sound}
 use Rattle.boss_engine.specs.Deeds.{IsBegun, IsDone}
 use Rattle.boss_engine.specs.Replies.{IsTellable, told}
-use Rattle.boss_lasting.specs.declared.lasting.Lasting.{Lasting}
-use Rattle.boss_lasting.specs.Lasting.{IsKept, persistent_of}
+use Rattle.boss_persistent.specs.declared.lasting.Lasting.{Lasting}
+use Rattle.boss_persistent.specs.Lasting.{IsKept, persistent_of}
 use Rattle.boss_engine.specs.Waiting as waiting
 use Rattle.boss_engine.proofs.Keeping.{kept-flags}
 use Rattle.boss_engine.proofs.Stepping.{told-by, answered, stepped, acted-playable, acted-number}

@@ -3,10 +3,10 @@ use Rattle.boss_model.specs.declared.notice.Cause.TheVariants as cause
 use Rattle.boss_model.specs.Ends.{end_leases, is_of}
 use Rattle.boss_model.specs.Happenings.{Happening, tell}
 use Rattle.boss_model.specs.Target.{in_force}
-use Rattle.boss_lasting.specs.Lasting.{persistent_of}
-use Rattle.boss_effects.specs.Changes.{may_be_told}
+use Rattle.boss_persistent.specs.Lasting.{persistent_of}
+use Rattle.law_effects.specs.Changes.{may_be_told}
 use Rattle.boss_engine.proofs.Doing.{ended-all, ended-changed, marked-unchanged, told-changed, told-only}
-use Rattle.boss_dues.proofs.Owners.{in-force-known}
+use Rattle.law_due.proofs.Owners.{in-force-known}
 use Rattle.boss_engine.proofs.machine.Machine.follow_up.Goals as goal
 
 pub tell-requires : goal.tell-requires

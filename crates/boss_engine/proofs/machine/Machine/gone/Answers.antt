@@ -3,9 +3,9 @@ use Rattle.std.specs.Prelude.{unwrap_or}
 use Rattle.std.specs.List.{list_any}
 use Rattle.boss_model.specs.Ends.{is_owned_by}
 use Rattle.boss_model.specs.Processes.{process_of}
-use Rattle.boss_effects.specs.Changes.{if_held}
-use Rattle.boss_lasting.specs.Lasting.{persistent_of}
-use Rattle.boss_lasting.proofs.Counted.{any-counted}
+use Rattle.law_effects.specs.Changes.{if_held}
+use Rattle.boss_persistent.specs.Lasting.{persistent_of}
+use Rattle.boss_persistent.proofs.Counted.{any-counted}
 use Rattle.boss_engine.proofs.machine.Machine.gone.Goals as goal
 
 pub returns-clause-changed : goal.returns-clause-changed

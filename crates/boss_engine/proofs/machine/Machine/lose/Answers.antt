@@ -1,7 +1,7 @@
 use Rattle.std.proofs.Common.{◌≡◌, ◌<◌, [], length, filter, refl, sym, ◌∙◌, arith}
 use Rattle.boss_model.specs.Ends.{is_owned_by}
-use Rattle.boss_lasting.specs.Lasting.{persistent_of}
-use Rattle.boss_books.specs.Passed.{nothing}
+use Rattle.boss_persistent.specs.Lasting.{persistent_of}
+use Rattle.boss_booking.specs.Passed.{nothing}
 use Rattle.boss_engine.proofs.Doing.{lost-none, lost-some}
 use Rattle.boss_engine.proofs.Keeping.{keeps-places}
 use Rattle.boss_engine.proofs.machine.Machine.lose.Goals as goal

@@ -1,5 +1,5 @@
 use Rattle.std.proofs.Common.{Some, None, sym, ap, ◌∙◌}
-use Rattle.boss_lasting.specs.Lasting.{persistent_of}
+use Rattle.boss_persistent.specs.Lasting.{persistent_of}
 use Rattle.boss_engine.proofs.Waiting.{next-is}
 use Rattle.boss_engine.proofs.machine.Machine.next.Goals as goal
 

@@ -3,8 +3,8 @@ use Rattle.std.specs.Cmp.Lexicographic.{pointwise}
 use Rattle.std.specs.Option.{IfSome}
 use Rattle.boss_model.specs.Processes.{process_named, process_of}
 use Rattle.boss_model.specs.State.{Process}
-use Rattle.boss_time.proofs.Filters.{position-within}
-use Rattle.boss_lasting.proofs.Holders.{held-below}
+use Rattle.law_time.proofs.Filters.{position-within}
+use Rattle.boss_persistent.proofs.Holders.{held-below}
 use Rattle.boss_model.specs.declared.notice.Notice.{Notice}
 use Rattle.boss_engine.specs.declared.ready.Ready.TheVariants as ready
 use Rattle.boss_engine.specs.Ready.{IsReadyToList}

@@ -1,7 +1,7 @@
 use Rattle.std.proofs.Common.{length, ap, ◌∙◌}
 use Rattle.std.proofs.lemmas.List.{length-map}
-use Rattle.boss_lasting.specs.Lasting.{persistent_of}
-use Rattle.boss_lasting.proofs.Playable.{all-playable}
+use Rattle.boss_persistent.specs.Lasting.{persistent_of}
+use Rattle.boss_persistent.proofs.Playable.{all-playable}
 use Rattle.boss_engine.proofs.machine.Machine.open_points.Goals as goal
 
 pub start_all-requires-clause-number : goal.start_all-requires-clause-number

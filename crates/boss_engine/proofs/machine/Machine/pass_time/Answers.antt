@@ -7,18 +7,18 @@ use Rattle.boss_model.specs.Reversions.{courses}
 use Rattle.boss_model.specs.Sound.{IsSoundPersistent}
 use Rattle.boss_model.specs.State.{Persistent}
 use Rattle.boss_model.specs.Time.{due, tick_to}
-use Rattle.boss_time.proofs.Coming.{later-first, now_after-within}
-use Rattle.boss_time.proofs.TickSound.{tick-sound}
+use Rattle.law_time.proofs.Coming.{later-first, now_after-within}
+use Rattle.law_time.proofs.TickSound.{tick-sound}
 use Rattle.boss_marks.specs.Marks.{Marks}
-use Rattle.boss_lasting.specs.declared.lasting.Lasting.{Lasting}
+use Rattle.boss_persistent.specs.declared.lasting.Lasting.{Lasting}
 use Rattle.boss_engine.specs.Inside.{state_of}
-use Rattle.boss_lasting.specs.Lasting.{IsKept, persistent_of}
+use Rattle.boss_persistent.specs.Lasting.{IsKept, persistent_of}
 use Rattle.boss_engine.specs.Settling.{settled_by}
 use Rattle.boss_engine.specs.Waiting as waiting
-use Rattle.boss_dues.proofs.DueLemmas.{IsNoMore, few-after}
-use Rattle.boss_lasting.proofs.Current.{all-current, commanded-retried}
+use Rattle.law_due.proofs.DueLemmas.{IsNoMore, few-after}
+use Rattle.boss_persistent.proofs.Current.{all-current, commanded-retried}
 use Rattle.boss_engine.proofs.Keeping.{kept-flags}
-use Rattle.boss_lasting.proofs.Playable.{all-playable}
+use Rattle.boss_persistent.proofs.Playable.{all-playable}
 use Rattle.boss_engine.proofs.Rooms.{room-left}
 use Rattle.boss_engine.proofs.Waiting.{length-retried}
 use Rattle.boss_engine.proofs.machine.Machine.pass_time.Goals as goal

@@ -1,5 +1,5 @@
-use Rattle.boss_lasting.specs.Lasting.{persistent_of}
-use Rattle.boss_lasting.proofs.Playable.{all-playable}
+use Rattle.boss_persistent.specs.Lasting.{persistent_of}
+use Rattle.boss_persistent.proofs.Playable.{all-playable}
 use Rattle.boss_engine.proofs.machine.Machine.read.Goals as goal
 
 pub target_of-requires-clause-pending : goal.target_of-requires-clause-pending

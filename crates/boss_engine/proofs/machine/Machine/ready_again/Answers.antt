@@ -3,9 +3,9 @@ use Rattle.std.specs.List.{list_all, AllByRecursion}
 use Rattle.boss_model.specs.declared.event.Act.{Act}
 use Rattle.boss_model.specs.Acts.{is_known_point, is_known_process}
 use Rattle.boss_model.specs.Submit.{submit_refused}
-use Rattle.boss_effects.specs.Changes.{is_new}
-use Rattle.boss_effects.specs.Early.{early}
-use Rattle.boss_lasting.specs.Lasting.{persistent_of}
+use Rattle.law_effects.specs.Changes.{is_new}
+use Rattle.law_effects.specs.Early.{early}
+use Rattle.boss_persistent.specs.Lasting.{persistent_of}
 use Rattle.boss_engine.specs.Writing.{IsWritable}
 use Rattle.boss_engine.proofs.Again.{both-true, none-of}
 use Rattle.boss_engine.proofs.Written.{all-writable}

@@ -1,6 +1,6 @@
 use Rattle.std.proofs.Common.{◌≡◌, None, rules}
 use Rattle.boss_model.specs.Submit.{submit_refused}
-use Rattle.boss_lasting.specs.Lasting.{persistent_of}
+use Rattle.boss_persistent.specs.Lasting.{persistent_of}
 use Rattle.boss_engine.proofs.Written.{all-writable}
 use Rattle.boss_engine.proofs.machine.Machine.ready_submit.Goals as goal
 

@@ -5,8 +5,8 @@ use Rattle.std.specs.Option.{option_map}
 use Rattle.boss_model.specs.Processes.{process_of}
 use Rattle.boss_model.specs.Renew.{renew_refused}
 use Rattle.boss_engine.specs.Inside.{state_of}
-use Rattle.boss_lasting.specs.Lasting.{persistent_of}
-use Rattle.boss_lasting.specs.Replying.{decided, decision_answer}
+use Rattle.boss_persistent.specs.Lasting.{persistent_of}
+use Rattle.boss_persistent.specs.Replying.{decided, decision_answer}
 use Rattle.boss_engine.proofs.Doing.{renew-leaves}
 use Rattle.boss_engine.proofs.machine.Machine.renew.Goals as goal
 

@@ -7,9 +7,9 @@ use Rattle.boss_model.specs.Renew.{is_meant, extended_if, renewed}
 use Rattle.boss_model.specs.State.{Persistent}
 use Rattle.boss_model.specs.Submit.{first_until}
 use Rattle.boss_holdings.specs.Held.{Held, is_touched, shown}
-use Rattle.boss_lasting.specs.Lasting.{persistent_of}
-use Rattle.boss_lasting.specs.Replying.{accepted, renewed_until, with_reply}
-use Rattle.boss_lasting.proofs.Concluded.{renewed-plain}
+use Rattle.boss_persistent.specs.Lasting.{persistent_of}
+use Rattle.boss_persistent.specs.Replying.{accepted, renewed_until, with_reply}
+use Rattle.boss_persistent.proofs.Concluded.{renewed-plain}
 use Rattle.boss_engine.proofs.machine.Machine.renew_for.Goals as goal
 
 abbrev longer : goal.Joined-later → List Lease

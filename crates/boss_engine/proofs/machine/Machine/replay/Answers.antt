@@ -3,10 +3,10 @@ use Rattle.std.specs.Prelude.{unwrap_or}
 use Rattle.boss_model.specs.Acts.{act_on}
 use Rattle.boss_model.specs.State.{Persistent}
 use Rattle.boss_model.specs.Time.{tick_to}
-use Rattle.boss_effects.specs.Early.{early}
+use Rattle.law_effects.specs.Early.{early}
 use Rattle.boss_engine.specs.Again.{IsReadyAgain}
 use Rattle.boss_engine.specs.Inside.{CanAct}
-use Rattle.boss_lasting.specs.Lasting.{persistent_of}
+use Rattle.boss_persistent.specs.Lasting.{persistent_of}
 use Rattle.boss_engine.proofs.Again.{again-none, again-moment, again-sound, again-at, again-allowed, again-effective, again-after, again-still, readied-again}
 use Rattle.boss_engine.proofs.machine.Machine.replay.Goals as goal
 

@@ -10,10 +10,10 @@ use Rattle.boss_engine.specs.declared.ready.Ready.{Ready}
 use Rattle.boss_engine.specs.Replies.{told}
 use Rattle.boss_holdings.specs.Held.{AreApart}
 use Rattle.boss_engine.specs.Inside.{state_of}
-use Rattle.boss_lasting.specs.Lasting.{persistent_of}
+use Rattle.boss_persistent.specs.Lasting.{persistent_of}
 use Rattle.boss_engine.specs.Ready.{IsReadyToSubmit}
-use Rattle.boss_lasting.specs.Replying.{with_reply}
-use Rattle.boss_lasting.proofs.Granted.{granted-apart, granted-slots}
+use Rattle.boss_persistent.specs.Replying.{with_reply}
+use Rattle.boss_persistent.proofs.Granted.{granted-apart, granted-slots}
 use Rattle.boss_engine.proofs.Submitting.{IsBegun, decided-leaves, decided-unchanged, ready-submit, refused-leaves, refused-unchanged, submit-leaves}
 use Rattle.boss_engine.proofs.machine.Machine.submit.Goals as goal
 

@@ -1,6 +1,6 @@
 use Rattle.std.proofs.Common.{refl, sym, subst}
-use Rattle.boss_lasting.specs.Lasting.{persistent_of}
-use Rattle.boss_dues.proofs.DueLemmas.{IsNoMore, few-after}
+use Rattle.boss_persistent.specs.Lasting.{persistent_of}
+use Rattle.law_due.proofs.DueLemmas.{IsNoMore, few-after}
 use Rattle.boss_engine.proofs.Keeping.{keeps-places}
 use Rattle.boss_engine.proofs.Rooms.{room-left}
 use Rattle.boss_engine.proofs.machine.Machine.tick.Goals as goal

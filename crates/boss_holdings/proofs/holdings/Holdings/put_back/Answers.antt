@@ -3,8 +3,8 @@ use Rattle.std.specs.List.{find, AllByRecursion}
 use Rattle.std.specs.Option.{option_or}
 use Rattle.boss_model.specs.declared.state.Lease.{Lease}
 use Rattle.boss_model.specs.declared.state.Pending.{Pending}
-use Rattle.boss_time.proofs.Filters.{each-always}
-use Rattle.boss_time.proofs.Orders.{each-map}
+use Rattle.law_time.proofs.Filters.{each-always}
+use Rattle.law_time.proofs.Orders.{each-map}
 use Rattle.boss_holdings.specs.Held.{is_at}
 use Rattle.boss_holdings.specs.Putting.{in_place}
 use Rattle.boss_slots.specs.Slots.{all}

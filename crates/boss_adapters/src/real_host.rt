@@ -1,0 +1,155 @@
+ghost use Rattle.std.specs.Prelude.{◌≡◌, [], IfSome};
+ghost use Rattle.boss_outside.specs.Counts.{one_more};
+
+use crate::{RealSink, RealSource};
+use boss_model::{NoMemory, SessionId};
+use boss_outside::Failed;
+use boss_outside_server::{Accepted, Host};
+use std::alloc::Global;
+use std::io::ErrorKind;
+use std::net::{Net, SocketAddr, TcpListener, TcpStream};
+use std::sync::Arc;
+
+/// How often an accept is tried that a signal came between, or whose client had gone.
+const TRIES: u32 = 1_000;
+
+/// A TCP listener. All its parts wait at the same one, and the system hands each connection to one of them. A part that has
+/// handed out its share says so without asking the system.
+#[derive(Drop)]
+pub struct RealHost<R> {
+    alloc: Global,
+    rt: R,
+    listener: Option<Arc<TcpListener, Global>>,
+    handed: u64,
+    share: u32,
+    away: u64,
+    faults: u64,
+}
+
+impl<R: Net<Listener = TcpListener, Stream = TcpStream> + Copy> RealHost<R> {
+    /// A host that listens nowhere yet. `rt` is what makes the listener.
+    pub fn new(alloc: Global, rt: R) -> RealHost<R>
+        ensures handed { ⟦<RealHost<R> as Host>⟧.handed result ≡ 0 }
+        ensures share { ⟦<RealHost<R> as Host>⟧.share result ≡ 0 }
+        ensures away { ⟦<RealHost<R> as Host>⟧.away result ≡ 0 }
+        ensures faults { ⟦<RealHost<R> as Host>⟧.faults result ≡ 0 }
+    {
+        RealHost {
+            alloc,
+            rt,
+            listener: None,
+            handed: 0,
+            share: 0,
+            away: 0,
+            faults: 0,
+        }
+    }
+
+    /// The address at which it listens, where it does.
+    pub fn local_addr(&self) -> Option<SocketAddr> {
+        self.listener.as_ref()?.local_addr().ok()
+    }
+
+    /// Counts a fault.
+    fn fault(&mut self) -> Failed
+        ensures { self.new ≡ record self.old { faults = one_more self.old.faults } }
+    {
+        self.faults = self.faults.saturating_add(1);
+        Failed
+    }
+
+    /// The two ends of the next connection.
+    fn connect(&self) -> Option<(RealSource, RealSink)>
+        ensures { IfSome result (λ ends. (ends.0.faults ≡ 0) × (ends.1.faults ≡ 0)) }
+    {
+        let listener = self.listener.as_ref()?;
+        let stream = Arc::new(self.alloc, accept_past_signals(listener)?).ok()?;
+        let other = Arc::try_clone(&stream).ok()?;
+        Some((RealSource::new(stream), RealSink::new(other)))
+    }
+}
+
+/// Waits for a connection, and tries again where a signal came between or the client had gone.
+fn accept_past_signals(listener: &TcpListener) -> Option<TcpStream> {
+    for _ in 0..TRIES {
+        match listener.accept() {
+            Ok((stream, _)) => return Some(stream),
+            Err(error) if error.kind() == ErrorKind::Interrupted => {}
+            Err(error) if error.kind() == ErrorKind::ConnectionAborted => {}
+            Err(_) => return None,
+        }
+    }
+    None
+}
+
+impl<R: Net<Listener = TcpListener, Stream = TcpStream> + Copy> Host for RealHost<R> {
+    type In = RealSource;
+
+    type Out = RealSink;
+
+    ghost sound = { λ host. Unit {0} };
+
+    ghost tells = { ⊥ };
+
+    ghost served = { λ host. [] };
+
+    ghost handed = { λ host. host.handed };
+
+    ghost share = { λ host. host.share };
+
+    ghost away = { λ host. host.away };
+
+    ghost faults = { λ host. host.faults };
+
+    fn bind(&mut self, address: &str) -> Result<(), Failed> {
+        let Ok(listener) = TcpListener::bind(&self.rt, address) else {
+            return Err(self.fault());
+        };
+        let Ok(listener) = Arc::new(self.alloc, listener) else {
+            return Err(self.fault());
+        };
+        self.listener = Some(listener);
+        Ok(())
+    }
+
+    fn split(&mut self, alloc: Global, connections: u32) -> Result<Self, NoMemory> {
+        let listener = match &self.listener {
+            Some(listener) => Some(Arc::try_clone(listener)?),
+            None => None,
+        };
+        Ok(RealHost {
+            alloc,
+            rt: self.rt,
+            listener,
+            handed: 0,
+            share: connections,
+            away: 0,
+            faults: 0,
+        })
+    }
+
+    fn accept(&mut self) -> Accepted<RealSource, RealSink> {
+        if self.handed >= u64::from(self.share) {
+            return Accepted::Closed;
+        }
+        let Some((input, output)) = self.connect() else {
+            self.fault();
+            return Accepted::Failed;
+        };
+        self.handed += 1;
+        self.away = 1;
+        Accepted::Conn(input, output)
+    }
+
+    /// The connection closes.
+    fn give_back(&mut self, _session: SessionId, _input: RealSource, _output: RealSink) {
+        self.away -= 1;
+    }
+
+    fn join(&mut self, other: Self) {
+        self.handed = self.handed.saturating_add(other.handed);
+        if other.faults > 0 {
+            self.fault();
+        }
+    }
+}

@@ -1,5 +1,0 @@
-use Rattle.boss_books.proofs.DueBooked.{due-comes}
-use Rattle.boss_books.proofs.laws.time_passes_one_end_after_another.Goals as goal
-
-pub returns : goal.returns
-returns c plant d stages n sound stands reached small = due-comes plant d stages n sound stands reached small

@@ -1,5 +1,0 @@
-use Rattle.boss_bytes.proofs.OfBatches.{batch-events}
-use Rattle.boss_bytes.proofs.laws.a_batch_has_its_events_alone.Goals as goal
-
-pub returns : goal.returns
-returns c events others one other is = batch-events events others one other is

@@ -1,4 +1,0 @@
-pub mod Parts
-pub mod Events
-pub mod States
-pub mod Batches

@@ -1,0 +1,45 @@
+use Rattle.std.proofs.Common.{refl, arith}
+use Rattle.boss_disk_pair.specs.Images.{OpensToOne}
+use Rattle.boss_disk_pair.specs.Rests.{rests, passes}
+use Rattle.boss_disk_pair.proofs.Appends.{appended_rests, appending_leaves}
+use Rattle.boss_disk_pair.proofs.Orders.{one_moves}
+use Rattle.boss_disk_pair.proofs.Words.{rests_leaves, rests_passes, leaves_wider, passes_wider, passes_leaves}
+use Rattle.boss_disk_pair.proofs.two_disks.TwoDisks.append.Goals as goal
+
+pub returns-then-self-clause-passes : goal.returns-then-self-clause-passes
+returns-then-self-clause-passes g c plant d count at batch after text next =
+    passes_wider c.args.self.now c.args.self.now plant d after (rests_passes c.args.self.now plant d count at)
+
+pub returns-then-self-clause-leaves : goal.returns-then-self-clause-leaves
+returns-then-self-clause-leaves g c plant d count at batch after text next =
+    leaves_wider c.args.self.now plant d after (rests_leaves c.args.self.now plant d count at)
+
+pub returns-in-Done-clause-rests : goal.returns-in-Done-clause-rests
+unfolding rests
+returns-in-Done-clause-rests g c plant d count at batch after text many next done = λ told.
+    appended_rests _ _ _ _ _ _ _ _ _ _ _ _ _ _ (at told) c.args.bytes.now batch after text next _ _ _ _ _ _ c.append.ensures.version many
+    (c.in-Done.ensures.rests told _ _ (at told).log refl) (omega (arith, c.saturating_add.ensures, c.min-self.ensures, c.ranges.events.fits))
+
+pub returns-in-Done-clause-passes : goal.returns-in-Done-clause-passes
+unfolding rests passes
+returns-in-Done-clause-passes g c plant d count at batch after text next = λ told. (
+  refl,
+  one_moves (OpensToOne plant c.args.self.now.digest d after) _ c.args.self.now.second _ _ _ (appending_leaves _ _ _ _ _ _ _ _ _ _ _ _ _ _ (at told) c.args.bytes.now batch after text next)
+      (c.append.ensures.images told _ _ (at told).log),
+)
+
+pub returns-in-Done-clause-leaves : goal.returns-in-Done-clause-leaves
+returns-in-Done-clause-leaves g c plant d count at batch after text next =
+    passes_leaves c.args.self.now _ plant d after (returns-in-Done-clause-passes g c plant d count at batch after text next)
+
+pub returns-in-DiskFault-clause-passes : goal.returns-in-DiskFault-clause-passes
+unfolding rests passes
+returns-in-DiskFault-clause-passes g c plant d count at batch after text next = λ told. (
+  refl,
+  one_moves (OpensToOne plant c.args.self.now.digest d after) _ c.args.self.now.second _ _ _ (appending_leaves _ _ _ _ _ _ _ _ _ _ _ _ _ _ (at told) c.args.bytes.now batch after text next)
+      (c.append.ensures.images told _ _ (at told).log),
+)
+
+pub returns-in-DiskFault-clause-leaves : goal.returns-in-DiskFault-clause-leaves
+returns-in-DiskFault-clause-leaves g c plant d count at batch after text next =
+    passes_leaves c.args.self.now _ plant d after (returns-in-DiskFault-clause-passes g c plant d count at batch after text next)

@@ -1,0 +1,51 @@
+ghost use Rattle.std.specs.Prelude.{◌≡◌, ◌≤◌, ℕ, ◌++◌, List, length};
+ghost use Rattle.def_bytes.specs.Batches.{batch_text};
+ghost use Rattle.boss_journal.specs.Reads.{NextCause, NextStops, Passes};
+ghost use Rattle.boss_model.specs.declared.event.Event.{Event};
+ghost use Rattle.boss_model.specs.declared.state.Actuator.{Actuator};
+ghost use Rattle.boss_model.specs.State.{Persistent};
+ghost use Rattle.def_disk_pair.specs.Contents.{IsNext};
+ghost use Rattle.boss_disk_pair.specs.Reads.{reads_to, ends_at, stands_for, is_damaged_at, NoneLeads};
+
+use crate::TwoDisks;
+use boss_disk::Disk;
+use boss_journal::NextRecord;
+use boss_model::Buffer;
+
+impl<D: Disk> TwoDisks<D> {
+    /// Reads the next record of the log into the buffer, which is emptied first. The disks stay as they are.
+    pub fn next(&mut self, into: &mut Buffer) -> NextRecord
+        requires { 65535 ≤ into.old.capacity }
+        // A record of events that lead on; and one of any other bytes.
+        ensures leads { (plant : List Actuator) (from d : Persistent) (before : ℕ) (events : List Event) → reads_to self.old plant from before events d
+            → (place : ℕ) → result ≡ NextRecord.Bytes place → (batch : List Event) (after : Persistent) → into.new.bytes ≡ batch_text batch
+            → IsNext plant self.old.journal.version d batch after → reads_to self.new plant from before (events ++ batch) after }
+        ensures broken { (plant : List Actuator) (from d : Persistent) (before : ℕ) (events : List Event) → reads_to self.old plant from before events d
+            → (place : ℕ) → result ≡ NextRecord.Bytes place → NoneLeads plant self.old.journal.version d into.new.bytes → is_damaged_at self.new plant place }
+        ensures damaged { (plant : List Actuator) (from d : Persistent) (before : ℕ) (events : List Event) → reads_to self.old plant from before events d
+            → (place : ℕ) → result ≡ NextRecord.Damaged place → is_damaged_at self.new plant place }
+        ensures ends { (plant : List Actuator) (from d : Persistent) (before : ℕ) (events : List Event) → reads_to self.old plant from before events d
+            → result ≡ NextRecord.Finish → ends_at self.new plant from before events d }
+        ensures stands { (plant : List Actuator) (from d : Persistent) (before : ℕ) (events : List Event) → reads_to self.old plant from before events d
+            → result ≡ NextRecord.Finish → stands_for self.new plant from before events }
+        ensures room { into.new.capacity ≡ into.old.capacity }
+        ensures reads { D.tells → D.reads self.new.journal.disk ≡ D.reads self.old.journal.disk }
+        ensures windows { D.tells → D.story self.new.journal.disk ≡ D.story self.old.journal.disk }
+        ensures cause { NextCause (D.faults self.old.journal.disk) (D.faults self.new.journal.disk) result }
+        ensures stops { NextStops self.old.stopped self.new.stopped result }
+        ensures passes { Passes self.old.journal.place self.new.journal.place into.new.bytes result }
+        ensures first { self.new.journal.first ≡ self.old.journal.first }
+        ensures version { self.new.journal.version ≡ self.old.journal.version }
+        ensures generation { self.new.generation ≡ self.old.generation }
+        ensures events { self.new.events ≡ self.old.events }
+        ensures digest { self.new.digest ≡ self.old.digest }
+        ensures order { self.new.second ≡ self.old.second }
+        ensures spare { self.new.spare ≡ self.old.spare }
+    {
+        let found = self.journal.next(into);
+        if found == NextRecord::DiskFault {
+            self.stopped = true;
+        }
+        found
+    }
+}

@@ -1,0 +1,56 @@
+ghost use Rattle.std.specs.Prelude.{◌≡◌, ℕ, ◌+◌, ◌^◌, ◌%◌, ◌≤◌, true, false, not, List, OnOk, OnErr};
+ghost use Rattle.def_bytes.specs.States.{state};
+ghost use Rattle.boss_model.specs.declared.state.Actuator.{Actuator};
+ghost use Rattle.boss_model.specs.Seen.{seen};
+ghost use Rattle.boss_model.specs.Sound.{IsSoundPersistent};
+ghost use Rattle.boss_model.specs.State.{Persistent};
+ghost use Rattle.boss_disk_pair.specs.Causes.{CallCause, counts_of};
+ghost use Rattle.boss_disk_pair.specs.Rests.{rests, leaves, passes};
+
+use crate::TwoDisks;
+use boss_disk::Disk;
+use boss_model::Kept;
+use boss_outside::Failed;
+use boss_snapshot::write_state;
+
+impl<D: Disk> TwoDisks<D> {
+    /// Writes a kept state to the disk that is not in force, as the next generation and in version 2, and goes on behind it: that
+    /// disk is in force then, and its log is empty. After a failure the pair is stopped, and one that was stopped before stays as
+    /// it is, without a call of a disk. It takes no memory.
+    pub fn next_generation(&mut self, kept: &Kept) -> Result<(), Failed>
+        requires { (state 2).fits (seen kept.now) ≡ true }
+        ensures rests { (plant : List Actuator) (d : Persistent) (count : ℕ) → rests self.old plant d count
+            → seen kept.entry.now ≡ d → IsSoundPersistent plant d → OnOk result (rests self.new plant d count) }
+        ensures passes { (plant : List Actuator) (d : Persistent) (count : ℕ) → rests self.old plant d count
+            → seen kept.entry.now ≡ d → IsSoundPersistent plant d → passes self.old self.new plant d d }
+        ensures leaves { (plant : List Actuator) (d : Persistent) (count : ℕ) → rests self.old plant d count
+            → seen kept.entry.now ≡ d → IsSoundPersistent plant d → leaves self.new plant d d }
+        ensures cause { CallCause self.old.stopped (counts_of self.old) (counts_of self.new) result }
+        ensures fine { OnOk result (self.new.stopped ≡ false) }
+        ensures stops { OnErr result (self.new.stopped ≡ true) }
+        ensures still { self.old.stopped ≡ true → self.new ≡ self.old }
+        ensures log { OnOk result (self.new.journal.place ≡ self.new.journal.first) }
+        ensures version { OnOk result (self.new.journal.version ≡ 2) }
+        ensures generation { OnOk result (self.new.generation ≡ (self.old.generation + 1) % 2 ^ 64) }
+        ensures order { OnOk result (self.new.second ≡ not self.old.second) }
+        ensures events { self.new.events ≡ self.old.events }
+        ensures digest { self.new.digest ≡ self.old.digest }
+    {
+        if self.stopped {
+            return Err(Failed);
+        }
+        let generation = self.generation.wrapping_add(1);
+        match write_state(kept, &mut self.spare, &self.digest, generation, self.events) {
+            Ok(place) => {
+                self.journal.go_on_in(&mut self.spare, place);
+                self.second = !self.second;
+                self.generation = generation;
+                Ok(())
+            }
+            Err(Failed) => {
+                self.stopped = true;
+                Err(Failed)
+            }
+        }
+    }
+}

@@ -1,9 +1,0 @@
-use Rattle.std.proofs.Common.{◌≡◌}
-use Rattle.boss_model.specs.Catalogue.{actuators}
-use Rattle.boss_engine_trials.proofs.events.expect_all_again.Given as goal
-
-abbrev pub invariant-loop-wanted : goal.invariant-loop-wanted
-invariant-loop-wanted g l = record {
-  plant : l.engine.plant ≡ actuators l.catalogue;
-  other : l.other.plant ≡ actuators l.catalogue;
-}

@@ -1,8 +1,0 @@
-use Rattle.std.proofs.Common.{◌≡◌}
-use Rattle.boss_model.specs.Catalogue.{actuators}
-use Rattle.boss_engine_trials.proofs.runs.attach_all.Given as goal
-
-abbrev pub invariant-loop-line : goal.invariant-loop-line
-invariant-loop-line l = record {
-  plant : l.engine.plant ≡ actuators l.catalogue;
-}

@@ -1,3 +1,0 @@
-pub mod GatheredLemmas
-pub mod PlaceLemmas
-pub mod RequestLemmas

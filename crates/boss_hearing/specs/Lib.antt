@@ -1,4 +1,0 @@
-pub mod Gathered
-pub mod Places
-pub mod Requests
-pub mod Speaking

@@ -1,5 +1,0 @@
-use Rattle.std.proofs.Common.{◌≡◌}
-use Rattle.boss_journal_trials.proofs.reading.read_on.Given as goal
-
-abbrev pub invariant-records : goal.invariant-records
-invariant-records g l = l.into.capacity ≡ l.initial.into.capacity

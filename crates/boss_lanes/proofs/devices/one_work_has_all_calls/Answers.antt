@@ -1,5 +1,0 @@
-use Rattle.boss_lanes.proofs.DeviceLemmas.{calls-one}
-use Rattle.boss_lanes.proofs.devices.one_work_has_all_calls.Goals as goal
-
-pub returns : goal.returns
-returns c driver pauses calls closed before behind apart = calls-one driver pauses calls closed before behind apart

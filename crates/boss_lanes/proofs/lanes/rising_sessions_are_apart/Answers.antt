@@ -1,8 +1,0 @@
-use Rattle.boss_lanes.proofs.Owners.{before-absent, before-more}
-use Rattle.boss_lanes.proofs.lanes.rising_sessions_are_apart.Goals as goal
-
-pub returns-clause-absent : goal.returns-clause-absent
-returns-clause-absent c next works before = before-absent next works before
-
-pub returns-clause-more : goal.returns-clause-more
-returns-clause-more c next later works served cut before is less = before-more next later works served cut before is less

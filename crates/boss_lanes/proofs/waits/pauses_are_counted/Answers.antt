@@ -1,5 +1,0 @@
-use Rattle.boss_lanes.proofs.WaitLemmas.{paused-counted}
-use Rattle.boss_lanes.proofs.waits.pauses_are_counted.Goals as goal
-
-pub returns : goal.returns
-returns c test entries pauses few within = paused-counted test entries pauses few within

@@ -1,9 +1,0 @@
-use Rattle.std.proofs.Common.{rules, tests, not, ◌∙◌}
-use Rattle.std.proofs.lemmas.Iterator.{YieldsList-from_slice}
-use Rattle.std.proofs.lemmas.Iterator.Search.{position_from_yields_List}
-use Rattle.boss_model.specs.declared.command.Setting.{Setting}
-use Rattle.boss_model.specs.Submit.{is_length}
-use Rattle.boss_lasting.proofs.refusals.first_bad_lease.Goals as goal
-
-pub returns : goal.returns
-returns c = c.told.ensures ∙ position_from_yields_List (λ (write : Setting). not (is_length write.lease)) _ _ c.position.result c.position.ensures.ran (YieldsList-from_slice c.args.writes.now (cc)) (λ x b q k. search (rules, tests))

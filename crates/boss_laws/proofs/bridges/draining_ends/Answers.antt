@@ -1,5 +1,0 @@
-use Rattle.boss_laws.proofs.Weighing.{draining-ends}
-use Rattle.boss_laws.proofs.bridges.draining_ends.Goals as goal
-
-pub returns : goal.returns
-returns c plant s m sound small = draining-ends plant s m sound small

@@ -1,7 +1,0 @@
-use Rattle.boss_outside.specs.contracts.sink.BytesSinkSink.TheImpl.{ghosts as takes}
-use Rattle.boss_outside.specs.contracts.source.BytesSourceSource.TheImpl.{ghosts as gives}
-use Rattle.boss_workers.specs.Hosts.{AreUntouched}
-use Rattle.boss_serve_trials.proofs.connections.part.Given as goal
-
-abbrev pub invariant-loop-talk : goal.invariant-loop-talk
-invariant-loop-talk l = record { untouched : AreUntouched gives takes l.part }

@@ -1,0 +1,77 @@
+-- An account from what was there before parts were made.
+use Rattle.std.proofs.Common.{◌≡◌, ℕ, ◌+◌, Bool, true, false, List, ◌++◌, length, take, drop, Result, Ok, Err, OnOk, is_err, refl, ap, sym, ◌∙◌, subst, arith, length-append}
+use Rattle.std.proofs.Math.Seq.{drop-append_seam, take-append_seam}
+use Rattle.boss_model.specs.DeviceCall.{DeviceCall}
+use Rattle.def_history.specs.declared.entry.Entry.{Entry}
+use Rattle.def_lanes.specs.Parts.{Terms, Part}
+use Rattle.def_lanes.specs.Works.{Work, served_in}
+use Rattle.boss_outside_server.specs.Hosts.{Served}
+use Rattle.boss_outside_server.specs.declared.clock.Clock as clock
+use Rattle.boss_outside_server.specs.declared.host.Host as host
+use Rattle.boss_worker.specs.declared.flags.Flags.{Flags}
+use Rattle.boss_server.specs.Accounts.{Account}
+use Rattle.boss_server.specs.Making.{StaysClock, StaysHost, GainsNoPause}
+use Rattle.boss_server.specs.Together.{RoseWhere, Together}
+
+pub on-ok : {T E : Type 0} (result : Result T E) (P : Type 0) → OnOk result P → is_err result ≡ false → P
+on-ok (Ok it) P holds fine = holds
+on-ok (Err it) P holds fine = absurd (let no : true ≡ false = fine in cc)
+
+-- ---- what stays in two steps
+
+pub host-stays : {H In Out : Type 0} (h : host.Ghosts H In Out) (old between new : H) → StaysHost h old between → StaysHost h between new → StaysHost h old new
+host-stays h old between new first then = record { served = λ told. then.served told ∙ first.served told; faults = then.faults ∙ first.faults }
+
+pub clock-stays : {C : Type 0} (k : clock.Ghosts C) (old between new : C) → StaysClock k old between → StaysClock k between new → StaysClock k old new
+clock-stays k old between new first then = record { given = λ told. then.given told ∙ first.given told; faults = then.faults ∙ first.faults }
+
+pub gains-from : (pausing : Type 0) (between old new : List (ℕ × Bool)) → (pausing → between ≡ old) → GainsNoPause pausing between new → GainsNoPause pausing old new
+gains-from pausing between old new same gained = record { pairs = gained.pairs; noted = λ told. gained.noted told ∙ ap (λ front. front ++ gained.pairs) (same told); unpaused = gained.unpaused }
+
+-- ---- devices that were taken out in front
+
+pub front-taken : {A : Type 0} (count : ℕ) (front rest all : List A) → front ++ rest ≡ all → length rest + count ≡ length all → (take count all ≡ front) × (drop count all ≡ rest)
+front-taken count front rest all are left =
+    let size : length front + length rest ≡ length all = sym (length-append front rest) ∙ ap length are in
+    let here : count ≡ length front = omega (arith, size, left) in (
+      ap (λ k. take k all) here ∙ ap (take (length front)) (sym are) ∙ take-append_seam front rest,
+      ap (λ k. drop k all) here ∙ ap (drop (length front)) (sym are) ∙ drop-append_seam front rest,
+    )
+
+-- ---- an account
+
+module _ {A : Type 0} (calls : A → List DeviceCall) (whole : A → Type 0) (terms : Terms) (pausing : Type 0) (n shares : ℕ) (own seen : List Entry) (flags : Flags) (unrun : Bool) where
+  pub account-from : (served served' first_served : List Served) (given given' first_given : List ℕ) (hosted hosted' first_hosted ticked ticked' first_ticked : ℕ) (waits waits' first_waits : List (ℕ × Bool)) (was others devices : List A) →
+      Account calls whole terms pausing n shares own seen served served' given given' hosted hosted' ticked ticked' waits waits' was others devices flags unrun →
+      (terms.hosting → served ≡ first_served) → (terms.clocking → given ≡ first_given) → hosted ≡ first_hosted → ticked ≡ first_ticked → (pausing → waits ≡ first_waits) →
+      Account calls whole terms pausing n shares own seen first_served served' first_given given' first_hosted hosted' first_ticked ticked' first_waits waits' was others devices flags unrun
+  account-from served served' first_served given given' first_given hosted hosted' first_hosted ticked ticked' first_ticked waits waits' first_waits was others devices account hosts clocks host_same clock_same paused = record {
+    works = account.works;
+    together = record {
+      part = record {
+        agreed = account.together.part.agreed;
+        of_them = account.together.part.of_them;
+        came_back = λ told. account.together.part.came_back told ∙ ap (λ front. front ++ served_in account.works) (hosts told);
+        gains = account.together.part.gains;
+        gave = λ told. account.together.part.gave told ∙ ap (λ front. front ++ account.together.part.gains) (clocks told);
+        timed = account.together.part.timed;
+      };
+      whole = account.together.whole;
+      uncut = account.together.uncut;
+      host_count = subst (λ count. RoseWhere flags.host count hosted') host_same account.together.host_count;
+      clock_count = λ sound. subst (λ count. RoseWhere flags.clock count ticked') clock_same (account.together.clock_count sound);
+      broken = account.together.broken;
+    };
+    back = account.back;
+    devices_are = account.devices_are;
+    returned = record {
+      drivers = account.returned.drivers;
+      back = account.returned.back;
+      pairs = account.returned.pairs;
+      each = account.returned.each;
+      waited = account.returned.waited;
+      noted = λ told. account.returned.noted told ∙ ap (λ front. front ++ account.returned.pairs) (paused told);
+      ended = account.returned.ended;
+      worked = account.returned.worked;
+    };
+  }

@@ -1,0 +1,78 @@
+-- Workers taken together: at first none, and then one more.
+use Rattle.std.proofs.Common.{◌≡◌, ℕ, suc, ◌+◌, ◌<◌, ◌||◌, not, Bool, true, false, List, [], ◌∷◌, ◌++◌, length, refl, ap, sym, ◌∙◌, subst, arith, length-append}
+use Rattle.std.proofs.lemmas.Bool.{or_parts, cases_Bool}
+use Rattle.boss_outside.specs.Counts.{Rose, Joins}
+use Rattle.def_history.specs.declared.entry.Entry.{Entry}
+use Rattle.def_history.specs.History.{deeds, is_broken}
+use Rattle.def_lanes.specs.Parts.{Terms, Part, Joined}
+use Rattle.def_lanes.specs.Works.{Work, served_in}
+use Rattle.def_lanes.proofs.Lists.{each-append}
+use Rattle.def_lanes.proofs.Owners.{served_in-append}
+use Rattle.def_lanes.proofs.PartLemmas.{part-nothing, part-next}
+use Rattle.boss_lock.specs.Places.{IsLonger}
+use Rattle.boss_outside_server.specs.Hosts.{Served}
+use Rattle.boss_worker.specs.declared.flags.Flags.{Flags}
+use Rattle.boss_worker.specs.Troubles.{no_flags, both_flags, IsQuiet, Counts}
+use Rattle.boss_worker.specs.Visits.{IsUncut, AreUncut, Left}
+use Rattle.boss_server.specs.Together.{RoseWhere, Together}
+use Rattle.boss_server.proofs.DeskJoins.{broken-longer}
+
+pub quiet-both : (flags others : Flags) → IsQuiet (both_flags flags others) → IsQuiet flags × IsQuiet others
+quiet-both flags others quiet =
+    let disk = or_parts flags.disk others.disk quiet.disk in
+    let clock = or_parts flags.clock others.clock quiet.clock in
+    let memory = or_parts flags.memory others.memory quiet.memory in
+    (record { disk = disk.0; clock = clock.0; memory = memory.0 }, record { disk = disk.1; clock = clock.1; memory = memory.1 })
+
+rose-then : (flag other : Bool) (before between now part : ℕ) → RoseWhere flag before between → Counts other part → Joins between part now → RoseWhere (flag || other) before now
+rose-then true true before between now part first counts joins = let more : Rose between now = joins.failed counts in omega (arith, first, more)
+rose-then true false before between now part first counts joins = let same : now ≡ between = joins.fine counts in omega (arith, first, same)
+rose-then false true before between now part first counts joins = let more : Rose between now = joins.failed counts in omega (arith, first, more)
+rose-then false false before between now part first counts joins = let same : now ≡ between = joins.fine counts in omega (arith, first, same)
+
+either-broken : (flag other : Bool) (seen part now : List Entry) → (flag ≡ true → is_broken seen ≡ true) → (other ≡ true → is_broken part ≡ true) → IsLonger seen part now →
+    (flag || other) ≡ true → is_broken now ≡ true
+either-broken true other seen part now first then longer is = broken-longer seen now longer.1 (first refl)
+either-broken false other seen part now first then longer is = broken-longer part now longer.2 (then is)
+
+module _ (terms : Terms) where
+  pub together-first : (own seen : List Entry) (served : List Served) (given : List ℕ) (hosted ticked : ℕ) → deeds own ≡ [] →
+      Together terms 0 0 [] own seen served served given given hosted hosted ticked ticked no_flags false
+  together-first own seen served given hosted ticked none = record {
+    part = part-nothing terms 0 0 own served given none;
+    whole = λ all accepted sound. refl;
+    uncut = λ quiet. tt;
+    host_count = refl;
+    clock_count = λ sound. refl;
+    broken = λ is. absurd (let no : false ≡ true = is in cc);
+  }
+
+  pub together-next : (n shares share : ℕ) (works others : List Work) (own own' part seen seen' seen'' : List Entry) (served served' back served'' : List Served) (given given' gave given'' : List ℕ)
+      (hosted hosted' hosted'' ticked ticked' ticked'' handed faults misses : ℕ) (flags more : Flags) (unrun ran : Bool) →
+      Together terms n shares works own seen served served' given given' hosted hosted' ticked ticked' flags unrun →
+      Left ran terms n share others part seen' [] back [] gave handed faults misses more →
+      Joined own part own' → IsLonger seen seen' seen'' → (terms.hosting → served'' ≡ served' ++ back) → (terms.clocking → given'' ≡ given' ++ gave) →
+      Joins hosted' faults hosted'' → Joins ticked' misses ticked'' →
+      Together terms (suc n) (shares + share) (works ++ others) own' seen'' served served'' given given'' hosted hosted'' ticked ticked'' (both_flags flags more) (unrun || not ran)
+  together-next n shares share works others own own' part seen seen' seen'' served served' back served'' given given' gave given'' hosted hosted' hosted'' ticked ticked' ticked'' handed faults misses
+      flags more unrun ran together left joined longer hosts clocks host_joins clock_joins = record {
+        part = part-next terms n works others own part own' served served' back served'' given given' gave given'' together.part left.part joined hosts clocks;
+        whole = λ all accepted sound.
+            let runs = or_parts unrun (not ran) all in
+            let accepts = or_parts flags.host more.host accepted in
+            let sounds = or_parts flags.disk more.disk sound in
+            let first = together.whole runs.0 accepts.0 sounds.0 in
+            let then = left.whole (ran-is ran runs.1) accepts.1 sounds.1 in
+            let sum : length (served_in (works ++ others)) ≡ length (served_in works) + length (served_in others) =
+            ap length (served_in-append works others) ∙ length-append (served_in works) (served_in others) in
+            omega (arith, sum, first, then, left.each);
+        uncut = λ quiet. let both = quiet-both flags more quiet in each-append IsUncut works others (together.uncut both.0) (left.uncut both.1);
+        host_count = rose-then flags.host more.host hosted hosted' hosted'' faults together.host_count left.hosted host_joins;
+        clock_count = λ sound. let both = or_parts flags.disk more.disk sound in
+            rose-then flags.clock more.clock ticked ticked' ticked'' misses (together.clock_count both.0) (left.ticked both.1) clock_joins;
+        broken = either-broken flags.disk more.disk seen seen' seen'' together.broken left.broken longer;
+      }
+    where
+      ran-is : (ran : Bool) → not ran ≡ false → ran ≡ true
+      ran-is true is = refl
+      ran-is false is = absurd (let no : true ≡ false = is in cc)

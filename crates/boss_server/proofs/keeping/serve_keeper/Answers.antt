@@ -1,0 +1,41 @@
+use Rattle.std.proofs.Common.{◌≡◌, ◌+◌, List, [], take, drop, refl, sym, ap, ◌∙◌, subst, append-nil}
+use Rattle.boss_lock.specs.Places.{entries_at}
+use Rattle.boss_lock.proofs.Entries.{entries_at_all}
+use Rattle.boss_shared.specs.Keeping.{IsHeld}
+use Rattle.boss_worker.specs.Saying.{terms_of}
+use Rattle.boss_server.specs.Kept.{Ran, drives_of}
+use Rattle.boss_server.proofs.KeptLemmas.{kept-ran}
+use Rattle.boss_server.proofs.keeping.serve_keeper.Goals as goal
+
+pub returns-in-Err-clause-waiter : goal.returns-in-Err-clause-waiter
+returns-in-Err-clause-waiter g c = record { pairs = []; noted = λ told. sym (append-nil (g.W.Waiter.waits c.args.waiter.now)); unpaused = λ told. tt }
+
+pub returns-in-Ok-told-clause-ran : goal.returns-in-Ok-told-clause-ran
+returns-in-Ok-told-clause-ran g c =
+    let pass = c.serve-told.new.pass in
+    let whole : entries_at pass.seen pass.places ≡ pass.seen = ap (entries_at pass.seen) c.close-keeper.ensures.places ∙ entries_at_all pass.seen in
+    let held = subst (λ start. IsHeld g.K.Keeper.plant g.K.Keeper.state g.K.Keeper.stopped g.K.Keeper.faults g.K.Keeper.leaves g.K.Keeper.keeps start c.close-keeper.result pass.seen)
+    c.in-Ok.ensures.start c.close-keeper.ensures.held in
+    subst (λ drives. Ran g.K.Keeper g.A.Actuators.calls (λ device. g.A.Actuators.tells × g.A.Actuators.whole device)
+    (terms_of c.args.catalogue.now c.args.workers g.H.In.Source.tells g.H.Out.Sink.tells g.H.Host.tells g.C.Clock.tells g.W.Waiter.tells) g.W.Waiter.tells
+    (c.args.workers + 1 + drives) c.args.connections c.args.keeper c.close-keeper.result (g.H.Host.served c.args.host.now) (g.H.Host.served c.serve-told.new.host)
+    (g.C.Clock.given c.args.clock.now) (g.C.Clock.given c.serve-told.new.clock) (g.H.Host.faults c.args.host.now) (g.H.Host.faults c.serve-told.new.host)
+    (g.C.Clock.faults c.args.clock.now) (g.C.Clock.faults c.serve-told.new.clock) (g.W.Waiter.waits c.args.waiter.now) (g.W.Waiter.waits c.serve-told.new.waiter)
+    (take drives c.args.devices.now.items) (drop drives c.args.devices.now.items) c.serve-told.new.devices.items
+    (record { disk = c.has_stopped.result; host = c.in-Ok-told.flags.host; clock = c.in-Ok-told.flags.clock; memory = c.in-Ok-told.flags.memory }) c.in-Ok-told.unstarted) c.drives_for-drives.ensures.drives
+    (kept-ran g.A.Actuators.calls (λ device. g.A.Actuators.tells × g.A.Actuators.whole device)
+    (terms_of c.args.catalogue.now c.args.workers g.H.In.Source.tells g.H.Out.Sink.tells g.H.Host.tells g.C.Clock.tells g.W.Waiter.tells) g.W.Waiter.tells
+    (c.args.workers + 1 + c.drives_for-drives.result) c.args.connections pass.seen (g.H.Host.served c.args.host.now) (g.H.Host.served c.serve-told.new.host)
+    (g.C.Clock.given c.args.clock.now) (g.C.Clock.given c.serve-told.new.clock) (g.H.Host.faults c.args.host.now) (g.H.Host.faults c.serve-told.new.host)
+    (g.C.Clock.faults c.args.clock.now) (g.C.Clock.faults c.serve-told.new.clock) (g.W.Waiter.waits c.args.waiter.now) (g.W.Waiter.waits c.serve-told.new.waiter)
+    (take c.drives_for-drives.result c.args.devices.now.items) (drop c.drives_for-drives.result c.args.devices.now.items) c.serve-told.new.devices.items
+    c.in-Ok-told.flags c.in-Ok-told.unstarted c.has_stopped.result g.K.Keeper c.args.keeper c.close-keeper.result (entries_at pass.seen pass.places) whole c.in-Ok-told.ensures.account held c.has_stopped.ensures)
+
+pub returns-in-Err-told-clause-nothing : goal.returns-in-Err-told-clause-nothing
+returns-in-Err-told-clause-nothing g c =
+    let pass = c.serve-told.new.pass in
+    let whole : entries_at pass.seen pass.places ≡ pass.seen = ap (entries_at pass.seen) c.close-keeper.ensures.places ∙ entries_at_all pass.seen in
+    subst (λ log. IsHeld g.K.Keeper.plant g.K.Keeper.state g.K.Keeper.stopped g.K.Keeper.faults g.K.Keeper.leaves g.K.Keeper.keeps c.args.keeper c.close-keeper.result log)
+    (sym whole ∙ c.in-Err-told.ensures.nothing)
+    (subst (λ start. IsHeld g.K.Keeper.plant g.K.Keeper.state g.K.Keeper.stopped g.K.Keeper.faults g.K.Keeper.leaves g.K.Keeper.keeps start c.close-keeper.result pass.seen)
+    c.in-Ok.ensures.start c.close-keeper.ensures.held)

@@ -1,8 +1,0 @@
-use Rattle.std.proofs.Common.{◌≡◌, ◌≤◌, ap, ◌∙◌, arith}
-use Rattle.boss_serving.proofs.ShareLemmas.{shares_before, shares-all}
-use Rattle.boss_serving.proofs.making.make_connections.Goals as goal
-
-pub returns-clause-share : goal.returns-clause-share
-returns-clause-share g c =
-    let all : c.loop-number.number ≡ c.args.server.now.workers = omega (arith, c.loop-number-test.false, c.loop-number.auto.number-end) in
-    c.loop-number.invariant.shares ∙ ap (shares_before c.args.connections c.args.server.now.workers) all ∙ shares-all c.args.connections c.args.server.now.workers c.requires.some

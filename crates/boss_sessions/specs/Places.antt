@@ -1,0 +1,72 @@
+-- How far the lines of a connection were taken.
+use Rattle.std.specs.Prelude.{◌≡◌, ℕ, ◌+◌, List, [], ◌∷◌, ◌++◌, length, Option, Some, None}
+use Rattle.boss_model.specs.Lines.{lines}
+use Rattle.boss_outside.specs.Counts.{Rose}
+use Rattle.boss_lines.specs.declared.reader.Next.{Next}
+use Rattle.boss_lines.specs.declared.reader.Next.TheVariants as next
+use Rattle.boss_lines.specs.Lines.{StopsAt}
+use Rattle.boss_lines.specs.Window.{IsTooLong}
+use Rattle.boss_sessions.specs.declared.hearing.Hearing.{Hearing}
+use Rattle.boss_sessions.specs.declared.heard.Heard.{Heard}
+use Rattle.boss_sessions.specs.declared.heard.Heard.TheVariants.{Requests, Refused, Unread, Watch, Untimed, Limit, Finish, TooLong, ReadFault}
+
+-- the bytes that were read ahead, the answer that the reader stopped at, the bytes that are left of the source, and how many
+-- lines may still be taken
+pub record Place : Type 0 where
+  pub ahead : List ℕ
+  pub stopped : Option Next
+  pub left : List ℕ
+  pub lines : ℕ
+
+abbrev pub place_of : Hearing → List ℕ → Place
+place_of hearing left = record { ahead = hearing.reader.ahead; stopped = hearing.reader.stopped; left = left; lines = hearing.lines }
+
+-- the bytes that are still to come
+abbrev pub to_come : Place → List ℕ
+to_come place = place.ahead ++ place.left
+
+-- These lines were taken of the front of the bytes, and the rest is still to come. Unless the source has told its end, whatever
+-- stands behind that front has the lines that follow.
+pub record Takes (bytes : List ℕ) (all : List (List ℕ)) (rest : List ℕ) (stopped : Option Next) : Type 0 where
+  pub front : List ℕ
+  pub split : bytes ≡ front ++ rest
+  pub given : lines bytes ≡ all ++ lines rest
+  pub going : ¬ (stopped ≡ Some next.Finish) → (more : List ℕ) → lines (front ++ more) ≡ all ++ lines more
+
+pub record Advances (heeds : Type 0) (all : List (List ℕ)) (old new : Place) : Type 0 where
+  pub counted : old.lines ≡ new.lines + length all
+  pub takes : heeds → Takes (to_come old) all (to_come new) new.stopped
+  pub over : old.stopped ≡ Some next.Finish → new.stopped ≡ Some next.Finish
+  -- where the source has told its end nothing is to come
+  pub closed : heeds → new.stopped ≡ Some next.Finish → to_come new ≡ []
+
+-- more lines may come: no read has failed and no line was too long
+pub record IsOpen (heeds : Type 0) (place : Place) : Type 0 where
+  pub going : StopsAt next.Line place.stopped
+  pub over : heeds → place.stopped ≡ Some next.Finish → to_come place ≡ []
+
+-- a line was taken, or something else came
+abbrev pub taken_by : List ℕ → Option Heard → List (List ℕ)
+taken_by line None = line ∷ []
+taken_by line (Some heard) = []
+
+-- how it stands where no line came
+abbrev pub IsAtStop : Type 0 → Place → Heard → Type 0
+IsAtStop heeds place Limit = place.lines ≡ 0
+IsAtStop heeds place Finish = (place.ahead ≡ []) × (heeds → place.left ≡ [])
+IsAtStop heeds place TooLong = IsTooLong place.ahead
+IsAtStop heeds place ReadFault = Unit {0}
+IsAtStop heeds place other = ⊥
+
+abbrev pub StopsFor : Type 0 → Place → Option Heard → Type 0
+StopsFor heeds place None = IsOpen heeds place
+StopsFor heeds place (Some heard) = IsAtStop heeds place heard
+
+-- a read failed exactly where the count rose
+abbrev pub SourceCause : ℕ → ℕ → Heard → Type 0
+SourceCause before now ReadFault = Rose before now
+SourceCause before now other = now ≡ before
+
+abbrev pub SourceStops : ℕ → ℕ → Option Heard → Type 0
+SourceStops before now None = now ≡ before
+SourceStops before now (Some heard) = SourceCause before now heard

@@ -1,4 +1,0 @@
-pub mod Values
-pub mod Counting
-pub mod Stored
-pub mod Events

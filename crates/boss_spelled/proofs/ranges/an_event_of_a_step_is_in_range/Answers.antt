@@ -1,5 +1,0 @@
-use Rattle.boss_spelled.proofs.Events.{step-spelled}
-use Rattle.boss_spelled.proofs.ranges.an_event_of_a_step_is_in_range.Goals as goal
-
-pub returns : goal.returns
-returns c plant s session command m event whole sound allowed small is = step-spelled plant s session command m event whole sound allowed small is

@@ -1,5 +1,0 @@
-use Rattle.boss_spelled.proofs.Stored.{storable}
-use Rattle.boss_spelled.proofs.ranges.what_is_sound_is_in_range.Goals as goal
-
-pub returns : goal.returns
-returns c plant d whole sound = storable plant whole d sound

@@ -1,5 +1,0 @@
-use Rattle.boss_talks.proofs.BatchLemmas.{deeds-answered}
-use Rattle.boss_talks.proofs.batches.answers_of_a_desk_are_replies.Goals as goal
-
-pub returns : goal.returns
-returns c session calls answers = deeds-answered session calls answers

@@ -1,5 +1,0 @@
-use Rattle.boss_talks.proofs.TalkLemmas.{talked-of}
-use Rattle.boss_talks.proofs.talks.a_talk_is_whole.Goals as goal
-
-pub returns : goal.returns
-returns g c speech session heard rest long broken old new own parting stops fresh first parts unattached parted = talked-of speech session g.K.Sink.tells g.C.Clock.tells heard rest long broken old new own parting stops fresh first parts unattached parted

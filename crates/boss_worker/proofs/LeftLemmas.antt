@@ -1,0 +1,159 @@
+-- One connection more, and where the work ends.
+use Rattle.std.proofs.Common.{◌≡◌, ℕ, suc, ◌+◌, ◌*◌, ◌<◌, Bool, true, false, List, [], ◌∷◌, ◌++◌, length, refl, ap, sym, ◌∙◌, subst, arith, length-append}
+use Rattle.std.specs.List.{AllByRecursion}
+use Rattle.def_history.specs.declared.entry.Entry.{Entry}
+use Rattle.def_history.specs.History.{deeds, is_broken}
+use Rattle.def_lanes.specs.Lanes.{of_session}
+use Rattle.def_lanes.specs.Parts.{Terms, Part, Added}
+use Rattle.def_lanes.specs.Works.{Work, visit, lane_of_work, owner, served_by, served_in}
+use Rattle.def_lanes.proofs.Lists.{each-append}
+use Rattle.def_lanes.proofs.Owners.{before-absent, before-more, owner-session, served_in-append}
+use Rattle.def_lanes.proofs.PartLemmas.{part-nothing, part-more}
+use Rattle.boss_outside_server.specs.Hosts.{Served}
+use Rattle.boss_worker.specs.declared.flags.Flags.{Flags}
+use Rattle.boss_worker.specs.declared.trouble.Trouble.{Trouble}
+use Rattle.boss_worker.specs.declared.trouble.Trouble.TheVariants.{Nothing, Disk, Clock, Memory}
+use Rattle.boss_worker.specs.Troubles.{no_flags, flags_after, failed_host, is_trouble, ClockTrouble, Counts}
+use Rattle.boss_worker.specs.Visits.{IsUncut, SoFar, Left}
+use Rattle.boss_worker.proofs.FlagLemmas.{host-after, quiet-after}
+
+module _ (terms : Terms) (number : ℕ) where
+  pub so-far-first : (own : List Entry) (served : List Served) (given : List ℕ) (handed next : ℕ) (flags : Flags) → deeds own ≡ [] → handed ≡ 0 → next ≡ 1 + number →
+      SoFar terms number [] own served served given given handed next flags
+  so-far-first own served given handed next flags none no_handed first = record {
+    part = part-nothing terms number (suc number) own served given none;
+    each = sym no_handed;
+    next_is = rw no_handed (omega (arith, first));
+    before = tt;
+    uncut = λ quiet. tt;
+  }
+
+  pub so-far-more : (works : List Work) (own own' : List Entry) (served served' served'' : List Served) (given given' given'' : List ℕ) (handed handed' next later : ℕ) (flags : Flags)
+      (trouble : Trouble) (one : Served) → SoFar terms number works own served served' given given' handed next flags →
+      Added terms.plant (of_session one.session) (terms.says (visit one (is_trouble trouble))) terms.clocking own own' given' given'' →
+      (terms.hosting → served'' ≡ served' ++ one ∷ []) → one.session ≡ next → number < terms.workers → handed' ≡ handed + 1 → later ≡ next + terms.workers →
+      SoFar terms number (works ++ visit one (is_trouble trouble) ∷ []) own' served served'' given given'' handed' later (flags_after trouble flags)
+  so-far-more works own own' served served' served'' given given' given'' handed handed' next later flags trouble one so_far added back is low one_more further =
+      let owned = owner-session terms.workers number handed one (is_trouble trouble) low (is ∙ so_far.next_is) in
+      let grown : length (served_in (works ++ visit one (is_trouble trouble) ∷ [])) ≡ length (served_in works) + 1 =
+      ap length (served_in-append works (visit one (is_trouble trouble) ∷ [])) ∙ length-append (served_in works) (one ∷ []) in
+      record {
+        part = part-more terms number (suc number) works (visit one (is_trouble trouble)) own own' served served' served'' given given' given'' so_far.part added
+            (omega (arith, owned)) (omega (arith, owned)) (subst (λ s. AllByRecursion (λ work. ¬ (lane_of_work work ≡ of_session s)) works) (sym is) (before-absent next works so_far.before)) back;
+        each = omega (arith, grown, so_far.each, one_more);
+        next_is = next-turn (so_far.next_is);
+        before = before-more next later works one (is_trouble trouble) so_far.before is (omega (arith, further, low));
+        uncut = λ quiet. let both = quiet-after trouble flags quiet in
+            each-append IsUncut works (visit one (is_trouble trouble) ∷ []) (so_far.uncut both.0) (both.1, tt);
+      }
+    where
+      next-turn : next ≡ 1 + number + terms.workers * handed → later ≡ 1 + number + terms.workers * handed'
+      next-turn here = rw one_more (omega (arith, further, here))
+
+  -- where the work ends
+  module _ (share : ℕ) (works : List Work) (own seen : List Entry) (served served' : List Served) (given given' : List ℕ) (handed next host_faults clock_faults : ℕ) (flags : Flags)
+      (so_far : SoFar terms number works own served served' given given' handed next flags) where
+    pub left-closed : flags.host ≡ false → flags.disk ≡ false → host_faults ≡ 0 → Counts flags.clock clock_faults → handed ≡ share →
+        Left true terms number share works own seen served served' given given' handed host_faults clock_faults flags
+    left-closed no_host no_disk calm ticked all = record {
+      part = so_far.part;
+      each = so_far.each;
+      whole = λ ran hosted sound. all;
+      uncut = so_far.uncut;
+      hosted = subst (λ flag. Counts flag host_faults) (sym no_host) calm;
+      ticked = λ sound. ticked;
+      broken = λ broke. absurd (let no : true ≡ false = sym broke ∙ no_disk in cc);
+    }
+
+    pub left-failed : flags.disk ≡ false → 0 < host_faults → Counts flags.clock clock_faults →
+        Left true terms number share works own seen served served' given given' handed host_faults clock_faults (failed_host flags)
+    left-failed no_disk rose ticked = record {
+      part = so_far.part;
+      each = so_far.each;
+      whole = λ ran hosted sound. absurd (let no : true ≡ false = hosted in cc);
+      uncut = λ quiet. so_far.uncut (record { disk = quiet.disk; clock = quiet.clock; memory = quiet.memory });
+      hosted = rose;
+      ticked = λ sound. ticked;
+      broken = λ broke. absurd (let no : true ≡ false = sym broke ∙ no_disk in cc);
+    }
+
+    pub left-broken : flags.host ≡ false → host_faults ≡ 0 → flags.disk ≡ true → is_broken seen ≡ true →
+        Left true terms number share works own seen served served' given given' handed host_faults clock_faults flags
+    left-broken no_host calm disk broke = record {
+      part = so_far.part;
+      each = so_far.each;
+      whole = λ ran hosted sound. absurd (let no : true ≡ false = sym disk ∙ sound in cc);
+      uncut = so_far.uncut;
+      hosted = subst (λ flag. Counts flag host_faults) (sym no_host) calm;
+      ticked = λ sound. absurd (let no : true ≡ false = sym disk ∙ sound in cc);
+      broken = λ flag. broke;
+    }
+
+-- ---- from fresh parts
+
+pub part-fresh : (terms : Terms) (first end : ℕ) (works : List Work) (own : List Entry) (served served' : List Served) (given given' : List ℕ) →
+    Part terms first end works own served served' given given' → (terms.hosting → served ≡ []) → (terms.clocking → given ≡ []) → Part terms first end works own [] served' [] given'
+part-fresh terms first end works own served served' given given' part none no_moment = record {
+  agreed = part.agreed;
+  of_them = part.of_them;
+  came_back = λ told. part.came_back told ∙ ap (λ front. front ++ served_in works) (none told);
+  gains = part.gains;
+  gave = λ told. part.gave told ∙ ap (λ front. front ++ part.gains) (no_moment told);
+  timed = part.timed;
+}
+
+pub left-fresh : (ran : Bool) (terms : Terms) (number share : ℕ) (works : List Work) (own seen : List Entry) (served served' : List Served) (given given' : List ℕ) (handed host_faults clock_faults : ℕ) (flags : Flags) →
+    Left ran terms number share works own seen served served' given given' handed host_faults clock_faults flags → (terms.hosting → served ≡ []) → (terms.clocking → given ≡ []) →
+    Left ran terms number share works own seen [] served' [] given' handed host_faults clock_faults flags
+left-fresh ran terms number share works own seen served served' given given' handed host_faults clock_faults flags left none no_moment = record {
+  part = part-fresh terms number (suc number) works own served served' given given' left.part none no_moment;
+  each = left.each;
+  whole = left.whole;
+  uncut = left.uncut;
+  hosted = left.hosted;
+  ticked = left.ticked;
+  broken = left.broken;
+}
+
+-- a worker that was never started left nothing
+pub left-nothing : (terms : Terms) (number share : ℕ) (own seen : List Entry) (served : List Served) (given : List ℕ) (handed host_faults clock_faults : ℕ) (flags : Flags) → deeds own ≡ [] →
+    (terms.hosting → served ≡ []) → (terms.clocking → given ≡ []) → handed ≡ 0 → host_faults ≡ 0 → clock_faults ≡ 0 → flags ≡ no_flags →
+    Left false terms number share [] own seen [] served [] given handed host_faults clock_faults flags
+left-nothing terms number share own seen served given handed host_faults clock_faults flags empty none no_moment no_handed no_fault no_miss unmarked = record {
+  part = part-fresh terms number (suc number) [] own served served given given (part-nothing terms number (suc number) own served given empty) none no_moment;
+  each = sym no_handed;
+  whole = λ ran. absurd (let no : false ≡ true = ran in cc);
+  uncut = λ quiet. tt;
+  hosted = subst (λ (f : Flags). Counts f.host host_faults) (sym unmarked) no_fault;
+  ticked = λ sound. subst (λ (f : Flags). Counts f.clock clock_faults) (sym unmarked) no_miss;
+  broken = λ is. absurd (let no : false ≡ true = ap (λ (f : Flags). f.disk) (sym unmarked) ∙ is in cc);
+}
+
+-- a worker that serves no connection left one work
+pub left-one : (terms : Terms) (number : ℕ) (work : Work) (own own' seen : List Entry) (given given' : List ℕ) (misses misses' : ℕ) (flags : Flags) (trouble : Trouble) →
+    Added terms.plant (lane_of_work work) (terms.says work) terms.clocking own own' given given' → deeds own ≡ [] → (terms.clocking → given ≡ []) → misses ≡ 0 → flags ≡ no_flags →
+    served_by work ≡ [] → IsUncut work → number ≡ owner terms.workers work → ClockTrouble misses misses' trouble → (trouble ≡ Disk → is_broken seen ≡ true) →
+    Left true terms number 0 (work ∷ []) own' seen [] [] [] given' 0 0 misses' (flags_after trouble flags)
+left-one terms number work own own' seen given given' misses misses' flags trouble added empty no_moment no_miss unmarked serves uncut owned cause broken = record {
+  part = part-fresh terms number (suc number) (work ∷ []) own' [] [] given given'
+      (part-more terms number (suc number) [] work own own' [] [] [] given given given' (part-nothing terms number (suc number) own [] given empty) added
+      (omega (arith, owned)) (omega (arith, owned)) tt (λ told. sym serves)) (λ told. refl) no_moment;
+  each = ap (λ list. length (list ++ [])) serves;
+  whole = λ ran accepted sound. refl;
+  uncut = λ quiet. (uncut, tt);
+  hosted = subst (λ flag. Counts flag 0) (sym (host-after trouble flags ∙ ap (λ (f : Flags). f.host) unmarked)) refl;
+  ticked = λ sound. counted trouble cause sound;
+  broken = λ is. raised trouble refl is;
+}
+  where
+    counted : (t : Trouble) → ClockTrouble misses misses' t → (flags_after t flags).disk ≡ false → Counts (flags_after t flags).clock misses'
+    counted Nothing calm sound = subst (λ (f : Flags). Counts f.clock misses') (sym unmarked) (calm ∙ no_miss)
+    counted Disk calm sound = absurd (let no : true ≡ false = sound in cc)
+    counted Clock rose sound = omega (arith, rose)
+    counted Memory calm sound = subst (λ (f : Flags). Counts f.clock misses') (sym unmarked) (calm ∙ no_miss)
+
+    raised : (t : Trouble) → t ≡ trouble → (flags_after t flags).disk ≡ true → is_broken seen ≡ true
+    raised Nothing is flag = absurd (let no : false ≡ true = ap (λ (f : Flags). f.disk) (sym unmarked) ∙ flag in cc)
+    raised Disk is flag = broken (sym is)
+    raised Clock is flag = absurd (let no : false ≡ true = ap (λ (f : Flags). f.disk) (sym unmarked) ∙ flag in cc)
+    raised Memory is flag = absurd (let no : false ≡ true = ap (λ (f : Flags). f.disk) (sym unmarked) ∙ flag in cc)

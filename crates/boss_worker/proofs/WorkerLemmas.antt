@@ -1,0 +1,119 @@
+-- What a worker left that was ready, by its duty.
+use Rattle.std.proofs.Common.{◌≡◌, ℕ, ◌≤◌, true, false, [], ◌∷◌, refl, ap, sym, ◌∙◌, subst, append-nil}
+use Rattle.std.specs.declared.snapshot.Snapshot.{Snapshot}
+use Rattle.boss_model.specs.Catalogue.{actuators as points_of, Catalogue}
+use Rattle.boss_model.specs.Limits.{last_number}
+use Rattle.boss_model.specs.State.{State}
+use Rattle.def_history.specs.History.{deeds, IsLegal}
+use Rattle.def_lanes.specs.Works.{beat, drive}
+use Rattle.boss_outside.specs.declared.actuators.Actuators as actuators
+use Rattle.boss_shared.specs.declared.desk.Desk as desk
+use Rattle.boss_outside_server.specs.declared.clock.Clock as clock
+use Rattle.boss_outside_server.specs.declared.host.Host as host
+use Rattle.boss_outside_server.specs.declared.waiter.Waiter as waiter
+use Rattle.boss_expiry.specs.declared.end.WorkEnd.{WorkEnd}
+use Rattle.boss_expiry.specs.Ends.{ClockCause, EndCause}
+use Rattle.boss_expiry.specs.Ticking.{Expired}
+use Rattle.boss_drive.specs.Driving.{Driven, made_by, left_by}
+use Rattle.boss_worker.specs.declared.duty.Duty.{Duty}
+use Rattle.boss_worker.specs.declared.duty.Duty.TheVariants.{Connections, Time, Devices}
+use Rattle.boss_worker.specs.declared.flags.Flags.{Flags}
+use Rattle.boss_worker.specs.Desks.{own_of}
+use Rattle.boss_worker.specs.Saying.{terms_of}
+use Rattle.boss_worker.specs.Troubles.{flags_after, trouble_of_work}
+use Rattle.boss_worker.specs.Workers.{served_at, share_at, handed_at, faults_at, IsFreshDuty, IsPlaced, HasCalls, IsReady, HasLeft}
+use Rattle.boss_worker.proofs.DutyLemmas.{calls-driven, driven-ended, left-driven, left-time, time-ended}
+use Rattle.boss_worker.proofs.EndedLemmas.{worked-one}
+use Rattle.boss_worker.proofs.LeftLemmas.{left-nothing}
+
+module _ {H In Out A : Type 0} (h : host.Ghosts H In Out) (workers number : ℕ) where
+  fresh-handed : (duty : Duty H A) → IsFreshDuty h workers number duty → handed_at h duty ≡ 0
+  fresh-handed (Connections part) fresh = fresh.1.handed
+  fresh-handed Time fresh = refl
+  fresh-handed (Devices driver devices was) fresh = refl
+
+  fresh-faults : (duty : Duty H A) → IsFreshDuty h workers number duty → faults_at h duty ≡ 0
+  fresh-faults (Connections part) fresh = fresh.1.faults
+  fresh-faults Time fresh = refl
+  fresh-faults (Devices driver devices was) fresh = refl
+
+  fresh-served : (duty : Duty H A) → IsFreshDuty h workers number duty → h.tells → served_at h duty ≡ []
+  fresh-served (Connections part) fresh told = fresh.2 told
+  fresh-served Time fresh told = refl
+  fresh-served (Devices driver devices was) fresh told = refl
+
+  fresh-placed : (duty : Duty H A) → IsFreshDuty h workers number duty → IsPlaced workers number duty
+  fresh-placed (Connections part) fresh = fresh.0
+  fresh-placed Time fresh = fresh
+  fresh-placed (Devices driver devices was) fresh = fresh.0
+
+  fresh-calls : (a : actuators.Ghosts A) (duty : Duty H A) → IsFreshDuty h workers number duty → HasCalls a [] duty
+  fresh-calls a (Connections part) fresh = tt
+  fresh-calls a Time fresh = tt
+  fresh-calls a (Devices driver devices was) fresh = λ told whole. ap a.calls (sym fresh.1) ∙ sym (append-nil (a.calls was.value))
+
+module _ {G Pass H In Out C W A : Type 0} (g : desk.Ghosts G Pass) (h : host.Ghosts H In Out) (k : clock.Ghosts C) (w : waiter.Ghosts W) (a : actuators.Ghosts A) (catalogue : Catalogue) (heeds tells : Type 0)
+    (it : G) (workers number : ℕ) (pass : Pass) (duty : Duty H A) (tick : C) (wait : W) (flags : Flags) (ready : IsReady g h k w a catalogue it workers number pass duty tick wait flags) where
+  pub has-left-nothing : (wait' : W) → HasLeft g h k w a false (terms_of catalogue workers heeds tells h.tells k.tells w.tells) it number pass duty tick wait' flags
+  has-left-nothing wait' = record {
+    own = ready.own;
+    one = ready.one;
+    works = [];
+    left = left-nothing (terms_of catalogue workers heeds tells h.tells k.tells w.tells) number (share_at h duty) (own_of g pass) (g.seen pass) (served_at h duty) (k.given tick)
+        (handed_at h duty) (faults_at h duty) (k.faults tick) flags (ap deeds ready.empty) (fresh-served h workers number duty ready.fresh) ready.given
+        (fresh-handed h workers number duty ready.fresh) (fresh-faults h workers number duty ready.fresh) ready.clock_faults ready.unmarked;
+    called = fresh-calls h workers number a duty ready.fresh;
+    paired = tt;
+    placed = fresh-placed h workers number duty ready.fresh;
+    worked = λ ran. absurd (let no : false ≡ true = ran in cc);
+    ended = λ quiet. tt;
+  }
+
+  module _ (pass' : Pass) (tick' : C) (wait' : W) (most : ℕ) (enough : last_number ≤ most) (end : WorkEnd) (own : g.owns it pass') (parts : g.parts pass' ≡ g.parts pass) (clock : ClockCause (k.faults tick) (k.faults tick') end)
+      (cause : EndCause (g.seen pass') w.tells (w.closed wait') (w.closes wait) (w.closes wait') end) where
+    pub has-left-time : duty ≡ Time → Expired (own_of g pass) (own_of g pass') k.tells (k.given tick) (k.given tick') w.tells (w.pauses wait) (w.pauses wait') most end →
+        HasLeft g h k w a true (terms_of catalogue workers heeds tells h.tells k.tells w.tells) it number pass' duty tick' wait' (flags_after (trouble_of_work end) flags)
+    has-left-time is expired = subst (λ d. HasLeft g h k w a true (terms_of catalogue workers heeds tells h.tells k.tells w.tells) it number pass' d tick' wait' (flags_after (trouble_of_work end) flags)) (sym is)
+        (record {
+          own = own;
+          one = parts ∙ ready.one;
+          works = beat (w.pauses wait') (w.closed wait') ∷ [];
+          left = left-time catalogue workers number heeds tells h.tells k.tells w.tells (own_of g pass) (own_of g pass') (g.seen pass') (k.given tick) (k.given tick') (k.faults tick) (k.faults tick')
+              (w.pauses wait) (w.pauses wait') most (w.closes wait) (w.closes wait') (w.closed wait') end flags ready.empty ready.given ready.paused ready.clock_faults ready.unmarked clock cause
+              (subst (IsFreshDuty h workers number) is ready.fresh) expired;
+          called = tt;
+          paired = (refl, tt);
+          placed = subst (IsFreshDuty h workers number) is ready.fresh;
+          worked = λ ran low. worked-one workers number (beat (w.pauses wait') (w.closed wait')) (subst (IsFreshDuty h workers number) is ready.fresh);
+          ended = λ quiet. (
+            (λ told few. time-ended (points_of catalogue) k.tells w.tells (own_of g pass) (own_of g pass') (g.seen pass') (k.given tick) (k.given tick')
+                (w.pauses wait) (w.pauses wait') most (w.closes wait) (w.closes wait') (w.closed wait') end flags ready.empty ready.paused cause enough quiet told expired few),
+            tt,
+          );
+        })
+
+    pub has-left-devices : (driver : ℕ) (devices devices' : A) (was : Snapshot A) → duty ≡ Devices driver devices was → (opening : State) → IsLegal (points_of catalogue) (g.seen pass') opening →
+        Driven driver k.tells a.tells (record { own = own_of g pass; given = k.given tick; whole = a.whole devices; calls = a.calls devices })
+        (record { own = own_of g pass'; given = k.given tick'; whole = a.whole devices'; calls = a.calls devices' }) w.tells (w.pauses wait) (w.pauses wait') most end →
+        HasLeft g h k w a true (terms_of catalogue workers heeds tells h.tells k.tells w.tells) it number pass' (Devices driver devices' was) tick' wait' (flags_after (trouble_of_work end) flags)
+    has-left-devices driver devices devices' was is opening legal driven =
+        let fresh = subst (IsFreshDuty h workers number) is ready.fresh in
+        record {
+          own = own;
+          one = parts ∙ ready.one;
+          works = drive driver (made_by driver driven.turns (left_by driver end driven.last)).calls (w.pauses wait') (w.closed wait') ∷ [];
+          left = left-driven catalogue workers number heeds tells h.tells k.tells w.tells (own_of g pass) (own_of g pass') (g.seen pass') (k.given tick) (k.given tick') (k.faults tick) (k.faults tick')
+              (w.pauses wait) (w.pauses wait') most (w.closes wait) (w.closes wait') (w.closed wait') end flags ready.empty ready.given ready.paused ready.clock_faults ready.unmarked clock cause
+              opening (g.mine pass') driver a.tells (a.whole devices) (a.whole devices') (a.calls devices) (a.calls devices') legal refl driven fresh.0;
+          called = λ told whole. calls-driven driver (w.pauses wait') (w.closed wait') (a.calls was.value) (a.calls devices) (a.calls devices')
+              (made_by driver driven.turns (left_by driver end driven.last)).calls (ap a.calls fresh.1) (driven.made.wrote told whole).1;
+          paired = (refl, tt);
+          placed = fresh.0;
+          worked = λ ran low. worked-one workers number (drive driver (made_by driver driven.turns (left_by driver end driven.last)).calls (w.pauses wait') (w.closed wait')) fresh.0;
+          ended = λ quiet. (
+            (λ told few. driven-ended (points_of catalogue) k.tells w.tells (own_of g pass) (own_of g pass') (g.seen pass') (k.given tick) (k.given tick')
+                (w.pauses wait) (w.pauses wait') most (w.closes wait) (w.closes wait') (w.closed wait') end flags ready.empty ready.paused cause enough quiet told
+                opening (g.mine pass') driver a.tells (a.whole devices) (a.whole devices') (a.calls devices) (a.calls devices') legal refl driven few),
+            tt,
+          );
+        }

@@ -1,0 +1,83 @@
+use Rattle.std.proofs.Common.{◌+◌, [], ◌++◌, ◌∷◌, refl, sym, ap, ◌∙◌, subst, arith}
+use Rattle.def_lanes.specs.Works.{visit}
+use Rattle.boss_outside_server.specs.Hosts.{served_of}
+use Rattle.boss_worker.specs.declared.flags.Flags.{Flags}
+use Rattle.boss_worker.specs.Desks.{own_of}
+use Rattle.boss_worker.specs.Saying.{terms_of}
+use Rattle.boss_worker.specs.Troubles.{is_trouble, flags_after, Counts}
+use Rattle.boss_worker.specs.Visits.{SoFar}
+use Rattle.boss_worker.proofs.FlagLemmas.{clock-after, disk-after, host-after}
+use Rattle.boss_worker.proofs.LeftLemmas.{left-broken, so-far-first, so-far-more}
+use Rattle.boss_worker.proofs.visits.attend_all.Goals as goal
+
+pub connections-init : goal.connections-init
+connections-init g c = record {
+  own = c.requires.own;
+  parts = refl;
+  sound = c.requires.fresh.sound;
+  back = c.requires.fresh.back;
+  share = refl;
+  within = omega (arith, c.requires.fresh.handed);
+  works = [];
+  so_far = so-far-first (terms_of c.args.server.now.catalogue.now c.args.server.now.workers g.H.In.Source.tells g.H.Out.Sink.tells g.H.Host.tells g.C.Clock.tells g.W.Waiter.tells) c.args.number
+      (own_of g.G.Desk c.args.pass.now) (g.H.Host.served c.args.host.now) (g.C.Clock.given c.args.clock.now) (g.H.Host.handed c.args.host.now) _ _ c.requires.empty c.requires.fresh.handed (ap (λ n. 1 + n) c.from-next.ensures);
+  small = omega (arith, c.from-next.ensures, c.requires.number, c.requires.few);
+  hosted = c.requires.fresh.faults;
+  no_host = ap (λ (f : Flags). f.host) c.none-flags.ensures;
+  no_disk = ap (λ (f : Flags). f.disk) c.none-flags.ensures;
+  ticked = subst (λ (f : Flags). Counts f.clock (g.C.Clock.faults c.args.clock.now)) (sym c.none-flags.ensures) c.requires.quiet;
+}
+
+pub connections-preserved : goal.connections-preserved
+connections-preserved g c =
+    let inv = c.connections.invariant in
+    let one = served_of g.H.In.Source g.H.Out.Sink c.connections.next c.attend-trouble.new.input c.attend-trouble.new.output in
+    record {
+      own = c.attend-trouble.ensures.own;
+      parts = c.attend-trouble.ensures.parts ∙ inv.parts;
+      sound = c.give_back.ensures.sound;
+      back = omega (arith, c.give_back.ensures.counts.2, c.in-Conn.ensures.count.2);
+      share = c.give_back.ensures.counts.1 ∙ c.accept.ensures.share ∙ inv.share;
+      within = omega (arith, c.give_back.ensures.counts.0, c.in-Conn.ensures.count.0, c.in-Conn.ensures.count.1, inv.share);
+      works = inv.works ++ visit one (is_trouble c.attend-trouble.result) ∷ [];
+      so_far = subst (λ f. SoFar (terms_of c.args.server.now.catalogue.now c.args.server.now.workers g.H.In.Source.tells g.H.Out.Sink.tells g.H.Host.tells g.C.Clock.tells g.W.Waiter.tells) c.args.number (inv.works ++ visit one (is_trouble c.attend-trouble.result) ∷ [])
+          (own_of g.G.Desk c.attend-trouble.new.pass) (g.H.Host.served c.args.host.now) (g.H.Host.served c.give_back.new.self) (g.C.Clock.given c.args.clock.now) (g.C.Clock.given c.attend-trouble.new.clock)
+          (g.H.Host.handed c.give_back.new.self) (c.connections.next + c.from-next-in-Conn.result) f) (sym c.after-flags.ensures)
+          (so-far-more (terms_of c.args.server.now.catalogue.now c.args.server.now.workers g.H.In.Source.tells g.H.Out.Sink.tells g.H.Host.tells g.C.Clock.tells g.W.Waiter.tells) c.args.number inv.works
+          (own_of g.G.Desk c.connections.pass) (own_of g.G.Desk c.attend-trouble.new.pass) (g.H.Host.served c.args.host.now) (g.H.Host.served c.connections.host) (g.H.Host.served c.give_back.new.self)
+          (g.C.Clock.given c.args.clock.now) (g.C.Clock.given c.connections.clock) (g.C.Clock.given c.attend-trouble.new.clock) (g.H.Host.handed c.connections.host) (g.H.Host.handed c.give_back.new.self)
+          c.connections.next (c.connections.next + c.from-next-in-Conn.result) c.connections.flags c.attend-trouble.result one inv.so_far c.attend-trouble.ensures.added
+          (λ told. c.give_back.ensures.connections told ∙ ap (λ list. list ++ one ∷ []) (c.accept.ensures.connections told)) refl c.requires.number
+          (c.give_back.ensures.counts.0 ∙ c.in-Conn.ensures.count.1) (ap (λ n. c.connections.next + n) c.from-next-in-Conn.ensures));
+      small = omega (arith, inv.small, c.requires.few, c.give_back.ensures.counts.0, c.in-Conn.ensures.count.1, c.from-next-in-Conn.ensures);
+      hosted = c.give_back.ensures.counts.3 ∙ c.in-Conn.ensures.cause ∙ inv.hosted;
+      no_host = ap (λ (f : Flags). f.host) c.after-flags.ensures ∙ host-after c.attend-trouble.result c.connections.flags ∙ inv.no_host;
+      no_disk = ap (λ (f : Flags). f.disk) c.after-flags.ensures ∙ disk-after c.attend-trouble.result c.connections.flags (λ is. c.in_default.not-Disk is) ∙ inv.no_disk;
+      ticked = subst (λ (f : Flags). Counts f.clock (g.C.Clock.faults c.attend-trouble.new.clock)) (sym c.after-flags.ensures)
+          (clock-after c.attend-trouble.result c.connections.flags (g.C.Clock.faults c.connections.clock) (g.C.Clock.faults c.attend-trouble.new.clock) (λ is. c.in_default.not-Disk is)
+          c.attend-trouble.ensures.clocked inv.ticked);
+    }
+
+pub returns-in-Disk-clause-left : goal.returns-in-Disk-clause-left
+returns-in-Disk-clause-left g c =
+    let inv = c.connections.invariant in
+    let one = served_of g.H.In.Source g.H.Out.Sink c.connections.next c.attend-trouble.new.input c.attend-trouble.new.output in (
+      inv.works ++ visit one (is_trouble c.attend-trouble.result) ∷ [],
+      left-broken (terms_of c.args.server.now.catalogue.now c.args.server.now.workers g.H.In.Source.tells g.H.Out.Sink.tells g.H.Host.tells g.C.Clock.tells g.W.Waiter.tells) c.args.number (g.H.Host.share c.args.host.now) (inv.works ++ visit one (is_trouble c.attend-trouble.result) ∷ [])
+          (own_of g.G.Desk c.attend-trouble.new.pass) (g.G.Desk.seen c.attend-trouble.new.pass) (g.H.Host.served c.args.host.now) (g.H.Host.served c.give_back.new.self)
+          (g.C.Clock.given c.args.clock.now) (g.C.Clock.given c.attend-trouble.new.clock) (g.H.Host.handed c.give_back.new.self) (c.connections.next + c.args.server.now.workers)
+          (g.H.Host.faults c.give_back.new.self) (g.C.Clock.faults c.attend-trouble.new.clock) c.after-flags.result
+          (subst (λ f. SoFar (terms_of c.args.server.now.catalogue.now c.args.server.now.workers g.H.In.Source.tells g.H.Out.Sink.tells g.H.Host.tells g.C.Clock.tells g.W.Waiter.tells) c.args.number (inv.works ++ visit one (is_trouble c.attend-trouble.result) ∷ [])
+          (own_of g.G.Desk c.attend-trouble.new.pass) (g.H.Host.served c.args.host.now) (g.H.Host.served c.give_back.new.self) (g.C.Clock.given c.args.clock.now) (g.C.Clock.given c.attend-trouble.new.clock)
+          (g.H.Host.handed c.give_back.new.self) (c.connections.next + c.args.server.now.workers) f) (sym c.after-flags.ensures)
+          (so-far-more (terms_of c.args.server.now.catalogue.now c.args.server.now.workers g.H.In.Source.tells g.H.Out.Sink.tells g.H.Host.tells g.C.Clock.tells g.W.Waiter.tells) c.args.number inv.works
+          (own_of g.G.Desk c.connections.pass) (own_of g.G.Desk c.attend-trouble.new.pass) (g.H.Host.served c.args.host.now) (g.H.Host.served c.connections.host) (g.H.Host.served c.give_back.new.self)
+          (g.C.Clock.given c.args.clock.now) (g.C.Clock.given c.connections.clock) (g.C.Clock.given c.attend-trouble.new.clock) (g.H.Host.handed c.connections.host) (g.H.Host.handed c.give_back.new.self)
+          c.connections.next (c.connections.next + c.args.server.now.workers) c.connections.flags c.attend-trouble.result one inv.so_far c.attend-trouble.ensures.added
+          (λ told. c.give_back.ensures.connections told ∙ ap (λ list. list ++ one ∷ []) (c.accept.ensures.connections told)) refl c.requires.number
+          (c.give_back.ensures.counts.0 ∙ c.in-Conn.ensures.count.1) refl))
+          (ap (λ (f : Flags). f.host) c.after-flags.ensures ∙ host-after c.attend-trouble.result c.connections.flags ∙ inv.no_host)
+          (c.give_back.ensures.counts.3 ∙ c.in-Conn.ensures.cause ∙ inv.hosted)
+          (ap (λ (f : Flags). f.disk) c.after-flags.ensures ∙ ap (λ trouble. (flags_after trouble c.connections.flags).disk) c.in-Disk.is)
+          (c.attend-trouble.ensures.broken c.in-Disk.is),
+    )

@@ -1,0 +1,73 @@
+use Rattle.std.proofs.Common.{◌^◌, refl, sym, ap, ◌∙◌, subst, true, arith}
+use Rattle.boss_model.specs.Catalogue.{actuators}
+use Rattle.def_history.specs.History.{IsLegal}
+use Rattle.boss_worker.specs.declared.duty.Duty.TheVariants.{Devices}
+use Rattle.boss_worker.specs.Desks.{own_of}
+use Rattle.boss_worker.specs.Saying.{terms_of}
+use Rattle.boss_worker.specs.Troubles.{flags_after}
+use Rattle.boss_worker.specs.Visits.{Left}
+use Rattle.boss_worker.specs.Workers.{share_at, was_at, HasLeft, IsFreshDuty}
+use Rattle.boss_worker.proofs.DutyLemmas.{visits-paired}
+use Rattle.boss_worker.proofs.EndedLemmas.{visits-ended}
+use Rattle.boss_worker.proofs.LeftLemmas.{left-fresh}
+use Rattle.boss_worker.proofs.WorkerLemmas.{has-left-devices, has-left-time}
+use Rattle.boss_worker.proofs.worker.WorkerTask.run.Goals as goal
+
+pub returns-in-Connections : goal.returns-in-Connections
+returns-in-Connections g c =
+    let fresh = subst (IsFreshDuty {A = g.row.A.Denot} g.H.Host c.args.self.now.server.now.workers c.args.self.now.number) c.in-Connections.is c.requires.fresh in
+    let works = c.attend_all-self.ensures.left.0 in
+    let left = c.attend_all-self.ensures.left.1 in (
+      refl,
+      refl,
+      c.attend_all-self.ensures.share ∙ ap (share_at g.H.Host) (sym c.in-Connections.is),
+      sym (ap was_at c.in-Connections.is),
+      record {
+        own = c.attend_all-self.ensures.own;
+        one = c.attend_all-self.ensures.parts ∙ c.requires.one;
+        works = works;
+        left = left-fresh true (terms_of c.args.self.now.server.now.catalogue.now c.args.self.now.server.now.workers g.H.In.Source.tells g.H.Out.Sink.tells g.H.Host.tells g.C.Clock.tells g.W.Waiter.tells) c.args.self.now.number (g.H.Host.share c.attend_all-self.new.host) works (own_of g.G.Desk c.attend_all-self.new.pass)
+            (g.G.Desk.seen c.attend_all-self.new.pass) (g.H.Host.served c.in-Connections.host) (g.H.Host.served c.attend_all-self.new.host)
+            (g.C.Clock.given c.args.self.now.clock) (g.C.Clock.given c.attend_all-self.new.clock) (g.H.Host.handed c.attend_all-self.new.host) (g.H.Host.faults c.attend_all-self.new.host)
+            (g.C.Clock.faults c.attend_all-self.new.clock) c.attend_all-self.result
+            (subst (λ share. Left true (terms_of c.args.self.now.server.now.catalogue.now c.args.self.now.server.now.workers g.H.In.Source.tells g.H.Out.Sink.tells g.H.Host.tells g.C.Clock.tells g.W.Waiter.tells) c.args.self.now.number share works (own_of g.G.Desk c.attend_all-self.new.pass)
+            (g.G.Desk.seen c.attend_all-self.new.pass) (g.H.Host.served c.in-Connections.host) (g.H.Host.served c.attend_all-self.new.host)
+            (g.C.Clock.given c.args.self.now.clock) (g.C.Clock.given c.attend_all-self.new.clock) (g.H.Host.handed c.attend_all-self.new.host) (g.H.Host.faults c.attend_all-self.new.host)
+            (g.C.Clock.faults c.attend_all-self.new.clock) c.attend_all-self.result) (sym c.attend_all-self.ensures.share) left) fresh.2 c.requires.given;
+        called = tt;
+        paired = visits-paired c.args.self.now.server.now.workers c.args.self.now.number (g.W.Waiter.pauses c.leave.new.self, g.W.Waiter.closed c.leave.new.self) fresh.0 works left.part.of_them;
+        placed = fresh.0;
+        worked = λ ran low. absurd (omega (arith, fresh.0, low));
+        ended = λ quiet. visits-ended (actuators c.args.self.now.server.now.catalogue.now) g.W.Waiter.tells (own_of g.G.Desk c.attend_all-self.new.pass) c.args.self.now.server.now.workers c.args.self.now.number fresh.0 works left.part.of_them;
+      },
+    )
+
+pub returns-in-Time : goal.returns-in-Time
+returns-in-Time g c = (
+  refl,
+  refl,
+  refl,
+  refl,
+  subst (λ flags. HasLeft g.G.Desk g.H.Host g.C.Clock g.W.Waiter g.A.Actuators true (terms_of c.args.self.now.server.now.catalogue.now c.args.self.now.server.now.workers g.H.In.Source.tells g.H.Out.Sink.tells g.H.Host.tells g.C.Clock.tells g.W.Waiter.tells) c.args.self.now.server.now.desk c.args.self.now.number
+      c.expire-end.new.pass c.args.self.now.duty c.expire-end.new.clock c.expire-end.new.waiter flags)
+      (sym (c.after-self.ensures ∙ ap (λ trouble. flags_after trouble c.args.self.now.flags) c.work_trouble.ensures))
+      (has-left-time g.G.Desk g.H.Host g.C.Clock g.W.Waiter g.A.Actuators c.args.self.now.server.now.catalogue.now g.H.In.Source.tells g.H.Out.Sink.tells c.args.self.now.server.now.desk c.args.self.now.server.now.workers c.args.self.now.number c.args.self.now.pass c.args.self.now.duty c.args.self.now.clock c.args.self.now.waiter c.args.self.now.flags c.requires
+      c.expire-end.new.pass c.expire-end.new.clock c.expire-end.new.waiter (2 ^ 62) (omega arith) c.expire-end.result c.expire-end.ensures.own c.expire-end.ensures.parts c.expire-end.ensures.clock
+      c.expire-end.ensures.cause c.in-Time.is c.expire-end.ensures.ticks),
+)
+
+pub returns-in-Devices : goal.returns-in-Devices
+returns-in-Devices g c = (
+  refl,
+  refl,
+  sym (ap (share_at g.H.Host) c.in-Devices.is),
+  sym (ap was_at c.in-Devices.is),
+  subst (λ flags. HasLeft g.G.Desk g.H.Host g.C.Clock g.W.Waiter g.A.Actuators true (terms_of c.args.self.now.server.now.catalogue.now c.args.self.now.server.now.workers g.H.In.Source.tells g.H.Out.Sink.tells g.H.Host.tells g.C.Clock.tells g.W.Waiter.tells) c.args.self.now.server.now.desk c.args.self.now.number
+      c.drive-end.new.pass (Devices c.in-Devices.driver c.drive-end.new.devices c.in-Devices.field-2) c.drive-end.new.clock c.drive-end.new.waiter flags)
+      (sym (c.after-self-in-Devices.ensures ∙ ap (λ trouble. flags_after trouble c.args.self.now.flags) c.work_trouble-in-Devices.ensures))
+      (has-left-devices g.G.Desk g.H.Host g.C.Clock g.W.Waiter g.A.Actuators c.args.self.now.server.now.catalogue.now g.H.In.Source.tells g.H.Out.Sink.tells c.args.self.now.server.now.desk c.args.self.now.server.now.workers c.args.self.now.number c.args.self.now.pass c.args.self.now.duty c.args.self.now.clock c.args.self.now.waiter c.args.self.now.flags c.requires
+      c.drive-end.new.pass c.drive-end.new.clock c.drive-end.new.waiter (2 ^ 62) (omega arith) c.drive-end.result c.drive-end.ensures.own c.drive-end.ensures.parts c.drive-end.ensures.clock
+      c.drive-end.ensures.cause c.in-Devices.driver c.in-Devices.devices c.drive-end.new.devices c.in-Devices.field-2 c.in-Devices.is (g.G.Desk.opening c.args.self.now.server.now.desk)
+      (subst (λ plant. IsLegal plant (g.G.Desk.seen c.drive-end.new.pass) (g.G.Desk.opening c.args.self.now.server.now.desk)) (sym c.requires.plant)
+      (g.met.G.Desk.owned c.args.self.now.server.now.desk c.drive-end.new.pass c.drive-end.ensures.own).legal) c.drive-end.ensures.driven),
+)

@@ -1,0 +1,52 @@
+-- What a worker left when it ended.
+use Rattle.std.specs.Prelude.{◌≡◌, ℕ, suc, ◌+◌, ◌*◌, ◌<◌, ◌^◌, Bool, true, false, List, length}
+use Rattle.std.specs.List.{AllByRecursion}
+use Rattle.def_history.specs.declared.entry.Entry.{Entry}
+use Rattle.def_history.specs.History.{is_broken}
+use Rattle.def_lanes.specs.Parts.{Terms, Part}
+use Rattle.def_lanes.specs.Works.{Work, visit, beat, drive, AreBefore, served_in}
+use Rattle.boss_outside_server.specs.Hosts.{Served}
+use Rattle.boss_outside_server.specs.declared.host.Host as host
+use Rattle.boss_worker.specs.declared.flags.Flags.{Flags}
+use Rattle.boss_worker.specs.Troubles.{IsQuiet, Counts}
+
+-- no connection was cut off
+abbrev pub IsUncut : Work → Type 0
+IsUncut (visit served cut) = cut ≡ false
+IsUncut (beat pauses closed) = Unit {0}
+IsUncut (drive driver calls pauses closed) = Unit {0}
+
+abbrev pub AreUncut : List Work → Type 0
+AreUncut works = AllByRecursion IsUncut works
+
+-- a part of a host before it handed out a connection
+module _ {H In Out : Type 0} (h : host.Ghosts H In Out) where
+  pub record IsFreshHost (host : H) : Type 0 where
+    pub sound : h.sound host
+    pub handed : h.handed host ≡ 0
+    pub back : h.away host ≡ 0
+    pub faults : h.faults host ≡ 0
+    pub small : h.share host < 2 ^ 32
+
+-- the connections that a worker served so far: each was given back under the next of its sessions, and agrees with the worker's
+-- own entries
+pub record SoFar (terms : Terms) (number : ℕ) (works : List Work) (own : List Entry) (served served' : List Served) (given given' : List ℕ)
+    (handed next : ℕ) (flags : Flags) : Type 0 where
+  pub part : Part terms number (suc number) works own served served' given given'
+  pub each : length (served_in works) ≡ handed
+  pub next_is : next ≡ 1 + number + terms.workers * handed
+  pub before : AreBefore next works
+  pub uncut : IsQuiet flags → AreUncut works
+
+-- what a worker left: its works agree with its own entries; each connection that it was handed was given back, and those are as
+-- many as it was to serve unless an accept failed, the disk has, or it did not run; and the flags have their causes in its own
+-- parts, of which the counts began with 0
+pub record Left (ran : Bool) (terms : Terms) (number share : ℕ) (works : List Work) (own seen : List Entry) (served served' : List Served) (given given' : List ℕ)
+    (handed host_faults clock_faults : ℕ) (flags : Flags) : Type 0 where
+  pub part : Part terms number (suc number) works own served served' given given'
+  pub each : length (served_in works) ≡ handed
+  pub whole : ran ≡ true → flags.host ≡ false → flags.disk ≡ false → handed ≡ share
+  pub uncut : IsQuiet flags → AreUncut works
+  pub hosted : Counts flags.host host_faults
+  pub ticked : flags.disk ≡ false → Counts flags.clock clock_faults
+  pub broken : flags.disk ≡ true → is_broken seen ≡ true

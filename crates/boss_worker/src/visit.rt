@@ -1,0 +1,57 @@
+ghost use Rattle.std.specs.Prelude.{◌≡◌, ◌<◌, true};
+ghost use Rattle.boss_model.specs.Catalogue.{actuators};
+ghost use Rattle.def_history.specs.History.{is_broken};
+ghost use Rattle.def_lanes.specs.Lanes.{of_session};
+ghost use Rattle.def_lanes.specs.Parts.{Added};
+ghost use Rattle.boss_outside_server.specs.Hosts.{IsUntouched, served_of};
+ghost use Rattle.boss_worker.specs.declared.trouble.Trouble.TheVariants.{Disk};
+ghost use Rattle.boss_worker.specs.Desks.{own_of};
+ghost use Rattle.boss_worker.specs.Saying.{IsVisit};
+ghost use Rattle.boss_worker.specs.Troubles.{is_trouble, ClockTrouble};
+
+use crate::Trouble;
+use crate::trouble::{session_trouble, watch_trouble};
+use boss_model::SessionId;
+use boss_outside::{Sink, Source};
+use boss_outside_server::{Clock, Waiter};
+use boss_points::Catalogue;
+use boss_sessions::{SessionEnd, serve_connection};
+use boss_shared::Desk;
+use boss_watching::watch_connection;
+use std::alloc::Global;
+
+/// After so many turns in a row without a notice a connection is watched for no longer.
+const IDLE: u32 = 600;
+
+/// Serves a connection that was handed out, which watches a process where its first line asks for it, and tells what of its end
+/// concerns the server. The connection agrees with all that was done for it.
+pub(crate) fn attend<G: Desk, S: Source, K: Sink, C: Clock, W: Waiter>(
+    alloc: Global,
+    desk: &G,
+    pass: &mut G::Pass,
+    catalogue: &Catalogue,
+    session: SessionId,
+    input: &mut S,
+    output: &mut K,
+    clock: &mut C,
+    waiter: &mut W,
+) -> Trouble
+    requires own { G.owns desk.now pass.old }
+    requires plant { actuators catalogue.now ≡ G.plant desk.now }
+    requires some { 0 < session }
+    requires fresh { IsUntouched S.Source K.Sink input.old output.old }
+    ensures own { G.owns desk.now pass.new }
+    ensures parts { G.parts pass.new ≡ G.parts pass.old }
+    ensures added { Added (actuators catalogue.now) (of_session session)
+        (λ entries. S.tells → IsVisit catalogue.now K.tells (served_of S.Source K.Sink session input.new output.new) (is_trouble result) entries)
+        C.tells (own_of G.Desk pass.old) (own_of G.Desk pass.new) (C.given clock.old) (C.given clock.new) }
+    ensures clocked { ClockTrouble (C.faults clock.old) (C.faults clock.new) result }
+    ensures broken { result ≡ Disk → is_broken (G.seen pass.new) ≡ true }
+{
+    match serve_connection(alloc, desk, pass, catalogue, session, input, output, clock) {
+        SessionEnd::Watch { name, from } => watch_trouble(watch_connection(
+            alloc, desk, pass, catalogue, session, &name, from, output, clock, waiter, IDLE,
+        )),
+        end => session_trouble(&end),
+    }
+}

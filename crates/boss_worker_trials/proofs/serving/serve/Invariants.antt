@@ -1,6 +1,0 @@
-use Rattle.std.proofs.Common.{◌≡◌}
-use Rattle.boss_worker_trials.proofs.serving.serve.Given as goal
-
--- each connection was given back
-abbrev pub invariant-loop-number : goal.invariant-loop-number
-invariant-loop-number g l = g.H.Host.sound l.host × (g.H.Host.away l.host ≡ 0)

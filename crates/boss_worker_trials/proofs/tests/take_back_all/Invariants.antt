@@ -1,4 +1,0 @@
-use Rattle.boss_worker_trials.proofs.tests.take_back_all.Given as goal
-
-abbrev pub invariant-loop-ran : goal.invariant-loop-ran
-invariant-loop-ran g l = g.H.Host.sound l.host

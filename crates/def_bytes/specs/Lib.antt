@@ -1,0 +1,6 @@
+pub mod Fields
+pub mod Exact
+pub mod Parts
+pub mod Events
+pub mod States
+pub mod Batches

@@ -1,0 +1,45 @@
+-- Exchanges put behind others.
+use Rattle.std.proofs.Common.{◌≡◌, ℕ, Bool, true, false, ◌||◌, List, [], ◌∷◌, ◌++◌, refl, ap, sym, ◌∙◌, append_assoc}
+use Rattle.std.specs.List.{AllByRecursion}
+use Rattle.def_connection.specs.Speech.{Reading, Speech, Exchange, AreRead, is_later, text_of, text_in, deeds_of, deeds_in, moments_of, moments_in, last_or, attaches, attached_in, is_end, EndsOnce}
+
+pub reads-append : (reading : Bool → List ℕ → Reading) (later : Bool) (xs ys : List Exchange) → AreRead reading later xs → AreRead reading (is_later later xs) ys →
+    AreRead reading later (xs ++ ys)
+reads-append reading later [] ys first then = then
+reads-append reading later (x ∷ []) ys first then = (first.0, then)
+reads-append reading later (x ∷ y ∷ xs) ys first then = (first.0, reads-append reading true (y ∷ xs) ys first.1 then)
+
+pub text-append : (speech : Speech) (xs ys : List Exchange) → text_in speech (xs ++ ys) ≡ text_in speech xs ++ text_in speech ys
+text-append speech [] ys = refl
+text-append speech (x ∷ xs) ys = ap (λ rest. text_of speech x ++ rest) (text-append speech xs ys) ∙ sym (append_assoc (text_of speech x) (text_in speech xs) (text_in speech ys))
+
+pub deeds_in-append : (session : ℕ) (xs ys : List Exchange) → deeds_in session (xs ++ ys) ≡ deeds_in session xs ++ deeds_in session ys
+deeds_in-append session [] ys = refl
+deeds_in-append session (x ∷ xs) ys = ap (λ rest. deeds_of session x ++ rest) (deeds_in-append session xs ys) ∙ sym (append_assoc (deeds_of session x) (deeds_in session xs) (deeds_in session ys))
+
+pub moments-append : (xs ys : List Exchange) → moments_in (xs ++ ys) ≡ moments_in xs ++ moments_in ys
+moments-append [] ys = refl
+moments-append (x ∷ xs) ys = ap (λ rest. moments_of x ++ rest) (moments-append xs ys) ∙ sym (append_assoc (moments_of x) (moments_in xs) (moments_in ys))
+
+pub last-append : (moment : ℕ) (xs ys : List ℕ) → last_or moment (xs ++ ys) ≡ last_or (last_or moment xs) ys
+last-append moment [] ys = refl
+last-append moment (x ∷ xs) ys = last-append x xs ys
+
+or-assoc : (a b c : Bool) → (a || (b || c)) ≡ ((a || b) || c)
+or-assoc true b c = refl
+or-assoc false b c = refl
+
+pub attached-append : (xs ys : List Exchange) → attached_in (xs ++ ys) ≡ (attached_in xs || attached_in ys)
+attached-append [] ys = refl
+attached-append (x ∷ xs) ys = ap (λ rest. attaches x || rest) (attached-append xs ys) ∙ or-assoc (attaches x) (attached_in xs) (attached_in ys)
+
+pub attached-then : (before : Bool) (xs ys : List Exchange) → ((before || attached_in xs) || attached_in ys) ≡ (before || attached_in (xs ++ ys))
+attached-then before xs ys = sym (or-assoc before (attached_in xs) (attached_in ys)) ∙ ap (λ rest. before || rest) (sym (attached-append xs ys))
+
+pub ends-append : (xs ys : List Exchange) → AllByRecursion (λ exchange. is_end exchange ≡ false) xs → EndsOnce ys → EndsOnce (xs ++ ys)
+ends-append [] ys first then = then
+ends-append (x ∷ xs) ys first then = ((λ is. absurd (let no : true ≡ false = sym is ∙ first.0 in cc)), ends-append xs ys first.1 then)
+
+pub goes-ends : (xs : List Exchange) → AllByRecursion (λ exchange. is_end exchange ≡ false) xs → EndsOnce xs
+goes-ends [] goes = tt
+goes-ends (x ∷ xs) goes = ((λ is. absurd (let no : true ≡ false = sym is ∙ goes.0 in cc)), goes-ends xs goes.1)

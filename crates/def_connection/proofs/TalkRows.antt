@@ -1,0 +1,93 @@
+-- Talks line by line: how they are read, their entries, texts and moments, and how they end.
+use Rattle.std.proofs.Common.{◌≡◌, ℕ, Bool, false, true, List, [], ◌∷◌, Some, refl}
+use Rattle.boss_model.specs.declared.answer.Answer.{Answer}
+use Rattle.boss_model.specs.declared.answer.Answer.TheVariants as answer
+use Rattle.boss_model.specs.declared.answer.Refusal.TheVariants as refusal
+use Rattle.boss_model.specs.declared.command.Command.{Command}
+use Rattle.boss_model.specs.declared.command.Command.TheVariants as command
+use Rattle.def_history.specs.declared.entry.Entry.TheVariants.{Did}
+use Rattle.def_connection.specs.Batches.{batch, deeds_by}
+use Rattle.def_connection.specs.Speech.{Reading, asks, watches, refuses, Reply, of_answer, of_memory, of_stop, Speech, Exchange, unread, refused, called, AreRead, text_in, deeds_in, moments_in, last_or, attached_in, parting_of, EndsOnce}
+use Rattle.def_connection.specs.Watching.{watched_in}
+
+abbrev name : List ℕ
+name = 97 ∷ []
+
+abbrev attach : Command
+attach = command.Attach name
+
+abbrev status : Command
+status = command.Status 1
+
+-- a line of one byte attaches, one of two asks for a status, and a longer one watches, if it is the first
+abbrev reading : Bool → List ℕ → Reading
+reading later [] = refuses refusal.Malformed
+reading later (byte ∷ []) = asks attach
+reading later (byte ∷ next ∷ []) = asks status
+reading false (byte ∷ next ∷ third ∷ bytes) = watches name 1
+reading true (byte ∷ next ∷ third ∷ bytes) = refuses refusal.UnknownOp
+
+abbrev reply_text : Reply → List ℕ
+reply_text (of_answer given) = 1 ∷ []
+reply_text of_memory = 2 ∷ []
+reply_text of_stop = 3 ∷ []
+
+abbrev speech : Speech
+speech = record { reading = reading; reply_text = reply_text; refusal_text = λ why. 4 ∷ []; too_long = 5 ∷ [] }
+
+abbrev one : List ℕ
+one = 49 ∷ []
+
+abbrev two : List ℕ
+two = 49 ∷ 50 ∷ []
+
+abbrev three : List ℕ
+three = 49 ∷ 50 ∷ 51 ∷ []
+
+abbrev held : Answer
+held = answer.Attached name 1
+
+-- an attach at 10, a status at 20 for which there was no memory, one at 30, a line that asks nothing, one that was not read for
+-- want of memory, and one at 40 at which the disk had failed
+abbrev talk : List Exchange
+talk = called one attach 10 (of_answer held) ∷ called two status 20 of_memory ∷ called two status 30 (of_answer (answer.Ticked 30))
+    ∷ refused three refusal.UnknownOp ∷ unread one ∷ called two status 40 of_stop ∷ []
+
+read-row : AreRead reading false talk
+read-row = (refl, (refl, (refl, (refl, (tt, (refl, tt))))))
+
+deeds-row : deeds_in 7 talk ≡ Did 7 attach 10 held ∷ Did 7 status 30 (answer.Ticked 30) ∷ []
+deeds-row = refl
+
+text-row : text_in speech talk ≡ 1 ∷ 2 ∷ 1 ∷ 4 ∷ 2 ∷ 3 ∷ []
+text-row = refl
+
+moments-row : moments_in talk ≡ 10 ∷ 20 ∷ 30 ∷ 40 ∷ []
+moments-row = refl
+
+attached-row : attached_in talk ≡ true
+attached-row = refl
+
+-- one that was refused, or for which there was no memory, attaches nothing
+unattached-row : attached_in (called one attach 10 (of_answer (answer.Refused refusal.Spent)) ∷ called one attach 20 of_memory ∷ called two status 30 (of_answer held) ∷ []) ≡ false
+unattached-row = refl
+
+-- the process is lost at the last moment, also where that had no call
+parting-row : parting_of 7 (last_or 0 (10 ∷ 40 ∷ 50 ∷ [])) (Some (answer.Gone 0)) ≡ Did 7 command.Gone 50 (answer.Gone 0) ∷ []
+parting-row = refl
+
+stop-row : EndsOnce talk
+stop-row = ((λ is. cc), ((λ is. cc), ((λ is. cc), ((λ is. cc), ((λ is. cc), ((λ is. refl), tt))))))
+
+-- three calls of which two have a reply
+batch-row : batch (one ∷ two ∷ two ∷ []) ((attach, 10) ∷ (status, 20) ∷ (status, 30) ∷ []) (of_answer held ∷ of_stop ∷ [])
+    ≡ called one attach 10 (of_answer held) ∷ called two status 20 of_stop ∷ []
+batch-row = refl
+
+deeds-of-batch-row : deeds_by 7 ((attach, 10) ∷ (status, 20) ∷ (status, 30) ∷ []) (of_answer held ∷ of_stop ∷ []) ≡ Did 7 attach 10 held ∷ []
+deeds-of-batch-row = refl
+
+-- each turn asks from the number behind the notices of the one before
+watch-row : watched_in 7 name 1 ((100, answer.Notices 1 4 []) ∷ (200, answer.Notices 4 4 []) ∷ [])
+    ≡ Did 7 (command.Notices (Some name) 1 64) 100 (answer.Notices 1 4 []) ∷ Did 7 (command.Notices (Some name) 4 64) 200 (answer.Notices 4 4 []) ∷ []
+watch-row = refl

@@ -1,0 +1,54 @@
+ghost use Rattle.std.specs.Prelude.{◌≡◌, ℕ, ◌≤◌, Bool, true, false, ◌||◌, List, [], ◌++◌, length, map, drop, Option, None};
+ghost use Rattle.std.specs.List.{AllByRecursion};
+ghost use Rattle.def_history.specs.declared.entry.Entry.{Entry};
+ghost use Rattle.def_history.specs.History.{deeds};
+ghost use Rattle.boss_model.specs.declared.answer.Answer.{Answer};
+ghost use Rattle.boss_model.specs.declared.command.Command.{Command};
+ghost use Rattle.def_connection.specs.Batches.{AreAsked, batch, deeds_by, texts_by};
+ghost use Rattle.def_connection.specs.Speech.{Reply, Speech, is_later, last_or, attached_in, parting_of, is_stop, EndsOnce};
+ghost use Rattle.def_connection.specs.Talks.{Told, Standing, Goes, Stops, Talked, end_text};
+
+use boss_outside::Sink;
+use boss_outside_server::Clock;
+
+/// A talk begins with nothing, goes on, and stops: behind a part that went on comes another one, or one in which it stops, or
+/// nothing that has a reply.
+pub fn a_talk_goes_on<K: Sink, C: Clock>()
+    ensures nothing { (speech : Speech) (session : ℕ) (later : Bool) (s : Standing) → Goes speech session K.tells C.tells later [] s s }
+    ensures then { (speech : Speech) (session : ℕ) (later : Bool) (heard others : List (List ℕ)) (a b c : Standing) →
+        Goes speech session K.tells C.tells later heard a b → Goes speech session K.tells C.tells (is_later later heard) others b c →
+        Goes speech session K.tells C.tells later (heard ++ others) a c }
+    ensures stops { (speech : Speech) (session : ℕ) (later : Bool) (heard others rest : List (List ℕ)) (behind : List ℕ) (a b c : Standing) →
+        Goes speech session K.tells C.tells later heard a b → Stops speech session K.tells C.tells (is_later later heard) others rest behind b c →
+        Stops speech session K.tells C.tells later (heard ++ others) rest behind a c }
+    ensures here { (speech : Speech) (session : ℕ) (later : Bool) (rest : List (List ℕ)) (behind unused : List ℕ) (old new : Standing) →
+        deeds new.own ≡ deeds old.own → (K.tells → Told old.taken new.taken old.faults new.faults behind) → (C.tells → new.given ≡ old.given ++ unused) →
+        new.attached ≡ old.attached → new.last ≡ last_or old.last unused → Stops speech session K.tells C.tells later rest rest behind old new }
+{}
+
+/// A batch that was answered whole is a part of a talk that goes on. One that was not ends it: the lines behind its last reply,
+/// and those behind the batch, have none.
+pub fn a_batch_is_a_part_of_a_talk<K: Sink, C: Clock>()
+    ensures whole { (speech : Speech) (session : ℕ) (later : Bool) (lines : List (List ℕ)) (calls : List (Command × ℕ)) (replies : List Reply) (old new : Standing) →
+        AreAsked speech.reading later lines calls → length replies ≡ length calls → AllByRecursion (λ reply. is_stop reply ≡ false) replies →
+        deeds new.own ≡ deeds old.own ++ deeds_by session calls replies → (K.tells → new.taken ≡ old.taken ++ texts_by speech replies) →
+        new.faults ≡ old.faults → (C.tells → new.given ≡ old.given ++ map (λ call. call.1) calls) →
+        new.attached ≡ (old.attached || attached_in (batch lines calls replies)) → new.last ≡ last_or old.last (map (λ call. call.1) calls) →
+        Goes speech session K.tells C.tells later lines old new }
+    ensures cut { (speech : Speech) (session : ℕ) (later : Bool) (lines more : List (List ℕ)) (calls : List (Command × ℕ)) (replies : List Reply) (old new : Standing) →
+        AreAsked speech.reading later lines calls → length replies ≤ length calls → EndsOnce (batch lines calls replies) →
+        deeds new.own ≡ deeds old.own ++ deeds_by session calls replies → (K.tells → Told old.taken new.taken old.faults new.faults (texts_by speech replies)) →
+        (C.tells → new.given ≡ old.given ++ map (λ call. call.1) calls) →
+        new.attached ≡ (old.attached || attached_in (batch lines calls replies)) → new.last ≡ last_or old.last (map (λ call. call.1) calls) →
+        Stops speech session K.tells C.tells later (lines ++ more) (drop (length replies) lines ++ more) [] old new }
+{}
+
+/// A talk that stopped is whole once its process, where it had one, is told to be lost at the last moment that the clock gave; or
+/// the disk has failed.
+pub fn a_talk_is_whole<K: Sink, C: Clock>()
+    ensures { (speech : Speech) (session : ℕ) (heard rest : List (List ℕ)) (long broken : Bool) (old new : Standing) (own : List Entry) (parting : Option Answer) →
+        Stops speech session K.tells C.tells false heard rest (end_text speech long) old new → old.attached ≡ false → old.last ≡ 0 →
+        deeds own ≡ deeds new.own ++ parting_of session new.last parting → (new.attached ≡ false → parting ≡ None) →
+        (new.attached ≡ true → parting ≡ None → broken ≡ true) →
+        Talked speech session K.tells C.tells heard rest long broken old (record new { own = own }) }
+{}

@@ -1,0 +1,47 @@
+-- What stands on a disk before its first gate.
+use Rattle.std.specs.Prelude.{◌≡◌, ◌≢◌, ◌⊎◌, ℕ, ◌^◌, ◌<◌, ◌≤◌, true, List, ◌∷◌, ◌++◌, length}
+use Rattle.std.specs.Int.{w64}
+use Rattle.def_bytes.specs.Fields.{number_text}
+use Rattle.boss_model.specs.declared.state.Actuator.{Actuator}
+use Rattle.boss_model.specs.Limits.{last_number}
+use Rattle.boss_model.specs.Sound.{IsSoundPersistent}
+use Rattle.boss_model.specs.State.{Persistent, first_persistent}
+use Rattle.def_bytes.specs.States.{state}
+use Rattle.def_log.specs.Kinds.{plain_mark, state_mark}
+
+-- the versions that are known
+abbrev pub IsKnown : ℕ → Type 0
+IsKnown version = (version ≡ 1) ⊎ (version ≡ 2)
+
+-- byte 0, which is any but 0; the mark; the version; the digest of the catalogue
+abbrev pub heading : ℕ → List ℕ → ℕ → List ℕ → List ℕ
+heading first mark version digest = first ∷ (mark ++ version ∷ digest)
+
+-- a journal from the first state on: its first gate is byte 41
+pub record IsPlainFront (digest : List ℕ) (version : ℕ) (from : Persistent) (before : ℕ) (front : List ℕ) : Type 0 where
+  pub first : ℕ
+  pub written : first ≢ 0
+  pub known : IsKnown version
+  pub is : front ≡ heading first plain_mark version digest
+  pub first_state : from ≡ first_persistent
+  pub none_before : before ≡ 0
+
+-- generation, number of events before, length of the state, the state
+abbrev pub kept_state : ℕ → ℕ → List ℕ → List ℕ
+kept_state generation before text = number_text w64 generation ++ (number_text w64 before ++ (number_text w64 (length text) ++ text))
+
+-- a kept state, which is sound: its first gate is behind it, at byte 65 + n where the state has n bytes
+pub record IsStateFront (plant : List Actuator) (digest : List ℕ) (version generation : ℕ) (from : Persistent) (before : ℕ) (front : List ℕ) : Type 0 where
+  pub first : ℕ
+  pub written : first ≢ 0
+  pub known : IsKnown version
+  pub is : front ≡ heading first state_mark version digest ++ kept_state generation before ((state version).text from)
+  pub counted : generation < 2 ^ 64
+  pub few : before ≤ last_number
+  pub fits : (state version).fits from ≡ true
+  pub sound : IsSoundPersistent plant from
+
+-- the front of a disk in force: what its events start from, and how many were before them
+abbrev pub IsFront : List Actuator → List ℕ → ℕ → Persistent → ℕ → List ℕ → Type 0
+IsFront plant digest version from before front =
+    IsPlainFront digest version from before front ⊎ ((generation : ℕ) × IsStateFront plant digest version generation from before front)

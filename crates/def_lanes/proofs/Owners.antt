@@ -1,0 +1,102 @@
+-- Two workers never share a lane: each lane's work is that of one worker.
+use Rattle.std.proofs.Common.{Bool, ◌≡◌, ℕ, ◌+◌, ◌-◌, ◌*◌, ◌%◌, ◌<◌, ◌≤◌, true, List, [], ◌∷◌, ◌++◌, refl, ap, sym, ◌∙◌, arith, append_assoc}
+use Rattle.std.proofs.lemmas.Bool.Decides.{nat_tests}
+use Rattle.std.proofs.lemmas.Nat.{mod-mul-add}
+use Rattle.boss_outside_server.specs.Hosts.{Served}
+use Rattle.def_lanes.specs.Lanes.{Lane, of_session, of_driver, of_time, of_nobody, is_lane}
+use Rattle.def_lanes.specs.Works.{Work, visit, beat, drive, lane_of_work, owner, AreOf, IsBefore, AreBefore, IsAbsent, AreApart, AreStrange, served_by, served_in}
+use Rattle.def_lanes.proofs.Lists.{each-append, each-map, each-turned}
+
+-- ---- lanes are told apart
+
+pub is_lane-self : (lane : Lane) → is_lane lane lane ≡ true
+is_lane-self (of_session s) = grind (arith, nat_tests)
+is_lane-self (of_driver d) = grind (arith, nat_tests)
+is_lane-self of_time = refl
+is_lane-self of_nobody = refl
+
+pub same-lane : (lane other : Lane) → is_lane lane other ≡ true → lane ≡ other
+same-lane (of_session s) (of_session t) is = let same : s ≡ t = grind (arith, nat_tests) in ap of_session same
+same-lane (of_session s) (of_driver e) is = absurd cc
+same-lane (of_session s) of_time is = absurd cc
+same-lane (of_session s) of_nobody is = absurd cc
+same-lane (of_driver d) (of_session t) is = absurd cc
+same-lane (of_driver d) (of_driver e) is = let same : d ≡ e = grind (arith, nat_tests) in ap of_driver same
+same-lane (of_driver d) of_time is = absurd cc
+same-lane (of_driver d) of_nobody is = absurd cc
+same-lane of_time (of_session t) is = absurd cc
+same-lane of_time (of_driver e) is = absurd cc
+same-lane of_time of_time is = refl
+same-lane of_time of_nobody is = absurd cc
+same-lane of_nobody (of_session t) is = absurd cc
+same-lane of_nobody (of_driver e) is = absurd cc
+same-lane of_nobody of_time is = absurd cc
+same-lane of_nobody of_nobody is = refl
+
+-- ---- owners
+
+pub same-owner : (workers : ℕ) (x y : Work) → lane_of_work x ≡ lane_of_work y → owner workers x ≡ owner workers y
+same-owner workers (visit served cut) (visit other ended) is = let same : served.session ≡ other.session = cc in ap (λ s. (s - 1) % workers) same
+same-owner workers (visit served cut) (beat pauses closed) is = absurd cc
+same-owner workers (visit served cut) (drive driver calls pauses closed) is = absurd cc
+same-owner workers (beat pauses closed) (visit other ended) is = absurd cc
+same-owner workers (beat pauses closed) (beat others told) is = refl
+same-owner workers (beat pauses closed) (drive driver calls others told) is = absurd cc
+same-owner workers (drive driver calls pauses closed) (visit other ended) is = absurd cc
+same-owner workers (drive driver calls pauses closed) (beat others told) is = absurd cc
+same-owner workers (drive driver calls pauses closed) (drive next made others told) is = let same : driver ≡ next = cc in ap (λ d. workers + 1 + d) same
+
+-- the sessions of a worker for connections: the first one, and then each one behind as many others as there are such workers
+pub owner-session : (workers number turn : ℕ) (served : Served) (cut : Bool) → number < workers → served.session ≡ 1 + number + workers * turn →
+    owner workers (visit served cut) ≡ number
+owner-session workers number turn served cut less is =
+    let place : served.session - 1 ≡ turn * workers + number = grind (arith) in
+    ap (λ s. s % workers) place ∙ mod-mul-add turn workers number less
+
+pub absent-append : (lane : Lane) (xs ys : List Work) → IsAbsent lane xs → IsAbsent lane ys → IsAbsent lane (xs ++ ys)
+absent-append lane xs ys first then = each-append (λ work. ¬ (lane_of_work work ≡ lane)) xs ys first then
+
+pub strange-turned : (xs ys : List Work) → AreStrange xs ys → AreStrange ys xs
+strange-turned xs ys strange = each-turned (λ x y. ¬ (lane_of_work y ≡ lane_of_work x)) (λ y x. ¬ (lane_of_work x ≡ lane_of_work y)) (λ x y other same. other (sym same)) xs ys strange
+
+pub strange-owners : (workers first middle end : ℕ) (xs ys : List Work) → AreOf workers first middle xs → AreOf workers middle end ys → AreStrange xs ys
+strange-owners workers first middle end xs ys of_first of_then =
+    each-map (λ x. (first ≤ owner workers x) × (owner workers x < middle)) (λ x. IsAbsent (lane_of_work x) ys)
+    (λ x within. each-map (λ y. (middle ≤ owner workers y) × (owner workers y < end)) (λ y. ¬ (lane_of_work y ≡ lane_of_work x))
+    (λ y above same. omega (arith, same-owner workers y x same, within.1, above.0)) ys of_then) xs of_first
+
+pub apart-append : (xs ys : List Work) → AreApart xs → AreApart ys → AreStrange xs ys → AreApart (xs ++ ys)
+apart-append [] ys first then strange = then
+apart-append (x ∷ xs) ys first then strange = (absent-append (lane_of_work x) xs ys first.0 strange.0, apart-append xs ys first.1 then strange.1)
+
+pub of-wider : (workers first end low high : ℕ) → low ≤ first → end ≤ high → (works : List Work) → AreOf workers first end works → AreOf workers low high works
+of-wider workers first end low high below above works of_them =
+    each-map (λ x. (first ≤ owner workers x) × (owner workers x < end)) (λ x. (low ≤ owner workers x) × (owner workers x < high))
+    (λ x within. (omega (arith, within.0), omega (arith, within.1))) works of_them
+
+pub of-append : (workers first end : ℕ) (xs ys : List Work) → AreOf workers first end xs → AreOf workers first end ys → AreOf workers first end (xs ++ ys)
+of-append workers first end xs ys = each-append (λ x. (first ≤ owner workers x) × (owner workers x < end)) xs ys
+
+pub served_in-append : (xs ys : List Work) → served_in (xs ++ ys) ≡ served_in xs ++ served_in ys
+served_in-append [] ys = refl
+served_in-append (x ∷ xs) ys = ap (λ rest. served_by x ++ rest) (served_in-append xs ys) ∙ sym (append_assoc (served_by x) (served_in xs) (served_in ys))
+
+-- ---- sessions that rise
+
+not-next : (next : ℕ) (work : Work) → IsBefore next work → ¬ (lane_of_work work ≡ of_session next)
+not-next next (visit served cut) before is = let same : served.session ≡ next = cc in omega arith
+not-next next (beat pauses closed) before is = before
+not-next next (drive driver calls pauses closed) before is = before
+
+pub before-absent : (next : ℕ) (works : List Work) → AreBefore next works → IsAbsent (of_session next) works
+before-absent next works before = each-map (IsBefore next) (λ work. ¬ (lane_of_work work ≡ of_session next)) (not-next next) works before
+
+before-later : (next later : ℕ) → next < later → (work : Work) → IsBefore next work → IsBefore later work
+before-later next later less (visit served cut) before = omega arith
+before-later next later less (beat pauses closed) before = before
+before-later next later less (drive driver calls pauses closed) before = before
+
+pub before-more : (next later : ℕ) (works : List Work) (served : Served) (cut : Bool) → AreBefore next works → served.session ≡ next → next < later →
+    AreBefore later (works ++ visit served cut ∷ [])
+before-more next later works served cut before is less =
+    each-append (IsBefore later) works (visit served cut ∷ []) (each-map (IsBefore next) (IsBefore later) (before-later next later less) works before) (omega arith, tt)

@@ -1,0 +1,91 @@
+-- What a worker of a server has done in one lane, and which worker that is.
+use Rattle.std.specs.Prelude.{◌≡◌, ℕ, ◌+◌, ◌-◌, ◌%◌, ◌<◌, ◌≤◌, ◌==◌, Bool, true, false, ◌||◌, List, [], ◌∷◌, ◌++◌, if◌then◌else◌}
+use Rattle.std.specs.List.{AllByRecursion}
+use Rattle.boss_model.specs.DeviceCall.{DeviceCall}
+use Rattle.boss_outside_server.specs.Hosts.{Served}
+use Rattle.def_lanes.specs.Lanes.{Lane, of_session, of_driver, of_time, is_lane}
+
+-- a connection that ended, and whether it was cut off: the clock or the disk failed, or there was no memory to begin; or the
+-- pauses of the worker that watches time, and whether the last one told it to end; or those of a worker that drives the devices
+-- of a driver, with the calls of its devices
+pub data Work : Type 0 where
+  visit : Served → Bool → Work
+  beat : ℕ → Bool → Work
+  drive : ℕ → List DeviceCall → ℕ → Bool → Work
+
+abbrev pub lane_of_work : Work → Lane
+lane_of_work (visit served cut) = of_session served.session
+lane_of_work (beat pauses closed) = of_time
+lane_of_work (drive driver calls pauses closed) = of_driver driver
+
+-- the number of the worker that does it, where so many serve connections: these have the numbers from 0 on, and the sessions
+-- in turn; then comes the one that watches time, and then one for each driver
+abbrev pub owner : ℕ → Work → ℕ
+owner workers (visit served cut) = (served.session - 1) % workers
+owner workers (beat pauses closed) = workers
+owner workers (drive driver calls pauses closed) = workers + 1 + driver
+
+-- each is done by a worker with a number from the first one up to, but not with, the end
+abbrev pub AreOf : ℕ → ℕ → ℕ → List Work → Type 0
+AreOf workers first end works = AllByRecursion (λ work. (first ≤ owner workers work) × (owner workers work < end)) works
+
+-- each is a connection with a session before this one
+abbrev pub IsBefore : ℕ → Work → Type 0
+IsBefore next (visit served cut) = served.session < next
+IsBefore next (beat pauses closed) = ⊥
+IsBefore next (drive driver calls pauses closed) = ⊥
+
+abbrev pub AreBefore : ℕ → List Work → Type 0
+AreBefore next works = AllByRecursion (IsBefore next) works
+
+-- none is done in the lane
+abbrev pub IsAbsent : Lane → List Work → Type 0
+IsAbsent lane works = AllByRecursion (λ work. ¬ (lane_of_work work ≡ lane)) works
+
+-- no two are done in one lane
+abbrev pub AreApart : List Work → Type 0
+AreApart [] = Unit {0}
+AreApart (work ∷ works) = IsAbsent (lane_of_work work) works × AreApart works
+
+-- none of the first is done in a lane of one of the others
+abbrev pub AreStrange : List Work → List Work → Type 0
+AreStrange works others = AllByRecursion (λ work. IsAbsent (lane_of_work work) others) works
+
+-- each has come to its end: no connection was cut off, and each other worker was told to end
+abbrev pub IsWhole : Work → Type 0
+IsWhole (visit served cut) = cut ≡ false
+IsWhole (beat pauses closed) = closed ≡ true
+IsWhole (drive driver calls pauses closed) = closed ≡ true
+
+abbrev pub AreWhole : List Work → Type 0
+AreWhole works = AllByRecursion IsWhole works
+
+-- the connections, in order
+abbrev pub served_by : Work → List Served
+served_by (visit served cut) = served ∷ []
+served_by (beat pauses closed) = []
+served_by (drive driver calls pauses closed) = []
+
+abbrev pub served_in : List Work → List Served
+served_in [] = []
+served_in (work ∷ works) = served_by work ++ served_in works
+
+-- each connection has a session of its own
+abbrev pub HaveOwnSessions : List Served → Type 0
+HaveOwnSessions [] = Unit {0}
+HaveOwnSessions (served ∷ rest) = AllByRecursion (λ other. ¬ (other.session ≡ served.session)) rest × HaveOwnSessions rest
+
+-- whether one of them is done in the lane
+abbrev pub is_done_by : List Work → Lane → Bool
+is_done_by [] lane = false
+is_done_by (work ∷ works) lane = is_lane lane (lane_of_work work) || is_done_by works lane
+
+-- the calls of a driver's devices, in order
+abbrev pub calls_by : ℕ → Work → List DeviceCall
+calls_by driver (visit served cut) = []
+calls_by driver (beat pauses closed) = []
+calls_by driver (drive other calls pauses closed) = if other == driver then calls else []
+
+abbrev pub calls_in : ℕ → List Work → List DeviceCall
+calls_in driver [] = []
+calls_in driver (work ∷ works) = calls_by driver work ++ calls_in driver works

@@ -1,0 +1,641 @@
+//! Connections that are served.
+
+ghost use Rattle.std.specs.Prelude.{◌≡◌};
+ghost use Rattle.boss_model.specs.Catalogue.{actuators};
+
+use crate::asking::{ALL, GOOD, Machine, is_line_done, prepare};
+use crate::connection::{Connection, Fails, NONE_FAILS};
+use crate::pieces::Piece;
+use crate::texts::{compare, joined};
+use boss_model::SessionId;
+use boss_points::Catalogue;
+use boss_sessions::SessionEnd;
+use boss_shared::Desk;
+use std::alloc::{AllocError, Global};
+use std::process::Abort;
+use std::sync::Wait;
+use std::test::Fail;
+use trial_keeper::{Taken, Trial, run_trial};
+use trial_parts::THREE_POINTS;
+
+const ATTACH: &str = r#"{"op":"attach","process":"a"}"#;
+
+const SUBMIT: &str =
+    r#"{"op":"submit","writes":[{"point":"ahu1.damper","value":45000,"priority":8,"lease":60000}]}"#;
+
+const READ: &str = r#"{"op":"read","point":"ahu1.damper"}"#;
+
+const WATCH: &str = r#"{"op":"watch","process":"a"}"#;
+
+const WATCH_FROM_3: &str = r#"{"op":"watch","process":"a","from":3}"#;
+
+const ATTACHED: &str = r#"{"ok":"attached","process":"a","next":1}"#;
+
+const ACCEPTED: &str = r#"{"ok":"accepted","txn":1,"until":61000}"#;
+
+const ACCEPTED_LATER: &str = r#"{"ok":"accepted","txn":1,"until":62000}"#;
+
+const HELD: &str =
+    r#"{"ok":"read","point":"ahu1.damper","value":45000,"from":"lease","priority":8,"txn":1,"mark":"pending"}"#;
+
+const FREE: &str =
+    r#"{"ok":"read","point":"ahu1.damper","value":20000,"from":"default","mark":"pending"}"#;
+
+const MALFORMED: &str = r#"{"error":"malformed"}"#;
+
+const UNKNOWN_OP: &str = r#"{"error":"unknown-op"}"#;
+
+const TOO_LONG: &str = r#"{"error":"too-long"}"#;
+
+const MEMORY: &str = r#"{"error":"memory"}"#;
+
+const STOPPED: &str = r#"{"error":"stopped"}"#;
+
+/// An attach of the same process by another session.
+const ATTACH_AGAIN: &str = r#"{"on":9,"op":"attach","process":"a"}"#;
+
+const ENDED: &str = "End; bytes left: 0; a is free";
+
+/// What comes on a connection of session 1 and how, and what fails. Then what is told: what goes out, how the session ends, how much is
+/// left in the source and whether its process is free; and of each call in which the disk did not fail how many commands it had and
+/// the moment of the first.
+#[derive(Drop)]
+struct Talk {
+    shows: &'static str,
+    lines: &'static [&'static str],
+    /// How many bytes without a line end come behind the lines.
+    rest: usize,
+    piece: Piece,
+    moments: &'static [u32],
+    fails: Fails,
+    machine: Machine,
+    told: &'static [&'static str],
+}
+
+/// An attach, a submit and a read in one read, the clock standing still.
+const ONE_PIECE: Talk = Talk {
+    shows: "one piece",
+    lines: &[ATTACH, SUBMIT, READ],
+    rest: 0,
+    piece: Piece::Whole,
+    moments: &[1000],
+    fails: NONE_FAILS,
+    machine: GOOD,
+    told: &[ATTACHED, ACCEPTED, HELD, ENDED, "3 at 1000", "1 at 1000"],
+};
+
+/// How the lines come.
+const PIECES: &[Talk] = &[
+    ONE_PIECE,
+    Talk {
+        shows: "three pieces",
+        piece: Piece::Line,
+        told: &[
+            ATTACHED,
+            ACCEPTED,
+            HELD,
+            ENDED,
+            "1 at 1000",
+            "1 at 1000",
+            "1 at 1000",
+            "1 at 1000",
+        ],
+        ..ONE_PIECE
+    },
+    Talk {
+        shows: "one byte a read",
+        piece: Piece::Byte,
+        told: &[
+            ATTACHED,
+            ACCEPTED,
+            HELD,
+            ENDED,
+            "1 at 1000",
+            "1 at 1000",
+            "1 at 1000",
+            "1 at 1000",
+        ],
+        ..ONE_PIECE
+    },
+    Talk {
+        shows: "each line has a moment of its own, and the last one is that of the loss",
+        moments: &[1000, 2000, 500],
+        piece: Piece::Line,
+        told: &[
+            ATTACHED,
+            ACCEPTED_LATER,
+            HELD,
+            ENDED,
+            "1 at 1000",
+            "1 at 2000",
+            "1 at 500",
+            "1 at 500",
+        ],
+        ..ONE_PIECE
+    },
+    Talk {
+        shows: "a blank line ends no batch",
+        lines: &[READ, "  ", READ],
+        told: &[FREE, FREE, ENDED, "2 at 1000"],
+        ..ONE_PIECE
+    },
+    Talk {
+        shows: "seventeen are called as sixteen and one",
+        lines: &[
+            READ, READ, READ, READ, READ, READ, READ, READ, READ, READ, READ, READ, READ, READ,
+            READ, READ, READ,
+        ],
+        told: &[
+            FREE,
+            FREE,
+            FREE,
+            FREE,
+            FREE,
+            FREE,
+            FREE,
+            FREE,
+            FREE,
+            FREE,
+            FREE,
+            FREE,
+            FREE,
+            FREE,
+            FREE,
+            FREE,
+            FREE,
+            ENDED,
+            "16 at 1000",
+            "1 at 1000",
+        ],
+        ..ONE_PIECE
+    },
+    Talk {
+        shows: "no attach",
+        lines: &[READ],
+        told: &[FREE, ENDED, "1 at 1000"],
+        ..ONE_PIECE
+    },
+    Talk {
+        shows: "no line",
+        lines: &[],
+        told: &[ENDED],
+        ..ONE_PIECE
+    },
+];
+
+/// Lines that are no commands.
+const OTHER_LINES: &[Talk] = &[
+    Talk {
+        shows: "a first line that watches has no reply, and the others are not read",
+        lines: &[WATCH, READ, READ],
+        piece: Piece::Line,
+        told: &["watches a from 1; bytes left: 72; a is free"],
+        ..ONE_PIECE
+    },
+    Talk {
+        shows: "a blank line is not the first",
+        lines: &["\t", WATCH_FROM_3],
+        told: &["watches a from 3; bytes left: 0; a is free"],
+        ..ONE_PIECE
+    },
+    Talk {
+        shows: "a later line that watches",
+        lines: &[READ, WATCH],
+        told: &[FREE, UNKNOWN_OP, ENDED, "1 at 1000"],
+        ..ONE_PIECE
+    },
+    Talk {
+        shows: "a line between two reads that asks nothing",
+        lines: &[READ, "{}", READ],
+        told: &[FREE, MALFORMED, FREE, ENDED, "1 at 1000", "1 at 1000"],
+        ..ONE_PIECE
+    },
+    Talk {
+        shows: "a line that is too long behind fifteen",
+        lines: &[
+            READ, READ, READ, READ, READ, READ, READ, READ, READ, READ, READ, READ, READ, READ,
+            READ,
+        ],
+        rest: 65_536,
+        told: &[
+            FREE,
+            FREE,
+            FREE,
+            FREE,
+            FREE,
+            FREE,
+            FREE,
+            FREE,
+            FREE,
+            FREE,
+            FREE,
+            FREE,
+            FREE,
+            FREE,
+            FREE,
+            TOO_LONG,
+            "TooLong; bytes left: 0; a is free",
+            "15 at 1000",
+        ],
+        ..ONE_PIECE
+    },
+    Talk {
+        shows: "a rest without a line end is a line",
+        rest: 1,
+        told: &[
+            ATTACHED,
+            ACCEPTED,
+            HELD,
+            MALFORMED,
+            ENDED,
+            "3 at 1000",
+            "1 at 1000",
+        ],
+        ..ONE_PIECE
+    },
+];
+
+/// Reads, writes and readings of the clock that fail.
+const FAULTS: &[Talk] = &[
+    Talk {
+        shows: "the second of three reads fails",
+        piece: Piece::Line,
+        fails: Fails {
+            read: 2,
+            ..NONE_FAILS
+        },
+        told: &[
+            ATTACHED,
+            "ReadFault; bytes left: 128; a is free",
+            "1 at 1000",
+            "1 at 1000",
+        ],
+        ..ONE_PIECE
+    },
+    Talk {
+        shows: "the first read fails",
+        fails: Fails {
+            read: 1,
+            ..NONE_FAILS
+        },
+        told: &["ReadFault; bytes left: 158; a is free"],
+        ..ONE_PIECE
+    },
+    Talk {
+        shows: "the first write fails, and all are done",
+        fails: Fails {
+            write: 1,
+            ..NONE_FAILS
+        },
+        told: &[
+            "WriteFault; bytes left: 0; a is free",
+            "3 at 1000",
+            "1 at 1000",
+        ],
+        ..ONE_PIECE
+    },
+    Talk {
+        shows: "the second write fails, and all are done",
+        fails: Fails {
+            write: 2,
+            ..NONE_FAILS
+        },
+        told: &[
+            ATTACHED,
+            "WriteFault; bytes left: 0; a is free",
+            "3 at 1000",
+            "1 at 1000",
+        ],
+        ..ONE_PIECE
+    },
+    Talk {
+        shows: "the third write fails, and all are done",
+        fails: Fails {
+            write: 3,
+            ..NONE_FAILS
+        },
+        told: &[
+            ATTACHED,
+            ACCEPTED,
+            "WriteFault; bytes left: 0; a is free",
+            "3 at 1000",
+            "1 at 1000",
+        ],
+        ..ONE_PIECE
+    },
+    Talk {
+        shows: "the second write fails, and the line behind is not read",
+        piece: Piece::Line,
+        fails: Fails {
+            write: 2,
+            ..NONE_FAILS
+        },
+        told: &[
+            ATTACHED,
+            "WriteFault; bytes left: 36; a is free",
+            "1 at 1000",
+            "1 at 1000",
+            "1 at 1000",
+        ],
+        ..ONE_PIECE
+    },
+    Talk {
+        shows: "a reply to a line that asks nothing fails",
+        lines: &["{}", READ],
+        fails: Fails {
+            write: 1,
+            ..NONE_FAILS
+        },
+        told: &["WriteFault; bytes left: 0; a is free"],
+        ..ONE_PIECE
+    },
+    Talk {
+        shows: "the first reading fails, and nothing is called",
+        fails: Fails {
+            reading: 1,
+            ..NONE_FAILS
+        },
+        told: &["ClockFault; bytes left: 0; a is free"],
+        ..ONE_PIECE
+    },
+    Talk {
+        shows: "the second reading fails, and what is held is done",
+        fails: Fails {
+            reading: 2,
+            ..NONE_FAILS
+        },
+        told: &[
+            ATTACHED,
+            "ClockFault; bytes left: 0; a is free",
+            "1 at 1000",
+            "1 at 1000",
+        ],
+        ..ONE_PIECE
+    },
+    Talk {
+        shows: "the third reading fails, and what is held is done",
+        fails: Fails {
+            reading: 3,
+            ..NONE_FAILS
+        },
+        told: &[
+            ATTACHED,
+            ACCEPTED,
+            "ClockFault; bytes left: 0; a is free",
+            "2 at 1000",
+            "1 at 1000",
+        ],
+        ..ONE_PIECE
+    },
+    Talk {
+        shows: "the second reading fails, for a line that came alone",
+        piece: Piece::Line,
+        fails: Fails {
+            reading: 2,
+            ..NONE_FAILS
+        },
+        told: &[
+            ATTACHED,
+            "ClockFault; bytes left: 36; a is free",
+            "1 at 1000",
+            "1 at 1000",
+        ],
+        ..ONE_PIECE
+    },
+    Talk {
+        shows: "a clock that failed goes before a write that did",
+        fails: Fails {
+            write: 1,
+            reading: 3,
+            ..NONE_FAILS
+        },
+        told: &[
+            "ClockFault; bytes left: 0; a is free",
+            "2 at 1000",
+            "1 at 1000",
+        ],
+        ..ONE_PIECE
+    },
+];
+
+/// A disk that fails, and memory that is wanting.
+const MACHINES: &[Talk] = &[
+    Talk {
+        shows: "no memory for the second of three",
+        machine: Machine { fed: 1, ..GOOD },
+        told: &[
+            ATTACHED,
+            MEMORY,
+            FREE,
+            ENDED,
+            "3 at 1000",
+            "1 at 1000",
+            "1 at 1000",
+        ],
+        ..ONE_PIECE
+    },
+    Talk {
+        shows: "no memory for an attach, so that nobody is lost",
+        lines: &[ATTACH, READ],
+        machine: Machine { fed: 0, ..GOOD },
+        told: &[MEMORY, FREE, ENDED, "2 at 1000", "1 at 1000"],
+        ..ONE_PIECE
+    },
+    Talk {
+        shows: "the disk fails, and nothing more is said",
+        machine: Machine {
+            good_calls: 0,
+            ..GOOD
+        },
+        told: &[STOPPED, "DiskFault; bytes left: 0; a is not free"],
+        ..ONE_PIECE
+    },
+    Talk {
+        shows: "the disk has failed before",
+        machine: Machine {
+            good_calls: 0,
+            fed: ALL,
+            broken: true,
+        },
+        told: &[STOPPED, "Stopped; bytes left: 0; a is not free"],
+        ..ONE_PIECE
+    },
+    Talk {
+        shows: "the disk fails behind two lines that were answered",
+        piece: Piece::Line,
+        machine: Machine {
+            good_calls: 2,
+            ..GOOD
+        },
+        told: &[
+            ATTACHED,
+            ACCEPTED,
+            STOPPED,
+            "Stopped; bytes left: 0; a is not free",
+            "1 at 1000",
+            "1 at 1000",
+        ],
+        ..ONE_PIECE
+    },
+    Talk {
+        shows: "the disk fails where the process is told to be lost",
+        machine: Machine {
+            good_calls: 1,
+            ..GOOD
+        },
+        told: &[
+            ATTACHED,
+            ACCEPTED,
+            HELD,
+            "DiskFault; bytes left: 0; a is not free",
+            "3 at 1000",
+        ],
+        ..ONE_PIECE
+    },
+];
+
+/// A connection that is to be served.
+#[derive(Drop)]
+struct Talking<'a> {
+    alloc: Global,
+    broken: bool,
+    connection: Connection<'a>,
+}
+
+/// How a session ended, and whether its process may then be attached by another.
+#[derive(Drop)]
+struct Talked {
+    end: SessionEnd,
+    free: bool,
+}
+
+impl Trial for Talking<'_> {
+    /// Nothing, where what comes before it did not go as it is to.
+    type Told = Option<Talked>;
+
+    fn run<G: Desk>(
+        &mut self,
+        catalogue: &Catalogue,
+        desk: &G,
+        pass: &mut G::Pass,
+    ) -> Option<Talked> {
+        let alloc = self.alloc;
+        if !prepare(alloc, catalogue, desk, pass, &[], self.broken) {
+            return None;
+        }
+        let end = self
+            .connection
+            .serve(alloc, catalogue, desk, pass, SessionId(1));
+        let free = is_line_done(alloc, catalogue, desk, pass, ATTACH_AGAIN);
+        Some(Talked { end, free })
+    }
+}
+
+/// Tells of each call of session 1.
+fn tell_calls(text: &mut String, taken: &[Taken]) -> Result<(), AllocError> {
+    for call in taken {
+        if call.session == SessionId(1) {
+            writeln!(text, "{} at {}", call.commands, call.moment)?;
+        }
+    }
+    Ok(())
+}
+
+/// Tells how a session ended.
+fn tell_talked(text: &mut String, talked: &Option<Talked>, left: usize) -> Result<(), AllocError> {
+    let Some(Talked { end, free }) = talked else {
+        return text.push_str("not prepared\n");
+    };
+    match end {
+        SessionEnd::Watch { name, from } => write!(text, "watches {name} from {from}")?,
+        end => write!(text, "{end:?}")?,
+    }
+    let free = if *free { "free" } else { "not free" };
+    writeln!(text, "; bytes left: {left}; a is {free}")
+}
+
+/// Tells what went out, how the session ended and what was called.
+fn tell(
+    text: &mut String,
+    connection: &Connection<'_>,
+    talked: &Option<Talked>,
+    taken: &[Taken],
+) -> Result<(), Fail> {
+    text.push_str(std::str::from_utf8(connection.sink.taken())?)?;
+    tell_talked(text, talked, connection.source.left().len())?;
+    tell_calls(text, taken)?;
+    Ok(())
+}
+
+/// The bytes that come.
+fn input(alloc: Global, talk: &Talk) -> Result<String, AllocError> {
+    let mut text = joined(alloc, talk.lines)?;
+    for _ in 0..talk.rest {
+        text.push('x')?;
+    }
+    Ok(text)
+}
+
+/// Serves the lines over a machine of its own, and tells of it.
+fn serve<R: Wait + Sync>(
+    rt: &R,
+    alloc: Global,
+    catalogue: &Catalogue,
+    talk: &Talk,
+    lines: &str,
+    text: &mut String,
+) -> Result<(), Fail> {
+    let connection = Connection::new(alloc, lines, talk.piece, talk.moments, talk.fails)?;
+    let Machine {
+        good_calls,
+        fed,
+        broken,
+    } = talk.machine;
+    let mut talking = Talking {
+        alloc,
+        broken,
+        connection,
+    };
+    match run_trial(rt, alloc, catalogue, good_calls, fed, &mut talking) {
+        Ok((talked, taken)) => tell(text, &talking.connection, &talked, taken.slice()),
+        Err(none) => Err(none.into()),
+    }
+}
+
+/// Serves a connection, and compares what is told of it.
+fn try_talk<R: Abort + Wait + Sync>(
+    rt: &R,
+    alloc: Global,
+    catalogue: &Catalogue,
+    talk: &Talk,
+) -> Result<(), Fail> {
+    let lines = input(alloc, talk)?;
+    let mut told = String::new(alloc);
+    match serve(rt, alloc, catalogue, talk, lines.as_str(), &mut told) {
+        Ok(()) => compare(rt, alloc, told.as_str(), talk.told, talk.shows),
+        Err(failed) => Err(failed),
+    }
+}
+
+/// Serves each of these connections.
+fn try_all<R: Abort + Wait + Sync>(
+    rt: &R,
+    alloc: Global,
+    catalogue: &Catalogue,
+    talks: &[Talk],
+) -> Result<(), Fail> {
+    for talk in talks {
+        try_talk(rt, alloc, catalogue, talk)?;
+    }
+    Ok(())
+}
+
+#[test]
+fn connections_are_served_as_it_was_worked_out(rt: HostRuntime) -> Result<(), Fail> {
+    let alloc = rt.alloc();
+    let catalogue = Catalogue::read(alloc, THREE_POINTS.as_bytes())?;
+    for talks in [PIECES, OTHER_LINES, FAULTS, MACHINES] {
+        try_all(&rt, alloc, &catalogue, talks)?;
+    }
+    Ok(())
+}

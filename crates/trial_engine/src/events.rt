@@ -1,0 +1,307 @@
+ghost use Rattle.std.specs.Prelude.{◌≡◌, ◌≤◌, IfOk};
+ghost use Rattle.boss_model.specs.Catalogue.{actuators};
+ghost use Rattle.boss_model.specs.Effects.{act_of, event_of};
+ghost use Rattle.boss_model.specs.Limits.{last_moment};
+ghost use Rattle.boss_model.specs.Plants.{IsPlant};
+ghost use Rattle.boss_model.specs.Sound.{IsAllowed, IsSound};
+ghost use Rattle.law_spelling.specs.Ranges.{IsSpelled};
+
+use crate::calls::{answer, call_of, expect_alike, first_engine};
+use crate::plants::plant;
+use boss_engine::Engine;
+use boss_model::{Act, Command, DriverId, Effect, Event, NoMemory, ProcId, SessionId};
+use boss_points::Catalogue;
+use boss_runs::Call;
+use std::alloc::Global;
+use std::process::Abort;
+use trial_parts::THREE_POINTS;
+
+/// What is asked in turn, each line behind the kind of its event. Numbered requests are among them. The driver asks for a want by
+/// `next`, and reports by `fan` that this point's device did not take its second version.
+const CALLS: &[(&str, &str)] = &[
+    ("enrol", r#"{"op":"attach","process":"a"}"#),
+    ("enrol", r#"{"on":2,"op":"attach","process":"b"}"#),
+    ("none", r#"{"on":2,"op":"attach","process":"b"}"#),
+    (
+        "submit",
+        r#"{"at":1000,"op":"submit","seq":1,"writes":[{"point":"ahu1.damper","value":45000,"priority":8,"lease":60000,"revert":[[30000,5000]]},{"point":"lamp","value":1,"priority":9,"lease":60000}]}"#,
+    ),
+    (
+        "none",
+        r#"{"at":1000,"op":"submit","seq":1,"writes":[{"point":"lamp","value":1,"priority":9,"lease":60000}]}"#,
+    ),
+    (
+        "submit",
+        r#"{"on":2,"at":1000,"op":"submit","writes":[{"point":"ahu1.damper","value":20000,"priority":10,"lease":100000}]}"#,
+    ),
+    (
+        "renew",
+        r#"{"at":2000,"op":"renew","seq":2,"txn":1,"length":60000}"#,
+    ),
+    (
+        "renew",
+        r#"{"at":3000,"op":"renew","txn":1,"length":60000,"points":["lamp"]}"#,
+    ),
+    ("none", r#"{"at":3500,"op":"tick"}"#),
+    ("tick", r#"{"at":62000,"op":"tick"}"#),
+    (
+        "submit",
+        r#"{"on":2,"at":62500,"op":"submit","writes":[{"point":"ahu1.damper","value":50000,"priority":8,"lease":60000,"revert":[[0,1000]]}]}"#,
+    ),
+    ("cancel", r#"{"on":2,"at":62600,"op":"cancel","txn":2}"#),
+    (
+        "submit",
+        r#"{"on":2,"at":62700,"op":"submit","policy":"keep","writes":[{"point":"fan","value":2,"priority":8,"lease":60000}]}"#,
+    ),
+    ("none", "next"),
+    ("none", "next"),
+    ("none", "next"),
+    ("fault", "fan"),
+    ("cancel", r#"{"at":62800,"op":"cancel","seq":3,"txn":1}"#),
+    ("gone", r#"{"on":2,"at":62900,"op":"gone"}"#),
+    ("tick", r#"{"at":63900,"op":"tick"}"#),
+];
+
+/// The slots of each point, how far each transaction has come, and what the processes were told.
+const QUESTIONS: &str = r#"{"op":"array","point":"ahu1.damper"}
+{"op":"array","point":"lamp"}
+{"op":"array","point":"fan"}
+{"op":"status","txn":1}
+{"op":"status","txn":2}
+{"op":"status","txn":3}
+{"op":"status","txn":4}
+{"op":"notices","process":"a","max":64}
+{"op":"notices","process":"b","max":64}"#;
+
+/// The first process comes back.
+const ATTACH: &str = r#"{"op":"attach","process":"a"}"#;
+
+/// The number that was accepted last, and a lesser one.
+const NUMBERED: &str = r#"{"op":"cancel","seq":3,"txn":1}
+{"op":"cancel","seq":2,"txn":1}"#;
+
+/// The event that does the same again as a command of this effect.
+fn event_of(command: Command, effect: Effect) -> Option<Event>
+    ensures { result ≡ event_of command effect }
+{
+    match effect {
+        Effect::Unchanged => None,
+        Effect::Tick { moment } => Some(Event {
+            moment,
+            act: Act::Tick,
+        }),
+        Effect::Whole { moment, owner } => Some(Event {
+            moment,
+            act: act_of(command, owner),
+        }),
+    }
+}
+
+/// The act that does the same again as a command that concerns this process.
+fn act_of(command: Command, owner: ProcId) -> Act
+    ensures { result ≡ act_of command owner }
+{
+    match command {
+        Command::Attach { name } => Act::Enrol { name },
+        Command::Submit {
+            writes,
+            policy,
+            seq,
+        } => Act::Submit {
+            owner,
+            policy,
+            writes,
+            seq,
+        },
+        Command::Renew {
+            txn,
+            length,
+            points,
+            seq,
+        } => Act::Renew {
+            owner,
+            txn,
+            length,
+            points,
+            seq,
+        },
+        Command::Cancel { txn, seq } => Act::Cancel { owner, txn, seq },
+        Command::Gone => Act::Gone { owner },
+        Command::Report { point, .. } => Act::Fault { point },
+        _ => Act::Tick,
+    }
+}
+
+/// The word for an act.
+fn kind(act: &Act) -> &'static str {
+    match act {
+        Act::Enrol { .. } => "enrol",
+        Act::Submit { .. } => "submit",
+        Act::Renew { .. } => "renew",
+        Act::Cancel { .. } => "cancel",
+        Act::Gone { .. } => "gone",
+        Act::Tick => "tick",
+        Act::Fault { .. } => "fault",
+    }
+}
+
+/// An engine does an event again, which it has to find effective. The kind of the event is told.
+fn do_again<R: Abort>(rt: &R, engine: &mut Engine, event: &Event) -> Result<&'static str, NoMemory>
+    requires { IsSpelled event.now }
+    ensures { engine.new.plant ≡ engine.old.plant }
+{
+    let effective = engine.replay(event)?;
+    assert!(rt; effective, "an event that is not effective");
+    Ok(kind(&event.act))
+}
+
+/// An engine makes a call, and another one does the call's event. The kind of the event is told.
+fn make<R: Abort>(
+    rt: &R,
+    catalogue: &Catalogue,
+    engine: &mut Engine,
+    other: &mut Engine,
+    call: Call,
+) -> Result<&'static str, NoMemory>
+    requires moment { call.moment ≤ last_moment }
+    requires allowed { IsAllowed (actuators catalogue.now) call.command }
+    requires plant { engine.old.plant ≡ actuators catalogue.now }
+    requires other { other.old.plant ≡ actuators catalogue.now }
+    ensures plant { engine.new.plant ≡ actuators catalogue.now }
+    ensures other { other.new.plant ≡ actuators catalogue.now }
+{
+    let _ = catalogue.count();
+    // Nothing is due at the moment of the last change. It is asked since an engine is known to be sound behind a step.
+    engine.step(SessionId(0), &Command::Tick, 0)?;
+    make_of_sound(rt, engine, other, call)
+}
+
+/// The same of an engine that is known to be sound.
+fn make_of_sound<R: Abort>(
+    rt: &R,
+    engine: &mut Engine,
+    other: &mut Engine,
+    call: Call,
+) -> Result<&'static str, NoMemory>
+    requires whole { IsPlant engine.old.plant }
+    requires sound { IsSound engine.old.plant engine.old.state }
+    requires moment { call.moment ≤ last_moment }
+    requires allowed { IsAllowed engine.old.plant call.command }
+    ensures plant { engine.new.plant ≡ engine.old.plant }
+    ensures other { other.new.plant ≡ other.old.plant }
+{
+    let Call {
+        session,
+        command,
+        moment,
+    } = call;
+    let (_, effect) = engine.step(session, &command, moment)?;
+    let Some(event) = event_of(command, effect) else {
+        return Ok("none");
+    };
+    do_again(rt, other, &event)
+}
+
+/// What a line asks.
+fn asked<R: Abort>(
+    rt: &R,
+    alloc: Global,
+    catalogue: &Catalogue,
+    line: &str,
+) -> Result<Call, NoMemory>
+    ensures moment { IfOk result (λ call. call.moment ≤ last_moment) }
+    ensures allowed { IfOk result (λ call. IsAllowed (actuators catalogue.now) call.command) }
+{
+    match call_of(alloc, catalogue, line, 1)? {
+        Some(call) => Ok(call),
+        None => Ok(Call {
+            session: SessionId(0),
+            command: driver_command(rt, catalogue, line),
+            moment: 0,
+        }),
+    }
+}
+
+/// What the driver says: it asks for a want, or reports that a point's device did not take its second version.
+fn driver_command<R: Abort>(rt: &R, catalogue: &Catalogue, line: &str) -> Command
+    ensures { IsAllowed (actuators catalogue.now) result }
+{
+    if line == "next" {
+        return Command::Next {
+            driver: DriverId(0),
+        };
+    }
+    match catalogue.find(line.as_bytes()) {
+        Some(point) => Command::Report {
+            point,
+            version: 2,
+            ok: false,
+        },
+        None => panic!(rt; "no point: {line}"),
+    }
+}
+
+/// What a line asks is made, and done again by the other engine, and both answer the same then.
+fn expect_again<R: Abort>(
+    rt: &R,
+    alloc: Global,
+    catalogue: &Catalogue,
+    engine: &mut Engine,
+    other: &mut Engine,
+    wanted: &str,
+    line: &str,
+) -> Result<(), NoMemory>
+    requires plant { engine.old.plant ≡ actuators catalogue.now }
+    requires other { other.old.plant ≡ actuators catalogue.now }
+    ensures plant { engine.new.plant ≡ actuators catalogue.now }
+    ensures other { other.new.plant ≡ actuators catalogue.now }
+{
+    let call = asked(rt, alloc, catalogue, line)?;
+    let made = make(rt, catalogue, engine, other, call)?;
+    assert!(rt; made == wanted, "{line}: {made}");
+    expect_alike(rt, alloc, catalogue, engine, other, QUESTIONS)
+}
+
+/// Each event of a run does the same again on an engine that is given the events alone.
+fn expect_all_again<R: Abort>(
+    rt: &R,
+    alloc: Global,
+    catalogue: &Catalogue,
+    engine: &mut Engine,
+    other: &mut Engine,
+) -> Result<(), NoMemory>
+    requires plant { engine.old.plant ≡ actuators catalogue.now }
+    requires other { other.old.plant ≡ actuators catalogue.now }
+    ensures plant { engine.new.plant ≡ actuators catalogue.now }
+    ensures other { other.new.plant ≡ actuators catalogue.now }
+{
+    for (wanted, line) in CALLS {
+        expect_again(rt, alloc, catalogue, engine, other, *wanted, *line)?;
+    }
+    Ok(())
+}
+
+/// The engine that is given the events alone knows the numbers of requests too.
+fn expect_numbers_again<R: Abort>(
+    rt: &R,
+    alloc: Global,
+    catalogue: &Catalogue,
+    engine: &mut Engine,
+    other: &mut Engine,
+) -> Result<(), NoMemory>
+    requires plant { engine.old.plant ≡ actuators catalogue.now }
+    requires other { other.old.plant ≡ actuators catalogue.now }
+{
+    expect_all_again(rt, alloc, catalogue, engine, other)?;
+    answer(alloc, catalogue, other, ATTACH, 1)?;
+    expect_alike(rt, alloc, catalogue, engine, other, NUMBERED)
+}
+
+#[test]
+fn events_do_the_same_again(rt: HostRuntime) {
+    let alloc = rt.alloc();
+    let catalogue = plant(&rt, alloc, THREE_POINTS.as_bytes());
+    let mut engine = first_engine(&rt, alloc, &catalogue);
+    let mut other = first_engine(&rt, alloc, &catalogue);
+    expect_numbers_again(&rt, alloc, &catalogue, &mut engine, &mut other).expect(&rt, "memory");
+}

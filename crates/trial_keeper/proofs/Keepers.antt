@@ -1,0 +1,64 @@
+-- What a keeper owes for a call where it had stopped, and where its disk fails; and what one without a disk may answer.
+use Rattle.std.proofs.Common.{◌≡◌, Bool, true, false, ◌||◌, ℕ, List, [], ◌∷◌, Ok, Err, Result, OnOk, refl, sym, ap, ◌∙◌, subst}
+use Rattle.std.specs.List.{AllByRecursion}
+use Rattle.boss_model.specs.declared.answer.Answer.{Answer}
+use Rattle.boss_model.specs.declared.command.Command.{Command}
+use Rattle.boss_model.specs.declared.event.Event.{Event}
+use Rattle.boss_model.specs.declared.state.Actuator.{Actuator}
+use Rattle.boss_model.specs.State.{Persistent, State}
+use Rattle.boss_outside.specs.Counts.{Rose}
+use Rattle.def_history.specs.declared.entry.Entry.{Entry}
+use Rattle.def_history.specs.declared.entry.Entry.TheVariants.{Broke}
+use Rattle.def_history.specs.declared.outcome.Outcome.{Outcome}
+use Rattle.def_history.specs.declared.outcome.Outcome.TheVariants.{Done, Stopped, DiskFault, NoMemory}
+use Rattle.def_history.specs.History.{is_broken, MayCall}
+use Rattle.def_history.specs.Made.{made_by}
+use Rattle.boss_shared.specs.Calls.{is_stopped}
+use Rattle.boss_shared.specs.Keeping.{Keeps}
+
+module _ {V : Type 0} (plant : V → List Actuator) (state : V → State) (stopped : V → Bool) (faults : V → ℕ)
+    (leaves : V → Persistent → Persistent → Type 0) (keeps : V → List Event → Type 0) where
+  never : (v : V) → stopped v ≡ true → stopped v ≡ false → ⊥
+  never v on off = let clash : true ≡ false = sym on ∙ off in cc
+
+  pub idle_keeps : (v : V) (made : List Entry) → stopped v ≡ true → made ≡ [] → Keeps plant state stopped faults leaves keeps v v made
+  idle_keeps v made on nil = subst (Keeps plant state stopped faults leaves keeps v v) (sym nil) (record {
+    legal = tt;
+    same_plant = refl;
+    marked = on ∙ sym (ap (λ b. b || false) on);
+    none = λ _. refl;
+    state_is = λ off. absurd (never v on off);
+    rose = λ off _. absurd (never v on off);
+    stood = λ _. refl;
+    images = λ off. absurd (never v on off);
+    images_stay = λ _ first second there. there;
+    gained = λ off. absurd (never v on off);
+  })
+
+  pub fault_keeps : (old new : V) (session : ℕ) (calls : List (Command × ℕ)) (made : List Entry) → stopped old ≡ false → stopped new ≡ true → plant new ≡ plant old →
+      Rose (faults old) (faults new) → AllByRecursion (MayCall (plant old)) calls → made ≡ Broke session calls ∷ [] →
+      ((second : Persistent) → leaves new (state old).persistent second) → Keeps plant state stopped faults leaves keeps old new made
+  fault_keeps old new session calls made off on same rose may is there = subst (Keeps plant state stopped faults leaves keeps old new) (sym is) (record {
+    legal = (may, refl, tt);
+    same_plant = same;
+    marked = on ∙ sym (ap (λ b. b || true) off);
+    none = λ was. absurd (never old was off);
+    state_is = λ not. absurd (never new on not);
+    rose = λ _ _. rose;
+    stood = λ equal. absurd (never new on (equal ∙ off));
+    images = λ _ _ before _. (0, there _);
+    images_stay = λ was. absurd (never old was off);
+    gained = λ not. absurd (never new on not);
+  })
+
+-- where there is no disk, a command is answered or wants memory
+pub is_answered : (session moment : ℕ) (asked : Command) (outcome : Outcome) → is_stopped outcome ≡ false → is_broken (made_by session asked moment outcome) ≡ false →
+    ((answer : Answer) → outcome ≡ Done answer → ⊥) → (outcome ≡ NoMemory → ⊥) → ⊥
+is_answered session moment asked (Done answer) goes whole not_done not_wanting = not_done answer refl
+is_answered session moment asked Stopped goes whole not_done not_wanting = absurd cc
+is_answered session moment asked DiskFault goes whole not_done not_wanting = absurd cc
+is_answered session moment asked NoMemory goes whole not_done not_wanting = not_wanting refl
+
+pub on_ok : {T E P : Type 0} (result : Result T E) (value : T) → result ≡ Ok value → OnOk result P → P
+on_ok (Ok value) given is held = held
+on_ok (Err error) given is held = absurd cc

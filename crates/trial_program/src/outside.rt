@@ -1,0 +1,208 @@
+//! What is outside of the program in a trial, and what a run of it tells.
+
+ghost use Rattle.std.specs.Prelude.{IsTrue};
+ghost use Rattle.boss_files.specs.Shelf.{have_distinct_names};
+
+use boss_files::MemoryFiles;
+use boss_manager::{Status, boss};
+use boss_model::Items;
+use boss_outside::{BytesSink, BytesSource, SimActuators};
+use boss_outside_server::{ListClock, ListHost, ListSpawner, TurnWaiter};
+use std::alloc::Global;
+use std::process::Abort;
+use std::sync::Wait;
+use std::thread::Threads;
+
+/// The words of a script with its journal in memory.
+pub const SCRIPT_WORDS: &str = "script site.toml -";
+
+/// The number of the call that fails, from 1, of each thing outside; 0 is none.
+#[derive(Clone, Copy)]
+pub struct Fails {
+    pub files: u64,
+    pub source: u64,
+    pub sink: u64,
+    pub device: u64,
+}
+
+pub const NONE_FAILS: Fails = Fails {
+    files: 0,
+    source: 0,
+    sink: 0,
+    device: 0,
+};
+
+/// What a run of the program is given.
+#[derive(Clone, Copy)]
+pub struct Given<'a> {
+    pub words: &'a str,
+    /// What the file `site.toml` holds.
+    pub file: &'a str,
+    pub input: &'a str,
+    pub fails: Fails,
+}
+
+/// What a run of the program is to tell.
+#[derive(Clone, Copy)]
+pub struct Told<'a> {
+    pub output: &'a str,
+    /// The calls that the first device is made, as lines: the number of the point, the value, and what came of it.
+    pub calls: &'a str,
+    pub status: u8,
+}
+
+/// Runs the program, and compares all that it tells.
+pub fn expect<R: Abort + Threads + Wait + Sync>(
+    rt: &R,
+    alloc: Global,
+    shows: &str,
+    given: &Given,
+    told: &Told,
+) {
+    let wanted = format!(in alloc; "{}{}status {}\n", told.output, told.calls, told.status).expect(
+        rt, "memory",
+    );
+    assert_eq!(rt; run(rt, alloc, given).as_str(), wanted.as_str(), "{shows}");
+}
+
+/// Runs the program on these words with one file, `site.toml`, with this input, and with sixteen devices, of which the first
+/// may fail, and gives all that it tells as one text.
+fn run<R: Abort + Threads + Wait + Sync>(rt: &R, alloc: Global, given: &Given) -> String {
+    let words = words_of(rt, alloc, given.words);
+    let Fails {
+        files,
+        source,
+        sink,
+        device,
+    } = given.fails;
+    let mut files = one_file(rt, alloc, given.file, files);
+    let mut source = source_of(rt, alloc, given.input, source);
+    let mut sink = BytesSink::new(alloc, call(rt, alloc, sink)).expect(rt, "memory");
+    let mut devices = sixteen_devices(rt, alloc, device);
+    let status = alone(
+        rt,
+        alloc,
+        &words,
+        &mut files,
+        &mut source,
+        &mut sink,
+        &mut devices,
+    );
+    tell(rt, alloc, &sink, &devices, status)
+}
+
+/// Runs the program with a host that has no connection, a clock that tells 0, a waiter that closes at once, and a spawner that starts
+/// every task.
+fn alone<R: Abort + Threads + Wait + Sync>(
+    rt: &R,
+    alloc: Global,
+    words: &Vec<String>,
+    files: &mut MemoryFiles,
+    source: &mut BytesSource,
+    sink: &mut BytesSink,
+    devices: &mut Vec<SimActuators>,
+) -> Status {
+    let mut clock = ListClock::new(alloc, Items::new(alloc), Items::new(alloc)).expect(
+        rt, "memory",
+    );
+    let mut host: ListHost<BytesSource, BytesSink> = ListHost::new(
+        alloc,
+        Items::new(alloc),
+        Items::new(alloc),
+    ).expect(rt, "memory");
+    let mut waiter = TurnWaiter::new(alloc, 0).expect(rt, "memory");
+    let mut spawner: ListSpawner<R> = ListSpawner::new(alloc, Items::new(alloc)).expect(
+        rt, "memory",
+    );
+    boss(
+        rt,
+        alloc,
+        words,
+        files,
+        source,
+        sink,
+        devices,
+        &mut clock,
+        &mut host,
+        &mut waiter,
+        &mut spawner,
+    )
+}
+
+/// The words of a text, which blanks part. An empty text has none.
+fn words_of(rt: &impl Abort, alloc: Global, text: &str) -> Vec<String> {
+    let mut words = Vec::new(alloc);
+    for word in text.split(' ') {
+        if !word.is_empty() {
+            let word = String::from_str(alloc, word).expect(rt, "memory");
+            words.push(word).expect(rt, "memory");
+        }
+    }
+    words
+}
+
+/// The file `site.toml` alone, with this text.
+fn one_file(rt: &impl Abort, alloc: Global, text: &str, fails: u64) -> MemoryFiles {
+    let files = shelf(rt, alloc, text);
+    MemoryFiles::new(alloc, files, call(rt, alloc, fails)).expect(rt, "memory")
+}
+
+fn shelf(rt: &impl Abort, alloc: Global, text: &str) -> Items<(Items<u8>, Items<u8>)>
+    ensures { IsTrue (have_distinct_names result) }
+{
+    let name = bytes(rt, alloc, "site.toml");
+    let text = bytes(rt, alloc, text);
+    let mut files = Vec::new(alloc);
+    files.push((name, text)).expect(rt, "memory");
+    Items::from_vec(files)
+}
+
+fn source_of(rt: &impl Abort, alloc: Global, text: &str, fails: u64) -> BytesSource {
+    let text = bytes(rt, alloc, text);
+    BytesSource::new(alloc, text, call(rt, alloc, fails)).expect(rt, "memory")
+}
+
+/// Sixteen devices, of which the first fails the call of this number.
+fn sixteen_devices(rt: &impl Abort, alloc: Global, fails: u64) -> Vec<SimActuators> {
+    let mut devices = Vec::new(alloc);
+    for fails in [fails, 0, 0, 0, 0, 0, 0, 0, 0, 0, 0, 0, 0, 0, 0, 0] {
+        let device = SimActuators::new(alloc, call(rt, alloc, fails)).expect(rt, "memory");
+        devices.push(device).expect(rt, "memory");
+    }
+    devices
+}
+
+fn bytes(rt: &impl Abort, alloc: Global, text: &str) -> Items<u8> {
+    Items::from_vec(text.as_bytes().to_vec(alloc).expect(rt, "memory"))
+}
+
+/// The one call of this number.
+fn call(rt: &impl Abort, alloc: Global, number: u64) -> Items<u64> {
+    let mut calls = Items::new(alloc);
+    calls.try_push(number).expect(rt, "memory");
+    calls
+}
+
+/// The output, the calls of the first device, and the status.
+fn tell(
+    rt: &impl Abort,
+    alloc: Global,
+    sink: &BytesSink,
+    devices: &Vec<SimActuators>,
+    status: Status,
+) -> String {
+    let mut text = String::new(alloc);
+    let output = str::from_utf8(sink.taken()).expect(rt, "a text");
+    text.push_str(output).expect(rt, "memory");
+    tell_calls(rt, &mut text, devices.first().expect(rt, "a device"));
+    writeln!(text, "status {}", status.0).expect(rt, "memory");
+    text
+}
+
+fn tell_calls(rt: &impl Abort, text: &mut String, device: &SimActuators) {
+    assert!(rt; device.is_whole());
+    for call in device.calls() {
+        let result = if call.ok { "ok" } else { "failed" };
+        writeln!(text, "{} {} {result}", call.point.0, call.value).expect(rt, "memory");
+    }
+}

@@ -1,0 +1,273 @@
+//! Servers in memory, whose workers run one after another: those for connections, then time, then the driver.
+
+use crate::connections::Talk;
+use crate::stage::{Setting, run};
+use boss_points::Catalogue;
+use std::test::Fail;
+use trial_parts::THREE_POINTS;
+
+/// A server and what comes of it.
+struct Row {
+    shows: &'static str,
+    setting: Setting,
+    told: &'static str,
+}
+
+/// A server at the moment 1,000, whose worker of time is told to end at its first pause.
+const PLAIN: Setting = Setting {
+    workers: &[],
+    moments: &[1_000],
+    clock_fails: 0,
+    host_fails: 0,
+    unstarted: 0,
+    turns: 0,
+    device: false,
+    sink_fails: 0,
+};
+
+const ATTACH_A: Talk = Talk {
+    text: r#"{"op":"attach","process":"a"}
+"#,
+    fails: 0,
+};
+
+const ATTACH_B: Talk = Talk {
+    text: r#"{"op":"attach","process":"b"}
+"#,
+    fails: 0,
+};
+
+const LOOK: Talk = Talk {
+    text: r#"{"op":"attach","process":"a"}
+{"op":"read","point":"lamp"}
+"#,
+    fails: 0,
+};
+
+const HOLD: Talk = Talk {
+    text: r#"{"op":"attach","process":"a"}
+{"op":"submit","writes":[{"point":"ahu1.damper","value":45000,"priority":8,"lease":60000}]}
+"#,
+    fails: 0,
+};
+
+const HOLD_AND_REVERT: Talk = Talk {
+    text: r#"{"op":"attach","process":"a"}
+{"op":"submit","writes":[{"point":"ahu1.damper","value":45000,"priority":8,"lease":60000,"revert":[[30000,5000]]}]}
+"#,
+    fails: 0,
+};
+
+const WATCH: Talk = Talk {
+    text: r#"{"op":"watch","process":"a","from":1}
+"#,
+    fails: 0,
+};
+
+/// What is told is worked out by hand from what each worker does in its turn. An event is a new process, a lease, the loss of a process
+/// that has one, or a tick that finds something due; what is refused, read or lost without a lease is none.
+const ROWS: &[Row] = &[
+    // The process is lost at 1,000, and its reversion holds the damper up to 6,000: the seventh tick, at 7,000, finds it over, which
+    // is the fourth event. Then the driver is told each default, that of the damper last, since it was changed last.
+    Row {
+        shows: "a process is lost, its reversion ends, and then its device is driven",
+        setting: Setting {
+            workers: &[&[HOLD_AND_REVERT]],
+            moments: &[1_000, 1_000, 1_000, 1_000, 1_000, 1_000, 7_000],
+            turns: 8,
+            device: true,
+            ..PLAIN
+        },
+        told: r#"session 1
+{"ok":"attached","process":"a","next":1}
+{"ok":"accepted","txn":1,"until":61000}
+pauses 0
+pauses 9 closed
+pauses 9 closed
+point 1 0
+point 2 1
+point 0 20000
+events 4 now 6000 leases 0 pending 0
+status 0
+"#,
+    },
+    // The third connection attaches as the process of the second.
+    Row {
+        shows: "a connection whose second read fails ends alone, and its process is free again",
+        setting: Setting {
+            workers: &[&[
+                LOOK,
+                Talk {
+                    fails: 2,
+                    ..ATTACH_B
+                },
+                ATTACH_B,
+            ]],
+            ..PLAIN
+        },
+        told: r#"session 1
+{"ok":"attached","process":"a","next":1}
+{"ok":"read","point":"lamp","value":0,"from":"default","mark":"pending"}
+session 2
+{"ok":"attached","process":"b","next":1}
+session 3
+{"ok":"attached","process":"b","next":1}
+pauses 0
+pauses 1 closed
+events 2 now 1000 leases 0 pending 0
+status 0
+"#,
+    },
+    Row {
+        shows: "the clock fails at the second request",
+        setting: Setting {
+            workers: &[&[LOOK]],
+            clock_fails: 2,
+            ..PLAIN
+        },
+        told: r#"session 1
+{"ok":"attached","process":"a","next":1}
+pauses 0
+pauses 1 closed
+events 1 now 1000 leases 0 pending 0
+status 12
+"#,
+    },
+    Row {
+        shows: "a worker that is not started serves nobody",
+        setting: Setting {
+            workers: &[&[HOLD]],
+            moments: &[0],
+            unstarted: 1,
+            ..PLAIN
+        },
+        told: r#"pauses 0
+pauses 1 closed
+events 0 now 0 leases 0 pending 0
+status 11
+"#,
+    },
+    Row {
+        shows: "a host that can't listen",
+        setting: Setting {
+            workers: &[&[HOLD]],
+            host_fails: 1,
+            ..PLAIN
+        },
+        told: "status 9\n",
+    },
+    // The bind is the host's first call; the accept that fails is the second of the part.
+    Row {
+        shows: "behind an accept that fails a worker serves nobody",
+        setting: Setting {
+            workers: &[&[ATTACH_A, ATTACH_B]],
+            host_fails: 2,
+            ..PLAIN
+        },
+        told: r#"session 1
+{"ok":"attached","process":"a","next":1}
+pauses 0
+pauses 1 closed
+events 1 now 1000 leases 0 pending 0
+status 9
+"#,
+    },
+    // The watcher is sent both notices in its first turn, without a pause; then it pauses until the third pause says Close.
+    Row {
+        shows: "a process is watched behind the one that was lost",
+        setting: Setting {
+            workers: &[&[HOLD, WATCH]],
+            turns: 2,
+            ..PLAIN
+        },
+        told: r#"session 1
+{"ok":"attached","process":"a","next":1}
+{"ok":"accepted","txn":1,"until":61000}
+session 2
+{"n":1,"at":1000,"txn":1,"kind":"ended","point":"ahu1.damper","cause":"died"}
+{"n":2,"at":1000,"txn":1,"kind":"done"}
+pauses 3 closed
+pauses 3 closed
+events 3 now 1000 leases 0 pending 0
+status 0
+"#,
+    },
+    // The first worker has the sessions 1 and 3, the second one 2.
+    Row {
+        shows: "sessions count on by the number of workers",
+        setting: Setting {
+            workers: &[&[ATTACH_A, ATTACH_B], &[ATTACH_A]],
+            ..PLAIN
+        },
+        told: r#"session 1
+{"ok":"attached","process":"a","next":1}
+session 3
+{"ok":"attached","process":"b","next":1}
+session 2
+{"ok":"attached","process":"a","next":1}
+pauses 0
+pauses 0
+pauses 1 closed
+events 2 now 1000 leases 0 pending 0
+status 0
+"#,
+    },
+    Row {
+        shows: "a worker that is not started comes before a clock that fails",
+        setting: Setting {
+            workers: &[&[ATTACH_A], &[LOOK]],
+            clock_fails: 2,
+            unstarted: 1,
+            ..PLAIN
+        },
+        told: r#"session 2
+{"ok":"attached","process":"a","next":1}
+pauses 0
+pauses 0
+pauses 1 closed
+events 1 now 1000 leases 0 pending 0
+status 11
+"#,
+    },
+    Row {
+        shows: "a clock that fails comes before an accept that fails",
+        setting: Setting {
+            workers: &[&[LOOK, ATTACH_B]],
+            clock_fails: 2,
+            host_fails: 2,
+            ..PLAIN
+        },
+        told: r#"session 1
+{"ok":"attached","process":"a","next":1}
+pauses 0
+pauses 1 closed
+events 1 now 1000 leases 0 pending 0
+status 12
+"#,
+    },
+    Row {
+        shows: "the line at the end can't be written",
+        setting: Setting {
+            workers: &[&[ATTACH_A]],
+            sink_fails: 1,
+            ..PLAIN
+        },
+        told: r#"session 1
+{"ok":"attached","process":"a","next":1}
+pauses 0
+pauses 1 closed
+status 7
+"#,
+    },
+];
+
+#[test]
+fn servers_in_memory(rt: HostRuntime) -> Result<(), Fail> {
+    let alloc = rt.alloc();
+    let catalogue = Catalogue::read(alloc, THREE_POINTS.as_bytes())?;
+    for row in ROWS {
+        let told = run(&rt, alloc, &catalogue, &row.setting)?;
+        assert_eq!(rt; told.as_str(), row.told, "{}", row.shows);
+    }
+    Ok(())
+}

@@ -1,0 +1,92 @@
+//! A server whose workers run in threads of their own.
+
+ghost use Rattle.std.specs.Prelude.{◌≤◌};
+
+use crate::clocks::list_clock;
+use crate::texts::tell_end;
+use boss_adapters::{RealSpawner, RealWaiter};
+use boss_manager::{Status, serve_in_memory};
+use boss_model::{Items, NoMemory};
+use boss_outside::{BytesSink, SimActuators};
+use boss_outside_server::{Host, ListClock};
+use boss_points::Catalogue;
+use std::alloc::Global;
+use std::sync::Wait;
+use std::thread::Threads;
+use std::time;
+
+/// Serves so many connections of a host by so many workers, without a device.
+fn serve<R: Threads + Wait + time::Clock + Copy + Drop + Send + Sync, H: Host + Send>(
+    rt: R,
+    alloc: Global,
+    catalogue: &Catalogue,
+    workers: u32,
+    connections: u32,
+    host: &mut H,
+    sink: &mut BytesSink,
+    clock: &mut ListClock,
+) -> Result<Status, NoMemory>
+where
+    H::In: Send,
+    H::Out: Send,
+    requires sound { H.sound host.old }
+    requires some { 1 ≤ workers }
+    requires few { workers ≤ 32 }
+    ensures sound { H.sound host.new }
+{
+    let mut devices: Vec<SimActuators> = Vec::new(alloc);
+    let mut spawner = RealSpawner::new(rt);
+    match RealWaiter::new(alloc, rt) {
+        Ok(mut waiter) => Ok(serve_in_memory(
+            rt,
+            alloc,
+            catalogue,
+            "here",
+            workers,
+            connections,
+            sink,
+            &mut devices,
+            clock,
+            host,
+            &mut waiter,
+            &mut spawner,
+        )),
+        Err(none) => Err(none),
+    }
+}
+
+/// Serves so many connections of a host by so many workers in threads of their own, always at the moment 1,000, and tells how that ended.
+pub fn serve_in_threads<
+    R: Threads + Wait + time::Clock + Copy + Drop + Send + Sync,
+    H: Host + Send,
+>(
+    rt: R,
+    alloc: Global,
+    catalogue: &Catalogue,
+    workers: u32,
+    connections: u32,
+    host: &mut H,
+    text: &mut String,
+) -> Result<(), NoMemory>
+where
+    H::In: Send,
+    H::Out: Send,
+    requires sound { H.sound host.old }
+    requires some { 1 ≤ workers }
+    requires few { workers ≤ 32 }
+    ensures sound { H.sound host.new }
+{
+    let mut sink = BytesSink::new(alloc, Items::new(alloc))?;
+    let mut clock = list_clock(alloc, &[1_000], 0)?;
+    let status = serve(
+        rt,
+        alloc,
+        catalogue,
+        workers,
+        connections,
+        host,
+        &mut sink,
+        &mut clock,
+    )?;
+    tell_end(text, sink.taken(), status.0)
+}

@@ -1,0 +1,8 @@
+use Rattle.std.proofs.Common.{◌≡◌}
+use Rattle.trial_shared.proofs.threads.read_often.Given as goal
+
+abbrev pub invariant-loop : goal.invariant-loop
+invariant-loop g l = record {
+  own : g.G.Desk.owns l.desk l.pass;
+  parts : g.G.Desk.parts l.pass ≡ g.G.Desk.parts l.fn.pass;
+}

@@ -1,0 +1,60 @@
+//! What is told of answers, as lines: a few words and two numbers.
+
+use boss_model::{Answer, Cause, Refusal, Slot};
+use def_history::Outcome;
+use std::process::Abort;
+
+/// Tells a line.
+pub fn tell(rt: &impl Abort, told: &mut String, what: &str, first: u64, second: u64) {
+    writeln!(told, "{what}: {first} {second}").expect(rt, "memory");
+}
+
+pub fn tell_outcome(rt: &impl Abort, told: &mut String, outcome: &Outcome) {
+    match outcome {
+        Outcome::Done { answer } => tell_answer(rt, told, answer),
+        Outcome::DiskFault => tell(rt, told, "the disk failed", 0, 0),
+        Outcome::Stopped => tell(rt, told, "it has stopped", 0, 0),
+        _ => tell(rt, told, "another outcome", 0, 0),
+    }
+}
+
+pub fn tell_answer(rt: &impl Abort, told: &mut String, answer: &Answer) {
+    let (what, first, second) = summary(answer);
+    tell(rt, told, what, first, second);
+}
+
+fn summary(answer: &Answer) -> (&'static str, u64, u64) {
+    match answer {
+        Answer::Attached { next, .. } => ("attached", *next, 0),
+        Answer::Accepted { txn, until } => ("accepted", txn.0, *until),
+        Answer::Ticked { now } => ("ticked", *now, 0),
+        Answer::Array { slots, .. } => slot_summary(&slots.at[7]),
+        Answer::Refused(refusal) => refusal_summary(refusal),
+        _ => ("another answer", 0, 0),
+    }
+}
+
+/// Of the slot of priority 8.
+fn slot_summary(slot: &Slot) -> (&'static str, u64, u64) {
+    match slot {
+        Slot::Lease { value, txn, until } => {
+            if *value == 45_000 {
+                ("the damper is held", txn.0, *until)
+            } else {
+                ("the damper is held elsewhere", txn.0, *until)
+            }
+        }
+        _ => ("the damper is not held", 0, 0),
+    }
+}
+
+fn refusal_summary(refusal: &Refusal) -> (&'static str, u64, u64) {
+    match refusal {
+        Refusal::Ended {
+            cause: Cause::Expired,
+            at,
+            moment,
+        } => ("refused, for the lease expired", *at, *moment),
+        _ => ("refused otherwise", 0, 0),
+    }
+}

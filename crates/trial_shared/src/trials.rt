@@ -1,0 +1,303 @@
+ghost use Rattle.std.specs.Prelude.{◌≡◌, ◌≤◌, ◌<◌, false, List, length};
+ghost use Rattle.std.specs.List.{AllByRecursion};
+ghost use Rattle.boss_model.specs.declared.state.Actuator.{Actuator};
+ghost use Rattle.boss_model.specs.Sound.{IsAllowed, IsSound};
+ghost use Rattle.def_history.specs.History.{MayCall};
+
+use crate::texts::{tell, tell_answer, tell_outcome};
+use crate::threads::{DAMPER, read_and_renew, renewal};
+use boss_model::{Command, Items, Name, Policy, SessionId, Setting};
+use boss_points::Catalogue;
+use boss_shared::{Desk, Keeper, Manager};
+use def_history::Outcomes;
+use std::alloc::Global;
+use std::process::Abort;
+use std::sync::Wait;
+use std::thread::Threads;
+use trial_keeper::FailingKeeper;
+use trial_parts::THREE_POINTS;
+
+/// The damper at 45 for a minute.
+fn submit(rt: &impl Abort, alloc: Global) -> Command
+    ensures { (plant : List Actuator) → 0 < length plant → IsAllowed plant result }
+{
+    let mut writes = Items::new(alloc);
+    let write = Setting {
+        point: DAMPER,
+        value: 45_000,
+        priority: 8,
+        lease: 60_000,
+        revert: Items::new(alloc),
+    };
+    writes.try_push(write).expect(rt, "memory");
+    Command::Submit {
+        writes,
+        policy: Policy::Abort,
+        seq: 0,
+    }
+}
+
+fn attach(rt: &impl Abort) -> Command
+    ensures { (plant : List Actuator) → 0 < length plant → IsAllowed plant result }
+{
+    let name = Name::new(b"a").expect(rt, "a name");
+    Command::Attach { name }
+}
+
+/// Both, and the slots of the damper.
+fn batch(rt: &impl Abort, alloc: Global) -> Items<(Command, u64)>
+    ensures count { length result ≡ 3 }
+    ensures may { (plant : List Actuator) → 0 < length plant → AllByRecursion (MayCall plant) result }
+{
+    let mut commands = Items::new(alloc);
+    let attach = attach(rt);
+    commands.try_push((attach, 1000)).expect(rt, "memory");
+    let submit = submit(rt, alloc);
+    commands.try_push((submit, 1000)).expect(rt, "memory");
+    commands
+        .try_push((Command::Array { point: DAMPER }, 1001))
+        .expect(rt, "memory");
+    commands
+}
+
+/// Asks as this session, and tells what came of it.
+fn ask<G: Desk>(
+    rt: &impl Abort,
+    desk: &G,
+    pass: &mut G::Pass,
+    session: SessionId,
+    command: &Command,
+    moment: u64,
+    told: &mut String,
+)
+    requires own { G.owns desk.now pass.old }
+    requires may { MayCall (G.plant desk.now) (command.now, moment) }
+    ensures own { G.owns desk.now pass.new }
+    ensures parts { G.parts pass.new ≡ G.parts pass.old }
+{
+    let outcome = desk.call(pass, session, command, moment);
+    tell_outcome(rt, told, &outcome);
+}
+
+/// Asks several commands at once as this session, and tells what came of them.
+fn ask_all<G: Desk>(
+    rt: &impl Abort,
+    alloc: Global,
+    desk: &G,
+    pass: &mut G::Pass,
+    session: SessionId,
+    commands: &Items<(Command, u64)>,
+    told: &mut String,
+)
+    requires own { G.owns desk.now pass.old }
+    requires some { 1 ≤ length commands.now }
+    requires few { length commands.now ≤ 16 }
+    requires may { AllByRecursion (MayCall (G.plant desk.now)) commands.now }
+    ensures own { G.owns desk.now pass.new }
+    ensures parts { G.parts pass.new ≡ G.parts pass.old }
+{
+    let mut answers = Vec::with_capacity(alloc, 16).expect(rt, "memory");
+    let Outcomes { done, rest } = desk.call_all(pass, session, commands, &mut answers);
+    for answer in &answers {
+        tell_answer(rt, told, answer);
+    }
+    tell(rt, told, "done", done as u64, 0);
+    if let Some(rest) = &rest {
+        tell_outcome(rt, told, rest);
+    }
+}
+
+/// An attach and a submit.
+fn hold_damper<G: Desk>(
+    rt: &impl Abort,
+    alloc: Global,
+    desk: &G,
+    pass: &mut G::Pass,
+    told: &mut String,
+)
+    requires own { G.owns desk.now pass.old }
+    requires point { 0 < length (G.plant desk.now) }
+    ensures own { G.owns desk.now pass.new }
+    ensures parts { G.parts pass.new ≡ G.parts pass.old }
+{
+    let attach = attach(rt);
+    let submit = submit(rt, alloc);
+    ask(rt, desk, pass, SessionId(1), &attach, 1000, told);
+    ask(rt, desk, pass, SessionId(1), &submit, 1000, told);
+}
+
+/// Two threads read and renew, over what an attach and a submit made. Then the lease lasts as long as the last renewal says, and
+/// a renewal behind the tick that ended it is refused.
+fn ask_in_two_threads<R: Abort + Threads, G: Desk + Sync>(
+    rt: &R,
+    alloc: Global,
+    desk: &G,
+    mut pass: G::Pass,
+    told: &mut String,
+) -> G::Pass
+where
+    G::Pass: Send,
+    requires own { G.owns desk.now pass }
+    requires two_parts { 2 ≤ G.parts pass }
+    requires point { 0 < length (G.plant desk.now) }
+    ensures own { G.owns desk.now result }
+    ensures parts { G.parts result ≡ G.parts pass }
+{
+    hold_damper(rt, alloc, desk, &mut pass, told);
+    let (mut pass, all) = read_and_renew(rt, alloc, desk, pass);
+    assert!(rt; all);
+    let array = Command::Array { point: DAMPER };
+    ask(rt, desk, &mut pass, SessionId(1), &array, 2000, told);
+    ask(
+        rt,
+        desk,
+        &mut pass,
+        SessionId(1),
+        &Command::Tick,
+        62_000,
+        told,
+    );
+    let renewal = renewal(alloc);
+    ask(rt, desk, &mut pass, SessionId(1), &renewal, 62_000, told);
+    pass
+}
+
+/// The disk fails in the second call. It is told so, and then all are told that nothing more is done.
+fn ask_over_a_failing_disk<G: Desk>(
+    rt: &impl Abort,
+    alloc: Global,
+    desk: &G,
+    pass: &mut G::Pass,
+    told: &mut String,
+)
+    requires own { G.owns desk.now pass.old }
+    requires point { 0 < length (G.plant desk.now) }
+    ensures own { G.owns desk.now pass.new }
+    ensures parts { G.parts pass.new ≡ G.parts pass.old }
+{
+    hold_damper(rt, alloc, desk, pass, told);
+    ask(rt, desk, pass, SessionId(2), &Command::Tick, 1000, told);
+    let commands = batch(rt, alloc);
+    ask_all(rt, alloc, desk, pass, SessionId(2), &commands, told);
+}
+
+/// What is asked of a machine.
+#[derive(Clone, Copy)]
+enum Asked {
+    InTwoThreads,
+    AtOnce,
+    OverAFailingDisk,
+}
+
+/// Asks this of a machine.
+fn ask_for<R: Abort + Threads, G: Desk + Sync>(
+    rt: &R,
+    alloc: Global,
+    desk: &G,
+    mut pass: G::Pass,
+    asked: Asked,
+    told: &mut String,
+) -> G::Pass
+where
+    G::Pass: Send,
+    requires own { G.owns desk.now pass }
+    requires two_parts { 2 ≤ G.parts pass }
+    requires point { 0 < length (G.plant desk.now) }
+    ensures own { G.owns desk.now result }
+    ensures parts { G.parts result ≡ G.parts pass }
+{
+    match asked {
+        Asked::InTwoThreads => ask_in_two_threads(rt, alloc, desk, pass, told),
+        Asked::AtOnce => {
+            let commands = batch(rt, alloc);
+            ask_all(rt, alloc, desk, &mut pass, SessionId(1), &commands, told);
+            pass
+        }
+        Asked::OverAFailingDisk => {
+            ask_over_a_failing_disk(rt, alloc, desk, &mut pass, told);
+            pass
+        }
+    }
+}
+
+/// Asks this of a machine of a keeper before anything was done, and gives what is told.
+fn told_of<R: Abort + Threads + Wait + Sync>(
+    rt: &R,
+    alloc: Global,
+    keeper: FailingKeeper,
+    asked: Asked,
+) -> String
+    requires points { 0 < length keeper.unkept.engine.plant }
+    requires sound { IsSound keeper.unkept.engine.plant keeper.unkept.engine.state }
+    requires running { keeper.stopped ≡ false }
+{
+    let mut told = String::new(alloc);
+    match Manager::new(rt, alloc, keeper, 2) {
+        Ok((manager, pass)) => {
+            let pass = ask_for(rt, alloc, &manager, pass, asked, &mut told);
+            let keeper = manager.close(pass);
+            if keeper.has_stopped() {
+                told.push_str("stopped\n").expect(rt, "memory");
+            }
+            told
+        }
+        Err(_) => rt.panic("no memory"),
+    }
+}
+
+/// An engine of three points whose disk fails in the call after so many good ones.
+fn three_points(rt: &impl Abort, alloc: Global, good_calls: u64) -> FailingKeeper
+    ensures points { 0 < length result.unkept.engine.plant }
+    ensures sound { IsSound result.unkept.engine.plant result.unkept.engine.state }
+    ensures running { result.stopped ≡ false }
+{
+    let catalogue = Catalogue::read(alloc, THREE_POINTS.as_bytes()).expect(rt, "a catalogue");
+    if catalogue.count() != 3 {
+        rt.panic("three points");
+    }
+    FailingKeeper::new(alloc, &catalogue, good_calls).expect(rt, "memory")
+}
+
+/// What is asked, how many calls the disk is good for, and what is told.
+const ROWS: [(Asked, u64, &str); 3] = [
+    (
+        Asked::InTwoThreads,
+        10_000,
+        "attached: 1 0
+accepted: 1 61000
+the damper is held: 1 62000
+ticked: 62000 0
+refused, for the lease expired: 62000 62000
+",
+    ),
+    (
+        Asked::AtOnce,
+        1,
+        "attached: 1 0
+accepted: 1 61000
+the damper is held: 1 61000
+done: 3 0
+",
+    ),
+    (
+        Asked::OverAFailingDisk,
+        1,
+        "attached: 1 0
+the disk failed: 0 0
+it has stopped: 0 0
+done: 0 0
+it has stopped: 0 0
+stopped
+",
+    ),
+];
+
+#[test]
+fn callers_share_one_machine(rt: HostRuntime) {
+    let alloc = rt.alloc();
+    for (asked, good_calls, wanted) in ROWS {
+        let keeper = three_points(&rt, alloc, good_calls);
+        let told = told_of(&rt, alloc, keeper, asked);
+        assert_eq!(&rt; told.as_str(), wanted);
+    }
+}
