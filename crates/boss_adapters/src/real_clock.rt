@@ -1,15 +1,12 @@
 ghost use Rattle.std.specs.Prelude.{◌≡◌, ◌≤◌, [], IfSome};
 ghost use Rattle.boss_model.specs.Limits.{last_moment};
 
-use boss_model::NoMemory;
+use boss_model::{LAST_MOMENT, NoMemory};
 use boss_outside::Failed;
 use boss_outside_server::Clock;
 use std::alloc::Global;
 use std::time;
 use std::time::{SystemTime, UNIX_EPOCH};
-
-/// The last moment: `2 ^ 60`.
-const LAST_MOMENT: u64 = 1 << 60;
 
 /// The system's clock, in milliseconds since 1970. `R` is what reads it.
 #[derive(Drop)]

@@ -10,7 +10,8 @@ use Rattle.boss_journal.specs.Places.{IsAt, IsAtEnd}
 use Rattle.boss_journal.specs.Reads.{Tells, Passes}
 use Rattle.boss_journal.specs.declared.reading.NextRecord.{NextRecord}
 use Rattle.boss_journal.proofs.Frames.{spelled_more}
-use Rattle.def_log.specs.Log.{framed, spelled, IsDamaged, AreRecords, longest_record}
+use Rattle.boss_model.specs.Limits.{longest_record}
+use Rattle.def_log.specs.Log.{framed, spelled, IsDamaged, AreRecords}
 use Rattle.def_log.proofs.Records.{framed-one}
 use Rattle.def_disk_pair.specs.Contents.{joined, IsNext, IsCourse}
 use Rattle.def_disk_pair.specs.Damage.{IsDamagedAt}

@@ -32,7 +32,7 @@ next_answer plant driver moment given made = subst IsNext (sym made.1) (stepped_
 -- a catalogue of the plant's points, without names
 abbrev nameless : List Actuator → List Point
 nameless [] = []
-nameless (actuator ∷ plant) = record { name = []; actuator = actuator } ∷ nameless plant
+nameless (actuator ∷ plant) = record { name = []; actuator = actuator; min_on = pos 0; min_off = pos 0 } ∷ nameless plant
 
 nameless_actuators : (plant : List Actuator) → map (λ point. point.actuator) (nameless plant) ≡ plant
 nameless_actuators [] = refl

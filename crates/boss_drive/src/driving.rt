@@ -5,13 +5,10 @@ ghost use Rattle.boss_drive.specs.Driving.{Driven};
 
 use crate::turn::turn;
 use boss_expiry::WorkEnd;
-use boss_model::DriverId;
+use boss_model::{DRIVE_PAUSE, DriverId};
 use boss_outside::Actuators;
 use boss_outside_server::{Clock, Waiter, Woke};
 use boss_shared::Desk;
-
-/// How long a pause is where the driver has no want, in milliseconds.
-const PAUSE: u64 = 20;
 
 /// Takes so many turns, or fewer where the clock or the disk fails or a pause says that the worker is to end. In each turn the
 /// clock is read and the driver's next want asked for; where there is one its device is written, the clock is read again and
@@ -41,7 +38,7 @@ pub fn drive<G: Desk, A: Actuators, C: Clock, W: Waiter>(
             Ok(wrote) => wrote,
         };
         if !wrote {
-            if let Woke::Close = waiter.pause(PAUSE) {
+            if let Woke::Close = waiter.pause(DRIVE_PAUSE) {
                 if number + 1 < turns {
                     return WorkEnd::Closed;
                 }

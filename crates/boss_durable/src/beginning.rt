@@ -9,11 +9,8 @@ ghost use Rattle.boss_disk_pair.specs.Causes.{counts_of};
 
 use crate::Durable;
 use boss_disk::Disk;
-use boss_model::{Kept, NoMemory};
+use boss_model::{Kept, NoMemory, RECORD_ROOM};
 use boss_outside::Failed;
-
-/// How many bytes the log has to have room for as a call begins: more than any record has.
-pub const MOST_ROOM: u64 = 65_536;
 
 /// How a call begins.
 #[derive(Clone, Copy, Debug, PartialEq, Eq)]
@@ -43,7 +40,7 @@ impl<D: Disk> Durable<D> {
         ensures room { result ≡ Begun.Ready → log self.new + 65536 ≤ self.new.log_limit }
         ensures still { log self.old + 65536 ≤ self.old.log_limit → (result ≡ Begun.Ready) × (self.new ≡ self.old) }
     {
-        if self.disks.log() <= self.log_limit - MOST_ROOM {
+        if self.disks.log() <= self.log_limit - RECORD_ROOM as u64 {
             return Begun::Ready;
         }
         match self.kept() {

@@ -4,12 +4,9 @@ ghost use Rattle.boss_expiry.specs.Ticking.{Expired};
 ghost use Rattle.boss_expiry.specs.Ends.{ClockCause, EndCause};
 
 use crate::{WorkEnd, work};
-use boss_model::Command;
+use boss_model::{Command, TICK_PAUSE};
 use boss_outside_server::{Clock, Waiter, Woke};
 use boss_shared::Desk;
-
-/// How long a pause between two ticks is, in milliseconds.
-const PAUSE: u64 = 100;
 
 /// Takes so many turns, each of which is a reading of the clock, a tick at this moment and a pause of 100 ms, or fewer
 /// where the clock or the disk fails or a pause says that the worker is to end. It takes no memory.
@@ -35,7 +32,7 @@ pub fn expire<G: Desk, C: Clock, W: Waiter>(
         if let Err(end) = work(desk, pass, &Command::Tick, moment) {
             return end;
         }
-        if let Woke::Close = waiter.pause(PAUSE) {
+        if let Woke::Close = waiter.pause(TICK_PAUSE) {
             if turn + 1 < turns {
                 return WorkEnd::Closed;
             }

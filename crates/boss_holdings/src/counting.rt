@@ -6,11 +6,8 @@ ghost use Rattle.boss_model.specs.Ends.{is_owned_by};
 ghost use Rattle.boss_slots.specs.Slots.{all, row};
 ghost use Rattle.boss_slots.specs.Tables.{IsKept, lease_at};
 
-use boss_model::{Lease, PointId, Priority, ProcId};
+use boss_model::{LEVELS, Lease, PointId, Priority, ProcId};
 use boss_slots::{Tables, lease_in};
-
-/// The slots of a point.
-const LEVELS: u8 = 16;
 
 /// How many leases of all slots are the process's own.
 pub fn count_owned(tables: &Tables, owner: ProcId) -> u32

@@ -5,12 +5,9 @@ ghost use Rattle.std.specs.Option.{option_to_list};
 ghost use Rattle.boss_slots.specs.Slots.{all, row};
 ghost use Rattle.boss_slots.specs.Tables.{lease_at, pending_at};
 
-use boss_model::{Items, Lease, NoMemory, Pending, PointId, Priority};
+use boss_model::{Items, LEVELS, Lease, NoMemory, Pending, PointId, Priority};
 use boss_slots::{Tables, lease_in, pending_in};
 use std::alloc::Global;
-
-/// The slots of a point.
-const LEVELS: u8 = 16;
 
 /// All leases, in the order of their slots.
 pub fn all_leases(alloc: Global, tables: &Tables) -> Result<Vec<Lease>, NoMemory>

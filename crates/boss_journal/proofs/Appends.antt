@@ -8,7 +8,8 @@ use Rattle.boss_disk.specs.Story.{Story}
 use Rattle.boss_disk.specs.Window.{Window, settled, overwritten}
 use Rattle.boss_disk.proofs.Runs.{write_leaves}
 use Rattle.boss_disk.proofs.Torn.{synced_image, write_behind, write_over, overwritten_behind, overwritten_parts}
-use Rattle.def_log.specs.Log.{framed, spelled, AreRecords, longest_record}
+use Rattle.boss_model.specs.Limits.{longest_record}
+use Rattle.def_log.specs.Log.{framed, spelled, AreRecords}
 use Rattle.boss_journal.specs.Appends.{IsShutLog, BeforeOrAfter}
 use Rattle.boss_journal.specs.Places.{IsAtRest}
 use Rattle.boss_journal.proofs.Frames.{lone, spelled_more, length-spelled_more}

@@ -1,7 +1,8 @@
 -- What append and ready leave is clean.
 use Rattle.std.proofs.Common.{◌≡◌, ◌≢◌, ℕ, ◌≤◌, ◌⊎◌, inl, inr, ⊎_elim, List, [], ◌∷◌, ◌++◌, length, refl, sym, ap, ◌∙◌, arith}
 use Rattle.std.proofs.lemmas.Bool.{cases_eq}
-use Rattle.def_log.specs.Log.{framed, spelled, AreRecords, longest_record}
+use Rattle.boss_model.specs.Limits.{longest_record}
+use Rattle.def_log.specs.Log.{framed, spelled, AreRecords}
 use Rattle.boss_journal.specs.Appends.{IsShutLog, IsOpening, BeforeOrAfter}
 use Rattle.boss_journal.specs.Clean.{IsCleanLog}
 use Rattle.boss_journal.specs.Reads.{Repairs}

@@ -3,7 +3,8 @@ use Rattle.std.proofs.Common.{◌≡◌, ℕ, ◌+◌, ◌^◌, ◌<◌, ◌≤�
 use Rattle.std.specs.Int.{w32, from_be_bytes, to_be_bytes}
 use Rattle.std.proofs.lemmas.List.{take_at, drop_at, take-take, take-append-drop}
 use Rattle.std.proofs.lemmas.Nat.{from_be_bytes-to_be_bytes_4}
-use Rattle.def_log.specs.Log.{framed, longest_record}
+use Rattle.boss_model.specs.Limits.{longest_record}
+use Rattle.def_log.specs.Log.{framed}
 use Rattle.boss_journal.specs.Headings.{IsBroken}
 use Rattle.boss_journal.proofs.Frames.{length-framed}
 

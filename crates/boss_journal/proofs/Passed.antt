@@ -3,7 +3,8 @@ use Rattle.std.proofs.Common.{◌≡◌, ℕ, ◌+◌, ◌<◌, ◌≤◌, List,
 use Rattle.std.specs.Int.{w32, to_be_bytes}
 use Rattle.std.proofs.lemmas.List.{drop_at, drop-drop, take-append-drop, length-take-le}
 use Rattle.std.proofs.Math.Seq.{take-add}
-use Rattle.def_log.specs.Log.{framed, spelled, longest_record}
+use Rattle.boss_model.specs.Limits.{longest_record}
+use Rattle.def_log.specs.Log.{framed, spelled}
 use Rattle.boss_journal.specs.Places.{IsAt}
 use Rattle.boss_journal.proofs.Appends.{at_gate, next_gate, records_more}
 use Rattle.boss_journal.proofs.Frames.{spelled_more}

@@ -1,7 +1,8 @@
 -- What stands at a place of a journal, by the bytes from there on.
 use Rattle.std.specs.Prelude.{◌≡◌, ℕ, ◌+◌, ◌<◌, ◌≤◌, List, ◌∷◌, ◌++◌, length}
 use Rattle.std.specs.Int.{w32, to_be_bytes}
-use Rattle.def_log.specs.Log.{framed, longest_record}
+use Rattle.boss_model.specs.Limits.{longest_record}
+use Rattle.def_log.specs.Log.{framed}
 use Rattle.boss_journal.specs.declared.heading.Heading.{Heading}
 use Rattle.boss_journal.specs.declared.heading.Heading.TheVariants.{Shut, Broken, Whole}
 

@@ -4,10 +4,8 @@ ghost use Rattle.boss_outside.specs.Counts.{HasCause};
 ghost use Rattle.boss_journal.specs.Headings.{IsHeading, Within};
 
 use boss_disk::Disk;
+use boss_model::LONGEST_RECORD;
 use boss_outside::Failed;
-
-/// The most bytes of a record.
-pub const LONGEST_RECORD: u32 = 65_535;
 
 /// What stands at a place of a journal.
 #[derive(Clone, Copy, Debug, PartialEq, Eq)]

@@ -1,5 +1,6 @@
 ghost use Rattle.std.specs.Prelude.{◌≡◌, ◌≢◌, ℕ, ◌≤◌, ◌⊎◌, List, [], ◌∷◌, ◌++◌, length};
-ghost use Rattle.def_log.specs.Log.{framed, AreRecords, longest_record, IsLog, IsClean};
+ghost use Rattle.boss_model.specs.Limits.{longest_record};
+ghost use Rattle.def_log.specs.Log.{framed, AreRecords, IsLog, IsClean};
 ghost use Rattle.boss_journal.specs.Appends.{BeforeOrAfter};
 ghost use Rattle.boss_journal.specs.Clean.{IsCleanLog};
 ghost use Rattle.boss_journal.specs.Fronts.{journal_front};

@@ -16,7 +16,6 @@ mod standing;
 mod start;
 
 pub use appending::Appended;
-pub use heading::LONGEST_RECORD;
 pub use journal::Journal;
 pub use laws::{
     a_bare_journal_is_clean, a_repair_keeps_the_records, an_append_is_whole_or_nothing,

@@ -2,9 +2,10 @@ ghost use Rattle.std.specs.Prelude.{◌≡◌, ℕ, ◌^◌, ◌≤◌, ◌<◌,
 ghost use Rattle.boss_journal.specs.Opens.{Refuses, OpenCause};
 ghost use Rattle.boss_journal.specs.Looks.{looked_at, Finds};
 
-use crate::start::{FIRST_GATE, Start, find_start};
+use crate::start::{Start, find_start};
 use crate::{Journal, OpenRefusal};
 use boss_disk::Disk;
+use boss_model::FIRST_GATE;
 
 /// What a look at a disk finds.
 #[derive(Drop)]

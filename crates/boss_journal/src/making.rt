@@ -5,8 +5,9 @@ ghost use Rattle.boss_disk.specs.Window.{settled, overwritten};
 ghost use Rattle.boss_journal.specs.Fronts.{journal_front, fresh_rest, IsFresh, IsBegun, IsNew};
 ghost use Rattle.boss_journal.specs.Opens.{IsStart, IsBare, Opens};
 
-use crate::start::{NEWEST, Start, fresh_head};
+use crate::start::{Start, fresh_head};
 use boss_disk::{Disk, write_through};
+use boss_model::NEWEST_VERSION;
 use boss_outside::Failed;
 
 /// Makes a journal of bytes that are new, and tells its version. A journal that was found is left as it is.
@@ -22,11 +23,11 @@ pub fn make<D: Disk>(disk: &mut D, start: Start, digest: &[u8; 32]) -> Result<u8
     match start {
         Start::Short => {
             put_first(disk, digest)?;
-            Ok(NEWEST)
+            Ok(NEWEST_VERSION)
         }
         Start::Begun => {
             put_head(disk, digest)?;
-            Ok(NEWEST)
+            Ok(NEWEST_VERSION)
         }
         Start::Fresh { version } => {
             put_mark(disk)?;
@@ -67,7 +68,7 @@ fn put_rest<D: Disk>(disk: &mut D, digest: &[u8; 32]) -> Result<(), Failed>
     ensures windows { D.tells → WritesThrough 1 (fresh_rest 2 digest.now) (D.reads disk.old) (D.story disk.old) (D.story disk.new) result }
     ensures cause { HasCause (D.faults disk.old) (D.faults disk.new) result }
 {
-    let rest = fresh_head(NEWEST, digest);
+    let rest = fresh_head(NEWEST_VERSION, digest);
     write_through(disk, 1, &rest)
 }
 

@@ -6,9 +6,10 @@ ghost use Rattle.boss_journal.specs.Opens.{Refuses, OpenCause, Untouched, Opens,
 ghost use Rattle.boss_journal.specs.Places.{IsAt, IsAtRest};
 
 use crate::making::make;
-use crate::start::{FIRST_GATE, NEWEST, Start, find_start};
+use crate::start::{Start, find_start};
 use crate::{Journal, OpenRefusal};
 use boss_disk::Disk;
+use boss_model::FIRST_GATE;
 
 impl<D: Disk> Journal<D> {
     /// Opens the journal of the catalogue with this digest, after a sync. Where the bytes are new it makes one.

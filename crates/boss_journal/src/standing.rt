@@ -5,9 +5,9 @@ ghost use Rattle.boss_journal.specs.declared.refusal.OpenRefusal.TheVariants.{Di
 ghost use Rattle.boss_journal.specs.Places.{IsAt, IsAtRest};
 
 use crate::heading::read_some;
-use crate::start::NEWEST;
 use crate::{Journal, OpenRefusal};
 use boss_disk::Disk;
+use boss_model::NEWEST_VERSION;
 use boss_outside::Failed;
 use std::mem;
 
@@ -54,7 +54,7 @@ impl<D: Disk> Journal<D> {
             disk,
             first: place,
             place,
-            version: NEWEST,
+            version: NEWEST_VERSION,
             stopped: false,
         }
     }
@@ -73,7 +73,7 @@ impl<D: Disk> Journal<D> {
         mem::swap(&mut self.disk, other);
         self.first = place;
         self.place = place;
-        self.version = NEWEST;
+        self.version = NEWEST_VERSION;
     }
 }
 

@@ -5,12 +5,7 @@ ghost use Rattle.boss_journal.specs.Opens.{IsFront, Refuses, OpenCause, IsStart}
 use crate::OpenRefusal;
 use crate::heading::read_some;
 use boss_disk::Disk;
-
-/// The place of the first gate, behind the mark, the version and the digest.
-pub const FIRST_GATE: u64 = 41;
-
-/// The version that a new journal has.
-pub const NEWEST: u8 = 2;
+use boss_model::NEWEST_VERSION;
 
 /// The first bytes of a journal but for the first of all.
 const MARK: [u8; 8] = *b"BOSSJRNL";
@@ -133,7 +128,7 @@ fn are_same(some: &[u8], other: &[u8]) -> bool
 fn is_known(version: u8) -> bool
     ensures { IsTrue result ↔ IsKnown version }
 {
-    version == 1 || version == NEWEST
+    version == 1 || version == NEWEST_VERSION
 }
 
 /// Bytes 1 to 41 of a journal without records.

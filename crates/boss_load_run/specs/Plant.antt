@@ -9,6 +9,8 @@ abbrev pub point_numbered : ℕ → Point
 point_numbered number = record {
   name = codes "p" ++ decimal number;
   actuator = record { kind = Analog (pos 0) (pos 100000); default = pos 20000; driver = 0 };
+  min_on = pos 0;
+  min_off = pos 0;
 }
 
 -- forty of them, behind one driver

@@ -7,6 +7,7 @@ ghost use Rattle.boss_lock.specs.declared.view.Stage.TheVariants.{Idle};
 
 use crate::plays::{AllParts, Compare, Draw, GiveBack, Look, OnePart, PassOn, Take, Telling};
 use crate::view::{Board, Made, Stands, Token};
+use boss_model::LOCK_LOOKS;
 use std::hint::spin_loop;
 use std::marker::Brand;
 use std::sync::Wait;
@@ -19,9 +20,6 @@ const SERVING: usize = 1;
 
 // The only slot, where the value lies while no seat has the turn.
 const VALUE: usize = 0;
-
-// How often a seat looks before it sleeps, since a turn is mostly passed on sooner than a thread wakes.
-const LOOKS: u32 = 1000;
 
 // Draws the next ticket, and returns it modulo 2^64.
 fn draw<V: Stands>(board: &Board<V>, token: &mut Token<V>) -> u64
@@ -57,7 +55,7 @@ fn wait<V: Stands, R: Wait>(board: &Board<V>, rt: &R, token: &mut Token<V>, tick
         if serving == ticket {
             return;
         }
-        if looks < LOOKS {
+        if looks < LOCK_LOOKS {
             looks += 1;
             spin_loop();
         } else {

@@ -13,15 +13,13 @@ use boss_disk::Disk;
 use boss_durable::Durable;
 use boss_journal_lines::refusal_line;
 use boss_lines::Next;
+use boss_model::LOG_LIMIT;
 use boss_opening::open;
 use boss_outside::{Actuators, Sink, Source};
 use boss_pair_find::DurableRefusal;
 use boss_points::Catalogue;
 use boss_scripts::{Broken, run_script};
 use std::alloc::Global;
-
-/// How many bytes a log may have.
-pub const LOG_LIMIT: u64 = 16_777_216;
 
 /// Runs a script over a journal on two disks, which come back: the journal is opened, the wants of the beginning are served, and then
 /// each line of the source is answered, and the wants that it leaves are served, before the next is read.

@@ -22,12 +22,12 @@ ghost use Rattle.boss_manager.specs.Serving.{
 };
 
 use crate::Status;
-use crate::journal::{LOG_LIMIT, say_journal};
+use crate::journal::say_journal;
 use boss_disk::Disk;
 use boss_durable::Durable;
 use boss_journal_lines::{LONGEST_SUMMARY, summary_in_room};
 use boss_memory_keeper::Unkept;
-use boss_model::NoMemory;
+use boss_model::{LOG_LIMIT, NoMemory};
 use boss_opening::open;
 use boss_outside::{Actuators, Failed, Sink};
 use boss_outside_server::{Clock, Host, Spawner, Waiter};

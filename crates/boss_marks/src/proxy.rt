@@ -3,10 +3,7 @@ ghost use Rattle.boss_model.specs.Limits.{last_moment};
 ghost use Rattle.boss_model.specs.Settle.{fresh};
 ghost use Rattle.boss_marks.specs.Proxy.{recommand, report_of, after_report, is_due};
 
-use boss_model::{Mark, Proxy};
-
-/// How long after its report a failed write is tried again, in milliseconds.
-const RETRY_AFTER: u64 = 5000;
+use boss_model::{Mark, Proxy, RETRY_AFTER};
 
 /// What a report of a device's write comes to.
 #[derive(Clone, Copy, Debug, PartialEq, Eq)]

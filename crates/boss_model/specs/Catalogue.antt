@@ -6,10 +6,13 @@ use Rattle.boss_model.specs.declared.point.Kind.TheVariants.{Analog, Binary, Mul
 -- what the machine knows of a point: which values it takes, its Relinquish_Default, and the driver of its device
 pub use Rattle.boss_model.specs.declared.state.Actuator.{Actuator}
 
--- a point of the catalogue has a name beside that
+-- a point of the catalogue has a name beside that, and the minimum times, in milliseconds, for which its device is to stay on
+-- and off; both are 0 where a point has none
 pub record Point : Type 0 where
   pub name : List ℕ
   pub actuator : Actuator
+  pub min_on : ℤ
+  pub min_off : ℤ
 
 -- drivers and points go by their places, from 0
 pub record Catalogue : Type 0 where

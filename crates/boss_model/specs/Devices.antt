@@ -4,6 +4,7 @@ use Rattle.boss_model.specs.declared.answer.Answer.TheVariants as answer
 use Rattle.boss_model.specs.declared.answer.Mark.TheVariants as mark
 use Rattle.boss_model.specs.Catalogue.{Actuator, driver_of}
 use Rattle.boss_model.specs.Ends.{faulted}
+use Rattle.boss_model.specs.Limits.{retry_after}
 use Rattle.boss_model.specs.Lists.{member, without}
 use Rattle.boss_model.specs.Order.{least}
 use Rattle.boss_model.specs.Settle.{fresh}
@@ -40,10 +41,6 @@ wanting plant s = least (λ driver. driver) (map (driver_of plant) s.wants)
 -- a report counts if it is of the present version, and the point does not want to be written anew
 abbrev pub is_current : ℕ → ℕ → State → Bool
 is_current point version s = ((proxy_of s.proxies point).version == version) && not (member point s.wants)
-
--- in milliseconds, the time after which a device that failed is written again
-abbrev pub retry_after : ℕ
-retry_after = 5000
 
 abbrev pub taken : Proxy → Proxy
 taken proxy = record proxy { mark = mark.Settled }

@@ -13,6 +13,7 @@ mod memory;
 mod name;
 mod notice;
 mod numbers;
+mod places;
 mod point;
 mod state;
 
@@ -23,13 +24,16 @@ pub use event::{Act, Effect, Event};
 pub use items::Items;
 pub use kept::{Acceptance, Kept, KeptPart, KeptProcess, KeptReply, KeptTxn};
 pub use limits::{
-    DONE_KEPT, LAST_MOMENT, LAST_NUMBER, LAST_SESSION, LONGEST_FILE, LONGEST_HOLD, LONGEST_LEASE,
-    LONGEST_LINE, LONGEST_NAME, MOST_DRIVERS, MOST_LINES, MOST_POINTS, MOST_PROCESSES, MOST_STEPS,
-    MOST_TOLD, MOST_WRITES, NOTICES_KEPT,
+    ANSWER_ROOM, DONE_KEPT, DRIVE_PAUSE, FIRST_GATE, LAST_MOMENT, LAST_NUMBER, LAST_SESSION,
+    LEVELS, LOCK_LOOKS, LOG_LIMIT, LONGEST_FILE, LONGEST_HOLD, LONGEST_LEASE, LONGEST_LINE,
+    LONGEST_MINIMUM, LONGEST_NAME, LONGEST_RECORD, MOST_DRIVERS, MOST_HELD, MOST_LINES,
+    MOST_POINTS, MOST_PROCESSES, MOST_STEPS, MOST_TOLD, MOST_WRITES, NEWEST_VERSION, NOTICES_KEPT,
+    RECORD_ROOM, RETRY_AFTER, TICK_PAUSE, WATCH_IDLE, WATCH_PAUSE,
 };
 pub use memory::NoMemory;
 pub use name::Name;
 pub use notice::{Cause, Notice, Stage, What};
 pub use numbers::{DriverId, PointId, Priority, ProcId, SessionId, Txn};
+pub use places::{DriverPlan, Place, Where};
 pub use point::Kind;
 pub use state::{Actuator, Lease, Pending, Proxy};

@@ -1,4 +1,4 @@
-//! The limits of `specs/Limits.antt`, as the code has them.
+//! The limits of `specs/Limits.antt`, as the code has them. Why each is what it is stands there.
 
 /// How many drivers a catalogue may have.
 pub const MOST_DRIVERS: usize = 16;
@@ -6,11 +6,17 @@ pub const MOST_DRIVERS: usize = 16;
 /// How many points a catalogue may have.
 pub const MOST_POINTS: usize = 4_096;
 
+/// How many levels a priority array has, from 1, the highest (ASHRAE 135, clause 19.2.1).
+pub const LEVELS: u8 = 16;
+
 /// How many bytes the name of a point, a driver or a process may have.
 pub const LONGEST_NAME: usize = 64;
 
 /// How many bytes the file of a catalogue may have.
 pub const LONGEST_FILE: usize = 1_048_576;
+
+/// How long the minimum on and off times of a binary point may be, in milliseconds: a day.
+pub const LONGEST_MINIMUM: i64 = 86_400_000;
 
 /// How many writes a submit may have, and how many points a renewal may name.
 pub const MOST_WRITES: usize = 32;
@@ -48,5 +54,44 @@ pub const LAST_SESSION: u64 = 65_535;
 /// How many bytes a line may have, without its end.
 pub const LONGEST_LINE: usize = 65_535;
 
+/// How many bytes an answer is written into: the longest has one less.
+pub const ANSWER_ROOM: u32 = 32_768;
+
 /// How many lines a script may have.
 pub const MOST_LINES: u64 = 1 << 32;
+
+/// How many requests of a connection are held and done together, and how many events one record may have.
+pub const MOST_HELD: usize = 16;
+
+/// How long a device is left alone after a failed write, in milliseconds.
+pub const RETRY_AFTER: u64 = 5_000;
+
+/// The version of a new journal.
+pub const NEWEST_VERSION: u8 = 2;
+
+/// The place of a new journal's first gate, in bytes: after the mark, the version and the digest.
+pub const FIRST_GATE: u64 = 41;
+
+/// How many bytes a record may have.
+pub const LONGEST_RECORD: u32 = 65_535;
+
+/// How many bytes a call wants to find free in a log, and how many a record is read into: more than any record has.
+pub const RECORD_ROOM: u32 = 65_536;
+
+/// How many bytes a log may have before a new state is kept: 16 MiB.
+pub const LOG_LIMIT: u64 = 16_777_216;
+
+/// How long the pause between two ticks is, in milliseconds.
+pub const TICK_PAUSE: u64 = 100;
+
+/// How long the pause is where a driver has no want, in milliseconds.
+pub const DRIVE_PAUSE: u64 = 20;
+
+/// How long the pause is after a turn of a watch without a notice, in milliseconds.
+pub const WATCH_PAUSE: u64 = 100;
+
+/// After how many turns in a row without a notice a watch ends: a minute.
+pub const WATCH_IDLE: u32 = 600;
+
+/// How often a caller looks at the lock before it sleeps.
+pub const LOCK_LOOKS: u32 = 1_000;

@@ -12,18 +12,15 @@ ghost use Rattle.boss_disk_pair.specs.Causes.{counts_of, first_disk, second_disk
 ghost use Rattle.boss_disk_pair.specs.Reads.{is_clean, is_damaged_at, is_settled, reads_to};
 ghost use Rattle.boss_disk_pair.specs.Rests.{passes, rests};
 
-use crate::reading::{RECORD_ROOM, read_log};
+use crate::reading::read_log;
 use boss_disk::Disk;
 use boss_disk_pair::TwoDisks;
 use boss_durable::Durable;
 use boss_engine::Engine;
-use boss_model::{Buffer, Kept, NoMemory};
+use boss_model::{Buffer, Kept, NEWEST_VERSION, NoMemory, RECORD_ROOM};
 use boss_outside::Failed;
 use boss_pair_find::DurableRefusal;
 use std::alloc::Global;
-
-/// The version in which disks are written.
-const NEWEST: u8 = 2;
 
 /// The log of a pair is done again by the engine of the state that it begins with, and its last gate is shut.
 pub fn go_on<D: Disk>(
@@ -158,7 +155,7 @@ fn migrate<D: Disk>(
     ensures fine { OnOk result (counts_of pair.new ≡ counts_of pair.old) }
     ensures cause { IfErr result (PairCause (counts_of pair.old) (counts_of pair.new)) }
 {
-    if pair.version() == NEWEST {
+    if pair.version() == NEWEST_VERSION {
         return Ok(());
     }
     match engine.keep(alloc) {

@@ -11,12 +11,9 @@ use boss_disk::Disk;
 use boss_disk_pair::TwoDisks;
 use boss_engine::Engine;
 use boss_journal::NextRecord;
-use boss_model::{Buffer, NoMemory};
+use boss_model::{Buffer, NoMemory, RECORD_ROOM};
 use boss_pair_find::DurableRefusal;
 use std::alloc::Global;
-
-/// How many bytes the records of a call may have.
-pub const RECORD_ROOM: u32 = 65_536;
 
 /// Reads the log of a pair to its end, does its events again, and tells how many they are. The disks stay as they are. Where the pair
 /// is refused the engine is not to be used.

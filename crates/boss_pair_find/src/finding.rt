@@ -22,13 +22,10 @@ use crate::front::check_front;
 use boss_disk::Disk;
 use boss_disk_pair::{Force, TwoDisks, force_of};
 use boss_journal::Journal;
-use boss_model::{Kept, LAST_NUMBER};
+use boss_model::{FIRST_GATE, Kept, LAST_NUMBER};
 use boss_outside::Failed;
 use boss_snapshot::{kind, read_state};
 use std::alloc::Global;
-
-/// The place of the first gate of a journal from the first state on, which ends a new journal.
-const FIRST_GATE: u64 = 41;
 
 /// What a pair of disks holds.
 #[derive(Drop)]

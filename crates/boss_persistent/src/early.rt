@@ -16,11 +16,8 @@ ghost use Rattle.boss_persistent.specs.Asking.{HasSlot, is_open_on};
 
 use crate::lasting::Lasting;
 use crate::refusals::{full, is_length, submit_refused};
-use boss_model::{Act, Actuator, PointId, Priority, ProcId, Setting, Txn};
+use boss_model::{Act, Actuator, LEVELS, PointId, Priority, ProcId, Setting, Txn};
 use boss_stages::Part;
-
-/// The slots of a point.
-const LEVELS: u8 = 16;
 
 /// Whether an act is not refused at moment `n`, once time has passed up to then. Its process and its points may be unknown.
 pub fn is_allowed(plant: &[Actuator], lasting: &Lasting, act: &Act, n: u64) -> bool

@@ -15,16 +15,13 @@ use crate::broken::Broken;
 use crate::draining::drain;
 use boss_answers::{tell_answer, tell_stopped, tell_too_long};
 use boss_lines::{Lines, Next};
-use boss_model::{Answer, Buffer, Command, MOST_LINES, SessionId};
+use boss_model::{ANSWER_ROOM, Answer, Buffer, Command, MOST_LINES, SessionId};
 use boss_outside::{Actuators, Sink, Source};
 use boss_points::Catalogue;
 use boss_requests::{Ask, Form, ReadRefusal, RequestReader, is_blank, read_by};
 use boss_shared::Keeper;
 use def_history::Outcome;
 use std::alloc::Global;
-
-/// How many bytes there is room for where a line is written.
-const ROOM: u32 = 65_536;
 
 /// Runs a script over a keeper whose disk has not failed: the wants of the beginning are served at moment 0, and then each line
 /// of the source is answered, and the wants that it leaves are served, before the next is read. It says what stopped it, which
@@ -57,7 +54,7 @@ pub fn run_script<V: Keeper, S: Source, K: Sink, A: Actuators>(
 {
     let mut reader = Lines::new(alloc)?;
     let mut requests = RequestReader::new(alloc);
-    let mut text = Buffer::new(alloc, ROOM)?;
+    let mut text = Buffer::new(alloc, ANSWER_ROOM)?;
     drain(catalogue, keeper, 0, &mut text, sink, devices)?;
     let end = take_lines(
         alloc,

@@ -10,15 +10,12 @@ ghost use Rattle.boss_sessions.specs.Speaking.{reading_in};
 use crate::next_line::next_line;
 use crate::requests::take_request;
 use crate::{Heard, Hearing};
-use boss_model::Command;
+use boss_model::{Command, MOST_HELD};
 use boss_outside::Source;
 use boss_outside_server::Clock;
 use boss_points::Catalogue;
 use boss_requests::{RequestReader, is_blank};
 use std::alloc::Global;
-
-/// How many requests are held at most.
-pub const MOST_HELD: usize = 16;
 
 /// Takes lines until `MOST_HELD` requests are held, or one at least and the next line would have to be read, or something else
 /// came. A request is held with the moment of the clock, in milliseconds. Blank lines are passed over.

@@ -2,7 +2,7 @@
 //! answered, and at its end the process that it attached to, if it did, is told to be lost.
 //!
 //! What is heard on it are its lines, one after another, and the requests among them, each with the moment of the clock at which
-//! it was taken. Requests that have come are held together, up to [`MOST_HELD`] of them, as long as nothing has to be read for
+//! it was taken. Requests that have come are held together, up to [`boss_model::MOST_HELD`] of them, as long as nothing has to be read for
 //! the next one.
 #![tactic(auto)]
 
@@ -24,7 +24,7 @@ mod turns;
 
 pub use end::SessionEnd;
 pub use ended::a_served_connection_has_ended;
-pub use gathering::{MOST_HELD, gather};
+pub use gathering::gather;
 pub use heard::Heard;
 pub use hearing::Hearing;
 pub use serving::serve_connection;

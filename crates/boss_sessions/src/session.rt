@@ -1,14 +1,10 @@
 ghost use Rattle.std.specs.Prelude.{◌≡◌, ◌≤◌, false, [], None, IfOk, vec_capacity};
 ghost use Rattle.boss_model.specs.Limits.{most_lines};
 
-use crate::gathering::MOST_HELD;
 use crate::hearing::Hearing;
-use boss_model::{Answer, Buffer, NoMemory};
+use boss_model::{ANSWER_ROOM, Answer, Buffer, MOST_HELD, NoMemory};
 use boss_requests::RequestReader;
 use std::alloc::Global;
-
-/// How many bytes there is room for where a line is written.
-const ROOM: u32 = 65_536;
 
 /// A session, as far as it has come.
 #[derive(Debug, Drop)]
@@ -44,7 +40,7 @@ impl Session {
             attached: false,
             last: 0,
             answers: Vec::with_capacity(alloc, MOST_HELD)?,
-            text: Buffer::new(alloc, ROOM)?,
+            text: Buffer::new(alloc, ANSWER_ROOM)?,
         })
     }
 }

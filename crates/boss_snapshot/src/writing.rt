@@ -20,12 +20,9 @@ use crate::fronts::HEAD;
 use crate::keeping::spill_kept;
 use crate::kinds::STATE_MARK;
 use boss_disk::{Disk, write_through};
-use boss_model::Kept;
+use boss_model::{Kept, NEWEST_VERSION};
 use boss_outside::Failed;
 use boss_records::{Room, put_u64};
-
-/// The version of the states that are written.
-const NEWEST: u8 = 2;
 
 /// Where the length of a state stands.
 const SIZE: u64 = 57;
@@ -138,7 +135,7 @@ fn put_opening(block: &mut Block, digest: &[u8; 32], generation: u64, events: u6
     ensures long { length block.new ≡ 56 }
 {
     block.put_all(&STATE_MARK);
-    block.put(NEWEST);
+    block.put(NEWEST_VERSION);
     block.put_all(digest);
     put_u64(block, generation);
     put_u64(block, events);

@@ -10,14 +10,11 @@ ghost use Rattle.boss_watching.specs.Turns.{Lasts};
 
 use crate::WatchEnd;
 use crate::turn::take_turn;
-use boss_model::{Buffer, Name, SessionId};
+use boss_model::{Buffer, Name, SessionId, WATCH_PAUSE};
 use boss_outside::Sink;
 use boss_outside_server::{Clock, Waiter, Woke};
 use boss_points::Catalogue;
 use boss_shared::Desk;
-
-/// How long a pause behind a turn without a notice is, in milliseconds.
-const PAUSE: u64 = 100;
 
 /// Takes turns until one has a notice, and gives the number to ask from next; or tells how it ended: at the latest after so many
 /// turns, none of which had a notice.
@@ -74,7 +71,7 @@ pub fn await_notices<G: Desk, K: Sink, C: Clock, W: Waiter>(
         if turn.told {
             return Ok(next);
         }
-        if let Woke::Close = waiter.pause(PAUSE) {
+        if let Woke::Close = waiter.pause(WATCH_PAUSE) {
             if quiet + 1 < idle {
                 return Err(WatchEnd::Closed);
             }

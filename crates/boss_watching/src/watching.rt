@@ -8,15 +8,12 @@ ghost use Rattle.boss_watching.specs.Notes.{notes};
 
 use crate::WatchEnd;
 use crate::waiting::await_notices;
-use boss_model::{Buffer, Name, SessionId};
+use boss_model::{ANSWER_ROOM, Buffer, Name, SessionId};
 use boss_outside::Sink;
 use boss_outside_server::{Clock, Waiter};
 use boss_points::Catalogue;
 use boss_shared::Desk;
 use std::alloc::Global;
-
-/// How many bytes there is room for where a notice is written.
-const ROOM: u32 = 32_768;
 
 /// Sends the notices of a process as they come, those from the number `from` on, which is at least 1. In each turn the clock is
 /// read and at most 64 notices are asked for, as a command of the session; each is written as a line, and where there was none
@@ -51,7 +48,7 @@ pub fn watch_connection<G: Desk, K: Sink, C: Clock, W: Waiter>(
     ensures disk { DiskCause (G.seen pass.new) result }
     ensures close { CloseCause W.tells (W.closed waiter.new) (W.closes waiter.old) (W.closes waiter.new) result }
 {
-    let Ok(mut text) = Buffer::new(alloc, ROOM) else {
+    let Ok(mut text) = Buffer::new(alloc, ANSWER_ROOM) else {
         return WatchEnd::NoMemory;
     };
     let mut next = from;

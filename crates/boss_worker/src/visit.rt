@@ -11,7 +11,7 @@ ghost use Rattle.boss_worker.specs.Troubles.{is_trouble, ClockTrouble};
 
 use crate::Trouble;
 use crate::trouble::{session_trouble, watch_trouble};
-use boss_model::SessionId;
+use boss_model::{SessionId, WATCH_IDLE};
 use boss_outside::{Sink, Source};
 use boss_outside_server::{Clock, Waiter};
 use boss_points::Catalogue;
@@ -19,9 +19,6 @@ use boss_sessions::{SessionEnd, serve_connection};
 use boss_shared::Desk;
 use boss_watching::watch_connection;
 use std::alloc::Global;
-
-/// After so many turns in a row without a notice a connection is watched for no longer.
-const IDLE: u32 = 600;
 
 /// Serves a connection that was handed out, which watches a process where its first line asks for it, and tells what of its end
 /// concerns the server. The connection agrees with all that was done for it.
@@ -50,7 +47,7 @@ pub(crate) fn attend<G: Desk, S: Source, K: Sink, C: Clock, W: Waiter>(
 {
     match serve_connection(alloc, desk, pass, catalogue, session, input, output, clock) {
         SessionEnd::Watch { name, from } => watch_trouble(watch_connection(
-            alloc, desk, pass, catalogue, session, &name, from, output, clock, waiter, IDLE,
+            alloc, desk, pass, catalogue, session, &name, from, output, clock, waiter, WATCH_IDLE,
         )),
         end => session_trouble(&end),
     }

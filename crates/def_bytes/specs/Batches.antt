@@ -4,10 +4,8 @@ use Rattle.std.specs.List.{AllByRecursion}
 use Rattle.boss_model.specs.declared.event.Act.{Act}
 use Rattle.boss_model.specs.declared.event.Act.TheVariants as act
 use Rattle.boss_model.specs.declared.event.Event.{Event}
+use Rattle.boss_model.specs.Limits.{most_held}
 use Rattle.def_bytes.specs.Events.{event}
-
-abbrev pub most_events : ℕ
-most_events = 16
 
 abbrev pub batch_text : List Event → List ℕ
 batch_text events = flat_map event.text events
@@ -15,7 +13,7 @@ batch_text events = flat_map event.text events
 -- one to sixteen events that have a spelling
 pub record IsBatch (events : List Event) : Type 0 where
   pub some_event : 1 ≤ length events
-  pub few : length events ≤ most_events
+  pub few : length events ≤ most_held
   pub fitting : AllByRecursion (λ e. event.fits e ≡ true) events
 
 -- a disk of version 1 knows no numbers of requests

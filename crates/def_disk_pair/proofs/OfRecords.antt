@@ -10,7 +10,8 @@ use Rattle.def_bytes.specs.Batches.{batch_text, IsBatch, act_number, IsOfVersion
 use Rattle.def_bytes.specs.Events.{event}
 use Rattle.def_bytes.proofs.OfBatches.{batch-events}
 use Rattle.def_bytes.proofs.OfEvents.{event_spelled}
-use Rattle.def_log.specs.Log.{framed, spelled, longest_record, AreRecords}
+use Rattle.boss_model.specs.Limits.{longest_record}
+use Rattle.def_log.specs.Log.{framed, spelled, AreRecords}
 use Rattle.def_log.proofs.Records.{head-same, behind, record-behind}
 use Rattle.def_disk_pair.specs.Contents.{joined}
 use Rattle.def_disk_pair.specs.Damage.{LeadsNowhere}

@@ -8,7 +8,7 @@ use Rattle.def_bytes.specs.Fields.{number_text}
 use Rattle.boss_model.specs.declared.command.Policy.TheVariants.{Abort}
 use Rattle.boss_model.specs.declared.event.Act.TheVariants as act
 use Rattle.boss_model.specs.declared.event.Event.{Event}
-use Rattle.boss_model.specs.Limits.{last_number}
+use Rattle.boss_model.specs.Limits.{last_number, longest_record}
 use Rattle.boss_model.specs.Run.{replay_all}
 use Rattle.boss_model.specs.Sound.{IsLease, IsPart, IsTransaction, IsProcess, IsSoundPersistent}
 use Rattle.boss_model.specs.State.{Persistent, first_persistent}
@@ -19,7 +19,7 @@ use Rattle.def_bytes.proofs.Hex.{hex}
 use Rattle.def_bytes.proofs.StateRows.{write, one_lease}
 use Rattle.def_log.specs.declared.kind.DiskKind.TheVariants.{Other}
 use Rattle.def_log.specs.Kinds.{kind_of, state_mark}
-use Rattle.def_log.specs.Log.{framed, spelled, longest_record}
+use Rattle.def_log.specs.Log.{framed, spelled}
 use Rattle.def_disk_pair.specs.Fronts.{heading, IsPlainFront, kept_state, IsStateFront}
 use Rattle.def_disk_pair.specs.Contents.{IsNext, IsCourse}
 use Rattle.def_disk_pair.specs.Damage.{LeadsNowhere}

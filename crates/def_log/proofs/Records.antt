@@ -3,7 +3,8 @@ use Rattle.std.proofs.Common.{◌≡◌, ℕ, ◌≤◌, List, [], ◌∷◌, �
 use Rattle.std.specs.Int.{w32, from_be_bytes, to_be_bytes}
 use Rattle.std.proofs.lemmas.List.{take_at, drop_at, append_cancel_left}
 use Rattle.std.proofs.lemmas.Nat.{from_be_bytes-to_be_bytes_4}
-use Rattle.def_log.specs.Log.{framed, spelled, AreRecords, longest_record, IsLog, IsDamaged}
+use Rattle.boss_model.specs.Limits.{longest_record}
+use Rattle.def_log.specs.Log.{framed, spelled, AreRecords, IsLog, IsDamaged}
 
 -- what stands behind a length is the record, and what follows it
 pub framed-one : (r s a b : List ℕ) → length r ≤ longest_record → length s ≤ longest_record → framed r ++ a ≡ framed s ++ b → (r ≡ s) × (a ≡ b)

@@ -3,9 +3,7 @@
 use Rattle.std.specs.Prelude.{◌≡◌, ◌≢◌, ◌⊎◌, ℕ, ◌≤◌, List, [], ◌∷◌, ◌++◌, length}
 use Rattle.std.specs.Int.{w32, to_be_bytes}
 use Rattle.std.specs.List.{AllByRecursion}
-
-abbrev pub longest_record : ℕ
-longest_record = 65535
+use Rattle.boss_model.specs.Limits.{longest_record}
 
 -- a record with its length before it
 unfoldable pub framed : List ℕ → List ℕ

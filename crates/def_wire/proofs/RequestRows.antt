@@ -17,8 +17,8 @@ abbrev site : Catalogue
 site = record {
   drivers = codes "field" ∷ [];
   points =
-      record { name = codes "damper"; actuator = record { kind = Analog (pos 0) (pos 100000); default = pos 20000; driver = 0 } } ∷
-      record { name = codes "lamp"; actuator = record { kind = Binary; default = pos 0; driver = 0 } } ∷ [];
+      record { name = codes "damper"; actuator = record { kind = Analog (pos 0) (pos 100000); default = pos 20000; driver = 0 }; min_on = pos 0; min_off = pos 0 } ∷
+      record { name = codes "lamp"; actuator = record { kind = Binary; default = pos 0; driver = 0 }; min_on = pos 0; min_off = pos 0 } ∷ [];
 }
 
 -- a write that names no priority is at the lowest, and a submit that names no policy is to be aborted

@@ -18,7 +18,7 @@ use Rattle.def_wire.specs.Texts.{line_of}
 abbrev lamp_alone : Catalogue
 lamp_alone = record {
   drivers = codes "hall" ∷ [];
-  points = record { name = codes "lamp"; actuator = record { kind = Binary; default = pos 0; driver = 0 } } ∷ [];
+  points = record { name = codes "lamp"; actuator = record { kind = Binary; default = pos 0; driver = 0 }; min_on = pos 0; min_off = pos 0 } ∷ [];
 }
 
 -- a script of these bytes, from the first state, with what the device answers to each write
