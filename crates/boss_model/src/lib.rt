@@ -2,6 +2,7 @@
 //! in definitions. `proofs/` computes worked timelines from them.
 #![tactic(auto)]
 
+mod allowed;
 mod answer;
 mod buffer;
 mod command;
@@ -17,6 +18,7 @@ mod places;
 mod point;
 mod state;
 
+pub use allowed::{fits_at, is_level, is_reversion};
 pub use answer::{Answer, Basis, Mark, Refusal, Slot, Slots};
 pub use buffer::Buffer;
 pub use command::{Command, Policy, Setting, Step};

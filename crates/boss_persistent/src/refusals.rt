@@ -7,15 +7,15 @@ ghost use Rattle.boss_model.specs.Limits.{most_writes};
 ghost use Rattle.boss_model.specs.Lists.{first_some, latest};
 ghost use Rattle.boss_model.specs.Processes.{attach_refused, is_full, session_of};
 ghost use Rattle.boss_model.specs.Renew.{named_parts, part_on, renew_refused, wrote};
-ghost use Rattle.boss_model.specs.Submit.{is_length, is_level, is_reversion, is_step, repeated, submit_refused};
+ghost use Rattle.boss_model.specs.Submit.{is_length, is_level, is_reversion, repeated, submit_refused};
 ghost use Rattle.boss_persistent.specs.Refusals.{parts_refused};
 ghost use Rattle.boss_persistent.specs.Lasting.{IsSoundOfSome, persistent_of};
 
 use crate::attached::{Attachment, process_of, session_of};
 use crate::lasting::Lasting;
 use boss_model::{
-    Actuator, LAST_NUMBER, LONGEST_HOLD, LONGEST_LEASE, Lease, MOST_PROCESSES, MOST_STEPS, Name,
-    PointId, ProcId, Refusal, SessionId, Setting, Step, Txn,
+    Actuator, LAST_NUMBER, LONGEST_LEASE, Lease, MOST_PROCESSES, Name, PointId, ProcId, Refusal,
+    SessionId, Setting, Txn, fits_at, is_level, is_reversion,
 };
 use boss_stages::{End, Part};
 
@@ -84,14 +84,6 @@ fn first_bad_level(writes: &[Setting]) -> Option<u32>
     told(writes.iter().position(|write| !is_level(write.priority)))
 }
 
-/// A level of the priority array at which a control process may write: 6 is for minimum on and off times
-/// (ASHRAE 135, clause 19.2).
-fn is_level(priority: i64) -> bool
-    ensures { result ≡ is_level priority }
-{
-    1 <= priority && priority <= 16 && priority != 6
-}
-
 /// The first place whose value its point does not take.
 fn first_out_of_range(plant: &[Actuator], writes: &[Setting]) -> Option<u32>
     requires { length writes.now ≤ most_writes }
@@ -102,16 +94,6 @@ fn first_out_of_range(plant: &[Actuator], writes: &[Setting]) -> Option<u32>
             .iter()
             .position(|write| !fits_at(plant, write.point, write.value)),
     )
-}
-
-/// Whether the point is there and takes the value.
-fn fits_at(plant: &[Actuator], point: PointId, value: i64) -> bool
-    ensures { result ≡ fits_at plant.now point value }
-{
-    match plant.get(point.0 as usize) {
-        Some(actuator) => actuator.kind.fits(value),
-        None => false,
-    }
 }
 
 /// The first place whose lease is too short or too long.
@@ -135,20 +117,6 @@ fn first_bad_reversion(plant: &[Actuator], writes: &[Setting]) -> Option<u32>
     ensures { result ≡ position (λ write. not (is_reversion plant.now write.point write.revert)) writes.now }
 {
     told(writes.iter().position(|write| !is_reversion(plant, write.point, write.revert.slice())))
-}
-
-/// Whether the point can play these steps.
-fn is_reversion(plant: &[Actuator], point: PointId, steps: &[Step]) -> bool
-    ensures { result ≡ is_reversion plant.now point steps.now }
-{
-    steps.len() <= MOST_STEPS && steps.iter().all(|step| is_step(plant, point, step))
-}
-
-/// Whether the point can play this step.
-fn is_step(plant: &[Actuator], point: PointId, step: &Step) -> bool
-    ensures { result ≡ is_step plant.now point step.now }
-{
-    1 <= step.hold && step.hold <= LONGEST_HOLD && fits_at(plant, point, step.value)
 }
 
 /// Why a renewal by this process at moment `n` is refused, if it is.

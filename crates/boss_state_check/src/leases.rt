@@ -1,16 +1,12 @@
-ghost use Rattle.std.specs.Prelude.{◌≡◌, ◌≤◌, pos};
+ghost use Rattle.std.specs.Prelude.{◌≡◌, ◌≤◌};
 ghost use Rattle.std.specs.List.{list_all};
-ghost use Rattle.boss_model.specs.Catalogue.{fits_at};
 ghost use Rattle.boss_model.specs.Limits.{last_moment};
-ghost use Rattle.boss_model.specs.Submit.{is_level, is_reversion, is_step};
 ghost use Rattle.boss_model.specs.Sound.{Rising};
 ghost use Rattle.boss_model.specs.State.{lease_slot};
 ghost use Rattle.boss_state_check.specs.Tests.{is_lease, is_pending, is_alone};
 
 use crate::searches::lease_at;
-use boss_model::{
-    Actuator, LONGEST_HOLD, LONGEST_LEASE, Lease, MOST_STEPS, Pending, PointId, Priority, Step,
-};
+use boss_model::{Actuator, LONGEST_LEASE, Lease, Pending, fits_at, is_level, is_reversion};
 use boss_reversion::outlasts;
 
 /// Whether each of the leases may stand in a state with this `now`, in milliseconds.
@@ -27,7 +23,7 @@ fn is_lease(plant: &[Actuator], now: u64, lease: &Lease) -> bool
     ensures { result ≡ is_lease plant.now now lease.now }
 {
     fits_at(plant, lease.point, lease.value)
-        && is_level(lease.priority)
+        && is_level(i64::from(lease.priority.0))
         && is_reversion(plant, lease.point, lease.revert.slice())
         && now < lease.until
         && lease.until <= now + LONGEST_LEASE as u64
@@ -46,7 +42,7 @@ pub fn are_pending(plant: &[Actuator], now: u64, pending: &[Pending]) -> bool
 fn is_pending(plant: &[Actuator], now: u64, reversion: &Pending) -> bool
     ensures { result ≡ is_pending plant.now now reversion.now }
 {
-    is_level(reversion.priority)
+    is_level(i64::from(reversion.priority.0))
         && is_reversion(plant, reversion.point, reversion.steps.slice())
         && reversion.start <= now
         && outlasts(reversion, now)
@@ -66,43 +62,4 @@ fn is_alone(leases: &[Lease], reversion: &Pending) -> bool
     ensures { result ≡ is_alone leases.now reversion.now }
 {
     lease_at(leases, (reversion.point, reversion.priority)).is_none()
-}
-
-/// A level of the priority array at which a control process may write: 6 is for minimum on and off times
-/// (ASHRAE 135, clause 19.2).
-fn is_level(priority: Priority) -> bool
-    ensures { result ≡ is_level (pos priority) }
-{
-    1 <= priority.0 && priority.0 <= 16 && priority.0 != 6
-}
-
-/// Whether the point can play these steps.
-fn is_reversion(plant: &[Actuator], point: PointId, steps: &[Step]) -> bool
-    ensures { result ≡ is_reversion plant.now point steps.now }
-{
-    steps.len() <= MOST_STEPS && are_steps(plant, point, steps)
-}
-
-/// Whether the point can play each of these steps.
-fn are_steps(plant: &[Actuator], point: PointId, steps: &[Step]) -> bool
-    ensures { result ≡ list_all (is_step plant.now point) steps.now }
-{
-    steps.iter().all(|step| is_step(plant, point, step))
-}
-
-/// Whether the point can play this step.
-fn is_step(plant: &[Actuator], point: PointId, step: &Step) -> bool
-    ensures { result ≡ is_step plant.now point step.now }
-{
-    1 <= step.hold && step.hold <= LONGEST_HOLD && fits_at(plant, point, step.value)
-}
-
-/// Whether the point is there and takes the value.
-fn fits_at(plant: &[Actuator], point: PointId, value: i64) -> bool
-    ensures { result ≡ fits_at plant.now point value }
-{
-    match plant.get(point.0 as usize) {
-        Some(actuator) => actuator.kind.fits(value),
-        None => false,
-    }
 }
