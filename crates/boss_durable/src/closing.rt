@@ -12,7 +12,7 @@ ghost use Rattle.boss_disk_pair.specs.Rests.{rests};
 
 use crate::Durable;
 use crate::batch::Batch;
-use crate::machine::Machine;
+use crate::sound_engine::SoundEngine;
 use boss_disk::Disk;
 use boss_disk_pair::TwoDisks;
 use boss_engine::Engine;
@@ -43,7 +43,7 @@ impl<D: Disk> Durable<D> {
     {
         Durable {
             alloc,
-            engine: Machine::new(engine),
+            engine: SoundEngine::new(engine),
             disks,
             batch: Batch {
                 bytes: buffer,

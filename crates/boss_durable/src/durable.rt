@@ -2,7 +2,7 @@ ghost use Rattle.std.specs.Prelude.{◌≡◌, ◌≤◌, false, length};
 ghost use Rattle.boss_model.specs.Devices.{wanting};
 
 use crate::batch::Batch;
-use crate::machine::Machine;
+use crate::sound_engine::SoundEngine;
 use boss_disk::Disk;
 use boss_disk_pair::TwoDisks;
 use boss_model::DriverId;
@@ -13,7 +13,7 @@ use std::alloc::Global;
 pub struct Durable<D: Disk> {
     // For the kept state with which a log begins.
     pub(crate) alloc: Global,
-    pub(crate) engine: Machine,
+    pub(crate) engine: SoundEngine,
     pub(crate) disks: TwoDisks<D>,
     /// The events of the call that is under way.
     pub(crate) batch: Batch,

@@ -10,13 +10,13 @@ ghost use Rattle.boss_durable.specs.Begun.{may_want};
 ghost use Rattle.boss_durable.specs.Taken.{Taken};
 
 use crate::batch::Batch;
-use crate::machine::Machine;
+use crate::sound_engine::SoundEngine;
 use boss_model::{Answer, Command, NoMemory, SessionId};
 
 /// Does a command and puts its event behind the others. No memory is to be had only for a submit, an attach of a new name or
 /// notices, and then nothing has changed.
 pub fn take_step(
-    engine: &mut Machine,
+    engine: &mut SoundEngine,
     batch: &mut Batch,
     session: SessionId,
     command: &Command,
@@ -45,7 +45,7 @@ pub fn take_step(
 
 /// Does commands in order as far as there is memory, and puts down their answers and their events.
 pub fn take_steps(
-    engine: &mut Machine,
+    engine: &mut SoundEngine,
     batch: &mut Batch,
     session: SessionId,
     commands: &[(Command, u64)],

@@ -213,7 +213,13 @@ impl Engine {
             Command::Array { .. } | Command::Status { .. } | Command::Notices { .. } => {
                 self.tell(session, command, moment)
             }
-            _ => self.answer(session, command, moment),
+            Command::Attach { .. }
+            | Command::Submit { .. }
+            | Command::Renew { .. }
+            | Command::Cancel { .. }
+            | Command::Gone
+            | Command::Tick
+            | Command::Read { .. } => self.answer(session, command, moment),
         }
     }
 
@@ -258,7 +264,16 @@ impl Engine {
             Command::Report { point, version, ok } => {
                 self.report(session, *point, *version, *ok, moment)
             }
-            _ => unreachable!(),
+            Command::Attach { .. }
+            | Command::Submit { .. }
+            | Command::Renew { .. }
+            | Command::Cancel { .. }
+            | Command::Gone
+            | Command::Tick
+            | Command::Read { .. }
+            | Command::Array { .. }
+            | Command::Status { .. }
+            | Command::Notices { .. } => unreachable!(),
         }
     }
 
@@ -339,7 +354,15 @@ impl Engine {
             Command::Attach { .. } | Command::Submit { .. } | Command::Notices { .. } => {
                 self.ready(session, command, moment)
             }
-            _ => Ok(self.advance(session, command, moment)),
+            Command::Renew { .. }
+            | Command::Cancel { .. }
+            | Command::Gone
+            | Command::Tick
+            | Command::Next { .. }
+            | Command::Report { .. }
+            | Command::Read { .. }
+            | Command::Array { .. }
+            | Command::Status { .. } => Ok(self.advance(session, command, moment)),
         }
     }
 

@@ -226,7 +226,15 @@ impl Machine {
                 changed: false,
                 owner: ProcId(0),
             },
-            _ => unreachable!(),
+            Command::Renew { .. }
+            | Command::Cancel { .. }
+            | Command::Gone
+            | Command::Tick
+            | Command::Next { .. }
+            | Command::Report { .. }
+            | Command::Read { .. }
+            | Command::Array { .. }
+            | Command::Status { .. } => unreachable!(),
         }
     }
 
@@ -284,7 +292,8 @@ impl Machine {
                 changed: false,
                 owner: ProcId(0),
             },
-            _ => unreachable!(),
+            Command::Attach { .. } | Command::Submit { .. } | Command::Notices { .. } =>
+                unreachable!(),
         }
     }
 }

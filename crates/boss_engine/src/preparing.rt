@@ -51,7 +51,15 @@ impl Machine {
                 seq,
             } => self.ready_submit(plant, session, writes.slice(), *policy, *seq, n),
             Command::Notices { name, max, .. } => self.ready_list(session, name, *max),
-            _ => Ok(Ready::Nothing),
+            Command::Renew { .. }
+            | Command::Cancel { .. }
+            | Command::Gone
+            | Command::Tick
+            | Command::Next { .. }
+            | Command::Report { .. }
+            | Command::Read { .. }
+            | Command::Array { .. }
+            | Command::Status { .. } => Ok(Ready::Nothing),
         }
     }
 

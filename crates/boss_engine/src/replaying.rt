@@ -68,7 +68,11 @@ impl Machine {
                 writes,
                 ..
             } => self.ready_transaction(*owner, *policy, writes.slice(), n),
-            _ => Ok(Ready::Nothing),
+            Act::Renew { .. }
+            | Act::Cancel { .. }
+            | Act::Gone { .. }
+            | Act::Tick
+            | Act::Fault { .. } => Ok(Ready::Nothing),
         }
     }
 

@@ -7,6 +7,8 @@ use boss_disk::Disk;
 use boss_model::{Items, NoMemory};
 use boss_outside::Failed;
 use std::alloc::{AllocError, Global};
+use std::error::Error;
+use std::fmt;
 
 /// What was read of a file.
 #[derive(Debug, Drop)]
@@ -25,6 +27,17 @@ pub enum FileFault {
     /// No memory was to be had. The count of faults stayed.
     NoMemory,
 }
+
+impl fmt::Display for FileFault {
+    fn fmt<W: fmt::Write>(&self, f: &mut fmt::Formatter<W>) -> fmt::Result {
+        f.write_str(match self {
+            FileFault::Failed => "the file is not there, or failed",
+            FileFault::NoMemory => "out of memory",
+        })
+    }
+}
+
+impl Error for FileFault {}
 
 impl From<Failed> for FileFault {
     ghost use Rattle.boss_files.specs.declared.files.FileFault.TheVariants.{Failed};

@@ -1,6 +1,8 @@
 ghost use Rattle.std.specs.Prelude.{◌≡◌};
 
 use boss_outside::Failed;
+use std::error::Error;
+use std::fmt;
 
 /// Why a journal was not opened: the first of these that holds.
 #[derive(Clone, Copy, Debug, PartialEq, Eq)]
@@ -14,6 +16,19 @@ pub enum OpenRefusal {
     /// The disk failed.
     DiskFault,
 }
+
+impl fmt::Display for OpenRefusal {
+    fn fmt<W: fmt::Write>(&self, f: &mut fmt::Formatter<W>) -> fmt::Result {
+        f.write_str(match self {
+            OpenRefusal::NotAJournal => "the bytes are no journal",
+            OpenRefusal::Version { .. } => "the version is not known",
+            OpenRefusal::Catalogue { .. } => "it is a journal of another catalogue",
+            OpenRefusal::DiskFault => "the disk failed",
+        })
+    }
+}
+
+impl Error for OpenRefusal {}
 
 impl From<Failed> for OpenRefusal {
     ghost use Rattle.boss_journal.specs.declared.refusal.OpenRefusal.TheVariants.{DiskFault};

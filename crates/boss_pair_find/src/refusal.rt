@@ -3,6 +3,8 @@ ghost use Rattle.std.specs.Prelude.{◌≡◌};
 use boss_journal::OpenRefusal;
 use boss_outside::Failed;
 use boss_snapshot::SnapshotRefusal;
+use std::error::Error;
+use std::fmt;
 
 /// Why a pair of disks was not opened: the first of these that holds. All but the first are said of the disk in force.
 #[derive(Clone, Copy, Debug, PartialEq, Eq)]
@@ -22,6 +24,21 @@ pub enum DurableRefusal {
     /// No memory was to be had.
     NoMemory,
 }
+
+impl fmt::Display for DurableRefusal {
+    fn fmt<W: fmt::Write>(&self, f: &mut fmt::Formatter<W>) -> fmt::Result {
+        f.write_str(match self {
+            DurableRefusal::NotAJournal => "the disks hold no journal",
+            DurableRefusal::Version { .. } => "the version is not known",
+            DurableRefusal::Catalogue { .. } => "it is a journal of another catalogue",
+            DurableRefusal::Damaged { .. } => "the journal is damaged",
+            DurableRefusal::DiskFault => "a disk failed",
+            DurableRefusal::NoMemory => "out of memory",
+        })
+    }
+}
+
+impl Error for DurableRefusal {}
 
 impl From<Failed> for DurableRefusal {
     ghost use Rattle.boss_pair_find.specs.declared.refusal.DurableRefusal.TheVariants.{DiskFault};

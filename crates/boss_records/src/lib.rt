@@ -11,6 +11,7 @@ mod putting;
 mod reading;
 mod room;
 mod spelled;
+mod tag;
 mod unread;
 mod writing;
 mod written;

@@ -7,25 +7,25 @@ use crate::acts::{
     read_cancel, read_enrol, read_fault, read_gone, read_numbered_cancel, read_numbered_renew,
     read_numbered_submit, read_renew, read_submit,
 };
-use crate::{Unread, read_moment, read_u8};
+use crate::{Unread, read_moment, read_u8, tag};
 use boss_model::{Act, Event, NoMemory};
 use std::alloc::Global;
 
 /// The act of this tag that the bytes begin with.
-fn read_act(alloc: Global, tag: u8, bytes: &[u8]) -> Result<(Act, &[u8]), Unread>
-    ensures { Gives (λ x. (x.0, x.1.now)) result (act_at tag bytes.now) }
+fn read_act(alloc: Global, first: u8, bytes: &[u8]) -> Result<(Act, &[u8]), Unread>
+    ensures { Gives (λ x. (x.0, x.1.now)) result (act_at first bytes.now) }
 {
-    match tag {
-        1 => read_enrol(bytes),
-        2 => read_submit(alloc, bytes),
-        3 => read_renew(alloc, bytes),
-        4 => read_cancel(bytes),
-        5 => read_gone(bytes),
-        6 => Ok((Act::Tick, bytes)),
-        7 => read_fault(bytes),
-        8 => read_numbered_submit(alloc, bytes),
-        9 => read_numbered_renew(alloc, bytes),
-        10 => read_numbered_cancel(bytes),
+    match first {
+        tag::ENROL => read_enrol(bytes),
+        tag::SUBMIT => read_submit(alloc, bytes),
+        tag::RENEW => read_renew(alloc, bytes),
+        tag::CANCEL => read_cancel(bytes),
+        tag::GONE => read_gone(bytes),
+        tag::TICK => Ok((Act::Tick, bytes)),
+        tag::FAULT => read_fault(bytes),
+        tag::NUMBERED_SUBMIT => read_numbered_submit(alloc, bytes),
+        tag::NUMBERED_RENEW => read_numbered_renew(alloc, bytes),
+        tag::NUMBERED_CANCEL => read_numbered_cancel(bytes),
         _ => Err(Unread::NoSpelling),
     }
 }
@@ -34,9 +34,9 @@ fn read_act(alloc: Global, tag: u8, bytes: &[u8]) -> Result<(Act, &[u8]), Unread
 fn event_at(alloc: Global, bytes: &[u8]) -> Result<(Event, &[u8]), Unread>
     ensures { Gives (λ x. (x.0, x.1.now)) result (event.at bytes.now) }
 {
-    let (tag, rest) = read_u8(bytes)?;
+    let (first, rest) = read_u8(bytes)?;
     let (moment, rest) = read_moment(rest)?;
-    match read_act(alloc, tag, rest) {
+    match read_act(alloc, first, rest) {
         Ok((act, rest)) => Ok((Event { moment, act }, rest)),
         Err(unread) => Err(unread),
     }

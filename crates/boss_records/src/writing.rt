@@ -7,7 +7,7 @@ ghost use Rattle.def_bytes.specs.Events.{act_fits, act_text, event, numbered, ow
 ghost use Rattle.def_bytes.specs.Parts.{moment};
 
 use crate::{
-    Room, put_name, put_natural32, put_policy, put_u8, put_u16, put_u32, put_u64, write_items,
+    Room, put_name, put_natural32, put_policy, put_u8, put_u16, put_u32, put_u64, tag, write_items,
 };
 use boss_model::{Buffer, Command, Effect, Name, PointId, Policy, ProcId, Setting, Txn};
 
@@ -102,10 +102,10 @@ fn write_submit<R: Room>(
     ensures capacity { R.capacity into.new ≡ R.capacity into.old }
 {
     if seq == 0 {
-        put_head(into, 2, at);
+        put_head(into, tag::SUBMIT, at);
         put_submit(into, owner, on_fault, settings);
     } else {
-        put_head(into, 8, at);
+        put_head(into, tag::NUMBERED_SUBMIT, at);
         put_numbered_submit(into, owner, seq, on_fault, settings);
     }
 }
@@ -126,10 +126,10 @@ fn write_renew<R: Room>(
     ensures capacity { R.capacity into.new ≡ R.capacity into.old }
 {
     if seq == 0 {
-        put_head(into, 3, at);
+        put_head(into, tag::RENEW, at);
         put_u16(into, owner.0);
     } else {
-        put_head(into, 9, at);
+        put_head(into, tag::NUMBERED_RENEW, at);
         put_u16(into, owner.0);
         put_u64(into, seq);
     }
@@ -143,10 +143,10 @@ fn write_cancel<R: Room>(into: &mut R, at: u64, owner: ProcId, txn: Txn, seq: u6
     ensures capacity { R.capacity into.new ≡ R.capacity into.old }
 {
     if seq == 0 {
-        put_head(into, 4, at);
+        put_head(into, tag::CANCEL, at);
         put_u16(into, owner.0);
     } else {
-        put_head(into, 10, at);
+        put_head(into, tag::NUMBERED_CANCEL, at);
         put_u16(into, owner.0);
         put_u64(into, seq);
     }
@@ -159,7 +159,7 @@ fn write_enrol<R: Room>(into: &mut R, at: u64, name: &Name)
     ensures bytes { R.bytes into.new ≡ R.bytes into.old ++ event.text (record { moment = at; act = act.Enrol name.now }) }
     ensures capacity { R.capacity into.new ≡ R.capacity into.old }
 {
-    put_head(into, 1, at);
+    put_head(into, tag::ENROL, at);
     put_name(into, name);
 }
 
@@ -185,11 +185,11 @@ fn write_whole<R: Room>(into: &mut R, at: u64, command: &Command, owner: ProcId)
         } => write_renew(into, at, owner, *txn, *length, points.slice(), *seq),
         Command::Cancel { txn, seq } => write_cancel(into, at, owner, *txn, *seq),
         Command::Gone => {
-            put_head(into, 5, at);
+            put_head(into, tag::GONE, at);
             put_u16(into, owner.0);
         }
         Command::Report { point, .. } => {
-            put_head(into, 7, at);
+            put_head(into, tag::FAULT, at);
             put_u32(into, point.0);
         }
         Command::Tick
@@ -197,7 +197,7 @@ fn write_whole<R: Room>(into: &mut R, at: u64, command: &Command, owner: ProcId)
         | Command::Read { .. }
         | Command::Array { .. }
         | Command::Status { .. }
-        | Command::Notices { .. } => put_head(into, 6, at),
+        | Command::Notices { .. } => put_head(into, tag::TICK, at),
     }
 }
 
@@ -212,7 +212,7 @@ pub fn write_event(into: &mut Buffer, command: &Command, effect: &Effect)
 {
     match *effect {
         Effect::Unchanged => unreachable!(),
-        Effect::Tick { moment } => put_head(into, 6, moment),
+        Effect::Tick { moment } => put_head(into, tag::TICK, moment),
         Effect::Whole { moment, owner } => write_whole(into, moment, command, owner),
     }
 }

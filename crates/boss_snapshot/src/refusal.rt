@@ -2,6 +2,8 @@ ghost use Rattle.std.specs.Prelude.{◌≡◌};
 
 use boss_outside::Failed;
 use std::alloc::AllocError;
+use std::error::Error;
+use std::fmt;
 
 /// Why a kept state was not read: the first of these that holds.
 #[derive(Clone, Copy, Debug, PartialEq, Eq)]
@@ -18,6 +20,20 @@ pub enum SnapshotRefusal {
     /// No memory was to be had.
     NoMemory,
 }
+
+impl fmt::Display for SnapshotRefusal {
+    fn fmt<W: fmt::Write>(&self, f: &mut fmt::Formatter<W>) -> fmt::Result {
+        f.write_str(match self {
+            SnapshotRefusal::Version { .. } => "the version is not known",
+            SnapshotRefusal::Catalogue { .. } => "it is a state of another catalogue",
+            SnapshotRefusal::Damaged { .. } => "the kept state is damaged",
+            SnapshotRefusal::DiskFault => "the disk failed",
+            SnapshotRefusal::NoMemory => "out of memory",
+        })
+    }
+}
+
+impl Error for SnapshotRefusal {}
 
 impl From<Failed> for SnapshotRefusal {
     ghost use Rattle.boss_snapshot.specs.declared.refusal.SnapshotRefusal.TheVariants.{DiskFault};

@@ -9,6 +9,7 @@ use Rattle.boss_model.specs.declared.event.Act.{Act}
 use Rattle.boss_model.specs.declared.event.Act.TheVariants as act
 use Rattle.boss_model.specs.declared.event.Event.{Event}
 use Rattle.boss_model.specs.Limits.{most_writes, last_number}
+use Rattle.def_bytes.specs.Tags as tags
 use Rattle.def_bytes.specs.Parts.{nothing, within, signed64, natural, moment, name, policy, steps}
 
 -- ---- what a submit writes: point, value, priority, lease, reversion
@@ -53,13 +54,13 @@ abbrev pub by_number : {X : Type 0} → ℕ → X → X → X
 by_number seq without with_it = if seq == 0 then without else with_it
 
 abbrev pub act_tag : Act → ℕ
-act_tag (act.Enrol bytes) = 1
-act_tag (act.Submit owner on_fault settings seq) = by_number seq 2 8
-act_tag (act.Renew owner txn longer named seq) = by_number seq 3 9
-act_tag (act.Cancel owner txn seq) = by_number seq 4 10
-act_tag (act.Gone owner) = 5
-act_tag act.Tick = 6
-act_tag (act.Fault point) = 7
+act_tag (act.Enrol bytes) = tags.enrol
+act_tag (act.Submit owner on_fault settings seq) = by_number seq tags.submit tags.numbered_submit
+act_tag (act.Renew owner txn longer named seq) = by_number seq tags.renew tags.numbered_renew
+act_tag (act.Cancel owner txn seq) = by_number seq tags.cancel tags.numbered_cancel
+act_tag (act.Gone owner) = tags.gone
+act_tag act.Tick = tags.tick
+act_tag (act.Fault point) = tags.fault
 
 abbrev pub act_fits : Act → Bool
 act_fits (act.Enrol bytes) = name.fits bytes
@@ -90,17 +91,17 @@ abbrev pub kind_at : {X Y : Type 0} → (Y → X) → Field Y → List ℕ → O
 kind_at made f bytes = f.at bytes >>= λ y. Some (made y.0, y.1)
 
 abbrev pub act_at : ℕ → List ℕ → Option (Act × List ℕ)
-act_at tag bytes =
-    if tag == 1 then kind_at act.Enrol name bytes else
-    (if tag == 2 then kind_at (λ x. act.Submit x.0 x.1.0 x.1.1 0) (owned submission) bytes else
-    (if tag == 3 then kind_at (λ x. act.Renew x.0 x.1.0 x.1.1.0 x.1.1.1 0) (owned renewal) bytes else
-    (if tag == 4 then kind_at (λ x. act.Cancel x.0 x.1 0) (owned (number w64)) bytes else
-    (if tag == 5 then kind_at act.Gone (number w16) bytes else
-    (if tag == 6 then kind_at (λ x. act.Tick) nothing bytes else
-    (if tag == 7 then kind_at act.Fault (number w32) bytes else
-    (if tag == 8 then kind_at (λ x. act.Submit x.0 x.1.1.0 x.1.1.1 x.1.0) (numbered submission) bytes else
-    (if tag == 9 then kind_at (λ x. act.Renew x.0 x.1.1.0 x.1.1.1.0 x.1.1.1.1 x.1.0) (numbered renewal) bytes else
-    (if tag == 10 then kind_at (λ x. act.Cancel x.0 x.1.1 x.1.0) (numbered (number w64)) bytes else None)))))))))
+act_at first bytes =
+    if first == tags.enrol then kind_at act.Enrol name bytes else
+    (if first == tags.submit then kind_at (λ x. act.Submit x.0 x.1.0 x.1.1 0) (owned submission) bytes else
+    (if first == tags.renew then kind_at (λ x. act.Renew x.0 x.1.0 x.1.1.0 x.1.1.1 0) (owned renewal) bytes else
+    (if first == tags.cancel then kind_at (λ x. act.Cancel x.0 x.1 0) (owned (number w64)) bytes else
+    (if first == tags.gone then kind_at act.Gone (number w16) bytes else
+    (if first == tags.tick then kind_at (λ x. act.Tick) nothing bytes else
+    (if first == tags.fault then kind_at act.Fault (number w32) bytes else
+    (if first == tags.numbered_submit then kind_at (λ x. act.Submit x.0 x.1.1.0 x.1.1.1 x.1.0) (numbered submission) bytes else
+    (if first == tags.numbered_renew then kind_at (λ x. act.Renew x.0 x.1.1.0 x.1.1.1.0 x.1.1.1.1 x.1.0) (numbered renewal) bytes else
+    (if first == tags.numbered_cancel then kind_at (λ x. act.Cancel x.0 x.1.1 x.1.0) (numbered (number w64)) bytes else None)))))))))
 
 abbrev pub acts : Variants Act
 acts = record { tag = act_tag; fits = act_fits; text = act_text; most = (numbered submission).most; at = act_at }
@@ -108,7 +109,7 @@ acts = record { tag = act_tag; fits = act_fits; text = act_text; most = (numbere
 -- ---- the event
 
 abbrev pub event_at : ℕ → List ℕ → Option (Event × List ℕ)
-event_at tag bytes = moment.at bytes >>= λ m. act_at tag m.1 >>= λ a. Some (record { moment = m.0; act = a.0 }, a.1)
+event_at first bytes = moment.at bytes >>= λ m. act_at first m.1 >>= λ a. Some (record { moment = m.0; act = a.0 }, a.1)
 
 abbrev pub events : Variants Event
 events = record {

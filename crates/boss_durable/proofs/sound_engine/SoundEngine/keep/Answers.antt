@@ -10,7 +10,7 @@ use Rattle.law_spelling.proofs.Stored.{storable}
 use Rattle.law_spelling.specs.Ranges.{IsStoredProcess}
 use Rattle.law_time.proofs.Orders.{each-map}
 use Rattle.boss_durable.specs.Reached.{IsReached}
-use Rattle.boss_durable.proofs.machine.Machine.keep.Goals as goal
+use Rattle.boss_durable.proofs.sound_engine.SoundEngine.keep.Goals as goal
 
 sound_fits : (plant : List Actuator) (d : Persistent) → IsPlant plant → IsSoundPersistent plant d → (state 2).fits d ≡ true
 sound_fits plant d whole sound =

@@ -5,7 +5,7 @@ use Rattle.boss_model.specs.Plants.{IsPlant}
 use Rattle.boss_durable.specs.Begun.{may_want}
 use Rattle.boss_durable.specs.Reached.{IsReached}
 use Rattle.boss_durable.proofs.Takings.{step_fits, wanting_needs}
-use Rattle.boss_durable.proofs.machine.Machine.step.Goals as goal
+use Rattle.boss_durable.proofs.sound_engine.SoundEngine.step.Goals as goal
 
 pub returns-clause-fits : goal.returns-clause-fits
 returns-clause-fits c e is =

@@ -20,29 +20,29 @@ use std::marker::Model;
 ///
 /// A contract sees it as it sees the engine: as the plant and the state of the machine.
 #[derive(Drop)]
-pub struct Machine {
+pub struct SoundEngine {
     engine: Engine,
 }
 
-impl Model for Machine {
+impl Model for SoundEngine {
     ghost use Rattle.boss_engine.specs.Running.{Running};
 
     ghost Value = { Running };
 
-    ghost view = { λ machine. machine.engine };
+    ghost view = { λ sound. sound.engine };
 
     ghost use Rattle.boss_durable.specs.Reached.{IsReached};
 
-    ghost invariant = { λ machine. IsReached machine.engine };
+    ghost invariant = { λ sound. IsReached sound.engine };
 }
 
-impl Machine {
-    pub fn new(engine: Engine) -> Machine
+impl SoundEngine {
+    pub fn new(engine: Engine) -> SoundEngine
         requires plant { IsPlant engine.plant }
         requires sound { IsSound engine.plant engine.state }
         ensures { result ≡ engine }
     {
-        Machine { engine }
+        SoundEngine { engine }
     }
 
     /// The engine, to be asked.
