@@ -3,7 +3,7 @@ ghost use Rattle.def_bytes.specs.Batches.{batch_text};
 ghost use Rattle.boss_journal.specs.Appends.{Stops};
 ghost use Rattle.boss_model.specs.declared.event.Event.{Event};
 ghost use Rattle.boss_model.specs.declared.state.Actuator.{Actuator};
-ghost use Rattle.boss_model.specs.Limits.{last_number};
+ghost use Rattle.boss_model.specs.Limits.{last_number, longest_record};
 ghost use Rattle.boss_model.specs.State.{Persistent};
 ghost use Rattle.def_disk_pair.specs.Contents.{IsNext};
 ghost use Rattle.boss_disk_pair.specs.Causes.{AppendCause, counts_of};
@@ -19,7 +19,7 @@ impl<D: Disk> TwoDisks<D> {
     /// this disk, without memory. A pair that was stopped before stays as it is, and no disk is called.
     pub fn append(&mut self, bytes: &[u8], events: u64) -> Appended
         requires some { 1 ≤ length bytes.now }
-        requires within { length bytes.now ≤ 65535 }
+        requires within { length bytes.now ≤ longest_record }
         // The events lead on from the state that the pair stands for.
         ensures rests { (plant : List Actuator) (d : Persistent) (count : ℕ) → rests self.old plant d count
             → (batch : List Event) (after : Persistent) → bytes.now ≡ batch_text batch → length batch ≡ events

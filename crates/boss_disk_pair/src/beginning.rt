@@ -1,4 +1,5 @@
 ghost use Rattle.std.specs.Prelude.{◌≡◌, ◌^◌, ◌≤◌, false, ℕ, [], List, slice_index};
+ghost use Rattle.boss_model.specs.Limits.{first_gate};
 ghost use Rattle.def_log.specs.declared.kind.DiskKind.TheVariants.{Plain, State};
 ghost use Rattle.def_log.specs.Kinds.{kind_of};
 ghost use Rattle.boss_model.specs.declared.state.Actuator.{Actuator};
@@ -33,7 +34,7 @@ impl<D: Disk> TwoDisks<D> {
             → (plant : List Actuator) → IsSoundPersistent plant d → reads_to result plant d events [] d }
         ensures plain { D.tells → InOrder (IsInForce second) second (D.reads journal.disk) (D.reads spare)
             → kind_of (D.reads journal.disk) ≡ Plain → journal.version ≡ version_of (D.reads journal.disk)
-            → IsKnown journal.version → digest_of (D.reads journal.disk) ≡ digest.now → journal.place ≡ 41 → events ≡ 0
+            → IsKnown journal.version → digest_of (D.reads journal.disk) ≡ digest.now → journal.place ≡ first_gate → events ≡ 0
             → (plant : List Actuator) → reads_to result plant first_persistent 0 [] first_persistent }
         ensures journal { result.journal ≡ journal }
         ensures spare { result.spare ≡ spare }

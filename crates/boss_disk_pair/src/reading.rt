@@ -1,4 +1,5 @@
 ghost use Rattle.std.specs.Prelude.{◌≡◌, ◌≤◌, ℕ, ◌++◌, List, length};
+ghost use Rattle.boss_model.specs.Limits.{longest_record};
 ghost use Rattle.def_bytes.specs.Batches.{batch_text};
 ghost use Rattle.boss_journal.specs.Reads.{NextCause, NextStops, Passes};
 ghost use Rattle.boss_model.specs.declared.event.Event.{Event};
@@ -15,7 +16,7 @@ use boss_model::Buffer;
 impl<D: Disk> TwoDisks<D> {
     /// Reads the next record of the log into the buffer, which is emptied first. The disks stay as they are.
     pub fn next(&mut self, into: &mut Buffer) -> NextRecord
-        requires { 65535 ≤ into.old.capacity }
+        requires { longest_record ≤ into.old.capacity }
         // A record of events that lead on; and one of any other bytes.
         ensures leads { (plant : List Actuator) (from d : Persistent) (before : ℕ) (events : List Event) → reads_to self.old plant from before events d
             → (place : ℕ) → result ≡ NextRecord.Bytes place → (batch : List Event) (after : Persistent) → into.new.bytes ≡ batch_text batch

@@ -1,4 +1,5 @@
 ghost use Rattle.std.specs.Prelude.{◌≡◌, ◌≢◌, ◌+◌, ◌≤◌, true, false, List};
+ghost use Rattle.boss_model.specs.Limits.{record_room};
 ghost use Rattle.boss_durable.specs.Begun.{BegunCause, is_fault, may_want};
 ghost use Rattle.boss_durable.specs.Words.{Does, RunsThrough, keeps, lasting, leaves, log, passes};
 ghost use Rattle.def_history.specs.History.{MayCall};
@@ -60,7 +61,7 @@ impl<D: Disk> Durable<D> {
         ensures stops { self.new.disks.stopped ≡ is_fault result }
         ensures memory { result ≡ Begun.NoMemory → is_growing command.now ≡ true }
         ensures wants { result ≡ Begun.NoMemory → may_want self.old.engine.state command.now ≡ true }
-        ensures room { result ≡ Begun.Ready → may_want self.old.engine.state command.now ≡ true → log self.new + 65536 ≤ self.new.log_limit }
+        ensures room { result ≡ Begun.Ready → may_want self.old.engine.state command.now ≡ true → log self.new + record_room ≤ self.new.log_limit }
     {
         match self.begin() {
             Begun::Ready => Begun::Ready,
@@ -84,7 +85,7 @@ impl<D: Disk> Durable<D> {
         ensures going { is_stopped result ≡ false }
         ensures memory { MayWant command.now result }
         ensures wants { result ≡ Outcome.NoMemory → may_want self.old.engine.state command.now ≡ true }
-        ensures log { (answer : Answer) → result ≡ Outcome.Done answer → log self.new ≤ log self.old + 65536 }
+        ensures log { (answer : Answer) → result ≡ Outcome.Done answer → log self.new ≤ log self.old + record_room }
         ensures limit { self.new.log_limit ≡ self.old.log_limit }
         ensures digest { self.new.disks.digest ≡ self.old.disks.digest }
     {

@@ -1,4 +1,5 @@
 ghost use Rattle.std.specs.Prelude.{◌≡◌, ◌≢◌, ◌+◌, ◌≤◌, ◌<◌, true, [], ◌++◌, length, Some};
+ghost use Rattle.boss_model.specs.Limits.{most_held};
 ghost use Rattle.def_bytes.specs.Batches.{batch_text};
 ghost use Rattle.def_bytes.specs.Events.{event};
 ghost use Rattle.def_history.specs.History.{if_event};
@@ -29,7 +30,7 @@ impl Batch {
     pub fn put(&mut self, command: &Command, effect: &Effect)
         requires fits { (e : Event) → event_of command.now effect.now ≡ Some e → event.fits e ≡ true }
         requires room { length self.old.bytes.bytes + 4096 ≤ self.old.bytes.capacity }
-        requires few { self.old.events < 16 }
+        requires few { self.old.events < most_held }
         ensures bytes { self.new.bytes ≡ record self.old.bytes { bytes = self.old.bytes.bytes ++ batch_text (if_event (event_of command.now effect.now) []) } }
         ensures events { self.new.events ≡ self.old.events + length (if_event (event_of command.now effect.now) []) }
     {
@@ -43,7 +44,7 @@ impl Batch {
         requires changed { effect.now ≢ Unchanged }
         requires fits { (e : Event) → event_of command.now effect.now ≡ Some e → event.fits e ≡ true }
         requires room { length self.old.bytes.bytes + 4096 ≤ self.old.bytes.capacity }
-        requires few { self.old.events < 16 }
+        requires few { self.old.events < most_held }
         ensures bytes { self.new.bytes ≡ record self.old.bytes { bytes = self.old.bytes.bytes ++ batch_text (if_event (event_of command.now effect.now) []) } }
         ensures events { self.new.events ≡ self.old.events + length (if_event (event_of command.now effect.now) []) }
     {

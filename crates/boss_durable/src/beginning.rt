@@ -1,4 +1,5 @@
 ghost use Rattle.std.specs.Prelude.{◌≡◌, ◌≢◌, ◌+◌, ◌≤◌, false, true, List, IfOk};
+ghost use Rattle.boss_model.specs.Limits.{record_room};
 ghost use Rattle.def_bytes.specs.States.{state};
 ghost use Rattle.boss_durable.specs.Begun.{BegunCause, is_fault};
 ghost use Rattle.boss_durable.specs.Words.{keeps, lasting, leaves, log, passes};
@@ -37,8 +38,8 @@ impl<D: Disk> Durable<D> {
         ensures cause { BegunCause (counts_of self.old.disks) (counts_of self.new.disks) result }
         ensures stops { self.new.disks.stopped ≡ is_fault result }
         ensures memory { result ≡ Begun.NoMemory → self.new ≡ self.old }
-        ensures room { result ≡ Begun.Ready → log self.new + 65536 ≤ self.new.log_limit }
-        ensures still { log self.old + 65536 ≤ self.old.log_limit → (result ≡ Begun.Ready) × (self.new ≡ self.old) }
+        ensures room { result ≡ Begun.Ready → log self.new + record_room ≤ self.new.log_limit }
+        ensures still { log self.old + record_room ≤ self.old.log_limit → (result ≡ Begun.Ready) × (self.new ≡ self.old) }
     {
         if self.disks.log() <= self.log_limit - RECORD_ROOM as u64 {
             return Begun::Ready;
@@ -73,7 +74,7 @@ impl<D: Disk> Durable<D> {
         ensures cause { BegunCause (counts_of self.old.disks) (counts_of self.new.disks) result }
         ensures stops { self.new.disks.stopped ≡ is_fault result }
         ensures tried { result ≢ Begun.NoMemory }
-        ensures room { result ≡ Begun.Ready → log self.new + 65536 ≤ self.new.log_limit }
+        ensures room { result ≡ Begun.Ready → log self.new + record_room ≤ self.new.log_limit }
     {
         match self.disks.next_generation(kept) {
             Ok(()) => Begun::Ready,

@@ -1,7 +1,7 @@
 ghost use Rattle.std.specs.Prelude.{◌≡◌, ◌≤◌, ◌<◌, ℕ, false, List, length};
 ghost use Rattle.boss_durable.specs.Words.{keeps, lasting, leaves};
 ghost use Rattle.boss_model.specs.declared.event.Event.{Event};
-ghost use Rattle.boss_model.specs.Limits.{last_number};
+ghost use Rattle.boss_model.specs.Limits.{last_number, record_room};
 ghost use Rattle.boss_model.specs.Plants.{IsPlant};
 ghost use Rattle.boss_model.specs.Sound.{IsSound};
 ghost use Rattle.boss_model.specs.State.{Persistent};
@@ -32,7 +32,7 @@ impl<D: Disk> Durable<D> {
         requires plant { IsPlant engine.plant }
         requires sound { IsSound engine.plant engine.state }
         requires version { disks.journal.version ≡ 2 }
-        requires room { buffer.capacity ≡ 65536 }
+        requires room { buffer.capacity ≡ record_room }
         requires limit { 131072 ≤ log_limit }
         ensures keeps { (events : List Event) → rests disks engine.plant engine.state.persistent (length events) → keeps result events }
         ensures leaves { (events : List Event) → rests disks engine.plant engine.state.persistent (length events) →

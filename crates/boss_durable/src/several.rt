@@ -1,4 +1,5 @@
 ghost use Rattle.std.specs.Prelude.{◌≡◌, ◌⊎◌, ◌+◌, ◌≤◌, ◌<◌, true, false, [], List, length, take, Some, None, IfOk, OnErr, OnOk, vec_capacity};
+ghost use Rattle.boss_model.specs.Limits.{most_held, record_room};
 ghost use Rattle.std.specs.List.{AllByRecursion};
 ghost use Rattle.boss_durable.specs.Begun.{WantNone};
 ghost use Rattle.boss_durable.specs.Words.{Does, RunsThrough, keeps, lasting, leaves, log, passes};
@@ -33,7 +34,7 @@ impl<D: Disk> Durable<D> {
         answers: &mut Vec<Answer>,
     ) -> Outcomes
         requires some { 1 ≤ length commands.now }
-        requires few { length commands.now ≤ 16 }
+        requires few { length commands.now ≤ most_held }
         requires may { AllByRecursion (MayCall self.old.engine.plant) commands.now }
         requires room { length commands.now ≤ vec_capacity answers.old }
         ensures kept { Does self.old self.new (made_by_all session commands.now answers.new.items result.rest) }
@@ -71,7 +72,7 @@ impl<D: Disk> Durable<D> {
         requires { self.old.disks.stopped ≡ false }
         ensures within { IfOk result (λ many. many ≤ length commands.now) }
         ensures wants { IfOk result (λ many. many < length commands.now → is_growing_at commands.now many ≡ true) }
-        ensures room { IfOk result (λ many. (log self.new + 65536 ≤ self.new.log_limit) ⊎ WantNone self.old.engine.state (take many commands.now)) }
+        ensures room { IfOk result (λ many. (log self.new + record_room ≤ self.new.log_limit) ⊎ WantNone self.old.engine.state (take many commands.now)) }
         ensures keeps { (before : List Event) → keeps self.old before → OnOk result (keeps self.new before) }
         ensures leaves { (before : List Event) → keeps self.old before → leaves self.new (lasting self.old) (lasting self.old) }
         ensures passes { (before : List Event) → keeps self.old before → passes self.old self.new (lasting self.old) (lasting self.old) }
@@ -99,7 +100,7 @@ impl<D: Disk> Durable<D> {
     ) -> Outcomes
         requires going { self.old.disks.stopped ≡ false }
         requires some { 1 ≤ length commands.now }
-        requires few { length commands.now ≤ 16 }
+        requires few { length commands.now ≤ most_held }
         requires may { AllByRecursion (MayCall self.old.engine.plant) commands.now }
         requires within { many ≤ length commands.now }
         requires wants { many < length commands.now → is_growing_at commands.now many ≡ true }
@@ -112,7 +113,7 @@ impl<D: Disk> Durable<D> {
         ensures rest { RestFits commands.now result.done result.rest }
         ensures together { NoneDone result.done result.rest }
         ensures many { result.done ≤ many }
-        ensures log { has_failed_rest result.rest ≡ false → log self.new ≤ log self.old + 65536 }
+        ensures log { has_failed_rest result.rest ≡ false → log self.new ≤ log self.old + record_room }
         ensures room { vec_capacity answers.new ≡ vec_capacity answers.old }
         ensures limit { self.new.log_limit ≡ self.old.log_limit }
         ensures digest { self.new.disks.digest ≡ self.old.disks.digest }
@@ -140,7 +141,7 @@ impl<D: Disk> Durable<D> {
 
 /// What became of commands of which so many were done: no memory was to be had for the next, where there is one.
 fn outcomes(done: usize, asked: usize) -> Outcomes
-    requires few { asked ≤ 16 }
+    requires few { asked ≤ most_held }
     requires within { done ≤ asked }
     ensures done { result.done ≡ done }
     ensures all { done ≡ asked → result.rest ≡ None }

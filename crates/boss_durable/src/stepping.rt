@@ -1,4 +1,5 @@
 ghost use Rattle.std.specs.Prelude.{◌≡◌, ℕ, ◌+◌, ◌≤◌, ◌<◌, true, List, [], ◌∷◌, ◌++◌, length, IfOk, OnErr, vec_capacity};
+ghost use Rattle.boss_model.specs.Limits.{most_held, record_room};
 ghost use Rattle.std.specs.List.{AllByRecursion};
 ghost use Rattle.def_history.specs.declared.entry.Entry.{Entry};
 ghost use Rattle.def_history.specs.declared.entry.Entry.TheVariants.{Did};
@@ -24,7 +25,7 @@ pub fn take_step(
 ) -> Result<Answer, NoMemory>
     requires may { MayCall engine.old.plant (command.now, moment) }
     requires room { length batch.old.bytes.bytes + 4096 ≤ batch.old.bytes.capacity }
-    requires few { batch.old.events < 16 }
+    requires few { batch.old.events < most_held }
     ensures taken { (made : List Entry) (start : State) → Taken engine.old.plant made start engine.old.state batch.old →
         IfOk result (λ answer. Taken engine.old.plant (made ++ Did session command.now moment answer ∷ []) start engine.new.state batch.new) }
     ensures plant { engine.new.plant ≡ engine.old.plant }
@@ -51,11 +52,11 @@ pub fn take_steps(
     commands: &[(Command, u64)],
     answers: &mut Vec<Answer>,
 )
-    requires few { length commands.now ≤ 16 }
+    requires few { length commands.now ≤ most_held }
     requires may { AllByRecursion (MayCall engine.old.plant) commands.now }
     requires nothing { (batch.old.bytes.bytes ≡ []) }
     requires no_event { batch.old.events ≡ 0 }
-    requires bytes { batch.old.bytes.capacity ≡ 65536 }
+    requires bytes { batch.old.bytes.capacity ≡ record_room }
     requires none { answers.old.items ≡ [] }
     requires room { length commands.now ≤ vec_capacity answers.old }
     ensures taken { Taken engine.old.plant (done_by session commands.now answers.new.items) engine.old.state engine.new.state batch.new }

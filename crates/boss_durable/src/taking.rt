@@ -1,4 +1,5 @@
 ghost use Rattle.std.specs.Prelude.{◌≡◌, ◌+◌, ◌-◌, ◌≤◌, ℕ, true, false, List, length, OnOk, OnErr};
+ghost use Rattle.boss_model.specs.Limits.{longest_record, most_held};
 ghost use Rattle.boss_durable.specs.Taken.{Taken};
 ghost use Rattle.def_history.specs.declared.entry.Entry.{Entry};
 ghost use Rattle.def_history.specs.History.{events};
@@ -18,12 +19,12 @@ impl Batch {
     pub fn append_to<D: Disk>(&self, disks: &mut TwoDisks<D>) -> Result<(), Failed>
         requires going { disks.old.stopped ≡ false }
         requires version { disks.old.journal.version ≡ 2 }
-        requires within { length self.now.bytes.bytes ≤ 65535 }
+        requires within { length self.now.bytes.bytes ≤ longest_record }
         // The events lead on from the state that the disks stand for.
         ensures rests { (plant : List Actuator) (made : List Entry) (start now : State) (count : ℕ) → rests disks.old plant start.persistent count →
-            Taken plant made start now self.now → length made ≤ 16 → OnOk result (rests disks.new plant now.persistent (count + length (events plant made start))) }
+            Taken plant made start now self.now → length made ≤ most_held → OnOk result (rests disks.new plant now.persistent (count + length (events plant made start))) }
         ensures passes { (plant : List Actuator) (made : List Entry) (start now : State) (count : ℕ) → rests disks.old plant start.persistent count →
-            Taken plant made start now self.now → length made ≤ 16 → passes disks.old disks.new plant start.persistent now.persistent }
+            Taken plant made start now self.now → length made ≤ most_held → passes disks.old disks.new plant start.persistent now.persistent }
         ensures cause { CallCause false (counts_of disks.old) (counts_of disks.new) result }
         ensures fine { OnOk result (disks.new.stopped ≡ false) }
         ensures stops { OnErr result (disks.new.stopped ≡ true) }

@@ -1,6 +1,7 @@
 //! How many leases a process has.
 
 ghost use Rattle.std.specs.Prelude.{◌≡◌, ◌≤◌, ◌<◌, ◌+◌, ◌∷◌, [], filter, length};
+ghost use Rattle.boss_model.specs.Limits.{most_points};
 ghost use Rattle.std.specs.Option.{option_to_list};
 ghost use Rattle.boss_model.specs.Ends.{is_owned_by};
 ghost use Rattle.boss_slots.specs.Slots.{all, row};
@@ -11,7 +12,7 @@ use boss_slots::{Tables, lease_in};
 
 /// How many leases of all slots are the process's own.
 pub fn count_owned(tables: &Tables, owner: ProcId) -> u32
-    requires { length tables.now.arrays.items ≤ 4096 }
+    requires { length tables.now.arrays.items ≤ most_points }
     ensures { result ≡ length (filter (is_owned_by owner) (all (lease_at tables.now) (length tables.now.arrays.items))) }
 {
     let mut count = 0;

@@ -1,6 +1,7 @@
 //! The lists of leases and reversions, copied out of their slots.
 
 ghost use Rattle.std.specs.Prelude.{◌≡◌, ◌≤◌, ◌<◌, ◌++◌, length, IfOk, OnOk};
+ghost use Rattle.boss_model.specs.Limits.{most_points};
 ghost use Rattle.std.specs.Option.{option_to_list};
 ghost use Rattle.boss_slots.specs.Slots.{all, row};
 ghost use Rattle.boss_slots.specs.Tables.{lease_at, pending_at};
@@ -11,7 +12,7 @@ use std::alloc::Global;
 
 /// All leases, in the order of their slots.
 pub fn all_leases(alloc: Global, tables: &Tables) -> Result<Vec<Lease>, NoMemory>
-    requires { length tables.now.arrays.items ≤ 4096 }
+    requires { length tables.now.arrays.items ≤ most_points }
     ensures { IfOk result (λ leases. leases.items ≡ all (lease_at tables.now) (length tables.now.arrays.items)) }
 {
     let mut leases = Vec::with_capacity(alloc, tables.live as usize)?;
@@ -75,7 +76,7 @@ pub fn copied_lease(alloc: Global, lease: &Lease) -> Result<Lease, NoMemory>
 
 /// All reversions, in the order of their slots.
 pub fn all_pending(alloc: Global, tables: &Tables) -> Result<Vec<Pending>, NoMemory>
-    requires { length tables.now.arrays.items ≤ 4096 }
+    requires { length tables.now.arrays.items ≤ most_points }
     ensures { IfOk result (λ pending. pending.items ≡ all (pending_at tables.now) (length tables.now.arrays.items)) }
 {
     let mut pending = Vec::with_capacity(alloc, tables.under_way as usize)?;

@@ -1,4 +1,5 @@
 ghost use Rattle.std.specs.Prelude.{◌≡◌, ℕ, ◌+◌, ◌^◌, ◌≤◌, ◌<◌, List, [], ◌∷◌, ◌++◌, length, IfOk};
+ghost use Rattle.boss_model.specs.Limits.{longest_record};
 ghost use Rattle.boss_outside.specs.Counts.{HasCause};
 ghost use Rattle.boss_disk.specs.Runs.{Since};
 ghost use Rattle.boss_journal.specs.Places.{IsAtRest};
@@ -24,7 +25,7 @@ impl<D: Disk> Journal<D> {
     /// Appends a record of 1 to 65,535 bytes, in four calls of the disk, without memory.
     pub fn append(&mut self, bytes: &[u8]) -> Appended
         requires some { 1 ≤ length bytes.now }
-        requires within { length bytes.now ≤ 65535 }
+        requires within { length bytes.now ≤ longest_record }
         ensures rests { D.tells → (front : List ℕ) (records : List (List ℕ))
             → IsAtRest front records self.old.place (D.reads self.old.disk) (D.story self.old.disk).window
             → result ≡ Appended.Done
@@ -59,7 +60,7 @@ impl<D: Disk> Journal<D> {
 fn put_record<D: Disk>(disk: &mut D, place: u64, bytes: &[u8]) -> Result<u64, Failed>
     requires low { place ≤ 2 ^ 62 }
     requires at_gate { D.tells → place < length (D.reads disk.old) }
-    requires within { length bytes.now ≤ 65535 }
+    requires within { length bytes.now ≤ longest_record }
     ensures next { IfOk result (λ next. next ≡ place + length bytes.now + 5) }
     ensures low { IfOk result (λ next. next ≤ 2 ^ 62) }
     ensures inside { D.tells → IfOk result (λ next. next < length (D.reads disk.new)) }

@@ -1,4 +1,5 @@
 ghost use Rattle.std.specs.Prelude.{◌≡◌, ◌+◌, ◌≤◌, ◌^◌, ◌<◌, ◌∷◌, [], ◌++◌, length, OnOk, IsErr};
+ghost use Rattle.boss_model.specs.Limits.{longest_record};
 ghost use Rattle.boss_outside.specs.Counts.{HasCause};
 ghost use Rattle.boss_disk.specs.Runs.{WritesThrough};
 ghost use Rattle.boss_disk.specs.Window.{overwritten};
@@ -16,7 +17,7 @@ const MOST: usize = 65_540;
 /// Writes the length, the record and a shut gate at this place, and syncs the disk.
 pub fn put_frame<D: Disk>(disk: &mut D, at: u64, bytes: &[u8]) -> Result<(), Failed>
     requires there { D.tells → at ≤ length (D.reads disk.old) }
-    requires within { length bytes.now ≤ 65535 }
+    requires within { length bytes.now ≤ longest_record }
     ensures limit { 2 ^ 62 < at + (length bytes.now + 5) → IsErr result }
     ensures reads { D.tells → OnOk result (D.reads disk.new ≡ overwritten at (framed bytes.now ++ 0 ∷ []) (D.reads disk.old)) }
     ensures windows { D.tells → WritesThrough at (framed bytes.now ++ 0 ∷ []) (D.reads disk.old) (D.story disk.old) (D.story disk.new) result }
@@ -44,7 +45,7 @@ pub fn open_gate<D: Disk>(disk: &mut D, place: u64) -> Result<(), Failed>
 /// The same as `put_frame`, with a room for the bytes.
 fn put_in<D: Disk>(disk: &mut D, at: u64, bytes: &[u8], room: &mut [u8]) -> Result<(), Failed>
     requires there { D.tells → at ≤ length (D.reads disk.old) }
-    requires within { length bytes.now ≤ 65535 }
+    requires within { length bytes.now ≤ longest_record }
     requires room { length bytes.now + 5 ≤ length room.old }
     ensures limit { 2 ^ 62 < at + (length bytes.now + 5) → IsErr result }
     ensures reads { D.tells → OnOk result (D.reads disk.new ≡ overwritten at (framed bytes.now ++ 0 ∷ []) (D.reads disk.old)) }
@@ -58,7 +59,7 @@ fn put_in<D: Disk>(disk: &mut D, at: u64, bytes: &[u8], room: &mut [u8]) -> Resu
 
 /// Fills the slice with the length, the record and a shut gate.
 fn frame(bytes: &[u8], into: &mut [u8])
-    requires within { length bytes.now ≤ 65535 }
+    requires within { length bytes.now ≤ longest_record }
     requires room { length into.old ≡ length bytes.now + 5 }
     ensures { into.new ≡ framed bytes.now ++ 0 ∷ [] }
 {

@@ -1,4 +1,5 @@
 ghost use Rattle.std.specs.Prelude.{◌≡◌, ℕ, ◌≤◌, List, [], ◌∷◌, ◌++◌, length, OnOk, IfOk, Ok};
+ghost use Rattle.boss_model.specs.Limits.{first_gate};
 ghost use Rattle.boss_outside.specs.Counts.{HasCause};
 ghost use Rattle.boss_disk.specs.Runs.{Since, WritesThrough};
 ghost use Rattle.boss_disk.specs.Window.{settled, overwritten};
@@ -14,7 +15,7 @@ use boss_outside::Failed;
 pub fn make<D: Disk>(disk: &mut D, start: Start, digest: &[u8; 32]) -> Result<u8, Failed>
     requires { D.tells → IsStart digest.now (D.reads disk.old) (Ok start) }
     ensures opens { D.tells → (D.story disk.old).window ≡ settled (D.reads disk.old)
-        → IfOk result (λ version. Opens digest.now (D.reads disk.old) version 41 (D.reads disk.new) (D.story disk.new).window) }
+        → IfOk result (λ version. Opens digest.now (D.reads disk.old) version first_gate (D.reads disk.new) (D.story disk.new).window) }
     ensures images { D.tells → (D.story disk.old).window ≡ settled (D.reads disk.old) → IsNew digest.now (D.reads disk.old)
         → Since (IsNew digest.now) (D.story disk.old) (D.story disk.new) }
     ensures still { D.tells → (IsNew digest.now (D.reads disk.old) → ⊥) → D.story disk.new ≡ D.story disk.old }

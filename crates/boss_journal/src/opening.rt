@@ -1,4 +1,5 @@
 ghost use Rattle.std.specs.Prelude.{◌≡◌, ℕ, ◌^◌, ◌≤◌, ◌<◌, List, [], ◌∷◌, ◌++◌, length, slice_index, false, MatchResult, IfOk, IfErr};
+ghost use Rattle.boss_model.specs.Limits.{first_gate};
 ghost use Rattle.boss_disk.specs.Runs.{Since};
 ghost use Rattle.boss_disk.specs.Window.{settled};
 ghost use Rattle.boss_journal.specs.Fronts.{IsNew};
@@ -41,8 +42,8 @@ impl<D: Disk> Journal<D> {
 
 /// Syncs a disk, and makes it a journal where it is new; its version.
 fn begin<D: Disk>(disk: &mut D, digest: &[u8; 32]) -> Result<u8, OpenRefusal>
-    ensures opens { D.tells → IfOk result (λ version. Opens digest.now (D.reads disk.old) version 41 (D.reads disk.new) (D.story disk.new).window) }
-    ensures inside { D.tells → IfOk result (λ _. 41 < length (D.reads disk.new)) }
+    ensures opens { D.tells → IfOk result (λ version. Opens digest.now (D.reads disk.old) version first_gate (D.reads disk.new) (D.story disk.new).window) }
+    ensures inside { D.tells → IfOk result (λ _. first_gate < length (D.reads disk.new)) }
     ensures refuses { D.tells → IfErr result (Refuses digest.now (D.reads disk.old)) }
     ensures images { D.tells → Since (WhileOpening digest.now (D.reads disk.old) (D.story disk.old).window) (D.story disk.old) (D.story disk.new) }
     ensures untouched { D.tells → IfErr result (Untouched (D.reads disk.old) (D.reads disk.new)) }

@@ -1,4 +1,5 @@
 ghost use Rattle.std.specs.Prelude.{◌≡◌, ℕ, ◌+◌, ◌^◌, ◌≤◌, ◌<◌, List, [], ◌∷◌, ◌++◌, length, take, drop, true, false, IfOk, OnOk, OnErr};
+ghost use Rattle.boss_model.specs.Limits.{longest_record};
 ghost use Rattle.boss_outside.specs.Counts.{HasCause};
 ghost use Rattle.boss_disk.specs.Runs.{Since};
 ghost use Rattle.boss_disk.specs.Window.{settled};
@@ -30,7 +31,7 @@ pub enum NextRecord {
 impl<D: Disk> Journal<D> {
     /// Reads the next record into the buffer, which is emptied first.
     pub fn next(&mut self, into: &mut Buffer) -> NextRecord
-        requires { 65535 ≤ into.old.capacity }
+        requires { longest_record ≤ into.old.capacity }
         ensures tells { D.tells → (front : List ℕ) (records : List (List ℕ))
             → IsAt front records self.old.place (D.reads self.old.disk)
             → Tells front records self.new.place (D.reads self.old.disk) into.new.bytes result }

@@ -1,4 +1,5 @@
 ghost use Rattle.std.specs.Prelude.{◌≡◌, ◌≤◌, ℕ, false, true, [], IfErr, IfOk, OnOk};
+ghost use Rattle.boss_model.specs.Limits.{record_room};
 ghost use Rattle.def_bytes.specs.States.{state};
 ghost use Rattle.boss_pair_find.specs.declared.refusal.DurableRefusal.TheVariants.{Damaged};
 ghost use Rattle.boss_pair_find.specs.Refusals.{PairCause};
@@ -121,7 +122,7 @@ fn renew<D: Disk>(
     ensures going { IfOk result (λ _. pair.new.stopped ≡ false) }
     ensures events { pair.new.events ≡ pair.old.events }
     ensures digest { pair.new.digest ≡ pair.old.digest }
-    ensures room { IfOk result (λ buffer. buffer.capacity ≡ 65536) }
+    ensures room { IfOk result (λ buffer. buffer.capacity ≡ record_room) }
     ensures refuses { IfErr result IsOfNoBytes }
     ensures fine { IfOk result (λ _. counts_of pair.new ≡ counts_of pair.old) }
     ensures cause { IfErr result (PairCause (counts_of pair.old) (counts_of pair.new)) }

@@ -1,4 +1,5 @@
 ghost use Rattle.std.specs.Prelude.{◌≡◌, ◌+◌, ◌≤◌, ℕ, [], None, IfOk, IfErr, IfSome, false};
+ghost use Rattle.boss_model.specs.Limits.{longest_record};
 ghost use Rattle.boss_pair_find.specs.declared.refusal.DurableRefusal.TheVariants.{Damaged};
 ghost use Rattle.boss_pair_find.specs.Refusals.{DiskCause, PairCause};
 ghost use Rattle.boss_model.specs.Sound.{IsSound};
@@ -55,7 +56,7 @@ fn read_all<D: Disk>(
 ) -> Result<u64, DurableRefusal>
     requires going { pair.old.stopped ≡ false }
     requires sound { IsSound engine.old.plant engine.old.state }
-    requires room { 65535 ≤ buffer.old.capacity }
+    requires room { longest_record ≤ buffer.old.capacity }
     ensures whole { IfOk result (λ count. ReadWhole pair.old pair.new engine.old.plant engine.old.state.persistent count engine.new.state.persistent) }
     ensures damaged { IfErr result (IsDamaged pair.old pair.new engine.old.plant engine.old.state.persistent) }
     ensures refuses { IfErr result IsOfLog }
@@ -84,7 +85,7 @@ fn read_next<D: Disk>(
     buffer: &mut Buffer,
 ) -> Result<Option<u64>, DurableRefusal>
     requires sound { IsSound engine.old.plant engine.old.state }
-    requires room { 65535 ≤ buffer.old.capacity }
+    requires room { longest_record ≤ buffer.old.capacity }
     ensures reads { IfOk result (λ found. IfSome found (λ count.
         ReadsOn pair.old pair.new engine.old.plant engine.old.state.persistent count engine.new.state.persistent)) }
     ensures moves { IfOk result (λ found. IfSome found (λ count. pair.old.journal.place + count + 5 ≤ pair.new.journal.place)) }

@@ -1,4 +1,5 @@
 ghost use Rattle.std.specs.Prelude.{◌≡◌, ◌↔◌, IsTrue, ℕ, ◌≤◌, List, length, OnOk, IfErr, MatchResult};
+ghost use Rattle.boss_model.specs.Limits.{first_gate};
 ghost use Rattle.boss_pair_find.specs.Refusals.{FrontRefuses, DiskCause};
 ghost use Rattle.boss_snapshot.specs.Fronts.{IsKnown, version_of, digest_of};
 
@@ -7,7 +8,7 @@ use boss_disk::Disk;
 
 /// Tests whether the journal of a disk is of a known version and of the catalogue with this digest. The disk stays as it is.
 pub fn check_front<D: Disk>(disk: &mut D, digest: &[u8; 32]) -> Result<(), DurableRefusal>
-    requires { D.tells → 41 ≤ length (D.reads disk.old) }
+    requires { D.tells → first_gate ≤ length (D.reads disk.old) }
     ensures known { D.tells → OnOk result (IsKnown (version_of (D.reads disk.old)) × (digest_of (D.reads disk.old) ≡ digest.now)) }
     ensures refuses { D.tells → IfErr result (FrontRefuses digest.now (D.reads disk.old)) }
     ensures reads { D.tells → D.reads disk.new ≡ D.reads disk.old }

@@ -1,4 +1,5 @@
 ghost use Rattle.std.specs.Prelude.{◌≡◌, ◌⊎◌, ◌+◌, ◌<◌, ◌≤◌, ◌^◌, ◌++◌, length, map, vec_len, vec_capacity, All, OnOk, OnErr};
+ghost use Rattle.boss_model.specs.Limits.{last_moment};
 ghost use Rattle.boss_model.specs.Run.{answers, run};
 ghost use Rattle.boss_model.specs.Sound.{IsAllowed, IsSound};
 ghost use Rattle.boss_runs.specs.Calls.{HasDoneSome, SomeMayNeedMemory, seen};
@@ -16,7 +17,7 @@ pub fn carry_out(
     calls: &[Call],
     told: &mut Vec<Answer>,
 ) -> Result<(), NoMemory>
-    requires moments { All (λ call. call.moment ≤ 2 ^ 60) calls.now }
+    requires moments { All (λ call. call.moment ≤ last_moment) calls.now }
     requires allowed { All (λ call. IsAllowed engine.old.plant call.command) calls.now }
 
     ensures answers { OnOk result (told.new.items

@@ -2,7 +2,7 @@ ghost use Rattle.std.specs.Prelude.{◌≡◌, ◌<◌, ◌≤◌, false, if◌t
 ghost use Rattle.law_machine.specs.Draining.{weight};
 ghost use Rattle.boss_model.specs.Catalogue.{actuators};
 ghost use Rattle.boss_model.specs.Devices.{wanting};
-ghost use Rattle.boss_model.specs.Limits.{last_moment};
+ghost use Rattle.boss_model.specs.Limits.{answer_room, last_moment};
 ghost use Rattle.boss_model.specs.Sound.{IsSound};
 ghost use Rattle.boss_outside.specs.Counts.{HasCause};
 ghost use Rattle.boss_scripts.specs.Devices.{HasDevices};
@@ -34,7 +34,7 @@ pub fn drain<V: Keeper, K: Sink, A: Actuators>(
     requires moment { moment ≤ last_moment }
     requires plant { V.plant keeper.old ≡ actuators catalogue.now }
     requires sound { V.stopped keeper.old ≡ false → IsSound (V.plant keeper.old) (V.state keeper.old) }
-    requires room { 32768 ≤ text.old.capacity }
+    requires room { answer_room ≤ text.old.capacity }
     requires devices { HasDevices (vec_len devices.old) (actuators catalogue.now) }
 
     ensures under { V.under keeper.new ≡ V.under keeper.old }
@@ -82,7 +82,7 @@ fn serve<V: Keeper, K: Sink, A: Actuators>(
     requires running { V.stopped keeper.old ≡ false }
     requires sound { IsSound (V.plant keeper.old) (V.state keeper.old) }
     requires wants { wanting (V.plant keeper.old) (V.state keeper.old) ≡ Some driver }
-    requires room { 32768 ≤ text.old.capacity }
+    requires room { answer_room ≤ text.old.capacity }
     requires device { driver < vec_len devices.old }
 
     ensures under { V.under keeper.new ≡ V.under keeper.old }

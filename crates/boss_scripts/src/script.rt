@@ -1,6 +1,6 @@
 ghost use Rattle.std.specs.Prelude.{◌≡◌, ◌≤◌, ◌++◌, false, length, OnOk, OnErr, IfOk, vec_len, None};
 ghost use Rattle.boss_model.specs.Catalogue.{actuators};
-ghost use Rattle.boss_model.specs.Limits.{last_moment, longest_line};
+ghost use Rattle.boss_model.specs.Limits.{answer_room, last_moment, longest_line};
 ghost use Rattle.boss_model.specs.Lines.{lines};
 ghost use Rattle.boss_model.specs.Sound.{IsAllowed, IsSound};
 ghost use Rattle.def_wire.specs.Script.{answered};
@@ -91,7 +91,7 @@ fn take_lines<V: Keeper, S: Source, K: Sink, A: Actuators>(
     requires plant { V.plant keeper.old ≡ actuators catalogue.now }
     requires sound { V.stopped keeper.old ≡ false → IsSound (V.plant keeper.old) (V.state keeper.old) }
     requires fresh { reader.old.stopped ≡ None }
-    requires room { 32768 ≤ text.old.capacity }
+    requires room { answer_room ≤ text.old.capacity }
     requires devices { HasDevices (vec_len devices.old) (actuators catalogue.now) }
 
     ensures under { V.under keeper.new ≡ V.under keeper.old }
@@ -140,7 +140,7 @@ fn take_line<V: Keeper, K: Sink, A: Actuators>(
     requires plant { V.plant keeper.old ≡ actuators catalogue.now }
     requires sound { V.stopped keeper.old ≡ false → IsSound (V.plant keeper.old) (V.state keeper.old) }
     requires line { length line.now ≤ longest_line }
-    requires room { 32768 ≤ text.old.capacity }
+    requires room { answer_room ≤ text.old.capacity }
     requires devices { HasDevices (vec_len devices.old) (actuators catalogue.now) }
 
     ensures under { V.under keeper.new ≡ V.under keeper.old }
@@ -195,7 +195,7 @@ fn answer<V: Keeper, K: Sink, A: Actuators>(
     requires plant { V.plant keeper.old ≡ actuators catalogue.now }
     requires running { V.stopped keeper.old ≡ false }
     requires sound { IsSound (V.plant keeper.old) (V.state keeper.old) }
-    requires room { 32768 ≤ text.old.capacity }
+    requires room { answer_room ≤ text.old.capacity }
     requires devices { HasDevices (vec_len devices.old) (actuators catalogue.now) }
 
     ensures under { V.under keeper.new ≡ V.under keeper.old }

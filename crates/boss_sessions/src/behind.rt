@@ -1,4 +1,5 @@
 ghost use Rattle.std.specs.Prelude.{◌≡◌, ◌≤◌};
+ghost use Rattle.boss_model.specs.Limits.{answer_room};
 ghost use Rattle.boss_outside.specs.Counts.{HasCause};
 ghost use Rattle.boss_outside.specs.Streams.{Writes};
 ghost use Rattle.boss_model.specs.Catalogue.{Catalogue};
@@ -18,7 +19,7 @@ pub(crate) fn tell_behind<K: Sink>(
     text: &mut Buffer,
     sink: &mut K,
 ) -> Result<(), Failed>
-    requires room { 32768 ≤ text.old.capacity }
+    requires room { answer_room ≤ text.old.capacity }
     ensures room { text.new.capacity ≡ text.old.capacity }
     ensures bytes { (catalogue : Catalogue) → K.tells → Writes (K.taken sink.old) (K.taken sink.new) (text_behind (speech_of catalogue) heard.now) result }
     ensures cause { HasCause (K.faults sink.old) (K.faults sink.new) result }

@@ -1,4 +1,5 @@
 ghost use Rattle.std.specs.Prelude.{◌≡◌, ◌≤◌};
+ghost use Rattle.boss_model.specs.Limits.{answer_room};
 ghost use Rattle.std.specs.List.{AllByRecursion, flat_map};
 ghost use Rattle.boss_model.specs.Tellable.{IsTellable};
 ghost use Rattle.def_wire.specs.Texts.{answer_text, line_of};
@@ -22,7 +23,7 @@ pub(crate) fn tell_replies<K: Sink>(
     text: &mut Buffer,
     sink: &mut K,
 ) -> Result<(), Failed>
-    requires room { 32768 ≤ text.old.capacity }
+    requires room { answer_room ≤ text.old.capacity }
     requires tellable { AllByRecursion (IsTellable catalogue.now) answers.now }
     requires rest { IsRest rest.now }
     ensures room { text.new.capacity ≡ text.old.capacity }
@@ -43,7 +44,7 @@ fn tell_answers<K: Sink>(
     text: &mut Buffer,
     sink: &mut K,
 ) -> Result<(), Failed>
-    requires room { 32768 ≤ text.old.capacity }
+    requires room { answer_room ≤ text.old.capacity }
     requires tellable { AllByRecursion (IsTellable catalogue.now) answers.now }
     ensures room { text.new.capacity ≡ text.old.capacity }
     ensures bytes { K.tells → Writes (K.taken sink.old) (K.taken sink.new)

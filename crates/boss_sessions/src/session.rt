@@ -1,5 +1,5 @@
 ghost use Rattle.std.specs.Prelude.{◌≡◌, ◌≤◌, false, [], None, IfOk, vec_capacity};
-ghost use Rattle.boss_model.specs.Limits.{most_lines};
+ghost use Rattle.boss_model.specs.Limits.{answer_room, most_lines};
 
 use crate::hearing::Hearing;
 use boss_model::{ANSWER_ROOM, Answer, Buffer, MOST_HELD, NoMemory};
@@ -32,7 +32,7 @@ impl Session {
         ensures attached { IfOk result (λ session. session.attached ≡ false) }
         ensures last { IfOk result (λ session. session.last ≡ 0) }
         ensures answers { IfOk result (λ session. 16 ≤ vec_capacity session.answers) }
-        ensures text { IfOk result (λ session. 32768 ≤ session.text.capacity) }
+        ensures text { IfOk result (λ session. answer_room ≤ session.text.capacity) }
     {
         Ok(Session {
             hearing: Hearing::new(alloc)?,

@@ -1,4 +1,5 @@
 ghost use Rattle.std.specs.Prelude.{◌≡◌, ◌≤◌, length, map, drop, IfOk, vec_capacity};
+ghost use Rattle.boss_model.specs.Limits.{answer_room};
 ghost use Rattle.std.specs.List.{AllByRecursion};
 ghost use Rattle.boss_model.specs.Catalogue.{actuators};
 ghost use Rattle.def_history.specs.History.{is_broken, MayCall};
@@ -33,7 +34,7 @@ pub(crate) fn answer_all<G: Desk, K: Sink>(
     requires few { length commands.items ≤ 16 }
     requires may { AllByRecursion (MayCall (actuators catalogue.now)) commands.items }
     requires room { 16 ≤ vec_capacity answers.old }
-    requires text { 32768 ≤ text.old.capacity }
+    requires text { answer_room ≤ text.old.capacity }
     ensures own { G.owns desk.now pass.new }
     ensures parts { G.parts pass.new ≡ G.parts pass.old }
     ensures room { vec_capacity answers.new ≡ vec_capacity answers.old }
@@ -74,7 +75,7 @@ fn one_turn<G: Desk, K: Sink>(
     requires few { length commands.now ≤ 16 }
     requires may { AllByRecursion (MayCall (actuators catalogue.now)) commands.now }
     requires room { 16 ≤ vec_capacity answers.old }
-    requires text { 32768 ≤ text.old.capacity }
+    requires text { answer_room ≤ text.old.capacity }
     ensures own { G.owns desk.now pass.new }
     ensures parts { G.parts pass.new ≡ G.parts pass.old }
     ensures room { vec_capacity answers.new ≡ vec_capacity answers.old }

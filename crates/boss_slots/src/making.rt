@@ -1,6 +1,7 @@
 //! Tables with nothing in them.
 
 ghost use Rattle.std.specs.Prelude.{◌≡◌, ◌≤◌, ◌*◌, ℕ, None, IfOk, length, replicate};
+ghost use Rattle.boss_model.specs.Limits.{most_points};
 ghost use Rattle.boss_slots.specs.Tables.{IsKept, IsTimed, lease_at, pending_at};
 
 use crate::tables::Tables;
@@ -16,7 +17,7 @@ const LEVELS: u32 = 16;
 /// Tables for so many points, at most 4,096, with room for a lease and a reversion in each slot, and none there; `NoMemory`
 /// where there is no memory for so many.
 pub fn empty_tables(alloc: Global, points: u32) -> Result<Tables, NoMemory>
-    requires { points ≤ 4096 }
+    requires { points ≤ most_points }
     ensures points { IfOk result (λ tables. length tables.arrays.items ≡ points) }
     ensures kept { IfOk result IsKept }
     ensures timed { IfOk result (IsTimed 0) }

@@ -1,4 +1,5 @@
 ghost use Rattle.std.specs.Prelude.{◌≡◌, ◌≤◌, true, OnErr};
+ghost use Rattle.boss_model.specs.Limits.{answer_room};
 ghost use Rattle.std.specs.List.{flat_map, AllByRecursion};
 ghost use Rattle.boss_model.specs.Tellable.{IsTellableNotice};
 ghost use Rattle.boss_outside.specs.Counts.{HasCause};
@@ -17,7 +18,7 @@ pub fn tell_notices<K: Sink>(
     text: &mut Buffer,
     sink: &mut K,
 ) -> Result<(), Failed>
-    requires room { 32768 ≤ text.old.capacity }
+    requires room { answer_room ≤ text.old.capacity }
     requires tellable { AllByRecursion (IsTellableNotice catalogue.now) notices.now }
     ensures room { text.new.capacity ≡ text.old.capacity }
     ensures bytes { K.tells → Writes (K.taken sink.old) (K.taken sink.new) (flat_map (note_line catalogue.now) notices.now) result }
@@ -39,7 +40,7 @@ fn tell_notice<K: Sink>(
     text: &mut Buffer,
     sink: &mut K,
 ) -> Result<(), Failed>
-    requires room { 32768 ≤ text.old.capacity }
+    requires room { answer_room ≤ text.old.capacity }
     requires tellable { IsTellableNotice catalogue.now notice.now }
     ensures room { text.new.capacity ≡ text.old.capacity }
     ensures bytes { K.tells → Writes (K.taken sink.old) (K.taken sink.new) (note_line catalogue.now notice.now) result }

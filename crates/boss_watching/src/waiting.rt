@@ -1,4 +1,5 @@
 ghost use Rattle.std.specs.Prelude.{◌≡◌, ◌≤◌, true, false, IfOk, IfErr};
+ghost use Rattle.boss_model.specs.Limits.{answer_room};
 ghost use Rattle.boss_model.specs.Catalogue.{actuators};
 ghost use Rattle.boss_lock.specs.Places.{entries_at};
 ghost use Rattle.def_history.specs.History.{run};
@@ -34,7 +35,7 @@ pub fn await_notices<G: Desk, K: Sink, C: Clock, W: Waiter>(
     requires own { G.owns desk.now pass.old }
     requires plant { actuators catalogue.now ≡ G.plant desk.now }
     requires from { 1 ≤ from }
-    requires room { 32768 ≤ text.old.capacity }
+    requires room { answer_room ≤ text.old.capacity }
     ensures own { G.owns desk.now pass.new }
     ensures parts { G.parts pass.new ≡ G.parts pass.old }
     ensures room { text.new.capacity ≡ text.old.capacity }
