@@ -7,3 +7,4 @@ pub mod Fed
 pub mod Found
 pub mod PointKinds
 pub mod Texts
+pub mod LineRows

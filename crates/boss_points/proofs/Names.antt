@@ -11,7 +11,7 @@ use Rattle.boss_points.proofs.Views.{fails_in_views}
 use Rattle.boss_model.specs.declared.point.Kind.{Kind}
 use Rattle.boss_points.specs.declared.point.Point.{Point}
 use Rattle.boss_points.specs.declared.refusal.CatalogueRefusal.{CatalogueRefusal}
-use Rattle.boss_points.specs.Keys.{name_of, kind_of, default_of, driver_of, point_of}
+use Rattle.boss_points.specs.Keys.{name_of, kind_of, default_of, driver_of, times_of, point_of}
 use Rattle.boss_points.specs.Reading.{distinct_from, distinct}
 
 -- the reading gives something of each
@@ -26,31 +26,34 @@ taken_on : {A B : Type 0} {o : Option A} {x : A} (rest : A → Option B) → o �
 taken_on rest is = ap (option_and_then rest) is
 
 -- a point is read where all its parts are
-point_read : (drivers : List (List ℕ)) (d : Data) (name : List ℕ) (kind : Kind) (default : ℤ) (driver : ℕ)
-    → name_of d ≡ Some name → kind_of d ≡ Some kind → default_of d ≡ Some default → driver_of drivers d ≡ Some driver
-    → point_of drivers d ≡ Some (record { name = name; kind = kind; default = default; driver = driver })
-point_read drivers d name kind default driver named kinded defaulted driven = taken_on _ named ∙ taken_on _ kinded ∙ taken_on _ defaulted ∙ taken_on _ driven
+point_read : (drivers : List (List ℕ)) (d : Data) (name : List ℕ) (kind : Kind) (default : ℤ) (driver : ℕ) (times : ℤ × ℤ)
+    → name_of d ≡ Some name → kind_of d ≡ Some kind → default_of d ≡ Some default → driver_of drivers d ≡ Some driver → times_of d ≡ Some times
+    → point_of drivers d ≡ Some (record { name = name; kind = kind; default = default; driver = driver; min_on = times.0; min_off = times.1 })
+point_read drivers d name kind default driver times named kinded defaulted driven timed =
+    taken_on _ named ∙ taken_on _ kinded ∙ taken_on _ defaulted ∙ taken_on _ driven ∙ taken_on _ timed
 
--- each of the four parts of a point is read of each
+-- each of the five parts of a point is read of each
 pub record AllParts (drivers : List (List ℕ)) (ds : List Data) : Type 0 where
   pub names : AllRead name_of ds
   pub kinds : AllRead kind_of ds
   pub defaults : AllRead default_of ds
   pub owners : AllRead (driver_of drivers) ds
+  pub times : AllRead times_of ds
 
 first_read : (drivers : List (List ℕ)) (d : Data) (ds : List Data) → AllParts drivers (d ∷ ds) → (point : Point) × (point_of drivers d ≡ Some point) × (name_of d ≡ Some point.name)
 first_read drivers d ds parts =
     let name = something (name_of d) parts.names.0 in
     let kind = something (kind_of d) parts.kinds.0 in
     let default = something (default_of d) parts.defaults.0 in
-    let driver = something (driver_of drivers d) parts.owners.0 in (
-      record { name = name.0; kind = kind.0; default = default.0; driver = driver.0 },
-      point_read drivers d name.0 kind.0 default.0 driver.0 name.1 kind.1 default.1 driver.1,
+    let driver = something (driver_of drivers d) parts.owners.0 in
+    let times = something (times_of d) parts.times.0 in (
+      record { name = name.0; kind = kind.0; default = default.0; driver = driver.0; min_on = times.0.0; min_off = times.0.1 },
+      point_read drivers d name.0 kind.0 default.0 driver.0 times.0 name.1 kind.1 default.1 driver.1 times.1,
       name.1,
     )
 
 others : (drivers : List (List ℕ)) (d : Data) (ds : List Data) → AllParts drivers (d ∷ ds) → AllParts drivers ds
-others drivers d ds parts = record { names = parts.names.1; kinds = parts.kinds.1; defaults = parts.defaults.1; owners = parts.owners.1 }
+others drivers d ds parts = record { names = parts.names.1; kinds = parts.kinds.1; defaults = parts.defaults.1; owners = parts.owners.1; times = parts.times.1 }
 
 pub points-read : (drivers : List (List ℕ)) (ds : List Data) → AllParts drivers ds → AllRead (point_of drivers) ds
 points-read drivers [] parts = tt
@@ -79,10 +82,12 @@ distinct-names drivers refusal ds names parts ok = distinct_from-names drivers 0
 -- where no place without a part is found, each part is read of each
 pub parts-read : (drivers : List (List ℕ)) (tables : List Value) → position (λ table. is_none (name_of (view table))) tables ≡ None
     → position (λ table. is_none (kind_of (view table))) tables ≡ None → position (λ table. is_none (default_of (view table))) tables ≡ None
-    → position (λ table. is_none (driver_of drivers (view table))) tables ≡ None → AllParts drivers (views tables)
-parts-read drivers tables names kinds defaults owners = record {
+    → position (λ table. is_none (driver_of drivers (view table))) tables ≡ None → position (λ table. is_none (times_of (view table))) tables ≡ None
+    → AllParts drivers (views tables)
+parts-read drivers tables names kinds defaults owners times = record {
   names = fails_in_views (λ d. is_none (name_of d)) tables names;
   kinds = fails_in_views (λ d. is_none (kind_of d)) tables kinds;
   defaults = fails_in_views (λ d. is_none (default_of d)) tables defaults;
   owners = fails_in_views (λ d. is_none (driver_of drivers d)) tables owners;
+  times = fails_in_views (λ d. is_none (times_of d)) tables times;
 }

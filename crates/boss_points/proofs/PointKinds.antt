@@ -13,7 +13,7 @@ use Rattle.boss_model.specs.Limits.{most_points}
 use Rattle.boss_model.specs.Plants.{is_limit, IsKind, IsPlant}
 use Rattle.boss_points.specs.declared.point.Point.{Point}
 use Rattle.boss_points.specs.Kept.{IsWhole}
-use Rattle.boss_points.specs.Keys.{◌>>=◌, text_at, whole_at, least_limit, greatest_limit, analog, analog_of, multi_of, kind_named, kind_of}
+use Rattle.boss_points.specs.Keys.{◌>>=◌, text_at, whole_at, least_limit, greatest_limit, analog, analog_of, multi_of, kind_of}
 use Rattle.boss_points.specs.Seen.{all_seen}
 
 least-limit : (min max : ℤ) → (int_le least_limit min && int_le min max && int_le max greatest_limit) ≡ true → is_limit min ≡ true

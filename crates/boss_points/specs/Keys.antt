@@ -1,11 +1,12 @@
 -- What the keys of a file and of a point spell. A key that is not named here is passed over.
 use Rattle.std.specs.Prelude.{ℕ, ◌^◌, ℤ, pos, neg_ℤ, int_le, Bool, ◌&&◌, if◌then◌else◌, List, [], ◌∷◌, codes, position, Option, Some, None}
-use Rattle.std.specs.Option.{option_and_then}
+use Rattle.std.specs.Option.{option_and_then, option_map_or}
 use Rattle.std.specs.Str.{bytes_eq}
 use Rattle.toml.specs.Data.{Data, Items, no_items, item, get, as_str, as_integer, as_array}
 use Rattle.boss_model.specs.declared.point.Kind.{Kind}
 use Rattle.boss_model.specs.declared.point.Kind.TheVariants.{Analog, Binary, Multi}
 use Rattle.boss_model.specs.Catalogue.{fits}
+use Rattle.boss_model.specs.Limits.{longest_minimum}
 use Rattle.boss_model.specs.Names.{is_name}
 use Rattle.boss_points.specs.declared.point.Point.{Point}
 
@@ -90,6 +91,27 @@ driver_of drivers point = do
   name ← text_at (codes "driver") point
   position (λ driver. bytes_eq driver name) drivers
 
+-- a minimum time, in milliseconds
+abbrev pub is_minimum : ℤ → Bool
+is_minimum time = int_le (pos 0) time && int_le time (pos longest_minimum)
+
+-- what stands under the key of a minimum time: only a binary point may have the key
+abbrev pub minimum : Kind → Data → Option ℤ
+minimum Binary found = as_integer found >>= if_true is_minimum
+minimum other found = None
+
+-- where the key is missing, the time is 0
+abbrev pub time_at : Kind → List ℕ → Data → Option ℤ
+time_at kind key point = option_map_or (minimum kind) (get key point) (Some (pos 0))
+
+-- the minimum times of a point, on and off
+abbrev pub times_of : Data → Option (ℤ × ℤ)
+times_of point = do
+  kind ← kind_of point
+  on ← time_at kind (codes "min_on") point
+  off ← time_at kind (codes "min_off") point
+  Some (on, off)
+
 -- the point that a table spells
 abbrev pub point_of : List (List ℕ) → Data → Option Point
 point_of drivers point = do
@@ -97,4 +119,5 @@ point_of drivers point = do
   kind ← kind_of point
   default ← default_of point
   driver ← driver_of drivers point
-  Some (record { name = name; kind = kind; default = default; driver = driver })
+  times ← times_of point
+  Some (record { name = name; kind = kind; default = default; driver = driver; min_on = times.0; min_off = times.1 })

@@ -1,4 +1,4 @@
--- The catalogue that a file spells, or why it is refused: ten tests in their order, and in each the least place.
+-- The catalogue that a file spells, or why it is refused: eleven tests in their order, and in each the least place.
 use Rattle.std.specs.Prelude.{ℕ, ◌+◌, Bool, nat_lt, if◌then◌else◌, List, [], ◌∷◌, ◌++◌, length, map, position, codes, Option, Some, None, option_map, is_none, Result, Ok, Err}
 use Rattle.std.specs.List.{list_any, filter_map}
 use Rattle.std.specs.Option.{option_map_or, ok_or}
@@ -6,12 +6,12 @@ use Rattle.std.specs.Str.{bytes_eq, is_utf8}
 use Rattle.toml.specs.Data.{Data, table}
 use Rattle.toml.specs.Parse.{parse_document}
 use Rattle.boss_model.specs.Catalogue.{Catalogue}
-use Rattle.boss_model.specs.Limits.{most_drivers, most_points}
+use Rattle.boss_model.specs.Limits.{most_drivers, most_points, longest_file}
 use Rattle.boss_points.specs.declared.point.Point.{Point}
 use Rattle.boss_points.specs.declared.refusal.CatalogueRefusal.{CatalogueRefusal}
-use Rattle.boss_points.specs.declared.refusal.CatalogueRefusal.TheVariants.{TooLong, NotToml, Missing, TooMany, BadDriver, BadName, SameName, BadKind, BadDefault, UnknownDriver}
+use Rattle.boss_points.specs.declared.refusal.CatalogueRefusal.TheVariants.{TooLong, NotToml, Missing, TooMany, BadDriver, BadName, SameName, BadKind, BadDefault, UnknownDriver, BadTimes}
 use Rattle.boss_points.specs.declared.refusal.Key.TheVariants.{Drivers, Point as Points}
-use Rattle.boss_points.specs.Keys.{array_at, name_spelled, name_of, kind_of, default_of, driver_of, point_of}
+use Rattle.boss_points.specs.Keys.{array_at, name_spelled, name_of, kind_of, default_of, driver_of, times_of, point_of}
 use Rattle.boss_points.specs.Seen.{all_seen}
 
 -- one test after another, until one refuses
@@ -45,7 +45,7 @@ distinct refusal names = distinct_from 0 [] refusal names
 abbrev pub all_read : {A : Type 0} → (Data → Option A) → (ℕ → CatalogueRefusal) → List Data → Result (Unit {0}) CatalogueRefusal
 all_read read refusal items = option_map_or (λ place. Err (refusal place)) (position (λ d. is_none (read d)) items) (Ok tt)
 
--- tests 6 to 10, and the points: where these tests pass, each item reads as one
+-- tests 6 to 11, and the points: where these tests pass, each item reads as one
 abbrev pub points_of : List (List ℕ) → List Data → Result (List Point) CatalogueRefusal
 points_of drivers points = do
   _ ← all_read name_of BadName points  -- 6
@@ -53,9 +53,10 @@ points_of drivers points = do
   _ ← all_read kind_of BadKind points  -- 8
   _ ← all_read default_of BadDefault points  -- 9
   _ ← all_read (driver_of drivers) UnknownDriver points  -- 10
+  _ ← all_read times_of BadTimes points  -- 11
   Ok (filter_map (point_of drivers) points)
 
--- tests 3 to 10, and the catalogue of a table
+-- tests 3 to 11, and the catalogue of a table
 abbrev pub catalogue_in : Data → Result Catalogue CatalogueRefusal
 catalogue_in file = do
   drivers ← ok_or (array_at (codes "drivers") file) (Missing Drivers)  -- 3
@@ -66,9 +67,9 @@ catalogue_in file = do
   points ← points_of drivers points
   Ok (record { drivers = drivers; points = all_seen points })
 
--- all ten tests, and the catalogue that the bytes spell
+-- all eleven tests, and the catalogue that the bytes spell
 unfoldable pub catalogue_of : List ℕ → Result Catalogue CatalogueRefusal
 catalogue_of bytes = do
-  _ ← refuse_if (nat_lt 1048576 (length bytes)) (TooLong (length bytes))  -- 1
+  _ ← refuse_if (nat_lt longest_file (length bytes)) (TooLong (length bytes))  -- 1
   file ← ok_or (table_of bytes) NotToml  -- 2
   catalogue_in file

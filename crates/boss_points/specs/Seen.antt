@@ -15,7 +15,7 @@ abbrev pub texts : List (Vec ℕ Global) → List (List ℕ)
 texts keys = map (λ key. key.items) keys
 
 abbrev pub seen : Kept → Point
-seen point = record { name = point.name; actuator = record { kind = point.kind; default = point.default; driver = point.driver } }
+seen point = record { name = point.name; actuator = record { kind = point.kind; default = point.default; driver = point.driver }; min_on = point.min_on; min_off = point.min_off }
 
 abbrev pub all_seen : List Kept → List Point
 all_seen points = map seen points

@@ -6,6 +6,7 @@ ghost use Rattle.boss_model.specs.Limits.{most_points};
 ghost use Rattle.boss_model.specs.Plants.{IsPlant};
 ghost use Rattle.boss_points.specs.Canonical.{canonical};
 ghost use Rattle.boss_points.specs.Given.{Gives};
+ghost use Rattle.boss_points.specs.Kept.{AreTimes};
 ghost use Rattle.boss_points.specs.Reading.{catalogue_of, catalogue_in};
 ghost use Rattle.boss_points.specs.Seen.{seen};
 
@@ -87,6 +88,7 @@ impl Catalogue {
         ensures point { slice_get self.now.points id ≡ Some (seen result.now) }
         ensures driver { result.now.driver < length self.now.drivers }
         ensures default { fits result.now.kind result.now.default ≡ true }
+        ensures times { AreTimes result.now.kind result.now.min_on result.now.min_off }
     {
         &self.points[id.0 as usize]
     }

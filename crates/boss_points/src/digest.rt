@@ -2,7 +2,7 @@ ghost use Rattle.std.specs.Prelude.{◌≡◌, ◌<◌, [], ◌++◌, length, sl
 ghost use Rattle.std.specs.Fmt.{signed_decimal};
 ghost use Rattle.std.specs.List.{flat_map};
 ghost use Rattle.sha2.specs.Sha256.{sha256};
-ghost use Rattle.boss_points.specs.Canonical.{canonical, driver_line, point_line, kind_text};
+ghost use Rattle.boss_points.specs.Canonical.{canonical, driver_line, point_line, kind_text, times_text};
 ghost use Rattle.boss_points.specs.Fed.{Takes};
 ghost use Rattle.boss_points.specs.Kept.{IsWhole};
 ghost use Rattle.boss_points.specs.Seen.{seen, all_seen};
@@ -56,6 +56,7 @@ fn feed_point(hasher: &mut Sha256, drivers: &[Name], point: &Point)
     feed_kind(hasher, point.kind);
     hasher.update(b" ");
     feed_number(hasher, point.default);
+    feed_times(hasher, point.min_on, point.min_off);
     hasher.update(b"\n");
 }
 
@@ -92,6 +93,17 @@ fn feed_kind(hasher: &mut Sha256, kind: Kind)
             hasher.update(b"multi 1 ");
             feed_number(hasher, states);
         }
+    }
+}
+
+fn feed_times(hasher: &mut Sha256, on: i64, off: i64)
+    ensures { Takes hasher.old hasher.new (times_text on off) }
+{
+    if on != 0 || off != 0 {
+        hasher.update(b" ");
+        feed_number(hasher, on);
+        hasher.update(b" ");
+        feed_number(hasher, off);
     }
 }
 

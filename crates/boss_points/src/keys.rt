@@ -1,9 +1,9 @@
 ghost use Rattle.std.specs.Prelude.{◌≡◌, ◌≤◌, ◌<◌, length, option_copied, position, IfSome};
 ghost use Rattle.std.specs.Str.{bytes_eq};
 ghost use Rattle.toml.specs.View.{view};
-ghost use Rattle.boss_points.specs.Keys.{name_spelled, name_of, kind_of, analog, analog_of, multi_of, default_of, driver_of, whole_at, text_at};
+ghost use Rattle.boss_points.specs.Keys.{name_spelled, name_of, kind_of, analog, analog_of, multi_of, default_of, driver_of, minimum, time_at, times_of, whole_at, text_at};
 
-use boss_model::{DriverId, Kind, Name};
+use boss_model::{DriverId, Kind, LONGEST_MINIMUM, Name};
 use toml::Value;
 
 /// The least limit that an analog point may have, in thousandths of its unit.
@@ -85,6 +85,38 @@ pub(crate) fn driver_of(drivers: &[Name], point: &Value) -> Option<DriverId>
     let name = text_at(point, "driver")?;
     let place = place_among(drivers, name.as_bytes())?;
     Some(DriverId(place as u16))
+}
+
+/// The minimum times of a point, on and off.
+pub(crate) fn times_of(point: &Value) -> Option<(i64, i64)>
+    ensures { result ≡ times_of (view point.now) }
+{
+    let kind = kind_of(point)?;
+    let on = time_at(point, kind, "min_on")?;
+    let off = time_at(point, kind, "min_off")?;
+    Some((on, off))
+}
+
+/// The minimum time under a key of a point of this kind: 0 where the key is missing.
+fn time_at(point: &Value, kind: Kind, key: &str) -> Option<i64>
+    ensures { result ≡ time_at kind key.now (view point.now) }
+{
+    match point.get(key) {
+        Some(value) => minimum(value, kind),
+        None => Some(0),
+    }
+}
+
+/// The minimum time that a value spells, if a point of this kind may have one.
+fn minimum(value: &Value, kind: Kind) -> Option<i64>
+    ensures { result ≡ minimum kind (view value.now) }
+{
+    let time = value.as_integer()?;
+    if kind == Kind::Binary && 0 <= time && time <= LONGEST_MINIMUM {
+        Some(time)
+    } else {
+        None
+    }
 }
 
 /// Where the name stands among these.

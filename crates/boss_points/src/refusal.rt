@@ -57,6 +57,12 @@ pub enum CatalogueRefusal {
         /// Its place among the points.
         place: u64,
     },
+    /// The point at this place has `min_on` or `min_off`, and that is no whole number of 0 to 86,400,000, or the point is
+    /// not binary.
+    BadTimes {
+        /// Its place among the points.
+        place: u64,
+    },
     /// No memory was to be had. This says nothing of the file.
     NoMemory,
 }
@@ -107,6 +113,10 @@ impl fmt::Display for CatalogueRefusal {
             CatalogueRefusal::UnknownDriver { place } => write!(
                 f,
                 "the point at place {place} has none of the drivers"
+            ),
+            CatalogueRefusal::BadTimes { place } => write!(
+                f,
+                "the point at place {place} has a minimum time that it may not have"
             ),
             CatalogueRefusal::NoMemory => f.write_str("out of memory"),
         }

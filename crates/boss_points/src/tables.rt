@@ -4,12 +4,12 @@ ghost use Rattle.std.specs.Str.{bytes_eq};
 ghost use Rattle.toml.specs.View.{view};
 ghost use Rattle.boss_points.specs.declared.refusal.CatalogueRefusal.TheVariants.{BadDriver, SameName, NoMemory};
 ghost use Rattle.boss_points.specs.Given.{Gives};
-ghost use Rattle.boss_points.specs.Keys.{name_spelled, name_of, kind_of, default_of, driver_of, point_of};
+ghost use Rattle.boss_points.specs.Keys.{name_spelled, name_of, kind_of, default_of, driver_of, times_of, point_of};
 ghost use Rattle.boss_points.specs.Kept.{IsWhole};
 ghost use Rattle.boss_points.specs.Reading.{distinct, points_of};
 ghost use Rattle.boss_points.specs.Seen.{views, texts};
 
-use crate::keys::{default_of, driver_of, kind_of, name_of, name_spelled};
+use crate::keys::{default_of, driver_of, kind_of, name_of, name_spelled, times_of};
 use crate::{CatalogueRefusal, Point};
 use boss_model::Name;
 use indexmap::IndexSet;
@@ -103,16 +103,30 @@ fn first_without_driver(drivers: &[Name], points: &[Value]) -> Option<usize>
         .position(|point| driver_of(drivers, point).is_none())
 }
 
+/// The first point with a minimum time that it may not have.
+fn first_without_times(points: &[Value]) -> Option<usize>
+    ensures { result ≡ position (λ point. is_none (times_of (view point))) points.now }
+{
+    points.iter().position(|point| times_of(point).is_none())
+}
+
 /// The point that a table spells.
 fn point_of(drivers: &[Name], point: &Value) -> Option<Point>
     requires { length drivers.now ≤ 16 }
     ensures { result ≡ point_of drivers.now (view point.now) }
 {
+    let name = name_of(point)?;
+    let kind = kind_of(point)?;
+    let default = default_of(point)?;
+    let driver = driver_of(drivers, point)?;
+    let (min_on, min_off) = times_of(point)?;
     Some(Point {
-        name: name_of(point)?,
-        kind: kind_of(point)?,
-        default: default_of(point)?,
-        driver: driver_of(drivers, point)?,
+        name,
+        kind,
+        default,
+        driver,
+        min_on,
+        min_off,
     })
 }
 
@@ -167,6 +181,10 @@ pub(crate) fn points_of(
     if let Some(place) = first_without_driver(drivers, tables) {
         let place = place as u64;
         return Err(CatalogueRefusal::UnknownDriver { place });
+    }
+    if let Some(place) = first_without_times(tables) {
+        let place = place as u64;
+        return Err(CatalogueRefusal::BadTimes { place });
     }
     let points = all_points(alloc, drivers, tables)?;
     Ok((names, points))

@@ -9,13 +9,15 @@ pub all_points-requires-clause-passed : goal.all_points-requires-clause-passed
 all_points-requires-clause-passed c =
     points-read c.args.drivers.now (views c.args.tables.now) (parts-read c.args.drivers.now c.args.tables.now
     (sym c.first_without_name.ensures ∙ c.in_default.is) (sym c.first_without_kind.ensures ∙ c.in_default-first_without_kind.is)
-    (sym c.first_without_default.ensures ∙ c.in_default-first_without_default.is) (sym c.first_without_driver.ensures ∙ c.in_default-first_without_driver.is))
+    (sym c.first_without_default.ensures ∙ c.in_default-first_without_default.is) (sym c.first_without_driver.ensures ∙ c.in_default-first_without_driver.is)
+    (sym c.first_without_times.ensures ∙ c.in_default-first_without_times.is))
 
 pub returns-clause-names : goal.returns-clause-names
 returns-clause-names c =
     let parts = parts-read c.args.drivers.now c.args.tables.now
     (sym c.first_without_name.ensures ∙ c.in_default.is) (sym c.first_without_kind.ensures ∙ c.in_default-first_without_kind.is)
-    (sym c.first_without_default.ensures ∙ c.in_default-first_without_default.is) (sym c.first_without_driver.ensures ∙ c.in_default-first_without_driver.is) in
+    (sym c.first_without_default.ensures ∙ c.in_default-first_without_default.is) (sym c.first_without_driver.ensures ∙ c.in_default-first_without_driver.is)
+    (sym c.first_without_times.ensures ∙ c.in_default-first_without_times.is) in
     rw c.in_ok-points.ensures.points (distinct-names c.args.drivers.now (λ place. SameName place) (views c.args.tables.now) (texts c.in_ok-names.names.keys) parts c.in_ok-names.ensures)
 
 pub returns-clause-whole : goal.returns-clause-whole
