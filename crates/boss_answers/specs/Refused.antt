@@ -1,7 +1,7 @@
 -- What the program says where its words or the catalogue come to nothing.
 use Rattle.std.specs.Prelude.{ℕ, List, [], ◌∷◌, ◌++◌, codes, decimal}
 use Rattle.boss_points.specs.declared.CatalogueRefusal.{CatalogueRefusal}
-use Rattle.boss_points.specs.declared.CatalogueRefusal.TheVariants.{TooLong, NotToml, Missing, TooMany, BadDriver, BadName, SameName, BadKind, BadDefault, UnknownDriver, NoMemory}
+use Rattle.boss_points.specs.declared.CatalogueRefusal.TheVariants.{TooLong, NotToml, Missing, TooMany, BadDriver, BadName, SameName, BadKind, BadDefault, UnknownDriver, BadTimes, NoMemory}
 use Rattle.boss_points.specs.declared.Key.{Key}
 use Rattle.boss_points.specs.declared.Key.TheVariants.{Drivers, Point}
 
@@ -24,6 +24,7 @@ refusal_text (SameName place) = codes "same-name " ++ decimal place
 refusal_text (BadKind place) = codes "bad-kind " ++ decimal place
 refusal_text (BadDefault place) = codes "bad-default " ++ decimal place
 refusal_text (UnknownDriver place) = codes "unknown-driver " ++ decimal place
+refusal_text (BadTimes place) = codes "bad-times " ++ decimal place
 refusal_text NoMemory = []
 
 abbrev pub refusal_line : CatalogueRefusal → List ℕ

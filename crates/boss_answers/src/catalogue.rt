@@ -31,6 +31,7 @@ fn text_of(alloc: Global, refusal: CatalogueRefusal) -> Result<Vec<u8>, NoMemory
         CatalogueRefusal::BadKind { place } => with_number(alloc, b"bad-kind ", place),
         CatalogueRefusal::BadDefault { place } => with_number(alloc, b"bad-default ", place),
         CatalogueRefusal::UnknownDriver { place } => with_number(alloc, b"unknown-driver ", place),
+        CatalogueRefusal::BadTimes { place } => with_number(alloc, b"bad-times ", place),
         CatalogueRefusal::NoMemory => Ok(Vec::new(alloc)),
     }
 }

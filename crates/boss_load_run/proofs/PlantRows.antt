@@ -41,3 +41,4 @@ is_not_refused file refusal is other = by refusal other
     by (refusals.BadKind place) known refused = never (refusals.BadKind place) refused
     by (refusals.BadDefault place) known refused = never (refusals.BadDefault place) refused
     by (refusals.UnknownDriver place) known refused = never (refusals.UnknownDriver place) refused
+    by (refusals.BadTimes place) known refused = never (refusals.BadTimes place) refused
