@@ -1,5 +1,5 @@
 -- How a driver that asks for its next want is answered.
-use Rattle.std.proofs.Common.{◌≡◌, ℕ, ℤ, ◌<◌, List, [], ◌∷◌, length, Option, Some, None, refl, sym, ap, subst}
+use Rattle.std.proofs.Common.{◌≡◌, ℕ, ℤ, pos, ◌<◌, List, [], ◌∷◌, length, Option, Some, None, refl, sym, ap, subst}
 use Rattle.std.proofs.Common.{map, suc, ◌==◌}
 use Rattle.std.specs.List.{find}
 use Rattle.boss_model.specs.declared.answer.Answer.{Answer}
