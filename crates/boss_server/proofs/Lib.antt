@@ -4,6 +4,7 @@ pub mod DeskJoins
 pub mod FreshLemmas
 pub mod KeptLemmas
 pub mod RanLemmas
+pub mod ReferenceLemmas
 pub mod ReturnedLemmas
 pub mod ShareLemmas
 pub mod TogetherLemmas

@@ -6,8 +6,10 @@ ghost use Rattle.boss_shared.specs.Keeping.{IsHeld};
 ghost use Rattle.boss_worker.specs.Saying.{terms_of};
 ghost use Rattle.boss_server.specs.Kept.{Ran, drives_of};
 ghost use Rattle.boss_server.specs.Making.{GainsNoPause, StaysClock, StaysHost};
+ghost use Rattle.boss_server.specs.References.{KeepsReferences};
 ghost use Rattle.boss_server.specs.Together.{RoseWhere};
 
+use crate::Outside;
 use crate::serving::serve;
 use boss_model::NoMemory;
 use boss_outside::Actuators;
@@ -53,11 +55,7 @@ pub fn serve_keeper<
     alloc: Global,
     keeper: K,
     catalogue: &Catalogue,
-    host: &mut H,
-    clock: &mut C,
-    waiter: &mut W,
-    devices: &mut Vec<A>,
-    spawner: &mut P,
+    outside: &mut Outside<'_, H, C, W, A, P>,
     workers: u32,
     connections: u32,
 ) -> (K, Result<Ended, NoMemory>)
@@ -69,27 +67,30 @@ where
     requires images { K.leaves keeper (K.state keeper).persistent (K.state keeper).persistent }
     requires events { (before : List Event) × K.keeps keeper before }
     requires plant { actuators catalogue.now ≡ K.plant keeper }
-    requires sound { H.sound host.old }
+    requires sound { H.sound outside.old.host.now }
     requires some { 1 ≤ workers }
     requires few { workers ≤ 32 }
-    ensures sound { H.sound host.new }
+    ensures references { KeepsReferences outside.old outside.new }
+    ensures sound { H.sound outside.new.host.now }
     ensures under { K.under result.0 ≡ K.under keeper }
     ensures ran { IfOk result.1 (λ ended. Ran K.Keeper A.calls (λ device. A.tells × A.whole device)
         (terms_of catalogue.now workers H.In.tells H.Out.tells H.tells C.tells W.tells) W.tells
-        (workers + 1 + drives_of catalogue.now devices.old.items) connections keeper result.0
-        (H.served host.old) (H.served host.new) (C.given clock.old) (C.given clock.new) (H.faults host.old) (H.faults host.new)
-        (C.faults clock.old) (C.faults clock.new) (W.waits waiter.old) (W.waits waiter.new)
-        (take (drives_of catalogue.now devices.old.items) devices.old.items) (drop (drives_of catalogue.now devices.old.items) devices.old.items)
-        devices.new.items ended.flags ended.unstarted) }
-    ensures started { IfOk result.1 (λ ended. RoseWhere ended.unstarted (P.faults spawner.old) (P.faults spawner.new)) }
+        (workers + 1 + drives_of catalogue.now outside.old.devices.now.items) connections keeper result.0
+        (H.served outside.old.host.now) (H.served outside.new.host.now) (C.given outside.old.clock.now) (C.given outside.new.clock.now)
+        (H.faults outside.old.host.now) (H.faults outside.new.host.now) (C.faults outside.old.clock.now) (C.faults outside.new.clock.now)
+        (W.waits outside.old.waiter.now) (W.waits outside.new.waiter.now)
+        (take (drives_of catalogue.now outside.old.devices.now.items) outside.old.devices.now.items)
+        (drop (drives_of catalogue.now outside.old.devices.now.items) outside.old.devices.now.items)
+        outside.new.devices.now.items ended.flags ended.unstarted) }
+    ensures started { IfOk result.1 (λ ended. RoseWhere ended.unstarted (P.faults outside.old.spawner.now) (P.faults outside.new.spawner.now)) }
     ensures nothing { OnErr result.1 (IsHeld K.plant K.state K.stopped K.faults K.leaves K.keeps keeper result.0 []) }
-    ensures host { OnErr result.1 (StaysHost H.Host host.old host.new) }
-    ensures clock { OnErr result.1 (StaysClock C.Clock clock.old clock.new) }
-    ensures waiter { OnErr result.1 (GainsNoPause W.tells (W.waits waiter.old) (W.waits waiter.new)) }
-    ensures devices { OnErr result.1 (devices.new.items ≡ devices.old.items) }
-    ensures spawner { OnErr result.1 (spawner.new ≡ spawner.old) }
+    ensures host { OnErr result.1 (StaysHost H.Host outside.old.host.now outside.new.host.now) }
+    ensures clock { OnErr result.1 (StaysClock C.Clock outside.old.clock.now outside.new.clock.now) }
+    ensures waiter { OnErr result.1 (GainsNoPause W.tells (W.waits outside.old.waiter.now) (W.waits outside.new.waiter.now)) }
+    ensures devices { OnErr result.1 (outside.new.devices.now.items ≡ outside.old.devices.now.items) }
+    ensures spawner { OnErr result.1 (outside.new.spawner.now ≡ outside.old.spawner.now) }
 {
-    let drives = drives_for(catalogue, devices);
+    let drives = drives_for(catalogue, outside.devices);
     let (desk, mut pass) = match Manager::new(rt, alloc, keeper, workers + 2 + u32::from(drives)) {
         Ok(made) => made,
         Err((keeper, none)) => return (keeper, Err(none)),
@@ -99,18 +100,7 @@ where
         catalogue,
         workers,
     };
-    let told = serve(
-        alloc,
-        &server,
-        &mut pass,
-        host,
-        clock,
-        waiter,
-        devices,
-        spawner,
-        connections,
-        drives,
-    );
+    let told = serve(alloc, &server, &mut pass, outside, connections, drives);
     let Server { desk, .. } = server;
     let keeper = desk.close(pass);
     match told {

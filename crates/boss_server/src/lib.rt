@@ -5,6 +5,7 @@
 mod joining;
 mod keeping;
 mod making;
+mod outside;
 mod parts;
 mod returning;
 mod running;
@@ -12,4 +13,5 @@ mod serving;
 mod shares;
 
 pub use keeping::{Ended, serve_keeper};
+pub use outside::Outside;
 pub use serving::serve;

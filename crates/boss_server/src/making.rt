@@ -3,8 +3,10 @@ ghost use Rattle.boss_model.specs.Catalogue.{actuators};
 ghost use Rattle.boss_worker.specs.Desks.{own_of};
 ghost use Rattle.boss_worker.specs.Workers.{share_at, was_at, IsReady};
 ghost use Rattle.boss_server.specs.Making.{StaysClock, StaysHost, StaysWaiter};
+ghost use Rattle.boss_server.specs.References.{KeepsReferences};
 ghost use Rattle.boss_server.specs.Turns.{devices_of, shares_of, AllInTurn};
 
+use crate::Outside;
 use crate::parts::{all_three, clock_and_waiter};
 use crate::shares::share_for;
 use boss_model::{DriverId, NoMemory};
@@ -26,13 +28,11 @@ fn push_in_room<T: Drop>(items: &mut Vec<T>, item: T)
 }
 
 /// Makes the next worker for connections, which has so many to serve, and puts it at the end, where there is room for it.
-fn make_next<'a, G: Desk, H: Host, C: Clock, W: Waiter, A: Actuators + Drop>(
+fn make_next<'a, G: Desk, H: Host, C: Clock, W: Waiter, A: Actuators + Drop, P>(
     alloc: Global,
     server: &'a Server<'a, G>,
     pass: &mut G::Pass,
-    host: &mut H,
-    clock: &mut C,
-    waiter: &mut W,
+    outside: &mut Outside<'_, H, C, W, A, P>,
     number: u32,
     connections: u32,
     made: &mut Vec<Worker<'a, G, H, C, W, A>>,
@@ -40,7 +40,7 @@ fn make_next<'a, G: Desk, H: Host, C: Clock, W: Waiter, A: Actuators + Drop>(
     requires own { G.owns server.now.desk pass.old }
     requires parts { 2 ≤ G.parts pass.old }
     requires plant { actuators server.now.catalogue.now ≡ G.plant server.now.desk }
-    requires sound { H.sound host.old }
+    requires sound { H.sound outside.old.host.now }
     requires number { number < server.now.workers }
     requires few { server.now.workers ≤ 32 }
     requires room { vec_len made.old < vec_capacity made.old }
@@ -48,13 +48,15 @@ fn make_next<'a, G: Desk, H: Host, C: Clock, W: Waiter, A: Actuators + Drop>(
     requires ready { AllInTurn made.old.items 0 (λ number worker. (worker.server.now ≡ server.now) × (worker.number ≡ number)
         × IsReady G.Desk H.Host C.Clock W.Waiter A.Actuators server.now.catalogue.now server.now.desk server.now.workers
         number worker.pass worker.duty worker.clock worker.waiter worker.flags) }
+    ensures references { KeepsReferences outside.old outside.new }
     ensures own { G.owns server.now.desk pass.new }
     ensures parts { G.parts pass.new + length made.new.items ≡ G.parts pass.old + length made.old.items }
     ensures pass { (G.seen pass.new ≡ G.seen pass.old) × (G.mine pass.new ≡ G.mine pass.old) }
-    ensures sound { H.sound host.new }
-    ensures host { StaysHost H.Host host.old host.new }
-    ensures clock { StaysClock C.Clock clock.old clock.new }
-    ensures waiter { StaysWaiter W.Waiter waiter.old waiter.new }
+    ensures sound { H.sound outside.new.host.now }
+    ensures host { StaysHost H.Host outside.old.host.now outside.new.host.now }
+    ensures clock { StaysClock C.Clock outside.old.clock.now outside.new.clock.now }
+    ensures waiter { StaysWaiter W.Waiter outside.old.waiter.now outside.new.waiter.now }
+    ensures rest { (outside.new.devices.now ≡ outside.old.devices.now) × (outside.new.spawner.now ≡ outside.old.spawner.now) }
     ensures room { vec_capacity made.old ≤ vec_capacity made.new }
     ensures ready { AllInTurn made.new.items 0 (λ number worker. (worker.server.now ≡ server.now) × (worker.number ≡ number)
         × IsReady G.Desk H.Host C.Clock W.Waiter A.Actuators server.now.catalogue.now server.now.desk server.now.workers
@@ -65,7 +67,13 @@ fn make_next<'a, G: Desk, H: Host, C: Clock, W: Waiter, A: Actuators + Drop>(
     ensures devices { devices_of made.new.items (λ worker. was_at worker.duty) ≡ devices_of made.old.items (λ worker. was_at worker.duty) }
     ensures within { length made.new.items ≤ length made.old.items + 1 }
 {
-    let (part, own_clock, own_waiter) = all_three(alloc, host, clock, waiter, connections)?;
+    let (part, own_clock, own_waiter) = all_three(
+        alloc,
+        outside.host,
+        outside.clock,
+        outside.waiter,
+        connections,
+    )?;
     let own_pass = server.desk.split(pass);
     push_in_room(
         made,
@@ -85,31 +93,31 @@ fn make_next<'a, G: Desk, H: Host, C: Clock, W: Waiter, A: Actuators + Drop>(
 
 /// Makes the workers that serve connections, among which these are shared out. There is room for them. Without memory there may
 /// be fewer.
-fn make_connections<'a, G: Desk, H: Host, C: Clock, W: Waiter, A: Actuators + Drop>(
+fn make_connections<'a, G: Desk, H: Host, C: Clock, W: Waiter, A: Actuators + Drop, P>(
     alloc: Global,
     server: &'a Server<'a, G>,
     pass: &mut G::Pass,
-    host: &mut H,
-    clock: &mut C,
-    waiter: &mut W,
+    outside: &mut Outside<'_, H, C, W, A, P>,
     connections: u32,
     made: &mut Vec<Worker<'a, G, H, C, W, A>>,
 ) -> Result<(), NoMemory>
     requires own { G.owns server.now.desk pass.old }
     requires parts { server.now.workers + 1 ≤ G.parts pass.old }
     requires plant { actuators server.now.catalogue.now ≡ G.plant server.now.desk }
-    requires sound { H.sound host.old }
+    requires sound { H.sound outside.old.host.now }
     requires some { 1 ≤ server.now.workers }
     requires few { server.now.workers ≤ 32 }
     requires none { made.old.items ≡ [] }
     requires room { server.now.workers ≤ vec_capacity made.old }
+    ensures references { KeepsReferences outside.old outside.new }
     ensures own { G.owns server.now.desk pass.new }
     ensures parts { G.parts pass.new + length made.new.items ≡ G.parts pass.old }
     ensures pass { (G.seen pass.new ≡ G.seen pass.old) × (G.mine pass.new ≡ G.mine pass.old) }
-    ensures sound { H.sound host.new }
-    ensures host { StaysHost H.Host host.old host.new }
-    ensures clock { StaysClock C.Clock clock.old clock.new }
-    ensures waiter { StaysWaiter W.Waiter waiter.old waiter.new }
+    ensures sound { H.sound outside.new.host.now }
+    ensures host { StaysHost H.Host outside.old.host.now outside.new.host.now }
+    ensures clock { StaysClock C.Clock outside.old.clock.now outside.new.clock.now }
+    ensures waiter { StaysWaiter W.Waiter outside.old.waiter.now outside.new.waiter.now }
+    ensures rest { (outside.new.devices.now ≡ outside.old.devices.now) × (outside.new.spawner.now ≡ outside.old.spawner.now) }
     ensures ready { AllInTurn made.new.items 0 (λ number worker. (worker.server.now ≡ server.now) × (worker.number ≡ number)
         × IsReady G.Desk H.Host C.Clock W.Waiter A.Actuators server.now.catalogue.now server.now.desk server.now.workers
         number worker.pass worker.duty worker.clock worker.waiter worker.flags) }
@@ -120,9 +128,7 @@ fn make_connections<'a, G: Desk, H: Host, C: Clock, W: Waiter, A: Actuators + Dr
 {
     for number in 0..server.workers {
         let share = share_for(connections, server.workers, number);
-        make_next(
-            alloc, server, pass, host, clock, waiter, number, share, made,
-        )?;
+        make_next(alloc, server, pass, outside, number, share, made)?;
     }
     Ok(())
 }
@@ -178,13 +184,11 @@ fn make_time<'a, G: Desk, H: Host, C: Clock, W: Waiter, A: Actuators + Drop>(
 
 /// Makes the worker of the driver whose device is the next one, which is taken out, and puts it behind the others, where there is
 /// room for it. Without memory the device stays.
-fn make_drive<'a, G: Desk, H: Host, C: Clock, W: Waiter, A: Actuators + Drop>(
+fn make_drive<'a, G: Desk, H: Host, C: Clock, W: Waiter, A: Actuators + Drop, P>(
     alloc: Global,
     server: &'a Server<'a, G>,
     pass: &mut G::Pass,
-    clock: &mut C,
-    waiter: &mut W,
-    devices: &mut Vec<A>,
+    outside: &mut Outside<'_, H, C, W, A, P>,
     driver: u16,
     made: &mut Vec<Worker<'a, G, H, C, W, A>>,
 ) -> Result<(), NoMemory>
@@ -192,31 +196,33 @@ fn make_drive<'a, G: Desk, H: Host, C: Clock, W: Waiter, A: Actuators + Drop>(
     requires parts { 2 ≤ G.parts pass.old }
     requires plant { actuators server.now.catalogue.now ≡ G.plant server.now.desk }
     requires few { server.now.workers ≤ 32 }
-    requires some { 0 < vec_len devices.old }
+    requires some { 0 < vec_len outside.old.devices.now }
     requires next { length made.old.items ≡ server.now.workers + 1 + driver }
     requires room { vec_len made.old < vec_capacity made.old }
     requires ready { AllInTurn made.old.items 0 (λ number worker. (worker.server.now ≡ server.now) × (worker.number ≡ number)
         × IsReady G.Desk H.Host C.Clock W.Waiter A.Actuators server.now.catalogue.now server.now.desk server.now.workers
         number worker.pass worker.duty worker.clock worker.waiter worker.flags) }
+    ensures references { KeepsReferences outside.old outside.new }
     ensures own { G.owns server.now.desk pass.new }
     ensures parts { G.parts pass.new + length made.new.items ≡ G.parts pass.old + length made.old.items }
     ensures pass { (G.seen pass.new ≡ G.seen pass.old) × (G.mine pass.new ≡ G.mine pass.old) }
-    ensures clock { StaysClock C.Clock clock.old clock.new }
-    ensures waiter { StaysWaiter W.Waiter waiter.old waiter.new }
+    ensures clock { StaysClock C.Clock outside.old.clock.now outside.new.clock.now }
+    ensures waiter { StaysWaiter W.Waiter outside.old.waiter.now outside.new.waiter.now }
+    ensures rest { (outside.new.host.now ≡ outside.old.host.now) × (outside.new.spawner.now ≡ outside.old.spawner.now) }
     ensures ready { AllInTurn made.new.items 0 (λ number worker. (worker.server.now ≡ server.now) × (worker.number ≡ number)
         × IsReady G.Desk H.Host C.Clock W.Waiter A.Actuators server.now.catalogue.now server.now.desk server.now.workers
         number worker.pass worker.duty worker.clock worker.waiter worker.flags) }
     ensures share { shares_of made.new.items (λ worker. share_at H.Host worker.duty) ≡ shares_of made.old.items (λ worker. share_at H.Host worker.duty) }
-    ensures devices { devices_of made.new.items (λ worker. was_at worker.duty) ++ devices.new.items
-        ≡ devices_of made.old.items (λ worker. was_at worker.duty) ++ devices.old.items }
-    ensures devices_room { vec_capacity devices.new ≡ vec_capacity devices.old }
+    ensures devices { devices_of made.new.items (λ worker. was_at worker.duty) ++ outside.new.devices.now.items
+        ≡ devices_of made.old.items (λ worker. was_at worker.duty) ++ outside.old.devices.now.items }
+    ensures devices_room { vec_capacity outside.new.devices.now ≡ vec_capacity outside.old.devices.now }
     ensures room { vec_capacity made.old ≤ vec_capacity made.new }
     ensures count { OnOk result (length made.new.items ≡ length made.old.items + 1) }
-    ensures taken { OnOk result (vec_len devices.new + 1 ≡ vec_len devices.old) }
+    ensures taken { OnOk result (vec_len outside.new.devices.now + 1 ≡ vec_len outside.old.devices.now) }
 {
-    let (own_clock, own_waiter) = clock_and_waiter(alloc, clock, waiter)?;
+    let (own_clock, own_waiter) = clock_and_waiter(alloc, outside.clock, outside.waiter)?;
     let own_pass = server.desk.split(pass);
-    let device = devices.remove(0);
+    let device = outside.devices.remove(0);
     let was = Snapshot::of(&device);
     push_in_room(
         made,
@@ -236,13 +242,11 @@ fn make_drive<'a, G: Desk, H: Host, C: Clock, W: Waiter, A: Actuators + Drop>(
 
 /// Makes the workers of the drivers from the first one on, whose devices are taken out, and puts them behind the others, where there is
 /// room for them. Without memory there may be fewer, and the devices of the others stay.
-fn make_drives<'a, G: Desk, H: Host, C: Clock, W: Waiter, A: Actuators + Drop>(
+fn make_drives<'a, G: Desk, H: Host, C: Clock, W: Waiter, A: Actuators + Drop, P>(
     alloc: Global,
     server: &'a Server<'a, G>,
     pass: &mut G::Pass,
-    clock: &mut C,
-    waiter: &mut W,
-    devices: &mut Vec<A>,
+    outside: &mut Outside<'_, H, C, W, A, P>,
     drives: u16,
     made: &mut Vec<Worker<'a, G, H, C, W, A>>,
 ) -> Result<(), NoMemory>
@@ -250,43 +254,42 @@ fn make_drives<'a, G: Desk, H: Host, C: Clock, W: Waiter, A: Actuators + Drop>(
     requires parts { drives + 1 ≤ G.parts pass.old }
     requires plant { actuators server.now.catalogue.now ≡ G.plant server.now.desk }
     requires few { server.now.workers ≤ 32 }
-    requires some { drives ≤ vec_len devices.old }
+    requires some { drives ≤ vec_len outside.old.devices.now }
     requires next { length made.old.items ≡ server.now.workers + 1 }
     requires room { vec_len made.old + drives ≤ vec_capacity made.old }
     requires ready { AllInTurn made.old.items 0 (λ number worker. (worker.server.now ≡ server.now) × (worker.number ≡ number)
         × IsReady G.Desk H.Host C.Clock W.Waiter A.Actuators server.now.catalogue.now server.now.desk server.now.workers
         number worker.pass worker.duty worker.clock worker.waiter worker.flags) }
+    ensures references { KeepsReferences outside.old outside.new }
     ensures own { G.owns server.now.desk pass.new }
     ensures parts { G.parts pass.new + length made.new.items ≡ G.parts pass.old + length made.old.items }
     ensures pass { (G.seen pass.new ≡ G.seen pass.old) × (G.mine pass.new ≡ G.mine pass.old) }
-    ensures clock { StaysClock C.Clock clock.old clock.new }
-    ensures waiter { StaysWaiter W.Waiter waiter.old waiter.new }
+    ensures clock { StaysClock C.Clock outside.old.clock.now outside.new.clock.now }
+    ensures waiter { StaysWaiter W.Waiter outside.old.waiter.now outside.new.waiter.now }
+    ensures rest { (outside.new.host.now ≡ outside.old.host.now) × (outside.new.spawner.now ≡ outside.old.spawner.now) }
     ensures ready { AllInTurn made.new.items 0 (λ number worker. (worker.server.now ≡ server.now) × (worker.number ≡ number)
         × IsReady G.Desk H.Host C.Clock W.Waiter A.Actuators server.now.catalogue.now server.now.desk server.now.workers
         number worker.pass worker.duty worker.clock worker.waiter worker.flags) }
     ensures share { shares_of made.new.items (λ worker. share_at H.Host worker.duty) ≡ shares_of made.old.items (λ worker. share_at H.Host worker.duty) }
-    ensures devices { devices_of made.new.items (λ worker. was_at worker.duty) ++ devices.new.items
-        ≡ devices_of made.old.items (λ worker. was_at worker.duty) ++ devices.old.items }
-    ensures devices_room { vec_capacity devices.new ≡ vec_capacity devices.old }
+    ensures devices { devices_of made.new.items (λ worker. was_at worker.duty) ++ outside.new.devices.now.items
+        ≡ devices_of made.old.items (λ worker. was_at worker.duty) ++ outside.old.devices.now.items }
+    ensures devices_room { vec_capacity outside.new.devices.now ≡ vec_capacity outside.old.devices.now }
     ensures count { OnOk result (length made.new.items ≡ length made.old.items + drives) }
-    ensures taken { OnOk result (vec_len devices.new + drives ≡ vec_len devices.old) }
+    ensures taken { OnOk result (vec_len outside.new.devices.now + drives ≡ vec_len outside.old.devices.now) }
 {
     for driver in 0..drives {
-        make_drive(alloc, server, pass, clock, waiter, devices, driver, made)?;
+        make_drive(alloc, server, pass, outside, driver, made)?;
     }
     Ok(())
 }
 
 /// Makes all workers: those that serve connections, which are shared out among them, the one that lets time pass, and one for each
 /// of so many drivers, whose devices are taken out. There is room for them. Without memory there may be fewer.
-pub(crate) fn make_all<'a, G: Desk, H: Host, C: Clock, W: Waiter, A: Actuators + Drop>(
+pub(crate) fn make_all<'a, G: Desk, H: Host, C: Clock, W: Waiter, A: Actuators + Drop, P>(
     alloc: Global,
     server: &'a Server<'a, G>,
     pass: &mut G::Pass,
-    host: &mut H,
-    clock: &mut C,
-    waiter: &mut W,
-    devices: &mut Vec<A>,
+    outside: &mut Outside<'_, H, C, W, A, P>,
     connections: u32,
     drives: u16,
     made: &mut Vec<Worker<'a, G, H, C, W, A>>,
@@ -294,29 +297,31 @@ pub(crate) fn make_all<'a, G: Desk, H: Host, C: Clock, W: Waiter, A: Actuators +
     requires own { G.owns server.now.desk pass.old }
     requires parts { server.now.workers + 2 + drives ≤ G.parts pass.old }
     requires plant { actuators server.now.catalogue.now ≡ G.plant server.now.desk }
-    requires sound { H.sound host.old }
+    requires sound { H.sound outside.old.host.now }
     requires some { 1 ≤ server.now.workers }
     requires few { server.now.workers ≤ 32 }
-    requires device { drives ≤ vec_len devices.old }
+    requires device { drives ≤ vec_len outside.old.devices.now }
     requires none { made.old.items ≡ [] }
     requires room { server.now.workers + 1 + drives ≤ vec_capacity made.old }
+    ensures references { KeepsReferences outside.old outside.new }
     ensures own { G.owns server.now.desk pass.new }
     ensures parts { G.parts pass.new + length made.new.items ≡ G.parts pass.old }
     ensures pass { (G.seen pass.new ≡ G.seen pass.old) × (G.mine pass.new ≡ G.mine pass.old) }
-    ensures sound { H.sound host.new }
-    ensures host { StaysHost H.Host host.old host.new }
-    ensures clock { StaysClock C.Clock clock.old clock.new }
-    ensures waiter { StaysWaiter W.Waiter waiter.old waiter.new }
+    ensures sound { H.sound outside.new.host.now }
+    ensures host { StaysHost H.Host outside.old.host.now outside.new.host.now }
+    ensures clock { StaysClock C.Clock outside.old.clock.now outside.new.clock.now }
+    ensures waiter { StaysWaiter W.Waiter outside.old.waiter.now outside.new.waiter.now }
+    ensures spawner { outside.new.spawner.now ≡ outside.old.spawner.now }
     ensures ready { AllInTurn made.new.items 0 (λ number worker. (worker.server.now ≡ server.now) × (worker.number ≡ number)
         × IsReady G.Desk H.Host C.Clock W.Waiter A.Actuators server.now.catalogue.now server.now.desk server.now.workers
         number worker.pass worker.duty worker.clock worker.waiter worker.flags) }
-    ensures devices { devices_of made.new.items (λ worker. was_at worker.duty) ++ devices.new.items ≡ devices.old.items }
-    ensures devices_room { vec_capacity devices.new ≡ vec_capacity devices.old }
+    ensures devices { devices_of made.new.items (λ worker. was_at worker.duty) ++ outside.new.devices.now.items ≡ outside.old.devices.now.items }
+    ensures devices_room { vec_capacity outside.new.devices.now ≡ vec_capacity outside.old.devices.now }
     ensures count { OnOk result (length made.new.items ≡ server.now.workers + 1 + drives) }
-    ensures taken { OnOk result (vec_len devices.new + drives ≡ vec_len devices.old) }
+    ensures taken { OnOk result (vec_len outside.new.devices.now + drives ≡ vec_len outside.old.devices.now) }
     ensures share { OnOk result (shares_of made.new.items (λ worker. share_at H.Host worker.duty) ≡ connections) }
 {
-    make_connections(alloc, server, pass, host, clock, waiter, connections, made)?;
-    make_time(alloc, server, pass, clock, waiter, made)?;
-    make_drives(alloc, server, pass, clock, waiter, devices, drives, made)
+    make_connections(alloc, server, pass, outside, connections, made)?;
+    make_time(alloc, server, pass, outside.clock, outside.waiter, made)?;
+    make_drives(alloc, server, pass, outside, drives, made)
 }

@@ -3,9 +3,11 @@ ghost use Rattle.boss_worker.specs.Desks.{own_of};
 ghost use Rattle.boss_worker.specs.Saying.{terms_of};
 ghost use Rattle.boss_worker.specs.Workers.{share_at, was_at, IsReady};
 ghost use Rattle.boss_server.specs.Accounts.{Account};
+ghost use Rattle.boss_server.specs.References.{KeepsReferences};
 ghost use Rattle.boss_server.specs.Together.{RoseWhere};
 ghost use Rattle.boss_server.specs.Turns.{devices_of, shares_of, AllInTurn};
 
+use crate::Outside;
 use crate::joining::join_all;
 use boss_outside::Actuators;
 use boss_outside_server::{Clock, Host, Spawner, Waiter};
@@ -27,11 +29,7 @@ pub(crate) fn run_and_join<
     alloc: Global,
     server: &Server<'_, G>,
     pass: &mut G::Pass,
-    host: &mut H,
-    clock: &mut C,
-    waiter: &mut W,
-    devices: &mut Vec<A>,
-    spawner: &mut P,
+    outside: &mut Outside<'_, H, C, W, A, P>,
     workers: Vec<Worker<'a, G, H, C, W, A>>,
 ) -> Result<(Flags, bool), Vec<Worker<'a, G, H, C, W, A>>>
 where
@@ -40,26 +38,30 @@ where
     H::Out: Send,
     requires own { G.owns server.now.desk pass.old }
     requires empty { own_of G.Desk pass.old ≡ [] }
-    requires sound { H.sound host.old }
+    requires sound { H.sound outside.old.host.now }
     requires ready { AllInTurn workers.items 0 (λ number worker. (worker.server.now ≡ server.now) × (worker.number ≡ number)
         × IsReady G.Desk H.Host C.Clock W.Waiter A.Actuators server.now.catalogue.now server.now.desk server.now.workers
         number worker.pass worker.duty worker.clock worker.waiter worker.flags) }
-    requires room { vec_len devices.old + length (devices_of workers.items (λ worker. was_at worker.duty)) ≤ vec_capacity devices.old }
+    requires room { vec_len outside.old.devices.now + length (devices_of workers.items (λ worker. was_at worker.duty)) ≤ vec_capacity outside.old.devices.now }
+    ensures references { KeepsReferences outside.old outside.new }
     ensures own { G.owns server.now.desk pass.new }
-    ensures sound { H.sound host.new }
+    ensures sound { H.sound outside.new.host.now }
     ensures parts { IfOk result (λ told. G.parts pass.new ≡ G.parts pass.old + length workers.entry.items) }
     ensures account { IfOk result (λ told. Account A.calls (λ device. A.tells × A.whole device)
         (terms_of server.now.catalogue.now server.now.workers H.In.tells H.Out.tells H.tells C.tells W.tells) W.tells
         (length workers.entry.items) (shares_of workers.entry.items (λ worker. share_at H.Host worker.duty)) (own_of G.Desk pass.new) (G.seen pass.new)
-        (H.served host.old) (H.served host.new) (C.given clock.old) (C.given clock.new) (H.faults host.old) (H.faults host.new)
-        (C.faults clock.old) (C.faults clock.new) (W.waits waiter.old) (W.waits waiter.new)
-        (devices_of workers.entry.items (λ worker. was_at worker.duty)) devices.old.items devices.new.items told.0 told.1) }
-    ensures started { IfOk result (λ told. RoseWhere told.1 (P.faults spawner.old) (P.faults spawner.new)) }
-    ensures refused { IfErr result (λ left. (left.items ≡ workers.entry.items) × (pass.new ≡ pass.old) × (host.new ≡ host.old) × (clock.new ≡ clock.old)
-        × (waiter.new ≡ waiter.old) × (devices.new ≡ devices.old) × (spawner.new ≡ spawner.old)) }
+        (H.served outside.old.host.now) (H.served outside.new.host.now) (C.given outside.old.clock.now) (C.given outside.new.clock.now)
+        (H.faults outside.old.host.now) (H.faults outside.new.host.now) (C.faults outside.old.clock.now) (C.faults outside.new.clock.now)
+        (W.waits outside.old.waiter.now) (W.waits outside.new.waiter.now)
+        (devices_of workers.entry.items (λ worker. was_at worker.duty)) outside.old.devices.now.items outside.new.devices.now.items told.0 told.1) }
+    ensures started { IfOk result (λ told. RoseWhere told.1 (P.faults outside.old.spawner.now) (P.faults outside.new.spawner.now)) }
+    ensures refused { IfErr result (λ left. (left.items ≡ workers.entry.items) × (pass.new ≡ pass.old)
+        × (outside.new.host.now ≡ outside.old.host.now) × (outside.new.clock.now ≡ outside.old.clock.now)
+        × (outside.new.waiter.now ≡ outside.old.waiter.now) × (outside.new.devices.now ≡ outside.old.devices.now)
+        × (outside.new.spawner.now ≡ outside.old.spawner.now)) }
 {
-    match spawner.run_all(alloc, workers) {
-        Ok(done) => Ok(join_all(server, pass, host, clock, waiter, devices, done)),
+    match outside.spawner.run_all(alloc, workers) {
+        Ok(done) => Ok(join_all(server, pass, outside, done)),
         Err((workers, _)) => Err(workers),
     }
 }

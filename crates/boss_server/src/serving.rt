@@ -4,8 +4,10 @@ ghost use Rattle.boss_worker.specs.Desks.{own_of};
 ghost use Rattle.boss_worker.specs.Saying.{terms_of};
 ghost use Rattle.boss_server.specs.Accounts.{Account};
 ghost use Rattle.boss_server.specs.Making.{GainsNoPause, StaysClock, StaysHost};
+ghost use Rattle.boss_server.specs.References.{KeepsReferences};
 ghost use Rattle.boss_server.specs.Together.{RoseWhere};
 
+use crate::Outside;
 use crate::making::make_all;
 use crate::returning::return_all;
 use crate::running::run_and_join;
@@ -30,11 +32,7 @@ pub fn serve<
     alloc: Global,
     server: &Server<'_, G>,
     pass: &mut G::Pass,
-    host: &mut H,
-    clock: &mut C,
-    waiter: &mut W,
-    devices: &mut Vec<A>,
-    spawner: &mut P,
+    outside: &mut Outside<'_, H, C, W, A, P>,
     connections: u32,
     drives: u16,
 ) -> Result<(Flags, bool), NoMemory>
@@ -46,26 +44,28 @@ where
     requires parts { server.now.workers + 2 + drives ≤ G.parts pass.old }
     requires empty { own_of G.Desk pass.old ≡ [] }
     requires plant { actuators server.now.catalogue.now ≡ G.plant server.now.desk }
-    requires sound { H.sound host.old }
+    requires sound { H.sound outside.old.host.now }
     requires some { 1 ≤ server.now.workers }
     requires few { server.now.workers ≤ 32 }
-    requires device { drives ≤ vec_len devices.old }
+    requires device { drives ≤ vec_len outside.old.devices.now }
+    ensures references { KeepsReferences outside.old outside.new }
     ensures own { G.owns server.now.desk pass.new }
     ensures parts { G.parts pass.new ≡ G.parts pass.old }
-    ensures sound { H.sound host.new }
+    ensures sound { H.sound outside.new.host.now }
     ensures account { IfOk result (λ told. Account A.calls (λ device. A.tells × A.whole device)
         (terms_of server.now.catalogue.now server.now.workers H.In.tells H.Out.tells H.tells C.tells W.tells) W.tells
         (server.now.workers + 1 + drives) connections (own_of G.Desk pass.new) (G.seen pass.new)
-        (H.served host.old) (H.served host.new) (C.given clock.old) (C.given clock.new) (H.faults host.old) (H.faults host.new)
-        (C.faults clock.old) (C.faults clock.new) (W.waits waiter.old) (W.waits waiter.new)
-        (take drives devices.old.items) (drop drives devices.old.items) devices.new.items told.0 told.1) }
-    ensures started { IfOk result (λ told. RoseWhere told.1 (P.faults spawner.old) (P.faults spawner.new)) }
+        (H.served outside.old.host.now) (H.served outside.new.host.now) (C.given outside.old.clock.now) (C.given outside.new.clock.now)
+        (H.faults outside.old.host.now) (H.faults outside.new.host.now) (C.faults outside.old.clock.now) (C.faults outside.new.clock.now)
+        (W.waits outside.old.waiter.now) (W.waits outside.new.waiter.now)
+        (take drives outside.old.devices.now.items) (drop drives outside.old.devices.now.items) outside.new.devices.now.items told.0 told.1) }
+    ensures started { IfOk result (λ told. RoseWhere told.1 (P.faults outside.old.spawner.now) (P.faults outside.new.spawner.now)) }
     ensures nothing { OnErr result (own_of G.Desk pass.new ≡ []) }
-    ensures host { OnErr result (StaysHost H.Host host.old host.new) }
-    ensures clock { OnErr result (StaysClock C.Clock clock.old clock.new) }
-    ensures waiter { OnErr result (GainsNoPause W.tells (W.waits waiter.old) (W.waits waiter.new)) }
-    ensures devices { OnErr result (devices.new.items ≡ devices.old.items) }
-    ensures spawner { OnErr result (spawner.new ≡ spawner.old) }
+    ensures host { OnErr result (StaysHost H.Host outside.old.host.now outside.new.host.now) }
+    ensures clock { OnErr result (StaysClock C.Clock outside.old.clock.now outside.new.clock.now) }
+    ensures waiter { OnErr result (GainsNoPause W.tells (W.waits outside.old.waiter.now) (W.waits outside.new.waiter.now)) }
+    ensures devices { OnErr result (outside.new.devices.now.items ≡ outside.old.devices.now.items) }
+    ensures spawner { OnErr result (outside.new.spawner.now ≡ outside.old.spawner.now) }
 {
     let mut made: Vec<Worker<'_, G, H, C, W, A>> = Vec::new(alloc);
     if made
@@ -74,30 +74,15 @@ where
     {
         return Err(NoMemory);
     }
-    if make_all(
-        alloc,
-        server,
-        pass,
-        host,
-        clock,
-        waiter,
-        devices,
-        connections,
-        drives,
-        &mut made,
-    )
-    .is_err()
-    {
-        return_all(server, pass, host, clock, waiter, devices, made);
+    if make_all(alloc, server, pass, outside, connections, drives, &mut made).is_err() {
+        return_all(server, pass, outside, made);
         return Err(NoMemory);
     }
-    waiter.expect(server.workers);
-    match run_and_join(
-        alloc, server, pass, host, clock, waiter, devices, spawner, made,
-    ) {
+    outside.waiter.expect(server.workers);
+    match run_and_join(alloc, server, pass, outside, made) {
         Ok(told) => Ok(told),
         Err(made) => {
-            return_all(server, pass, host, clock, waiter, devices, made);
+            return_all(server, pass, outside, made);
             Err(NoMemory)
         }
     }

@@ -11,6 +11,7 @@ use Rattle.boss_server.specs.Accounts.{Returned}
 use Rattle.boss_server.specs.Together.{Together}
 use Rattle.boss_server.specs.Turns.{devices_in, is_any_unrun, shares_in, EachInTurn}
 use Rattle.boss_server.proofs.RanLemmas.{devices-first, each-first, shares-first, unrun-first}
+use Rattle.boss_server.proofs.ReferenceLemmas.{references-same, references-then}
 use Rattle.boss_server.proofs.ReturnedLemmas.{back-length, fits-next, put-length, put-next, returned-first, returned-next}
 use Rattle.boss_server.proofs.TogetherLemmas.{together-first, together-next}
 use Rattle.boss_server.proofs.joining.join_all.Goals as goal
@@ -21,7 +22,9 @@ loop-ran-init g c =
     record {
       own = c.requires.own;
       parts = omega arith;
+      references = references-same c.args.outside.now;
       sound = c.requires.sound;
+      spawner = refl;
       left = subst (λ items. EachInTurn items 0 (λ ran number worker. (worker.server.now ≡ c.args.server.now) × (worker.number ≡ number)
           × HasLeft g.G.Desk g.H.Host g.C.Clock g.W.Waiter g.A.Actuators ran (terms_of c.args.server.now.catalogue.now c.args.server.now.workers g.H.In.Source.tells g.H.Out.Sink.tells g.H.Host.tells g.C.Clock.tells g.W.Waiter.tells) c.args.server.now.desk number worker.pass worker.duty worker.clock worker.waiter worker.flags)) (sym same) c.requires.left;
       count = omega (arith, ap length same);
@@ -30,10 +33,10 @@ loop-ran-init g c =
           ap (λ items. shares_in items (λ worker. share_at g.H.Host worker.duty)) same in omega (arith, e);
       works = [];
       together = subst (λ flags. Together (terms_of c.args.server.now.catalogue.now c.args.server.now.workers g.H.In.Source.tells g.H.Out.Sink.tells g.H.Host.tells g.C.Clock.tells g.W.Waiter.tells) 0 0 [] (own_of g.G.Desk c.args.pass.now) (g.G.Desk.seen c.args.pass.now)
-          (g.H.Host.served c.args.host.now) (g.H.Host.served c.args.host.now) (g.C.Clock.given c.args.clock.now) (g.C.Clock.given c.args.clock.now) (g.H.Host.faults c.args.host.now) (g.H.Host.faults c.args.host.now)
-          (g.C.Clock.faults c.args.clock.now) (g.C.Clock.faults c.args.clock.now) flags false) (sym c.none-flags.ensures)
-          (together-first (terms_of c.args.server.now.catalogue.now c.args.server.now.workers g.H.In.Source.tells g.H.Out.Sink.tells g.H.Host.tells g.C.Clock.tells g.W.Waiter.tells) (own_of g.G.Desk c.args.pass.now) (g.G.Desk.seen c.args.pass.now) (g.H.Host.served c.args.host.now) (g.C.Clock.given c.args.clock.now)
-          (g.H.Host.faults c.args.host.now) (g.C.Clock.faults c.args.clock.now) (ap deeds c.requires.empty));
+          (g.H.Host.served c.args.outside.now.host.now) (g.H.Host.served c.args.outside.now.host.now) (g.C.Clock.given c.args.outside.now.clock.now) (g.C.Clock.given c.args.outside.now.clock.now) (g.H.Host.faults c.args.outside.now.host.now) (g.H.Host.faults c.args.outside.now.host.now)
+          (g.C.Clock.faults c.args.outside.now.clock.now) (g.C.Clock.faults c.args.outside.now.clock.now) flags false) (sym c.none-flags.ensures)
+          (together-first (terms_of c.args.server.now.catalogue.now c.args.server.now.workers g.H.In.Source.tells g.H.Out.Sink.tells g.H.Host.tells g.C.Clock.tells g.W.Waiter.tells) (own_of g.G.Desk c.args.pass.now) (g.G.Desk.seen c.args.pass.now) (g.H.Host.served c.args.outside.now.host.now) (g.C.Clock.given c.args.outside.now.clock.now)
+          (g.H.Host.faults c.args.outside.now.host.now) (g.C.Clock.faults c.args.outside.now.clock.now) (ap deeds c.requires.empty));
       was = [];
       back = [];
       devices = refl;
@@ -41,8 +44,8 @@ loop-ran-init g c =
       room = let e : length (devices_in c.into_iter-ran-iterator.result.rest.items (λ worker. was_at worker.duty)) ≡ length (devices_in c.args.done.items (λ worker. was_at worker.duty)) =
           ap (λ items. length (devices_in items (λ worker. was_at worker.duty))) same in omega (arith, e, c.requires.room);
       returned = subst (λ flags. Returned g.A.Actuators.calls (λ device. g.A.Actuators.tells × g.A.Actuators.whole device) (terms_of c.args.server.now.catalogue.now c.args.server.now.workers g.H.In.Source.tells g.H.Out.Sink.tells g.H.Host.tells g.C.Clock.tells g.W.Waiter.tells) g.W.Waiter.tells 0 [] (own_of g.G.Desk c.args.pass.now)
-          (g.W.Waiter.waits c.args.waiter.now) (g.W.Waiter.waits c.args.waiter.now) [] [] flags false) (sym c.none-flags.ensures)
-          (returned-first g.A.Actuators.calls (λ device. g.A.Actuators.tells × g.A.Actuators.whole device) (terms_of c.args.server.now.catalogue.now c.args.server.now.workers g.H.In.Source.tells g.H.Out.Sink.tells g.H.Host.tells g.C.Clock.tells g.W.Waiter.tells) g.W.Waiter.tells (own_of g.G.Desk c.args.pass.now) (g.W.Waiter.waits c.args.waiter.now));
+          (g.W.Waiter.waits c.args.outside.now.waiter.now) (g.W.Waiter.waits c.args.outside.now.waiter.now) [] [] flags false) (sym c.none-flags.ensures)
+          (returned-first g.A.Actuators.calls (λ device. g.A.Actuators.tells × g.A.Actuators.whole device) (terms_of c.args.server.now.catalogue.now c.args.server.now.workers g.H.In.Source.tells g.H.Out.Sink.tells g.H.Host.tells g.C.Clock.tells g.W.Waiter.tells) g.W.Waiter.tells (own_of g.G.Desk c.args.pass.now) (g.W.Waiter.waits c.args.outside.now.waiter.now));
       unrun = ap is_any_unrun same;
     }
 
@@ -63,7 +66,7 @@ join_one-requires-clause-place g c =
     (subst (λ items. EachInTurn items (length c.loop-ran.yielded) (λ ran number worker. (worker.server.now ≡ c.args.server.now) × (worker.number ≡ number)
     × HasLeft g.G.Desk g.H.Host g.C.Clock g.W.Waiter g.A.Actuators ran (terms_of c.args.server.now.catalogue.now c.args.server.now.workers g.H.In.Source.tells g.H.Out.Sink.tells g.H.Host.tells g.C.Clock.tells g.W.Waiter.tells) c.args.server.now.desk number worker.pass worker.duty worker.clock worker.waiter worker.flags)) step c.loop-ran.invariant.left) in
     let inv = c.loop-ran.invariant in
-    fits-next g.A.Actuators c.args.server.now.workers (length c.loop-ran.yielded) c.worker_of-worker.result.0.duty inv.back c.args.devices.now.items c.loop-ran.devices.items facts.0.2.placed
+    fits-next g.A.Actuators c.args.server.now.workers (length c.loop-ran.yielded) c.worker_of-worker.result.0.duty inv.back c.args.outside.now.devices.now.items c.loop-ran.outside.devices.now.items facts.0.2.placed
     (back-length g.A.Actuators.calls (λ device. g.A.Actuators.tells × g.A.Actuators.whole device) 0 inv.was inv.back inv.works inv.returned.back ∙ inv.returned.drivers) inv.devices
 
 pub join_one-requires-clause-room : goal.join_one-requires-clause-room
@@ -92,7 +95,9 @@ loop-ran-preserved g c =
     record {
       own = c.join_one.ensures.own;
       parts = omega (arith, c.join_one.ensures.parts, facts.0.2.one, inv.parts, more);
+      references = references-then c.args.outside.now c.loop-ran.outside c.join_one.new.outside inv.references c.join_one.ensures.references;
       sound = c.join_one.ensures.sound;
+      spawner = c.join_one.ensures.spawner ∙ inv.spawner;
       left = subst (λ n. EachInTurn c.next.new.self.rest.items n (λ ran number worker. (worker.server.now ≡ c.args.server.now) × (worker.number ≡ number)
           × HasLeft g.G.Desk g.H.Host g.C.Clock g.W.Waiter g.A.Actuators ran (terms_of c.args.server.now.catalogue.now c.args.server.now.workers g.H.In.Source.tells g.H.Out.Sink.tells g.H.Host.tells g.C.Clock.tells g.W.Waiter.tells) c.args.server.now.desk number worker.pass worker.duty worker.clock worker.waiter worker.flags)) more facts.1;
       count = omega (arith, inv.count, ap length step, more);
@@ -104,23 +109,23 @@ loop-ran-preserved g c =
           omega (arith, e, inv.all_shares);
       works = inv.works ++ facts.0.2.works;
       together = subst (λ n. Together (terms_of c.args.server.now.catalogue.now c.args.server.now.workers g.H.In.Source.tells g.H.Out.Sink.tells g.H.Host.tells g.C.Clock.tells g.W.Waiter.tells) n (inv.shares + share_at g.H.Host c.worker_of-worker.result.0.duty) (inv.works ++ facts.0.2.works) (own_of g.G.Desk c.join_one.new.pass) (g.G.Desk.seen c.join_one.new.pass)
-          (g.H.Host.served c.args.host.now) (g.H.Host.served c.join_one.new.host) (g.C.Clock.given c.args.clock.now) (g.C.Clock.given c.join_one.new.clock) (g.H.Host.faults c.args.host.now) (g.H.Host.faults c.join_one.new.host)
-          (g.C.Clock.faults c.args.clock.now) (g.C.Clock.faults c.join_one.new.clock) c.with-flags.result (c.loop-ran.unrun || not c.worker_of-worker.result.1)) more
+          (g.H.Host.served c.args.outside.now.host.now) (g.H.Host.served c.join_one.new.outside.host.now) (g.C.Clock.given c.args.outside.now.clock.now) (g.C.Clock.given c.join_one.new.outside.clock.now) (g.H.Host.faults c.args.outside.now.host.now) (g.H.Host.faults c.join_one.new.outside.host.now)
+          (g.C.Clock.faults c.args.outside.now.clock.now) (g.C.Clock.faults c.join_one.new.outside.clock.now) c.with-flags.result (c.loop-ran.unrun || not c.worker_of-worker.result.1)) more
           (subst (λ (flags : Flags). Together (terms_of c.args.server.now.catalogue.now c.args.server.now.workers g.H.In.Source.tells g.H.Out.Sink.tells g.H.Host.tells g.C.Clock.tells g.W.Waiter.tells) (suc (length c.loop-ran.yielded)) (inv.shares + share_at g.H.Host c.worker_of-worker.result.0.duty) (inv.works ++ facts.0.2.works) (own_of g.G.Desk c.join_one.new.pass) (g.G.Desk.seen c.join_one.new.pass)
-          (g.H.Host.served c.args.host.now) (g.H.Host.served c.join_one.new.host) (g.C.Clock.given c.args.clock.now) (g.C.Clock.given c.join_one.new.clock) (g.H.Host.faults c.args.host.now) (g.H.Host.faults c.join_one.new.host)
-          (g.C.Clock.faults c.args.clock.now) (g.C.Clock.faults c.join_one.new.clock) flags (c.loop-ran.unrun || not c.worker_of-worker.result.1))
+          (g.H.Host.served c.args.outside.now.host.now) (g.H.Host.served c.join_one.new.outside.host.now) (g.C.Clock.given c.args.outside.now.clock.now) (g.C.Clock.given c.join_one.new.outside.clock.now) (g.H.Host.faults c.args.outside.now.host.now) (g.H.Host.faults c.join_one.new.outside.host.now)
+          (g.C.Clock.faults c.args.outside.now.clock.now) (g.C.Clock.faults c.join_one.new.outside.clock.now) flags (c.loop-ran.unrun || not c.worker_of-worker.result.1))
           (sym (c.with-flags.ensures ∙ ap (both_flags c.loop-ran.flags) c.join_one.ensures.flags))
           (together-next (terms_of c.args.server.now.catalogue.now c.args.server.now.workers g.H.In.Source.tells g.H.Out.Sink.tells g.H.Host.tells g.C.Clock.tells g.W.Waiter.tells) (length c.loop-ran.yielded) inv.shares (share_at g.H.Host c.worker_of-worker.result.0.duty) inv.works facts.0.2.works
           (own_of g.G.Desk c.loop-ran.pass) (own_of g.G.Desk c.join_one.new.pass) (own_of g.G.Desk c.worker_of-worker.result.0.pass) (g.G.Desk.seen c.loop-ran.pass) (g.G.Desk.seen c.worker_of-worker.result.0.pass) (g.G.Desk.seen c.join_one.new.pass)
-          (g.H.Host.served c.args.host.now) (g.H.Host.served c.loop-ran.host) (served_at g.H.Host c.worker_of-worker.result.0.duty) (g.H.Host.served c.join_one.new.host)
-          (g.C.Clock.given c.args.clock.now) (g.C.Clock.given c.loop-ran.clock) (g.C.Clock.given c.worker_of-worker.result.0.clock) (g.C.Clock.given c.join_one.new.clock)
-          (g.H.Host.faults c.args.host.now) (g.H.Host.faults c.loop-ran.host) (g.H.Host.faults c.join_one.new.host)
-          (g.C.Clock.faults c.args.clock.now) (g.C.Clock.faults c.loop-ran.clock) (g.C.Clock.faults c.join_one.new.clock)
+          (g.H.Host.served c.args.outside.now.host.now) (g.H.Host.served c.loop-ran.outside.host.now) (served_at g.H.Host c.worker_of-worker.result.0.duty) (g.H.Host.served c.join_one.new.outside.host.now)
+          (g.C.Clock.given c.args.outside.now.clock.now) (g.C.Clock.given c.loop-ran.outside.clock.now) (g.C.Clock.given c.worker_of-worker.result.0.clock) (g.C.Clock.given c.join_one.new.outside.clock.now)
+          (g.H.Host.faults c.args.outside.now.host.now) (g.H.Host.faults c.loop-ran.outside.host.now) (g.H.Host.faults c.join_one.new.outside.host.now)
+          (g.C.Clock.faults c.args.outside.now.clock.now) (g.C.Clock.faults c.loop-ran.outside.clock.now) (g.C.Clock.faults c.join_one.new.outside.clock.now)
           (handed_at g.H.Host c.worker_of-worker.result.0.duty) (faults_at g.H.Host c.worker_of-worker.result.0.duty) (g.C.Clock.faults c.worker_of-worker.result.0.clock) c.loop-ran.flags c.worker_of-worker.result.0.flags c.loop-ran.unrun c.worker_of-worker.result.1
           inv.together facts.0.2.left c.join_one.ensures.joined c.join_one.ensures.seen c.join_one.ensures.served c.join_one.ensures.given c.join_one.ensures.hosted c.join_one.ensures.ticked));
       was = inv.was ++ was_at c.worker_of-worker.result.0.duty;
       back = inv.back ++ devices_at c.worker_of-worker.result.0.duty;
-      devices = c.join_one.ensures.devices ∙ put-next g.A.Actuators c.args.server.now.workers (length c.loop-ran.yielded) c.worker_of-worker.result.0.duty inv.back c.args.devices.now.items c.loop-ran.devices.items
+      devices = c.join_one.ensures.devices ∙ put-next g.A.Actuators c.args.server.now.workers (length c.loop-ran.yielded) c.worker_of-worker.result.0.duty inv.back c.args.outside.now.devices.now.items c.loop-ran.outside.devices.now.items
           facts.0.2.placed backs inv.devices;
       all_devices = append_assoc inv.was (was_at c.worker_of-worker.result.0.duty) (devices_in c.next.new.self.rest.items (λ worker. was_at worker.duty)) ∙ ap (λ list. inv.was ++ list) (sym handed) ∙ inv.all_devices;
       room = omega (
@@ -128,19 +133,19 @@ loop-ran-preserved g c =
         inv.room,
         ap length handed,
         length-append (was_at c.worker_of-worker.result.0.duty) (devices_in c.next.new.self.rest.items (λ worker. was_at worker.duty)),
-        put-length c.worker_of-worker.result.0.duty c.loop-ran.devices.items
-            (fits-next g.A.Actuators c.args.server.now.workers (length c.loop-ran.yielded) c.worker_of-worker.result.0.duty inv.back c.args.devices.now.items c.loop-ran.devices.items facts.0.2.placed backs inv.devices),
+        put-length c.worker_of-worker.result.0.duty c.loop-ran.outside.devices.now.items
+            (fits-next g.A.Actuators c.args.server.now.workers (length c.loop-ran.yielded) c.worker_of-worker.result.0.duty inv.back c.args.outside.now.devices.now.items c.loop-ran.outside.devices.now.items facts.0.2.placed backs inv.devices),
         ap length c.join_one.ensures.devices,
         c.join_one.ensures.room,
       );
       returned = subst (λ n. Returned g.A.Actuators.calls (λ device. g.A.Actuators.tells × g.A.Actuators.whole device) (terms_of c.args.server.now.catalogue.now c.args.server.now.workers g.H.In.Source.tells g.H.Out.Sink.tells g.H.Host.tells g.C.Clock.tells g.W.Waiter.tells) g.W.Waiter.tells n (inv.works ++ facts.0.2.works) (own_of g.G.Desk c.join_one.new.pass)
-          (g.W.Waiter.waits c.args.waiter.now) (g.W.Waiter.waits c.join_one.new.waiter) (inv.was ++ was_at c.worker_of-worker.result.0.duty) (inv.back ++ devices_at c.worker_of-worker.result.0.duty) c.with-flags.result (c.loop-ran.unrun || not c.worker_of-worker.result.1)) more
+          (g.W.Waiter.waits c.args.outside.now.waiter.now) (g.W.Waiter.waits c.join_one.new.outside.waiter.now) (inv.was ++ was_at c.worker_of-worker.result.0.duty) (inv.back ++ devices_at c.worker_of-worker.result.0.duty) c.with-flags.result (c.loop-ran.unrun || not c.worker_of-worker.result.1)) more
           (subst (λ (flags : Flags). Returned g.A.Actuators.calls (λ device. g.A.Actuators.tells × g.A.Actuators.whole device) (terms_of c.args.server.now.catalogue.now c.args.server.now.workers g.H.In.Source.tells g.H.Out.Sink.tells g.H.Host.tells g.C.Clock.tells g.W.Waiter.tells) g.W.Waiter.tells (suc (length c.loop-ran.yielded)) (inv.works ++ facts.0.2.works) (own_of g.G.Desk c.join_one.new.pass)
-          (g.W.Waiter.waits c.args.waiter.now) (g.W.Waiter.waits c.join_one.new.waiter) (inv.was ++ was_at c.worker_of-worker.result.0.duty) (inv.back ++ devices_at c.worker_of-worker.result.0.duty) flags (c.loop-ran.unrun || not c.worker_of-worker.result.1))
+          (g.W.Waiter.waits c.args.outside.now.waiter.now) (g.W.Waiter.waits c.join_one.new.outside.waiter.now) (inv.was ++ was_at c.worker_of-worker.result.0.duty) (inv.back ++ devices_at c.worker_of-worker.result.0.duty) flags (c.loop-ran.unrun || not c.worker_of-worker.result.1))
           (sym (c.with-flags.ensures ∙ ap (both_flags c.loop-ran.flags) c.join_one.ensures.flags))
           (returned-next g.A.Actuators (terms_of c.args.server.now.catalogue.now c.args.server.now.workers g.H.In.Source.tells g.H.Out.Sink.tells g.H.Host.tells g.C.Clock.tells g.W.Waiter.tells) g.W.Waiter.tells (length c.loop-ran.yielded) c.worker_of-worker.result.0.duty inv.works facts.0.2.works
           (own_of g.G.Desk c.loop-ran.pass) (own_of g.G.Desk c.worker_of-worker.result.0.pass) (own_of g.G.Desk c.join_one.new.pass)
-          (g.W.Waiter.waits c.args.waiter.now) (g.W.Waiter.waits c.loop-ran.waiter) (g.W.Waiter.waits c.join_one.new.waiter) inv.was inv.back pair c.loop-ran.flags c.worker_of-worker.result.0.flags c.loop-ran.unrun c.worker_of-worker.result.1
+          (g.W.Waiter.waits c.args.outside.now.waiter.now) (g.W.Waiter.waits c.loop-ran.outside.waiter.now) (g.W.Waiter.waits c.join_one.new.outside.waiter.now) inv.was inv.back pair c.loop-ran.flags c.worker_of-worker.result.0.flags c.loop-ran.unrun c.worker_of-worker.result.1
           inv.returned inv.together.part.agreed facts.0.2.left.part.agreed inv.together.part.of_them facts.0.2.left.part.of_them c.join_one.ensures.joined
           facts.0.2.placed facts.0.2.called facts.0.2.paired facts.0.2.worked facts.0.2.ended c.join_one.ensures.waited));
       unrun = unrun-first c.in-Some.ran c.next.new.self.rest.items c.worker_of-worker.result.0 c.worker_of-worker.result.1 c.worker_of-worker.ensures c.loop-ran.unrun
@@ -161,15 +166,15 @@ returns-clause-account g c =
     record {
       works = inv.works;
       together = subst (λ n. Together (terms_of c.args.server.now.catalogue.now c.args.server.now.workers g.H.In.Source.tells g.H.Out.Sink.tells g.H.Host.tells g.C.Clock.tells g.W.Waiter.tells) n (shares_in c.args.done.items (λ worker. share_at g.H.Host worker.duty)) inv.works (own_of g.G.Desk c.loop-ran.pass) (g.G.Desk.seen c.loop-ran.pass)
-          (g.H.Host.served c.args.host.now) (g.H.Host.served c.loop-ran.host) (g.C.Clock.given c.args.clock.now) (g.C.Clock.given c.loop-ran.clock) (g.H.Host.faults c.args.host.now) (g.H.Host.faults c.loop-ran.host)
-          (g.C.Clock.faults c.args.clock.now) (g.C.Clock.faults c.loop-ran.clock) c.loop-ran.flags c.loop-ran.unrun) all
+          (g.H.Host.served c.args.outside.now.host.now) (g.H.Host.served c.loop-ran.outside.host.now) (g.C.Clock.given c.args.outside.now.clock.now) (g.C.Clock.given c.loop-ran.outside.clock.now) (g.H.Host.faults c.args.outside.now.host.now) (g.H.Host.faults c.loop-ran.outside.host.now)
+          (g.C.Clock.faults c.args.outside.now.clock.now) (g.C.Clock.faults c.loop-ran.outside.clock.now) c.loop-ran.flags c.loop-ran.unrun) all
           (subst (λ shares. Together (terms_of c.args.server.now.catalogue.now c.args.server.now.workers g.H.In.Source.tells g.H.Out.Sink.tells g.H.Host.tells g.C.Clock.tells g.W.Waiter.tells) (length c.loop-ran.yielded) shares inv.works (own_of g.G.Desk c.loop-ran.pass) (g.G.Desk.seen c.loop-ran.pass)
-          (g.H.Host.served c.args.host.now) (g.H.Host.served c.loop-ran.host) (g.C.Clock.given c.args.clock.now) (g.C.Clock.given c.loop-ran.clock) (g.H.Host.faults c.args.host.now) (g.H.Host.faults c.loop-ran.host)
-          (g.C.Clock.faults c.args.clock.now) (g.C.Clock.faults c.loop-ran.clock) c.loop-ran.flags c.loop-ran.unrun) whole inv.together);
+          (g.H.Host.served c.args.outside.now.host.now) (g.H.Host.served c.loop-ran.outside.host.now) (g.C.Clock.given c.args.outside.now.clock.now) (g.C.Clock.given c.loop-ran.outside.clock.now) (g.H.Host.faults c.args.outside.now.host.now) (g.H.Host.faults c.loop-ran.outside.host.now)
+          (g.C.Clock.faults c.args.outside.now.clock.now) (g.C.Clock.faults c.loop-ran.outside.clock.now) c.loop-ran.flags c.loop-ran.unrun) whole inv.together);
       back = inv.back;
       devices_are = inv.devices;
       returned = subst (λ n. Returned g.A.Actuators.calls (λ device. g.A.Actuators.tells × g.A.Actuators.whole device) (terms_of c.args.server.now.catalogue.now c.args.server.now.workers g.H.In.Source.tells g.H.Out.Sink.tells g.H.Host.tells g.C.Clock.tells g.W.Waiter.tells) g.W.Waiter.tells n inv.works (own_of g.G.Desk c.loop-ran.pass)
-          (g.W.Waiter.waits c.args.waiter.now) (g.W.Waiter.waits c.loop-ran.waiter) (devices_in c.args.done.items (λ worker. was_at worker.duty)) inv.back c.loop-ran.flags c.loop-ran.unrun) all
+          (g.W.Waiter.waits c.args.outside.now.waiter.now) (g.W.Waiter.waits c.loop-ran.outside.waiter.now) (devices_in c.args.done.items (λ worker. was_at worker.duty)) inv.back c.loop-ran.flags c.loop-ran.unrun) all
           (subst (λ was. Returned g.A.Actuators.calls (λ device. g.A.Actuators.tells × g.A.Actuators.whole device) (terms_of c.args.server.now.catalogue.now c.args.server.now.workers g.H.In.Source.tells g.H.Out.Sink.tells g.H.Host.tells g.C.Clock.tells g.W.Waiter.tells) g.W.Waiter.tells (length c.loop-ran.yielded) inv.works (own_of g.G.Desk c.loop-ran.pass)
-          (g.W.Waiter.waits c.args.waiter.now) (g.W.Waiter.waits c.loop-ran.waiter) was inv.back c.loop-ran.flags c.loop-ran.unrun) handed inv.returned);
+          (g.W.Waiter.waits c.args.outside.now.waiter.now) (g.W.Waiter.waits c.loop-ran.outside.waiter.now) was inv.back c.loop-ran.flags c.loop-ran.unrun) handed inv.returned);
     }

@@ -4,6 +4,7 @@ use Rattle.boss_worker.specs.Desks.{own_of}
 use Rattle.boss_worker.specs.Saying.{terms_of}
 use Rattle.boss_worker.specs.Workers.{share_at, was_at, HasLeft}
 use Rattle.boss_server.specs.Accounts.{Returned}
+use Rattle.boss_server.specs.References.{KeepsReferences}
 use Rattle.boss_server.specs.Together.{Together}
 use Rattle.boss_server.specs.Turns.{devices_in, is_any_unrun, shares_in, EachInTurn}
 use Rattle.boss_server.proofs.joining.join_all.Given as goal
@@ -13,7 +14,9 @@ abbrev pub invariant-loop-ran : goal.invariant-loop-ran
 invariant-loop-ran g l = record {
   own : g.G.Desk.owns l.server.desk l.pass;
   parts : g.G.Desk.parts l.pass ≡ g.G.Desk.parts l.fn.pass + length l.yielded;
-  sound : g.H.Host.sound l.host;
+  references : KeepsReferences l.fn.outside l.outside;
+  sound : g.H.Host.sound l.outside.host.now;
+  spawner : l.outside.spawner.now ≡ l.fn.outside.spawner.now;
   left : EachInTurn l.ran-iterator.rest.items (length l.yielded) (λ ran number worker. (worker.server.now ≡ l.server) × (worker.number ≡ number)
       × HasLeft g.G.Desk g.H.Host g.C.Clock g.W.Waiter g.A.Actuators ran (terms_of l.server.catalogue.now l.server.workers g.H.In.Source.tells g.H.Out.Sink.tells g.H.Host.tells g.C.Clock.tells g.W.Waiter.tells)
       l.server.desk number worker.pass worker.duty worker.clock worker.waiter worker.flags);
@@ -23,15 +26,15 @@ invariant-loop-ran g l = record {
   works : List Work;
   together : Together (terms_of l.server.catalogue.now l.server.workers g.H.In.Source.tells g.H.Out.Sink.tells g.H.Host.tells g.C.Clock.tells g.W.Waiter.tells)
       (length l.yielded) shares works (own_of g.G.Desk l.pass) (g.G.Desk.seen l.pass)
-      (g.H.Host.served l.fn.host) (g.H.Host.served l.host) (g.C.Clock.given l.fn.clock) (g.C.Clock.given l.clock) (g.H.Host.faults l.fn.host) (g.H.Host.faults l.host)
-      (g.C.Clock.faults l.fn.clock) (g.C.Clock.faults l.clock) l.flags l.unrun;
+      (g.H.Host.served l.fn.outside.host.now) (g.H.Host.served l.outside.host.now) (g.C.Clock.given l.fn.outside.clock.now) (g.C.Clock.given l.outside.clock.now) (g.H.Host.faults l.fn.outside.host.now) (g.H.Host.faults l.outside.host.now)
+      (g.C.Clock.faults l.fn.outside.clock.now) (g.C.Clock.faults l.outside.clock.now) l.flags l.unrun;
   was : List g.row.A.Denot;
   back : List g.row.A.Denot;
-  devices : l.devices.items ≡ back ++ l.fn.devices.items;
+  devices : l.outside.devices.now.items ≡ back ++ l.fn.outside.devices.now.items;
   all_devices : was ++ devices_in l.ran-iterator.rest.items (λ worker. was_at worker.duty) ≡ devices_in l.fn.done.items (λ worker. was_at worker.duty);
-  room : vec_len l.devices + length (devices_in l.ran-iterator.rest.items (λ worker. was_at worker.duty)) ≤ vec_capacity l.devices;
+  room : vec_len l.outside.devices.now + length (devices_in l.ran-iterator.rest.items (λ worker. was_at worker.duty)) ≤ vec_capacity l.outside.devices.now;
   returned : Returned g.A.Actuators.calls (λ device. g.A.Actuators.tells × g.A.Actuators.whole device)
       (terms_of l.server.catalogue.now l.server.workers g.H.In.Source.tells g.H.Out.Sink.tells g.H.Host.tells g.C.Clock.tells g.W.Waiter.tells) g.W.Waiter.tells
-      (length l.yielded) works (own_of g.G.Desk l.pass) (g.W.Waiter.waits l.fn.waiter) (g.W.Waiter.waits l.waiter) was back l.flags l.unrun;
+      (length l.yielded) works (own_of g.G.Desk l.pass) (g.W.Waiter.waits l.fn.outside.waiter.now) (g.W.Waiter.waits l.outside.waiter.now) was back l.flags l.unrun;
   unrun : (l.unrun || is_any_unrun l.ran-iterator.rest.items) ≡ is_any_unrun l.fn.done.items;
 }

@@ -8,7 +8,7 @@ use Rattle.boss_server.proofs.KeptLemmas.{kept-ran}
 use Rattle.boss_server.proofs.keeping.serve_keeper.Goals as goal
 
 pub returns-in-Err-clause-waiter : goal.returns-in-Err-clause-waiter
-returns-in-Err-clause-waiter g c = record { pairs = []; noted = λ told. sym (append-nil (g.W.Waiter.waits c.args.waiter.now)); unpaused = λ told. tt }
+returns-in-Err-clause-waiter g c = record { pairs = []; noted = λ told. sym (append-nil (g.W.Waiter.waits c.args.outside.now.waiter.now)); unpaused = λ told. tt }
 
 pub returns-in-Ok-told-clause-ran : goal.returns-in-Ok-told-clause-ran
 returns-in-Ok-told-clause-ran g c =
@@ -18,17 +18,17 @@ returns-in-Ok-told-clause-ran g c =
     c.in-Ok.ensures.start c.close-keeper.ensures.held in
     subst (λ drives. Ran g.K.Keeper g.A.Actuators.calls (λ device. g.A.Actuators.tells × g.A.Actuators.whole device)
     (terms_of c.args.catalogue.now c.args.workers g.H.In.Source.tells g.H.Out.Sink.tells g.H.Host.tells g.C.Clock.tells g.W.Waiter.tells) g.W.Waiter.tells
-    (c.args.workers + 1 + drives) c.args.connections c.args.keeper c.close-keeper.result (g.H.Host.served c.args.host.now) (g.H.Host.served c.serve-told.new.host)
-    (g.C.Clock.given c.args.clock.now) (g.C.Clock.given c.serve-told.new.clock) (g.H.Host.faults c.args.host.now) (g.H.Host.faults c.serve-told.new.host)
-    (g.C.Clock.faults c.args.clock.now) (g.C.Clock.faults c.serve-told.new.clock) (g.W.Waiter.waits c.args.waiter.now) (g.W.Waiter.waits c.serve-told.new.waiter)
-    (take drives c.args.devices.now.items) (drop drives c.args.devices.now.items) c.serve-told.new.devices.items
+    (c.args.workers + 1 + drives) c.args.connections c.args.keeper c.close-keeper.result (g.H.Host.served c.args.outside.now.host.now) (g.H.Host.served c.serve-told.new.outside.host.now)
+    (g.C.Clock.given c.args.outside.now.clock.now) (g.C.Clock.given c.serve-told.new.outside.clock.now) (g.H.Host.faults c.args.outside.now.host.now) (g.H.Host.faults c.serve-told.new.outside.host.now)
+    (g.C.Clock.faults c.args.outside.now.clock.now) (g.C.Clock.faults c.serve-told.new.outside.clock.now) (g.W.Waiter.waits c.args.outside.now.waiter.now) (g.W.Waiter.waits c.serve-told.new.outside.waiter.now)
+    (take drives c.args.outside.now.devices.now.items) (drop drives c.args.outside.now.devices.now.items) c.serve-told.new.outside.devices.now.items
     (record { disk = c.has_stopped.result; host = c.in-Ok-told.flags.host; clock = c.in-Ok-told.flags.clock; memory = c.in-Ok-told.flags.memory }) c.in-Ok-told.unstarted) c.drives_for-drives.ensures.drives
     (kept-ran g.A.Actuators.calls (λ device. g.A.Actuators.tells × g.A.Actuators.whole device)
     (terms_of c.args.catalogue.now c.args.workers g.H.In.Source.tells g.H.Out.Sink.tells g.H.Host.tells g.C.Clock.tells g.W.Waiter.tells) g.W.Waiter.tells
-    (c.args.workers + 1 + c.drives_for-drives.result) c.args.connections pass.seen (g.H.Host.served c.args.host.now) (g.H.Host.served c.serve-told.new.host)
-    (g.C.Clock.given c.args.clock.now) (g.C.Clock.given c.serve-told.new.clock) (g.H.Host.faults c.args.host.now) (g.H.Host.faults c.serve-told.new.host)
-    (g.C.Clock.faults c.args.clock.now) (g.C.Clock.faults c.serve-told.new.clock) (g.W.Waiter.waits c.args.waiter.now) (g.W.Waiter.waits c.serve-told.new.waiter)
-    (take c.drives_for-drives.result c.args.devices.now.items) (drop c.drives_for-drives.result c.args.devices.now.items) c.serve-told.new.devices.items
+    (c.args.workers + 1 + c.drives_for-drives.result) c.args.connections pass.seen (g.H.Host.served c.args.outside.now.host.now) (g.H.Host.served c.serve-told.new.outside.host.now)
+    (g.C.Clock.given c.args.outside.now.clock.now) (g.C.Clock.given c.serve-told.new.outside.clock.now) (g.H.Host.faults c.args.outside.now.host.now) (g.H.Host.faults c.serve-told.new.outside.host.now)
+    (g.C.Clock.faults c.args.outside.now.clock.now) (g.C.Clock.faults c.serve-told.new.outside.clock.now) (g.W.Waiter.waits c.args.outside.now.waiter.now) (g.W.Waiter.waits c.serve-told.new.outside.waiter.now)
+    (take c.drives_for-drives.result c.args.outside.now.devices.now.items) (drop c.drives_for-drives.result c.args.outside.now.devices.now.items) c.serve-told.new.outside.devices.now.items
     c.in-Ok-told.flags c.in-Ok-told.unstarted c.has_stopped.result g.K.Keeper c.args.keeper c.close-keeper.result (entries_at pass.seen pass.places) whole c.in-Ok-told.ensures.account held c.has_stopped.ensures)
 
 pub returns-in-Err-told-clause-nothing : goal.returns-in-Err-told-clause-nothing

@@ -28,4 +28,4 @@ returns-clause-devices g c =
     ap (λ list. list ++ c.remove-device.new.self.items) (devices-behind (λ worker. was_at worker.duty) c.args.made.now.items c.push_in_room.new.items.items _ c.push_in_room.ensures.items)
     ∙ append_assoc before (c.of-was.result.value ∷ []) c.remove-device.new.self.items
     ∙ ap (λ list. before ++ list) (ap (λ device. device ∷ c.remove-device.new.self.items) c.of-was.ensures
-    ∙ first-removed c.args.devices.now.items c.remove-device.result c.remove-device.new.self.items (omega (arith, c.requires.some)) c.remove-device.ensures.value c.remove-device.ensures.items)
+    ∙ first-removed c.args.outside.now.devices.now.items c.remove-device.result c.remove-device.new.self.items (omega (arith, c.requires.some)) c.remove-device.ensures.value c.remove-device.ensures.items)

@@ -5,6 +5,7 @@ use Rattle.def_lanes.proofs.Lists.{each-append}
 use Rattle.boss_worker.specs.Workers.{devices_at, was_at, IsReady}
 use Rattle.boss_server.specs.Turns.{devices_of, AllInTurn}
 use Rattle.boss_server.proofs.FreshLemmas.{fresh-devices, fresh-faults, fresh-placed, fresh-served}
+use Rattle.boss_server.proofs.ReferenceLemmas.{references-same, references-then}
 use Rattle.boss_server.proofs.ReturnedLemmas.{drivers-next, fits-next, put-length, put-next}
 use Rattle.boss_server.proofs.returning.return_all.Goals as goal
 
@@ -15,10 +16,12 @@ loop-worker-init g c =
       own = c.requires.own;
       parts = omega arith;
       empty = c.requires.empty;
+      references = references-same c.args.outside.now;
       sound = c.requires.sound;
+      spawner = refl;
       host = record { served = λ told. refl; faults = refl };
       clock = record { given = λ told. refl; faults = refl };
-      waiter = record { pairs = []; noted = λ told. sym (append-nil (g.W.Waiter.waits c.args.waiter.now)); unpaused = λ told. tt };
+      waiter = record { pairs = []; noted = λ told. sym (append-nil (g.W.Waiter.waits c.args.outside.now.waiter.now)); unpaused = λ told. tt };
       ready = subst (λ items. AllInTurn items 0 (λ number worker. (worker.server.now ≡ c.args.server.now) × (worker.number ≡ number)
           × IsReady g.G.Desk g.H.Host g.C.Clock g.W.Waiter g.A.Actuators c.args.server.now.catalogue.now c.args.server.now.desk c.args.server.now.workers number worker.pass worker.duty worker.clock worker.waiter worker.flags)) (sym same) c.requires.ready;
       count = omega (arith, ap length same);
@@ -43,7 +46,7 @@ join_one-requires-clause-place g c =
     let all = subst (λ items. AllInTurn items (length c.loop-worker.yielded) (λ number worker. (worker.server.now ≡ c.args.server.now) × (worker.number ≡ number)
     × IsReady g.G.Desk g.H.Host g.C.Clock g.W.Waiter g.A.Actuators c.args.server.now.catalogue.now c.args.server.now.desk c.args.server.now.workers number worker.pass worker.duty worker.clock worker.waiter worker.flags)) step c.loop-worker.invariant.ready in
     let inv = c.loop-worker.invariant in
-    fits-next g.A.Actuators c.args.server.now.workers (length c.loop-worker.yielded) c.in-Some.worker.duty inv.was c.args.devices.now.items c.loop-worker.devices.items
+    fits-next g.A.Actuators c.args.server.now.workers (length c.loop-worker.yielded) c.in-Some.worker.duty inv.was c.args.outside.now.devices.now.items c.loop-worker.outside.devices.now.items
     (fresh-placed g.H.Host c.args.server.now.workers (length c.loop-worker.yielded) c.in-Some.worker.duty all.0.2.fresh) inv.drivers inv.devices
 
 pub join_one-requires-clause-room : goal.join_one-requires-clause-room
@@ -61,7 +64,7 @@ loop-worker-preserved g c =
     let inv = c.loop-worker.invariant in
     let ready = all.0.2 in
     let placed = fresh-placed g.H.Host c.args.server.now.workers (length c.loop-worker.yielded) c.in-Some.worker.duty ready.fresh in
-    let fits = fits-next g.A.Actuators c.args.server.now.workers (length c.loop-worker.yielded) c.in-Some.worker.duty inv.was c.args.devices.now.items c.loop-worker.devices.items placed inv.drivers inv.devices in
+    let fits = fits-next g.A.Actuators c.args.server.now.workers (length c.loop-worker.yielded) c.in-Some.worker.duty inv.was c.args.outside.now.devices.now.items c.loop-worker.outside.devices.now.items placed inv.drivers inv.devices in
     let more : suc (length c.loop-worker.yielded) ≡ length (c.loop-worker.yielded ++ c.in-Some.worker ∷ []) = omega (arith, length-append c.loop-worker.yielded (c.in-Some.worker ∷ [])) in
     let handed : devices_of c.loop-worker.worker-iterator.rest.items (λ worker. was_at worker.duty) ≡ was_at c.in-Some.worker.duty ++ devices_of c.next.new.self.rest.items (λ worker. was_at worker.duty) =
     ap (λ items. devices_of items (λ worker. was_at worker.duty)) step in
@@ -70,19 +73,21 @@ loop-worker-preserved g c =
       own = c.join_one.ensures.own;
       parts = omega (arith, c.join_one.ensures.parts, ready.one, inv.parts, more);
       empty = c.join_one.ensures.nothing inv.empty ready.empty;
+      references = references-then c.args.outside.now c.loop-worker.outside c.join_one.new.outside inv.references c.join_one.ensures.references;
       sound = c.join_one.ensures.sound;
+      spawner = c.join_one.ensures.spawner ∙ inv.spawner;
       host = record {
-        served = λ told. c.join_one.ensures.served told ∙ ap (λ list. g.H.Host.served c.loop-worker.host ++ list) (fresh-served g.H.Host c.args.server.now.workers (length c.loop-worker.yielded) c.in-Some.worker.duty ready.fresh told)
-            ∙ append-nil (g.H.Host.served c.loop-worker.host) ∙ inv.host.served told;
+        served = λ told. c.join_one.ensures.served told ∙ ap (λ list. g.H.Host.served c.loop-worker.outside.host.now ++ list) (fresh-served g.H.Host c.args.server.now.workers (length c.loop-worker.yielded) c.in-Some.worker.duty ready.fresh told)
+            ∙ append-nil (g.H.Host.served c.loop-worker.outside.host.now) ∙ inv.host.served told;
         faults = c.join_one.ensures.hosted.fine (fresh-faults g.H.Host c.args.server.now.workers (length c.loop-worker.yielded) c.in-Some.worker.duty ready.fresh) ∙ inv.host.faults;
       };
       clock = record {
-        given = λ told. c.join_one.ensures.given told ∙ ap (λ list. g.C.Clock.given c.loop-worker.clock ++ list) (ready.given told) ∙ append-nil (g.C.Clock.given c.loop-worker.clock) ∙ inv.clock.given told;
+        given = λ told. c.join_one.ensures.given told ∙ ap (λ list. g.C.Clock.given c.loop-worker.outside.clock.now ++ list) (ready.given told) ∙ append-nil (g.C.Clock.given c.loop-worker.outside.clock.now) ∙ inv.clock.given told;
         faults = c.join_one.ensures.ticked.fine ready.clock_faults ∙ inv.clock.faults;
       };
       waiter = record {
         pairs = inv.waiter.pairs ++ pair ∷ [];
-        noted = λ told. c.join_one.ensures.waited told ∙ ap (λ list. list ++ pair ∷ []) (inv.waiter.noted told) ∙ append_assoc (g.W.Waiter.waits c.args.waiter.now) inv.waiter.pairs (pair ∷ []);
+        noted = λ told. c.join_one.ensures.waited told ∙ ap (λ list. list ++ pair ∷ []) (inv.waiter.noted told) ∙ append_assoc (g.W.Waiter.waits c.args.outside.now.waiter.now) inv.waiter.pairs (pair ∷ []);
         unpaused = λ told. each-append (λ (one : ℕ × Bool). one.0 ≡ 0) inv.waiter.pairs (pair ∷ []) (inv.waiter.unpaused told) (ready.paused told, tt);
       };
       ready = subst (λ n. AllInTurn c.next.new.self.rest.items n (λ number worker. (worker.server.now ≡ c.args.server.now) × (worker.number ≡ number)
@@ -90,15 +95,15 @@ loop-worker-preserved g c =
       count = omega (arith, inv.count, ap length step, more);
       was = inv.was ++ was_at c.in-Some.worker.duty;
       drivers = omega (arith, drivers-next g.A.Actuators c.args.server.now.workers (length c.loop-worker.yielded) c.in-Some.worker.duty inv.was placed inv.drivers, more);
-      devices = c.join_one.ensures.devices ∙ put-next g.A.Actuators c.args.server.now.workers (length c.loop-worker.yielded) c.in-Some.worker.duty inv.was c.args.devices.now.items c.loop-worker.devices.items placed inv.drivers inv.devices
-          ∙ ap (λ list. (inv.was ++ list) ++ c.args.devices.now.items) (fresh-devices g.H.Host c.args.server.now.workers (length c.loop-worker.yielded) c.in-Some.worker.duty ready.fresh);
+      devices = c.join_one.ensures.devices ∙ put-next g.A.Actuators c.args.server.now.workers (length c.loop-worker.yielded) c.in-Some.worker.duty inv.was c.args.outside.now.devices.now.items c.loop-worker.outside.devices.now.items placed inv.drivers inv.devices
+          ∙ ap (λ list. (inv.was ++ list) ++ c.args.outside.now.devices.now.items) (fresh-devices g.H.Host c.args.server.now.workers (length c.loop-worker.yielded) c.in-Some.worker.duty ready.fresh);
       all_devices = append_assoc inv.was (was_at c.in-Some.worker.duty) (devices_of c.next.new.self.rest.items (λ worker. was_at worker.duty)) ∙ ap (λ list. inv.was ++ list) (sym handed) ∙ inv.all_devices;
       room = omega (
         arith,
         inv.room,
         ap length handed,
         length-append (was_at c.in-Some.worker.duty) (devices_of c.next.new.self.rest.items (λ worker. was_at worker.duty)),
-        put-length c.in-Some.worker.duty c.loop-worker.devices.items fits,
+        put-length c.in-Some.worker.duty c.loop-worker.outside.devices.now.items fits,
         ap length c.join_one.ensures.devices,
         c.join_one.ensures.room,
       );
@@ -118,4 +123,4 @@ returns-clause-devices g c =
     let none : c.loop-worker.worker-iterator.rest.items ≡ [] = nil_from_length c.loop-worker.worker-iterator.rest.items (omega (arith, inv.count, all)) in
     let handed : inv.was ≡ devices_of c.args.workers.items (λ worker. was_at worker.duty) =
     sym (append-nil inv.was) ∙ ap (λ items. inv.was ++ devices_of items (λ worker. was_at worker.duty)) (sym none) ∙ inv.all_devices in
-    inv.devices ∙ ap (λ list. list ++ c.args.devices.now.items) handed
+    inv.devices ∙ ap (λ list. list ++ c.args.outside.now.devices.now.items) handed

@@ -54,23 +54,24 @@ returns-in-Ok-clause-account g c =
     server.desk number worker.pass worker.duty worker.clock worker.waiter worker.flags)
     (λ n worker ready. (ready.0, ready.1)) c.requires.ready c.in-Ok.ensures.each in
     subst (λ was. Account g.A.Actuators.calls (λ device. g.A.Actuators.tells × g.A.Actuators.whole device) (terms_of c.args.server.now.catalogue.now c.args.server.now.workers g.H.In.Source.tells g.H.Out.Sink.tells g.H.Host.tells g.C.Clock.tells g.W.Waiter.tells) g.W.Waiter.tells (length c.args.workers.items) (shares_of c.args.workers.items (λ worker. share_at g.H.Host worker.duty)) (own_of g.G.Desk c.join_all.new.pass) (g.G.Desk.seen c.join_all.new.pass)
-    (g.H.Host.served c.args.host.now) (g.H.Host.served c.join_all.new.host) (g.C.Clock.given c.args.clock.now) (g.C.Clock.given c.join_all.new.clock) (g.H.Host.faults c.args.host.now) (g.H.Host.faults c.join_all.new.host)
-    (g.C.Clock.faults c.args.clock.now) (g.C.Clock.faults c.join_all.new.clock) (g.W.Waiter.waits c.args.waiter.now) (g.W.Waiter.waits c.join_all.new.waiter)
-    was c.args.devices.now.items c.join_all.new.devices.items c.join_all.result.0 c.join_all.result.1) all.3
+    (g.H.Host.served c.args.outside.now.host.now) (g.H.Host.served c.join_all.new.outside.host.now) (g.C.Clock.given c.args.outside.now.clock.now) (g.C.Clock.given c.join_all.new.outside.clock.now) (g.H.Host.faults c.args.outside.now.host.now) (g.H.Host.faults c.join_all.new.outside.host.now)
+    (g.C.Clock.faults c.args.outside.now.clock.now) (g.C.Clock.faults c.join_all.new.outside.clock.now) (g.W.Waiter.waits c.args.outside.now.waiter.now) (g.W.Waiter.waits c.join_all.new.outside.waiter.now)
+    was c.args.outside.now.devices.now.items c.join_all.new.outside.devices.now.items c.join_all.result.0 c.join_all.result.1) all.3
     (subst (λ shares. Account g.A.Actuators.calls (λ device. g.A.Actuators.tells × g.A.Actuators.whole device) (terms_of c.args.server.now.catalogue.now c.args.server.now.workers g.H.In.Source.tells g.H.Out.Sink.tells g.H.Host.tells g.C.Clock.tells g.W.Waiter.tells) g.W.Waiter.tells (length c.args.workers.items) shares (own_of g.G.Desk c.join_all.new.pass) (g.G.Desk.seen c.join_all.new.pass)
-    (g.H.Host.served c.args.host.now) (g.H.Host.served c.join_all.new.host) (g.C.Clock.given c.args.clock.now) (g.C.Clock.given c.join_all.new.clock) (g.H.Host.faults c.args.host.now) (g.H.Host.faults c.join_all.new.host)
-    (g.C.Clock.faults c.args.clock.now) (g.C.Clock.faults c.join_all.new.clock) (g.W.Waiter.waits c.args.waiter.now) (g.W.Waiter.waits c.join_all.new.waiter)
-    (devices_in c.in-Ok.done.items (λ worker. was_at worker.duty)) c.args.devices.now.items c.join_all.new.devices.items c.join_all.result.0 c.join_all.result.1) all.2
+    (g.H.Host.served c.args.outside.now.host.now) (g.H.Host.served c.join_all.new.outside.host.now) (g.C.Clock.given c.args.outside.now.clock.now) (g.C.Clock.given c.join_all.new.outside.clock.now) (g.H.Host.faults c.args.outside.now.host.now) (g.H.Host.faults c.join_all.new.outside.host.now)
+    (g.C.Clock.faults c.args.outside.now.clock.now) (g.C.Clock.faults c.join_all.new.outside.clock.now) (g.W.Waiter.waits c.args.outside.now.waiter.now) (g.W.Waiter.waits c.join_all.new.outside.waiter.now)
+    (devices_in c.in-Ok.done.items (λ worker. was_at worker.duty)) c.args.outside.now.devices.now.items c.join_all.new.outside.devices.now.items c.join_all.result.0 c.join_all.result.1) all.2
     (subst (λ n. Account g.A.Actuators.calls (λ device. g.A.Actuators.tells × g.A.Actuators.whole device) (terms_of c.args.server.now.catalogue.now c.args.server.now.workers g.H.In.Source.tells g.H.Out.Sink.tells g.H.Host.tells g.C.Clock.tells g.W.Waiter.tells) g.W.Waiter.tells n (shares_in c.in-Ok.done.items (λ worker. share_at g.H.Host worker.duty)) (own_of g.G.Desk c.join_all.new.pass) (g.G.Desk.seen c.join_all.new.pass)
-    (g.H.Host.served c.args.host.now) (g.H.Host.served c.join_all.new.host) (g.C.Clock.given c.args.clock.now) (g.C.Clock.given c.join_all.new.clock) (g.H.Host.faults c.args.host.now) (g.H.Host.faults c.join_all.new.host)
-    (g.C.Clock.faults c.args.clock.now) (g.C.Clock.faults c.join_all.new.clock) (g.W.Waiter.waits c.args.waiter.now) (g.W.Waiter.waits c.join_all.new.waiter)
-    (devices_in c.in-Ok.done.items (λ worker. was_at worker.duty)) c.args.devices.now.items c.join_all.new.devices.items c.join_all.result.0 c.join_all.result.1) all.1
+    (g.H.Host.served c.args.outside.now.host.now) (g.H.Host.served c.join_all.new.outside.host.now) (g.C.Clock.given c.args.outside.now.clock.now) (g.C.Clock.given c.join_all.new.outside.clock.now) (g.H.Host.faults c.args.outside.now.host.now) (g.H.Host.faults c.join_all.new.outside.host.now)
+    (g.C.Clock.faults c.args.outside.now.clock.now) (g.C.Clock.faults c.join_all.new.outside.clock.now) (g.W.Waiter.waits c.args.outside.now.waiter.now) (g.W.Waiter.waits c.join_all.new.outside.waiter.now)
+    (devices_in c.in-Ok.done.items (λ worker. was_at worker.duty)) c.args.outside.now.devices.now.items c.join_all.new.outside.devices.now.items c.join_all.result.0 c.join_all.result.1) all.1
     c.join_all.ensures.account))
 
 pub returns-in-Ok-clause-started : goal.returns-in-Ok-clause-started
 returns-in-Ok-clause-started g c =
-    subst (λ unrun. RoseWhere unrun (g.P.Spawner.faults c.args.spawner.now) (g.P.Spawner.faults c.run_all.new.self)) (sym c.join_all.ensures.unrun)
-    (rose-where (g.P.Spawner.faults c.args.spawner.now) (g.P.Spawner.faults c.run_all.new.self) c.in-Ok.done.items c.in-Ok.ensures.cause)
+    subst (λ faults. RoseWhere c.join_all.result.1 (g.P.Spawner.faults c.args.outside.now.spawner.now) faults) (sym (ap g.P.Spawner.faults c.join_all.ensures.spawner))
+    (subst (λ unrun. RoseWhere unrun (g.P.Spawner.faults c.args.outside.now.spawner.now) (g.P.Spawner.faults c.run_all.new.self)) (sym c.join_all.ensures.unrun)
+    (rose-where (g.P.Spawner.faults c.args.outside.now.spawner.now) (g.P.Spawner.faults c.run_all.new.self) c.in-Ok.done.items c.in-Ok.ensures.cause))
 
 pub run_all-requires-send-T : goal.run_all-requires-send-T
 run_all-requires-send-T g c κs within =
