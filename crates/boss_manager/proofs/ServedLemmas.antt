@@ -107,13 +107,13 @@ module _ {K A H In Out C W P Runtime : Type 0} (k : sink.Ghosts K) (a : actuator
   }))
 
   pub served-end : (first last : Outside (Unit {0}) A H C W P) (result : Run) → EndsRun a h i o c w p catalogue workers connections log first last result
-      → first ≡ parts old.devices old.clock old.host old.waiter old.spawner → last ≡ parts new.devices new.clock new.host new.waiter new.spawner
+      → first ≡ parts old.devices old.clock old.host old.waiter old.spawner → parts new.devices new.clock new.host new.waiter new.spawner ≡ last
       → TellsEnd k line result old.sink new.sink status
       → NotBound h log old new status ⊎ NoneRan h c w log old new status
       ⊎ Served k a h i o c w p catalogue known s number workers connections log old new status
   served-end first last result ends began left =
       served-parts result
-      (subst (λ it. EndsRun a h i o c w p catalogue workers connections log (parts old.devices old.clock old.host old.waiter old.spawner) it result) left
+      (subst (λ it. EndsRun a h i o c w p catalogue workers connections log (parts old.devices old.clock old.host old.waiter old.spawner) it result) (sym left)
       (subst (λ it. EndsRun a h i o c w p catalogue workers connections log it last result) began ends))
 
 -- a server over an engine in memory that had done nothing

@@ -69,15 +69,7 @@ where
                 waiter,
                 spawner,
             };
-            serve_in_files(
-                rt,
-                alloc,
-                &catalogue,
-                journal,
-                service,
-                files,
-                surroundings,
-            )
+            serve_in_files(rt, alloc, &catalogue, journal, service, files, surroundings)
         }
         Err(Unusable::Refused(refusal)) => say_refusal(alloc, sink, refusal),
         Err(Unusable::FileFault) => Status::FILE_FAULT,
@@ -124,8 +116,15 @@ where
     };
     match open_stores(alloc, files, journal, second.as_str()) {
         Ok((first, other)) => {
-            let (stores, status) =
-                serve_on_disks(rt, alloc, catalogue, first, other, service, surroundings);
+            let (stores, status) = serve_on_disks(
+                rt,
+                alloc,
+                catalogue,
+                first,
+                other,
+                service,
+                surroundings,
+            );
             close_stores(files, journal, second.as_str(), stores);
             status
         }

@@ -83,8 +83,15 @@ where
     }
     match open(alloc, catalogue, first, second, LOG_LIMIT) {
         Ok(durable) => {
-            let (durable, status) =
-                serve_over(rt, alloc, catalogue, durable, &mut line, service, surroundings);
+            let (durable, status) = serve_over(
+                rt,
+                alloc,
+                catalogue,
+                durable,
+                &mut line,
+                service,
+                surroundings,
+            );
             (durable.close(), status)
         }
         Err((disks, refusal)) => {
@@ -126,8 +133,15 @@ where
     }
     match Unkept::new(alloc, catalogue) {
         Ok(unkept) => {
-            let (_, status) =
-                serve_over(rt, alloc, catalogue, unkept, &mut line, service, surroundings);
+            let (_, status) = serve_over(
+                rt,
+                alloc,
+                catalogue,
+                unkept,
+                &mut line,
+                service,
+                surroundings,
+            );
             status
         }
         Err(NoMemory) => Status::NO_MEMORY,

@@ -29,12 +29,20 @@ pub struct Surroundings<'a, K, A, C, H, W, P> {
 /// All that the program is given.
 #[derive(Drop)]
 pub struct World<'a, F, S, K, A, C, H, W, P> {
+    /// The catalogue's file, and the journal's two.
     pub files: &'a mut F,
+    /// What a script's lines are read from.
     pub source: &'a mut S,
+    /// What is written to.
     pub sink: &'a mut K,
+    /// The devices, each of them that of the driver with its place as number.
     pub devices: &'a mut Vec<A>,
+    /// What gives the time.
     pub clock: &'a mut C,
+    /// What hands out connections.
     pub host: &'a mut H,
+    /// What a worker waits by.
     pub waiter: &'a mut W,
+    /// What runs the workers.
     pub spawner: &'a mut P,
 }
