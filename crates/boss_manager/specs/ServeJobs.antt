@@ -1,4 +1,7 @@
 -- `serve CATALOGUE JOURNAL ADDRESS WORKERS CONNECTIONS`.
+use denote.Ref.{MutBor}
+use Rattle.std.specs.declared.alloc.Global.{Global}
+use Rattle.std.specs.declared.vec.Vec.{Vec}
 use Rattle.std.specs.Prelude.{◌≡◌, ◌≢◌, ◌⊎◌, ℕ, Bool, true, false, List, [], ◌∷◌, Option, Some, None, Ok}
 use Rattle.boss_model.specs.Catalogue.{Catalogue}
 use Rattle.boss_outside.specs.Counts.{Rose}
@@ -14,7 +17,8 @@ use Rattle.boss_pair_find.specs.declared.refusal.DurableRefusal.{DurableRefusal}
 use Rattle.boss_files.specs.Names.{second_name}
 use Rattle.boss_words.specs.declared.job.Job.{Job}
 use Rattle.boss_words.specs.declared.job.Job.TheVariants.{Script, Serve, Check, Load}
-use Rattle.boss_manager.specs.Jobs.{HadNoCatalogue, RefusedCatalogue, Spells, World}
+use Rattle.boss_manager.specs.declared.world.World.{World as Given}
+use Rattle.boss_manager.specs.Jobs.{HadNoCatalogue, RefusedCatalogue, Spells, World, world}
 use Rattle.boss_manager.specs.Journals.{AsksFront, in_files, IsRefused}
 use Rattle.boss_manager.specs.Programs.{usable}
 use Rattle.boss_manager.specs.Serving.{Outside, outside, ServesMemory, ServesOver}
@@ -37,6 +41,18 @@ pub record ServerWorld (F S K A C H W P : Type 0) : Type 0 where
 
 abbrev pub server_world : {F S K A C H W P : Type 0} → World F S K A → C → H → W → P → ServerWorld F S K A C H W P
 server_world world clock host waiter spawner = record { world = world; clock = clock; host = host; waiter = waiter; spawner = spawner }
+
+-- the same behind references: as they were passed, and as a call left it that they were passed to
+abbrev pub all_at_start : {F S K A C H W P : Type 0} → Given F S K A C H W P → ServerWorld F S K A C H W P
+all_at_start given =
+    server_world (world given.files.now given.source.now given.sink.now given.devices.now.items) given.clock.now given.host.now given.waiter.now given.spawner.now
+
+abbrev pub all_at_end : {F S K A C H W P : Type 0}
+    → MutBor F × (MutBor S × (MutBor K × (MutBor (Vec A Global) × (MutBor C × (MutBor H × (MutBor W × (MutBor P × Unit {0})))))))
+    → ServerWorld F S K A C H W P
+all_at_end left =
+    server_world (world left.0.now left.1.0.now left.1.1.0.now left.1.1.1.0.now.items) left.1.1.1.1.0.now left.1.1.1.1.1.0.now
+    left.1.1.1.1.1.1.0.now left.1.1.1.1.1.1.1.0.now
 
 -- the same without the files and the source
 abbrev pub outside_at : {F S K A C H W P : Type 0} → ServerWorld F S K A C H W P → Outside K A H C W P

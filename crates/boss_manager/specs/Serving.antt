@@ -1,6 +1,10 @@
 -- A server over a journal, or over memory alone: what it did, and how it ended.
+use denote.Ref.{MutBor}
+use Rattle.std.specs.declared.alloc.Global.{Global}
+use Rattle.std.specs.declared.vec.Vec.{Vec}
 use Rattle.std.specs.Prelude.{◌≡◌, ◌⊎◌, ℕ, ◌+◌, true, false, nat_eq, Bool, if◌then◌else◌, List, [], ◌++◌, length, take, drop}
 use Rattle.boss_model.specs.Catalogue.{Catalogue, actuators}
+use Rattle.boss_model.specs.declared.event.Event.{Event}
 use Rattle.boss_model.specs.declared.state.Actuator.{Actuator}
 use Rattle.boss_model.specs.Settle.{first_state}
 use Rattle.boss_model.specs.State.{State}
@@ -13,9 +17,6 @@ use Rattle.boss_outside_server.specs.declared.clock.Clock as clock
 use Rattle.boss_outside_server.specs.declared.host.Host as host
 use Rattle.boss_outside_server.specs.declared.spawner.Spawner as spawner
 use Rattle.boss_outside_server.specs.declared.waiter.Waiter as waiter
-use Rattle.boss_disk.specs.declared.disk.Disk as disk
-use Rattle.boss_durable.specs.declared.durable.Durable.{Durable}
-use Rattle.boss_durable.specs.Words.{faults}
 use Rattle.def_history.specs.declared.entry.Entry.{Entry}
 use Rattle.def_history.specs.History.{events, is_broken, IsLegal, run}
 use Rattle.boss_shared.specs.declared.keeper.Keeper as keeper
@@ -26,9 +27,11 @@ use Rattle.boss_server.specs.Accounts.{Account}
 use Rattle.boss_server.specs.Kept.{drives_of}
 use Rattle.boss_server.specs.Making.{GainsNoPause, StaysClock, StaysHost}
 use Rattle.boss_server.specs.Together.{RoseWhere}
+use Rattle.boss_server.specs.declared.outside.Outside.{Outside as Given}
 use Rattle.boss_disk_pair.specs.Rests.{counted}
 use Rattle.boss_opening.specs.Opens.{digest_of, OpenedAt}
 use Rattle.boss_journal_lines.specs.Reports.{summary_line}
+use Rattle.boss_manager.specs.declared.world.Surroundings.{Surroundings}
 use Rattle.boss_manager.specs.declared.serving.Run.{Run}
 use Rattle.boss_manager.specs.declared.serving.Run.TheVariants.{NotBound as not_bound, NoMemory, Ended}
 use Rattle.boss_manager.specs.Journals.{HadNoJournal, HoldsAfter, Pair, RefusedJournal, StillStands}
@@ -49,6 +52,17 @@ outside sink devices clock host waiter spawner = record { sink = sink; devices =
 -- the same without a sink
 abbrev pub parts : {A H C W P : Type 0} → List A → C → H → W → P → Outside (Unit {0}) A H C W P
 parts devices clock host waiter spawner = outside tt devices clock host waiter spawner
+
+-- The same behind references: as they are, or as they were passed; and as a call left it that they were passed to.
+abbrev pub at_start : {K A C H W P : Type 0} → Surroundings K A C H W P → Outside K A H C W P
+at_start given = outside given.sink.now given.devices.now.items given.clock.now given.host.now given.waiter.now given.spawner.now
+
+abbrev pub at_end : {K A C H W P : Type 0} → MutBor K × (MutBor (Vec A Global) × (MutBor C × (MutBor H × (MutBor W × (MutBor P × Unit {0}))))) → Outside K A H C W P
+at_end left = outside left.0.now left.1.0.now.items left.1.1.0.now left.1.1.1.0.now left.1.1.1.1.0.now left.1.1.1.1.1.0.now
+
+-- the same without a sink, behind references
+abbrev pub parts_of : {H C W A P : Type 0} → Given H C W A P → Outside (Unit {0}) A H C W P
+parts_of given = parts given.devices.now.items given.clock.now given.host.now given.waiter.now given.spawner.now
 
 -- ---- its status, and its last line
 
@@ -155,13 +169,13 @@ module _ {K A H In Out C W P Runtime : Type 0} (k : sink.Ghosts K) (a : actuator
 
   -- ---- over what
 
-  -- A server ran over an engine with its disks, which came back: a disk failed exactly where the history is broken, and they hold
-  -- what the history leaves.
-  pub record ServesFrom {D : Type 0} (d : disk.Ghosts D) (catalogue : Catalogue) (durable : Durable D d) (disks : D × D) (workers connections : ℕ) (old new : Outside K A H C W P) (status : ℕ) : Type 0 where
-    pub served : ServedFrom catalogue d.tells durable.engine.state durable.disks.events workers connections old new status
-    pub disk_fault : is_broken served.log ≡ true → Rose (faults durable) (d.faults disks.0 + d.faults disks.1)
-    pub no_disk_fault : is_broken served.log ≡ false → d.faults disks.0 + d.faults disks.1 ≡ faults durable
-    pub holds : d.tells → HoldsAfter catalogue durable.engine.state durable.disks.events served.log (d.reads disks.0) (d.reads disks.1)
+  -- A server ran over a keeper, which came back, and stands for one history from the keeper as it was: all that was done is of it.
+  pub record ServesKeeper {V : Type 0} (v : keeper.Ghosts V) (known : Type 0) (catalogue : Catalogue) (start now : V) (workers connections : ℕ) (old new : Outside K A H C W P) (status : ℕ) : Type 0 where
+    pub log : List Entry
+    pub held : IsHeld v.plant v.state v.stopped v.faults v.leaves v.keeps start now log
+    -- where the keeper had come by so many events
+    pub end : (number : ℕ) (before : List Event) → v.keeps start before → length before ≡ number →
+        NotBound h log old new status ⊎ NoneRan h c w log old new status ⊎ Served catalogue known (v.state start) number workers connections log old new status
 
   module _ (catalogue : Catalogue) (was now : Pair) (workers connections : ℕ) (old new : Outside K A H C W P) (status : ℕ) where
     -- The journal was opened, and served from the state that its bytes stand for. A disk failed exactly where the history is broken; the

@@ -12,8 +12,10 @@ mod saying;
 mod script;
 mod serve_jobs;
 mod serving;
+mod standing;
 mod status;
 mod top_call;
+mod world;
 
 pub use checking::check_on_disks;
 pub use journal::script_on_disks;
@@ -22,3 +24,4 @@ pub use script::script_run;
 pub use serving::{serve_in_memory, serve_on_disks};
 pub use status::Status;
 pub use top_call::boss;
+pub use world::{Service, Surroundings};

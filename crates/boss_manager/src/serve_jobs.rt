@@ -1,14 +1,14 @@
 ghost use Rattle.std.specs.Prelude.{◌≡◌, ◌≢◌, ℕ, ◌≤◌, List, [], ◌∷◌, vec_len};
 ghost use Rattle.boss_files.specs.Names.{second_name};
-ghost use Rattle.boss_manager.specs.Jobs.{world};
 ghost use Rattle.boss_manager.specs.Journals.{AsksFront, in_files};
-ghost use Rattle.boss_manager.specs.ServeJobs.{DoesServe, ServesInMemory, server_world};
-ghost use Rattle.boss_manager.specs.Serving.{outside, ServesOver};
+ghost use Rattle.boss_manager.specs.ServeJobs.{all_at_end, all_at_start, DoesServe, ServesInMemory};
+ghost use Rattle.boss_manager.specs.Serving.{at_end, at_start, ServesOver};
 
 use crate::Status;
 use crate::catalogue::{Unusable, load};
 use crate::saying::say_refusal;
 use crate::serving::{serve_in_memory, serve_on_disks};
+use crate::world::{Service, Surroundings, World};
 use boss_files::{FileFault, Files, close_stores, open_stores, second_name};
 use boss_outside::{Actuators, Sink, Source};
 use boss_outside_server::{Clock, Host, Spawner, Waiter};
@@ -33,48 +33,44 @@ pub fn do_kept_serve<
     alloc: Global,
     name: &str,
     journal: &str,
-    address: &str,
-    workers: u32,
-    connections: u32,
-    files: &mut F,
-    source: &mut S,
-    sink: &mut K,
-    devices: &mut Vec<A>,
-    clock: &mut C,
-    host: &mut H,
-    waiter: &mut W,
-    spawner: &mut P,
+    service: Service<'_>,
+    world: World<'_, F, S, K, A, C, H, W, P>,
 ) -> Status
 where
     F::Store: Send,
     H::In: Send,
     H::Out: Send,
-    requires sound { H.sound host.old }
-    requires some { 1 ≤ workers }
-    requires few { workers ≤ 32 }
-    ensures sound { H.sound host.new }
+    requires sound { H.sound world.host.now }
+    requires some { 1 ≤ service.workers }
+    requires few { service.workers ≤ 32 }
+    ensures sound { H.sound (all_at_end world.exit).host }
     ensures serves { DoesServe F.Files S.Source K.Sink A.Actuators H.Host H.In.Source H.Out.Sink
-        C.Clock W.Waiter P.Spawner name.now journal.now (vec_len devices.old) workers connections
-        (server_world (world files.old source.old sink.old devices.old.items) clock.old host.old waiter.old spawner.old)
-        (server_world (world files.new source.new sink.new devices.new.items) clock.new host.new waiter.new spawner.new) result.0 }
+        C.Clock W.Waiter P.Spawner name.now journal.now (vec_len world.entry.devices.now) service.entry.workers service.entry.connections
+        (all_at_start world.entry)
+        (all_at_end world.exit) result.0 }
 {
+    let World {
+        files,
+        sink,
+        devices,
+        clock,
+        host,
+        waiter,
+        spawner,
+        ..
+    } = world;
     match load(alloc, files, name, devices.len()) {
-        Ok(catalogue) => serve_in_files(
-            rt,
-            alloc,
-            &catalogue,
-            journal,
-            address,
-            workers,
-            connections,
-            files,
-            sink,
-            devices,
-            clock,
-            host,
-            waiter,
-            spawner,
-        ),
+        Ok(catalogue) => {
+            let surroundings = Surroundings {
+                sink,
+                devices,
+                clock,
+                host,
+                waiter,
+                spawner,
+            };
+            serve_in_files(rt, alloc, &catalogue, journal, service, files, surroundings)
+        }
         Err(Unusable::Refused(refusal)) => say_refusal(alloc, sink, refusal),
         Err(Unusable::FileFault) => Status::FILE_FAULT,
         Err(Unusable::NoMemory) => Status::NO_MEMORY,
@@ -96,29 +92,22 @@ fn serve_in_files<
     alloc: Global,
     catalogue: &Catalogue,
     journal: &str,
-    address: &str,
-    workers: u32,
-    connections: u32,
+    service: Service<'_>,
     files: &mut F,
-    sink: &mut K,
-    devices: &mut Vec<A>,
-    clock: &mut C,
-    host: &mut H,
-    waiter: &mut W,
-    spawner: &mut P,
+    surroundings: Surroundings<'_, K, A, C, H, W, P>,
 ) -> Status
 where
     F::Store: Send,
     H::In: Send,
     H::Out: Send,
-    requires sound { H.sound host.old }
-    requires some { 1 ≤ workers }
-    requires few { workers ≤ 32 }
-    ensures sound { H.sound host.new }
+    requires sound { H.sound surroundings.host.now }
+    requires some { 1 ≤ service.workers }
+    requires few { service.workers ≤ 32 }
+    ensures sound { H.sound (at_end surroundings.exit).host }
     ensures serves { ServesOver K.Sink A.Actuators H.Host H.In.Source H.Out.Sink C.Clock W.Waiter P.Spawner catalogue.now
-        (in_files F.Files journal.now files.old) (in_files F.Files journal.now files.new) workers connections
-        (outside sink.old devices.old.items clock.old host.old waiter.old spawner.old)
-        (outside sink.new devices.new.items clock.new host.new waiter.new spawner.new) result.0 }
+        (in_files F.Files journal.now files.old) (in_files F.Files journal.now files.new) service.entry.workers service.entry.connections
+        (at_start surroundings.entry)
+        (at_end surroundings.exit) result.0 }
     ensures asks { F.tells → AsksFront (journal.now ∷ second_name journal.now ∷ []) (F.asked files.old) (F.asked files.new) }
     ensures others { F.tells → (file : List ℕ) → file ≢ journal.now → file ≢ second_name journal.now → F.holds files.new file ≡ F.holds files.old file }
 {
@@ -133,15 +122,8 @@ where
                 catalogue,
                 first,
                 other,
-                address,
-                workers,
-                connections,
-                sink,
-                devices,
-                clock,
-                host,
-                waiter,
-                spawner,
+                service,
+                surroundings,
             );
             close_stores(files, journal, second.as_str(), stores);
             status
@@ -166,45 +148,43 @@ pub fn do_memory_serve<
     rt: R,
     alloc: Global,
     name: &str,
-    address: &str,
-    workers: u32,
-    connections: u32,
-    files: &mut F,
-    source: &mut S,
-    sink: &mut K,
-    devices: &mut Vec<A>,
-    clock: &mut C,
-    host: &mut H,
-    waiter: &mut W,
-    spawner: &mut P,
+    service: Service<'_>,
+    world: World<'_, F, S, K, A, C, H, W, P>,
 ) -> Status
 where
     H::In: Send,
     H::Out: Send,
-    requires sound { H.sound host.old }
-    requires some { 1 ≤ workers }
-    requires few { workers ≤ 32 }
-    ensures sound { H.sound host.new }
+    requires sound { H.sound world.host.now }
+    requires some { 1 ≤ service.workers }
+    requires few { service.workers ≤ 32 }
+    ensures sound { H.sound (all_at_end world.exit).host }
     ensures serves { ServesInMemory F.Files S.Source K.Sink A.Actuators H.Host H.In.Source H.Out.Sink
-        C.Clock W.Waiter P.Spawner name.now (vec_len devices.old) workers connections
-        (server_world (world files.old source.old sink.old devices.old.items) clock.old host.old waiter.old spawner.old)
-        (server_world (world files.new source.new sink.new devices.new.items) clock.new host.new waiter.new spawner.new) result.0 }
+        C.Clock W.Waiter P.Spawner name.now (vec_len world.entry.devices.now) service.entry.workers service.entry.connections
+        (all_at_start world.entry)
+        (all_at_end world.exit) result.0 }
 {
+    let World {
+        files,
+        sink,
+        devices,
+        clock,
+        host,
+        waiter,
+        spawner,
+        ..
+    } = world;
     match load(alloc, files, name, devices.len()) {
-        Ok(catalogue) => serve_in_memory(
-            rt,
-            alloc,
-            &catalogue,
-            address,
-            workers,
-            connections,
-            sink,
-            devices,
-            clock,
-            host,
-            waiter,
-            spawner,
-        ),
+        Ok(catalogue) => {
+            let surroundings = Surroundings {
+                sink,
+                devices,
+                clock,
+                host,
+                waiter,
+                spawner,
+            };
+            serve_in_memory(rt, alloc, &catalogue, service, surroundings)
+        }
         Err(Unusable::Refused(refusal)) => say_refusal(alloc, sink, refusal),
         Err(Unusable::FileFault) => Status::FILE_FAULT,
         Err(Unusable::NoMemory) => Status::NO_MEMORY,

@@ -1,3 +1,5 @@
+use std::fmt;
+
 /// How a run of the program ended, as the number that the process ends with.
 #[derive(Clone, Copy, Debug, PartialEq, Eq)]
 pub struct Status(pub u8);
@@ -29,4 +31,25 @@ impl Status {
     pub const LINE_TOO_LONG: Status = Status(13);
     /// There are more than 2^32 lines.
     pub const TOO_MANY_LINES: Status = Status(14);
+}
+
+impl fmt::Display for Status {
+    fn fmt<W: fmt::Write>(&self, f: &mut fmt::Formatter<W>) -> fmt::Result {
+        f.write_str(match *self {
+            Status::DONE => "all was done",
+            Status::USAGE => "the words ask for no job that is there",
+            Status::CATALOGUE => "the catalogue was refused",
+            Status::JOURNAL => "the journal was refused",
+            Status::FILE_FAULT => "a file failed",
+            Status::READ_FAULT => "a read failed",
+            Status::WRITE_FAULT => "a write failed",
+            Status::NO_MEMORY => "out of memory",
+            Status::HOST_FAULT => "the host failed",
+            Status::UNSTARTED => "a worker was not started",
+            Status::CLOCK_FAULT => "the clock failed",
+            Status::LINE_TOO_LONG => "a line is too long",
+            Status::TOO_MANY_LINES => "there are too many lines",
+            Status(_) => "no status of the program",
+        })
+    }
 }

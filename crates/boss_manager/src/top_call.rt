@@ -14,6 +14,7 @@ use crate::load_job::do_load;
 use crate::memory_jobs::{check_memory, do_script};
 use crate::saying::say_usage;
 use crate::serve_jobs::{do_kept_serve, do_memory_serve};
+use crate::world::{Service, World};
 use boss_files::Files;
 use boss_outside::{Actuators, Sink, Source};
 use boss_outside_server::{Clock, Host, Spawner, Waiter};
@@ -138,41 +139,25 @@ where
                 connections,
             },
         ) => {
+            let service = Service {
+                address: address.text(),
+                workers,
+                connections,
+            };
+            let world = World {
+                files,
+                source,
+                sink,
+                devices,
+                clock,
+                host,
+                waiter,
+                spawner,
+            };
             if journal.text() == "-" {
-                do_memory_serve(
-                    rt,
-                    alloc,
-                    catalogue.text(),
-                    address.text(),
-                    workers,
-                    connections,
-                    files,
-                    source,
-                    sink,
-                    devices,
-                    clock,
-                    host,
-                    waiter,
-                    spawner,
-                )
+                do_memory_serve(rt, alloc, catalogue.text(), service, world)
             } else {
-                do_kept_serve(
-                    rt,
-                    alloc,
-                    catalogue.text(),
-                    journal.text(),
-                    address.text(),
-                    workers,
-                    connections,
-                    files,
-                    source,
-                    sink,
-                    devices,
-                    clock,
-                    host,
-                    waiter,
-                    spawner,
-                )
+                do_kept_serve(rt, alloc, catalogue.text(), journal.text(), service, world)
             }
         }
         Ok(Job::Load { count, seed }) => do_load(alloc, count, seed, sink),

@@ -5,7 +5,7 @@ ghost use Rattle.std.specs.Prelude.{◌≤◌};
 use crate::clocks::{call, list_clock};
 use crate::connections::{Connections, Talk, count, host, tell_talks};
 use crate::texts::{put, put_number, tell_end};
-use boss_manager::{Status, serve_in_memory};
+use boss_manager::{Service, Status, Surroundings, serve_in_memory};
 use boss_model::{Items, NoMemory};
 use boss_outside::{BytesSink, BytesSource, SimActuators};
 use boss_outside_server::{Host, ListClock, ListHost, ListSpawner, TurnWaiter};
@@ -100,20 +100,20 @@ fn serve<R: Threads + Wait + Sync>(
 ) -> Status
     requires { ⟦<ListHost<BytesSource, BytesSink> as Host>⟧.sound host.old }
 {
-    serve_in_memory(
-        rt,
-        alloc,
-        catalogue,
-        "here",
-        workers(setting),
-        count(setting.workers),
-        &mut stage.sink,
-        &mut stage.devices,
-        &mut stage.clock,
+    let service = Service {
+        address: "here",
+        workers: workers(setting),
+        connections: count(setting.workers),
+    };
+    let surroundings = Surroundings {
+        sink: &mut stage.sink,
+        devices: &mut stage.devices,
+        clock: &mut stage.clock,
         host,
-        &mut stage.waiter,
-        &mut stage.spawner,
-    )
+        waiter: &mut stage.waiter,
+        spawner: &mut stage.spawner,
+    };
+    serve_in_memory(rt, alloc, catalogue, service, surroundings)
 }
 
 /// What is told of a server that is run on these connections.

@@ -5,7 +5,7 @@ ghost use Rattle.std.specs.Prelude.{◌≤◌};
 use crate::clocks::list_clock;
 use crate::texts::tell_end;
 use boss_adapters::{RealSpawner, RealWaiter};
-use boss_manager::{Status, serve_in_memory};
+use boss_manager::{Service, Status, Surroundings, serve_in_memory};
 use boss_model::{Items, NoMemory};
 use boss_outside::{BytesSink, SimActuators};
 use boss_outside_server::{Host, ListClock};
@@ -15,13 +15,12 @@ use std::sync::Wait;
 use std::thread::Threads;
 use std::time;
 
-/// Serves so many connections of a host by so many workers, without a device.
+/// Serves connections of a host, without a device.
 fn serve<R: Threads + Wait + time::Clock + Copy + Drop + Send + Sync, H: Host + Send>(
     rt: R,
     alloc: Global,
     catalogue: &Catalogue,
-    workers: u32,
-    connections: u32,
+    service: Service<'_>,
     host: &mut H,
     sink: &mut BytesSink,
     clock: &mut ListClock,
@@ -30,27 +29,24 @@ where
     H::In: Send,
     H::Out: Send,
     requires sound { H.sound host.old }
-    requires some { 1 ≤ workers }
-    requires few { workers ≤ 32 }
+    requires some { 1 ≤ service.workers }
+    requires few { service.workers ≤ 32 }
     ensures sound { H.sound host.new }
 {
     let mut devices: Vec<SimActuators> = Vec::new(alloc);
     let mut spawner = RealSpawner::new(rt);
     match RealWaiter::new(alloc, rt) {
-        Ok(mut waiter) => Ok(serve_in_memory(
-            rt,
-            alloc,
-            catalogue,
-            "here",
-            workers,
-            connections,
-            sink,
-            &mut devices,
-            clock,
-            host,
-            &mut waiter,
-            &mut spawner,
-        )),
+        Ok(mut waiter) => {
+            let surroundings = Surroundings {
+                sink,
+                devices: &mut devices,
+                clock,
+                host,
+                waiter: &mut waiter,
+                spawner: &mut spawner,
+            };
+            Ok(serve_in_memory(rt, alloc, catalogue, service, surroundings))
+        }
         Err(none) => Err(none),
     }
 }
@@ -78,15 +74,11 @@ where
 {
     let mut sink = BytesSink::new(alloc, Items::new(alloc))?;
     let mut clock = list_clock(alloc, &[1_000], 0)?;
-    let status = serve(
-        rt,
-        alloc,
-        catalogue,
+    let service = Service {
+        address: "here",
         workers,
         connections,
-        host,
-        &mut sink,
-        &mut clock,
-    )?;
+    };
+    let status = serve(rt, alloc, catalogue, service, host, &mut sink, &mut clock)?;
     tell_end(text, sink.taken(), status.0)
 }

@@ -1,8 +1,7 @@
 use Rattle.std.proofs.Common.{◌≡◌, [], Some, Ok, List, ℕ, inl, inr, refl, sym, subst, ◌∙◌, append-nil, vec_len, rules}
-use Rattle.boss_manager.specs.Jobs.{world}
 use Rattle.boss_manager.specs.Journals.{in_files}
 use Rattle.boss_manager.specs.Programs.{usable}
-use Rattle.boss_manager.specs.ServeJobs.{server_world}
+use Rattle.boss_manager.specs.ServeJobs.{all_at_start}
 use Rattle.boss_manager.proofs.KeptLemmas.{more-asked, one-asked}
 use Rattle.boss_manager.proofs.Lifting.{later-follow}
 use Rattle.boss_manager.proofs.ServeLemmas.{does-serve}
@@ -13,23 +12,22 @@ pub returns-in-Ok-clause-serves : goal.returns-in-Ok-clause-serves
 returns-in-Ok-clause-serves g c =
     let f = g.F.Files in
     let journal = c.args.journal.now in
-    let count : c.len.result ≡ vec_len c.args.devices.now = search rules in
-    let loads : f.tells → (file : List ℕ) × (f.holds c.args.files.now c.args.name.now ≡ Some file) × (usable (vec_len c.args.devices.now) file ≡ Ok c.in-Ok.catalogue) =
-    subst (λ n. f.tells → (file : List ℕ) × (f.holds c.args.files.now c.args.name.now ≡ Some file) × (usable n file ≡ Ok c.in-Ok.catalogue)) count c.in-Ok.ensures.loads in
+    let count : c.len.result ≡ vec_len c.args.world.devices.now = search rules in
+    let loads : f.tells → (file : List ℕ) × (f.holds c.args.world.files.now c.args.name.now ≡ Some file) × (usable (vec_len c.args.world.devices.now) file ≡ Ok c.in-Ok.catalogue) =
+    subst (λ n. f.tells → (file : List ℕ) × (f.holds c.args.world.files.now c.args.name.now ≡ Some file) × (usable n file ≡ Ok c.in-Ok.catalogue)) count c.in-Ok.ensures.loads in
     does-serve f g.S.Source g.K.Sink g.A.Actuators g.H.Host g.H.In.Source g.H.Out.Sink g.C.Clock g.W.Waiter g.P.Spawner
-    c.args.name.now (vec_len c.args.devices.now) c.args.workers c.args.connections
-    (server_world (world c.args.files.now c.args.source.now c.args.sink.now c.args.devices.now.items) c.args.clock.now c.args.host.now c.args.waiter.now c.args.spawner.now)
-    (server_world (world c.serve_in_files.new.files c.args.source.now c.serve_in_files.new.sink c.serve_in_files.new.devices.items)
-    c.serve_in_files.new.clock c.serve_in_files.new.host c.serve_in_files.new.waiter c.serve_in_files.new.spawner) c.serve_in_files.result.0 journal
+    c.args.name.now (vec_len c.args.world.devices.now) c.args.service.workers c.args.service.connections
+    (all_at_start c.args.world)
+    _ c.serve_in_files.result.0 journal
     (inr (record {
       catalogue = c.in-Ok.catalogue;
       spells = loads;
-      serves = serves-so g.K.Sink g.A.Actuators g.H.Host g.H.In.Source g.H.Out.Sink g.C.Clock g.W.Waiter g.P.Spawner c.in-Ok.catalogue c.args.workers c.args.connections _ _ _
-          (in_files f journal c.args.files.now) (in_files f journal c.serve_in_files.new.files) (in_files f journal c.load.new.files) (in_files f journal c.serve_in_files.new.files)
-          (later-follow f journal c.args.files.now c.load.new.files c.serve_in_files.new.files c.in-Ok.ensures.stays c.in-Ok.ensures.cause) c.serve_in_files.ensures.serves;
+      serves = serves-so g.K.Sink g.A.Actuators g.H.Host g.H.In.Source g.H.Out.Sink g.C.Clock g.W.Waiter g.P.Spawner c.in-Ok.catalogue c.args.service.workers c.args.service.connections _ _ _
+          (in_files f journal c.args.world.files.now) (in_files f journal c.serve_in_files.new.files) (in_files f journal c.load.new.files) (in_files f journal c.serve_in_files.new.files)
+          (later-follow f journal c.args.world.files.now c.load.new.files c.serve_in_files.new.files c.in-Ok.ensures.stays c.in-Ok.ensures.cause) c.serve_in_files.ensures.serves;
     }))
     refl
-    (λ tells. more-asked c.args.name.now _ (f.asked c.args.files.now) (f.asked c.load.new.files) (f.asked c.serve_in_files.new.files) (c.in-Ok.ensures.asks tells) (c.serve_in_files.ensures.asks tells))
+    (λ tells. more-asked c.args.name.now _ (f.asked c.args.world.files.now) (f.asked c.load.new.files) (f.asked c.serve_in_files.new.files) (c.in-Ok.ensures.asks tells) (c.serve_in_files.ensures.asks tells))
     (λ tells file first second. c.serve_in_files.ensures.others tells file first second ∙ c.in-Ok.ensures.stays tells file)
 
 pub returns-clause-serves : goal.returns-clause-serves
@@ -37,13 +35,13 @@ returns-clause-serves g c =
     let f = g.F.Files in
     let ends = rw c.in-Err-NoMemory.field-0-is at c.in-Err-NoMemory.ensures in
     does-serve f g.S.Source g.K.Sink g.A.Actuators g.H.Host g.H.In.Source g.H.Out.Sink g.C.Clock g.W.Waiter g.P.Spawner
-    c.args.name.now (vec_len c.args.devices.now) c.args.workers c.args.connections
-    (server_world (world c.args.files.now c.args.source.now c.args.sink.now c.args.devices.now.items) c.args.clock.now c.args.host.now c.args.waiter.now c.args.spawner.now)
-    (server_world (world c.load.new.files c.args.source.now c.args.sink.now c.args.devices.now.items) c.args.clock.now c.args.host.now c.args.waiter.now c.args.spawner.now) 8 c.args.journal.now
+    c.args.name.now (vec_len c.args.world.devices.now) c.args.service.workers c.args.service.connections
+    (all_at_start c.args.world)
+    _ 8 c.args.journal.now
     (inl (inl (record { why = inr (refl, ends.cause); source = refl; sink = refl; devices = refl }), record { clock = refl; host = refl; waiter = refl; spawner = refl }))
     refl
     (λ tells. elim (ends.asks tells) [
-      | inl none ↦ ([], (_, refl), none ∙ sym (append-nil (f.asked c.args.files.now)))
+      | inl none ↦ ([], (_, refl), none ∙ sym (append-nil (f.asked c.args.world.files.now)))
       | inr noted ↦ one-asked c.args.name.now _ _ _ noted
     ])
     (λ tells file first second. ends.stays tells file)
