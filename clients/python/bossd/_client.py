@@ -9,9 +9,10 @@ from types import TracebackType
 from typing import Any, BinaryIO, Callable, Iterable, Iterator, List, Mapping, Optional, Type, TypeVar, Union
 
 from ._protocol import (
-    PARTING, PAUSE, PULSE, SILENCE, WINDOW, Accepted, Answer, NoMemory, Notice, Notices, Over, Reading, Refused, Request, Slots, Stale,
+    PARTING, PAUSE, PULSE, SILENCE, Accepted, Answer, NoMemory, Notice, Notices, Over, Reading, Refused, Request, Slots, Stale,
     Status, Stopped, Taken, Unanswered, UnknownHost, UnknownTransaction, answer_of, host_and_port, line_of, no_such_host, notices_from,
     notices_of, prepare, reading_of, refusal_of, renewal, slots_of, status_of, submission,
+    windows,
 )
 
 T = TypeVar("T")
@@ -235,13 +236,14 @@ class Client:
         next."""
         link, source = self._link, self._lines
         assert link is not None and source is not None
-        half, answers = WINDOW // 2, []
+        answers: List[bytes] = []
+        parts = windows(lines)
         try:
             link.settimeout(seconds_to(deadline))
-            link.sendall(b"".join(lines[:half]))
-            for place in range(0, len(lines), half):
-                link.sendall(b"".join(lines[place + half:place + 2 * half]))
-                answers += [whole_line(source) for _ in lines[place:place + half]]
+            link.sendall(b"".join(parts[0]))
+            for part, following in zip(parts, parts[1:] + [[]]):
+                link.sendall(b"".join(following))
+                answers += [whole_line(source) for _ in part]
             return answers
         except BaseException:
             self._drop()

@@ -28,8 +28,9 @@ PULSE = 1.0
 PARTING = 2.0
 # How long a watch may be silent before it is connected anew, in seconds. The server ends one after a minute without a notice.
 SILENCE = 90.0
-# How many questions may wait for their answers on one connection. Their answers fit into what the system keeps for a connection.
-WINDOW = 128
+# How many bytes of questions are sent before the answers to those before them are read. Twice as many may be under way: the system takes
+# them even while the server reads nothing, so that neither end waits for the other.
+WINDOW = 16_384
 
 
 class Refused(Exception):
@@ -465,6 +466,19 @@ def answer_of(line: Union[bytes, str]) -> Answer:
     if refused is not None:
         raise refused
     return answer
+
+
+def windows(lines: Sequence[bytes]) -> List[List[bytes]]:
+    """The lines in parts of at most WINDOW bytes, or of one line that is longer."""
+    parts: List[List[bytes]] = []
+    size = WINDOW
+    for line in lines:
+        size += len(line)
+        if size > WINDOW:
+            parts.append([])
+            size = len(line)
+        parts[-1].append(line)
+    return parts
 
 
 # ---- requests, and what their answers say

@@ -26,9 +26,10 @@ from typing import (
 )
 
 from ._protocol import (
-    LONGEST_LINE, PARTING, PAUSE, PULSE, SILENCE, WINDOW, Accepted, Answer, NoMemory, Notice, Notices, Over, Reading, Refused, Request,
+    LONGEST_LINE, PARTING, PAUSE, PULSE, SILENCE, Accepted, Answer, NoMemory, Notice, Notices, Over, Reading, Refused, Request,
     Slots, Stale, Status, Stopped, Taken, Unanswered, UnknownHost, UnknownTransaction, answer_of, host_and_port, line_of, no_such_host,
     notices_from, notices_of, prepare, reading_of, refusal_of, renewal, slots_of, status_of, submission,
+    windows,
 )
 
 __all__ = ["Client", "Held", "Watch", "connect", "watch"]
@@ -322,12 +323,13 @@ class Client(Closable):
 
     async def _answers(self, stream: Stream, lines: List[bytes]) -> List[bytes]:
         source, sink = stream
-        half, answers = WINDOW // 2, []
-        sink.write(b"".join(lines[:half]))
-        for place in range(0, len(lines), half):
-            sink.write(b"".join(lines[place + half:place + 2 * half]))
+        answers: List[bytes] = []
+        parts = windows(lines)
+        sink.write(b"".join(parts[0]))
+        for part, following in zip(parts, parts[1:] + [[]]):
+            sink.write(b"".join(following))
             await sink.drain()
-            answers += [await whole_line(source) for _ in lines[place:place + half]]
+            answers += [await whole_line(source) for _ in part]
         return answers
 
     async def _await_end(self, source: asyncio.StreamReader) -> None:
