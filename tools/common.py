@@ -67,10 +67,10 @@ def check(catalogue, journal):
 
 
 class Server:
-    """The program, serving a journal of its own; `-` keeps nothing."""
+    """The program, serving a journal of its own; `-` keeps nothing. `in_all` is how many connections it serves before it ends."""
 
-    def __init__(self, catalogue, journal="-", workers=4, connections=4_294_967_295, port=None):
-        self.catalogue, self.journal, self.workers, self.connections = catalogue, journal, workers, connections
+    def __init__(self, catalogue, journal="-", workers=4, in_all=4_294_967_295, port=None):
+        self.catalogue, self.journal, self.workers, self.in_all = catalogue, journal, workers, in_all
         self.port = port or free_port()
         self.address = f"127.0.0.1:{self.port}"
         self.process = None
@@ -90,7 +90,7 @@ class Server:
 
     def launch(self, **more):
         """Starts it and no more. What is given goes to the process."""
-        words = ["serve", self.catalogue, self.journal, self.address, str(self.workers), str(self.connections)]
+        words = ["serve", self.catalogue, self.journal, self.address, str(self.workers), str(self.in_all)]
         given = {"stdin": subprocess.DEVNULL, "stdout": subprocess.DEVNULL, "env": {**os.environ, **SETTINGS}, **more}
         self.process = subprocess.Popen([PROGRAM, *words], **given)
 
