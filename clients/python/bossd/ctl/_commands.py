@@ -8,8 +8,8 @@ import shutil
 import signal
 import sys
 import time
-from collections import Counter
-from typing import Any, Dict, Iterable, List, Optional
+from collections import Counter, deque
+from typing import Any, Deque, Dict, Iterable, List, Optional
 
 from .. import __version__
 from .._client import Client, Watch
@@ -48,7 +48,7 @@ def catalogue_of(words: Words) -> Catalogue:
 
 # ---- points
 
-HEADS = ("POINT", "VALUE", "FROM", "AT", "HELD BY", "LEFT", "MARK")
+HEADS = ("POINT", "VALUE", "FROM", "PRIORITY", "HELD BY", "LEFT", "DEVICE")
 RIGHT = " r r r"
 FROM = {"lease": "lease", "pending": "reversion", "default": "default"}
 
@@ -105,7 +105,7 @@ def point(words: Words) -> int:
     tell([f"{one.name}: {sentence(view)}; its device: {view.reading.mark}"])
     about = f"{one.kind}, {one.range()}, default {one.show(view.slots.default)}, driver {one.driver}"
     tell([f"  {about}"] + ([f"  {one.note}"] if one.note else []) + [""])
-    tell(_show.table(("AT", "LEVEL", "VALUE", "WHAT", "HELD BY", "TXN", "LEFT"), [slot_row(view, priority) for priority in PRIORITIES], "r r  rr"))
+    tell(_show.table(("PRIORITY", "LEVEL", "VALUE", "WHAT", "HELD BY", "TXN", "LEFT"), [slot_row(view, priority) for priority in PRIORITIES], "r r  rr"))
     tell(["", f"Next: {next_sentence(view)}"])
     return FINE
 
@@ -151,10 +151,10 @@ def next_sentence(view: View) -> str:
     text = f"in {length(ahead[0].at - now())}, at {moment(ahead[0].at)}, the {what}"
     for one in ahead:
         if one.basis == "reversion":
-            text += "; its reversion, if it was given one; and else"
+            text += "; then its reversion, if it was given one, and else"
         else:
-            place = "the default" if one.priority is None else f"{FROM[one.basis]} of {view.owners.get(one.txn or 0)} at {one.priority}"
-            text += f"{'' if text.endswith('else') else ';'} {view.point.show(one.value or 0)}, {place}"
+            place = "the default" if one.priority is None else f"{FROM[one.basis]} of {view.owners.get(one.txn or 0)} at priority {one.priority}"
+            text += f"{'' if text.endswith('else') else '; then'} {view.point.show(one.value or 0)}, {place}"
     return text
 
 
@@ -442,7 +442,10 @@ def status(words: Words) -> int:
 # ---- the journal
 
 def journal(words: Words) -> int:
-    found = _journal.find(words.file)
+    try:
+        found = _journal.find(words.file)
+    except Damaged as error:
+        raise Failure(f"{words.file}: {error}") from None
     if found is None:
         tell_json({"file": words.file, "new": True}) if words.json else tell([f"{words.file}: new, with nothing in it yet"])
         return FINE
@@ -450,7 +453,7 @@ def journal(words: Words) -> int:
     agrees = catalogue is not None and catalogue.digest == found.digest
     names = Names(found, catalogue if agrees else None)
     header(words, found, names, agrees)
-    ends: List[Dict[str, Any]] = []
+    ends: Deque[Dict[str, Any]] = deque(maxlen=words.last)
     status = FINE
     try:
         for number, event in found.events():
@@ -460,7 +463,7 @@ def journal(words: Words) -> int:
             if words.last is None:
                 tell_json(line) if words.json else tell([event_line(line, names)])
             else:
-                ends = ends[-words.last + 1:] + [line] if words.last else []
+                ends.append(line)
     except Damaged as error:
         status = WRONG
         aside(f"{found.path}: {error}")
