@@ -1,10 +1,12 @@
 """Tests of the client against the built program, which they start on a folder of their own: python3 -m unittest, in this folder.
 
-BOSSD may name another program to start."""
+BOSSD in the environment may name another program to start."""
 
+import copy
 import os
+import pickle
 import socket
-import subprocess
+import sys
 import tempfile
 import threading
 import time
@@ -12,52 +14,13 @@ import unittest
 
 import bossd
 
-TOP = os.path.dirname(os.path.dirname(os.path.dirname(os.path.abspath(__file__))))
-PROGRAM = os.environ.get("BOSSD", os.path.join(TOP, "crates", "bossd", "out", "bossd"))
+sys.path.insert(0, os.path.join(os.path.dirname(os.path.abspath(__file__)), "..", "..", "tools"))
+import common
+from common import eventually
+
 # Three points: ahu1.damper, analog, with the default 20000; lamp, binary, 0; fan with three states, 1.
-CATALOGUE = os.path.join(TOP, "examples", "floor.toml")
+CATALOGUE = os.path.join(common.EXAMPLES, "floor.toml")
 MINUTE = 60_000
-
-
-def free_port():
-    with socket.create_server(("127.0.0.1", 0)) as taken:
-        return taken.getsockname()[1]
-
-
-def eventually(test):
-    """Whether it comes true within five seconds."""
-    deadline = time.monotonic() + 5
-    while not test():
-        if time.monotonic() > deadline:
-            return False
-        time.sleep(0.02)
-    return True
-
-
-class Server:
-    """The program, serving a journal of its own."""
-
-    def __init__(self, folder, workers=4):
-        self.port, self.workers, self.folder = free_port(), workers, folder
-        self.address = f"127.0.0.1:{self.port}"
-        self.start()
-
-    def start(self):
-        words = ["serve", CATALOGUE, os.path.join(self.folder, "journal"), self.address, str(self.workers), "1000"]
-        self.process = subprocess.Popen([PROGRAM, *words], stdin=subprocess.DEVNULL, stdout=subprocess.DEVNULL)
-        if not eventually(self.listens):
-            raise AssertionError("the program does not listen")
-
-    def listens(self):
-        try:
-            socket.create_connection(("127.0.0.1", self.port)).close()
-            return True
-        except OSError:
-            return False
-
-    def kill(self):
-        self.process.kill()
-        self.process.wait()
 
 
 class Relay:
@@ -97,8 +60,9 @@ class Case(unittest.TestCase):
     def setUp(self):
         folder = tempfile.TemporaryDirectory()
         self.addCleanup(folder.cleanup)
-        self.server = Server(folder.name)
-        self.addCleanup(lambda: self.server.kill())
+        self.server = common.Server(CATALOGUE, os.path.join(folder.name, "journal"))
+        self.server.start()
+        self.addCleanup(self.server.stop)
 
     def client(self, process=None, relay=None, **more):
         made = bossd.Client((relay or self.server).address, process, **more)
@@ -160,7 +124,6 @@ class Requests(Case):
         client, other = self.client("a"), self.client("b")
         client.submit([damper()])
         for refused, fields, ask in [
-            (bossd.Malformed, {}, lambda: client.submit([])),
             (bossd.UnknownOp, {}, lambda: client.ask({"op": "tick"})),
             (bossd.UnknownPoint, {"index": 1}, lambda: client.submit([damper(), bossd.write("door", 1, lease=1)])),
             (bossd.UnknownPoint, {"index": 0}, lambda: client.read("door")),
@@ -177,7 +140,7 @@ class Requests(Case):
         ]:
             with self.subTest(refused.__name__), self.assertRaises(refused) as caught:
                 ask()
-            told = {key: value for key, value in vars(caught.exception).items() if key != "error"}
+            told = {key: value for key, value in caught.exception.fields.items() if key != "error"}
             self.assertEqual(told, fields)
         with self.assertRaises(bossd.Taken) as caught:
             self.client("a")
@@ -199,7 +162,7 @@ class Requests(Case):
     def test_a_line_that_is_too_long_is_not_sent(self):
         client = self.client("a")
         with self.assertRaises(ValueError):
-            client.notices("n" * bossd.LONGEST_LINE)
+            client.read("n" * bossd.LONGEST_LINE)
         self.assertEqual(client.notices().list, [])
 
     def test_nobody_answers(self):
@@ -329,8 +292,141 @@ class Watching(Case):
         self.assertEqual(next(watched).n, 4)
 
     def test_a_name_that_is_none(self):
-        with self.assertRaises(bossd.Malformed):
-            next(bossd.watch(self.server.address, "No Name"))
+        with self.assertRaises(bossd.Malformed) as caught:
+            bossd.watch(self.server.address, "No Name")
+        self.assertEqual(caught.exception.key, "process")
+
+    def test_it_is_stopped_from_another_thread(self):
+        watched = bossd.watch(self.server.address, "nobody-yet")
+        threading.Timer(0.5, watched.close).start()
+        began = time.monotonic()
+        self.assertEqual(list(watched), [])
+        self.assertLess(time.monotonic() - began, 5)
+        with self.assertRaises(StopIteration):
+            next(watched)
+
+    def test_a_server_that_is_away_is_waited_for_so_long(self):
+        watched = bossd.watch(self.server.address, "a", patience=1)
+        self.server.kill()
+        began = time.monotonic()
+        with self.assertRaises(bossd.Unanswered):
+            next(watched)
+        self.assertLess(0.5, time.monotonic() - began)
+        self.assertLess(time.monotonic() - began, 5)
+        self.server.start()
+        client = self.client("a")
+        client.submit([damper()])
+        client.cancel(1)
+        self.assertEqual(next(watched).kind, "ended")
+        watched.close()
+
+    def test_a_silent_server_is_left(self):
+        listener = socket.create_server(("127.0.0.1", 0))
+        self.addCleanup(listener.close)
+        silence, bossd._client.SILENCE = bossd._client.SILENCE, 0.3
+        self.addCleanup(setattr, bossd._client, "SILENCE", silence)
+        watched = bossd.watch(f"127.0.0.1:{listener.getsockname()[1]}", "a")
+        threading.Timer(3, watched.close).start()
+        self.assertEqual(list(watched), [])
+        # It came more than once.
+        for _ in range(2):
+            listener.accept()[0].close()
+
+
+class Addresses(unittest.TestCase):
+    def test_an_address_that_is_none(self):
+        for address, word in [("127.0.0.1", "no port"), ("::1", "no port"), ("localhost:", "is no port"), ("h:http", "is no port"),
+                              (":7000", "no host"), ("h:70000", "is no port")]:
+            for make in (bossd.Client, lambda address: bossd.watch(address, "a")):
+                with self.subTest(address), self.assertRaisesRegex(ValueError, word):
+                    make(address)
+
+    def test_a_host_that_is_none(self):
+        for make in (lambda address: bossd.Client(address, patience=1), lambda address: next(bossd.watch(address, "a", patience=1))):
+            with self.assertRaises(ConnectionError):
+                make("no-such-host.invalid:7000")
+
+
+class Kept(unittest.TestCase):
+    """Errors are copied and pickled, as a pool of processes does it."""
+
+    def test_refusals(self):
+        for word, kind in bossd.REFUSALS.items():
+            error = kind({"error": word, "index": 3, "kept": 7, "cause": "died", "at": 5})
+            for twin in (copy.copy(error), copy.deepcopy(error), pickle.loads(pickle.dumps(error))):
+                self.assertEqual((type(twin), str(twin), twin.fields), (type(error), str(error), error.fields))
+        other = bossd.Refused({"error": "denied", "index": 0, "rule": 2})
+        self.assertEqual(pickle.loads(pickle.dumps(other)).rule, 2)
+
+    def test_no_answer(self):
+        error = bossd.Unanswered({"op": "read", "point": "lamp"}, "refused")
+        twin = pickle.loads(pickle.dumps(error))
+        self.assertEqual((str(twin), twin.request), (str(error), error.request))
+        self.assertEqual(copy.copy(error).request, error.request)
+
+    def test_a_key_at_fault(self):
+        with self.assertRaises(bossd.Malformed) as caught:
+            bossd.line_of({"op": "renew", "txn": 1})
+        twin = pickle.loads(pickle.dumps(caught.exception))
+        self.assertEqual((twin.key, twin.found, str(twin)), ("length", "nothing", str(caught.exception)))
+
+
+class Checked(unittest.TestCase):
+    """What is no request is not sent, and the key at fault is named."""
+
+    def test_the_key_at_fault(self):
+        write = {"point": "lamp", "value": 1, "lease": 1}
+        submit = lambda **more: {"op": "submit", "writes": [write, {**write, **more}]}
+        for key, request in [
+            ("op", {}),
+            ("op", {"op": 3}),
+            ("process", {"op": "attach"}),
+            ("process", {"op": "attach", "process": "Night Purge"}),
+            ("process", {"op": "watch", "process": ""}),
+            ("from", {"op": "watch", "process": "a", "from": 0}),
+            ("writes", {"op": "submit"}),
+            ("writes", {"op": "submit", "writes": []}),
+            ("writes", {"op": "submit", "writes": [write] * 33}),
+            ("writes[0]", {"op": "submit", "writes": ["lamp"]}),
+            ("writes[1].point", submit(point=3)),
+            ("writes[1].value", submit(value=21.5)),
+            ("writes[1].value", submit(value=True)),
+            ("writes[1].value", submit(value=1 << 63)),
+            ("writes[1].lease", submit(lease="1m")),
+            ("writes[1].priority", submit(priority=None)),
+            ("writes[1].revert[0]", submit(revert=[[1]])),
+            ("writes[1].revert[1][1]", submit(revert=[[1, 1], [1, 0.5]])),
+            ("policy", {**submit(), "policy": "always"}),
+            ("seq", {**submit(), "seq": 0}),
+            ("txn", {"op": "renew", "length": 1}),
+            ("txn", {"op": "cancel", "txn": -1}),
+            ("length", {"op": "renew", "txn": 1, "length": None}),
+            ("points", {"op": "renew", "txn": 1, "length": 1, "points": []}),
+            ("points[0]", {"op": "renew", "txn": 1, "length": 1, "points": [1]}),
+            ("point", {"op": "read"}),
+            ("max", {"op": "notices", "max": 65}),
+        ]:
+            with self.subTest(request), self.assertRaises(bossd.Malformed) as caught:
+                bossd.line_of(request)
+            self.assertEqual(caught.exception.key, key)
+            self.assertIn(key, str(caught.exception))
+
+    def test_what_the_server_judges_is_sent(self):
+        for request in [{"op": "tick"}, {"op": "submit", "writes": [{"point": "x", "value": -1, "lease": 0, "priority": 6}]}]:
+            bossd.line_of(request)
+
+
+class AtOnce(Case):
+    def test_many_questions_have_their_answers_in_order(self):
+        client = self.client("a")
+        client.submit([damper()])
+        asked = [{"op": "read", "point": ["ahu1.damper", "lamp", "door"][place % 3]} for place in range(1_000)]
+        answers = client.ask_all(asked)
+        self.assertEqual([answer["value"] for answer in answers[:2]], [45_000, 0])
+        self.assertEqual([type(answer) for answer in answers[2::3]], [bossd.UnknownPoint] * 333)
+        self.assertEqual(answers[999]["point"], "ahu1.damper")
+        self.assertEqual(client.ask_all([]), [])
+        self.assertEqual(client.status(1).live, 1)
 
 
 class Units(unittest.TestCase):

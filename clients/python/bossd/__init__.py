@@ -1,0 +1,40 @@
+"""Speaks to a building's `bossd`. For Python 3.9 and later, over nothing but the standard library.
+
+    import bossd
+
+    with bossd.Client("127.0.0.1:7000", "purge") as client:
+        damper = bossd.write("air.damper", bossd.thousandths(100), priority=9, lease=bossd.milliseconds(minutes=1))
+        with client.hold([damper]) as held:
+            held.wait(3600)
+
+`bossd.aio` is the same for programs that use asyncio.
+
+Units. A value is a whole number: thousandths of the unit at an analog point (45000 is 45 %), 0 or 1 at a binary point, a state from 1
+on at a multi-state one. `thousandths` and `units` convert. A moment is milliseconds since 1970 by the server's clock, a length of
+time is milliseconds; `milliseconds` converts. A priority is 1 to 16 but not 6; the least number wins.
+
+Errors. A request that is refused raises a `Refused`: one class for each refusal, whose fields are attributes. One that is no request
+at all is not sent, and raises a `Malformed` that names the key. A request for which no answer came raises `Unanswered`, after
+`patience` seconds of connecting anew and asking again. `submit`, `renew` and `cancel` carry numbers, so asking again makes them once.
+A process that the server has lost its connection to has lost its live leases; the answer to a request that was asked again tells what
+was done at first, and `status` tells what still stands. An address that is none raises ValueError, and one whose host does not exist
+`UnknownHost`.
+"""
+
+from ._client import Client, Held, Watch, connect, connected, watch
+from ._protocol import (
+    LONGEST_LINE, PARTING, PAUSE, PULSE, REFUSALS, SILENCE, Accepted, Already, Answer, BadLease, BadPriority, BadReversion, Ended,
+    Malformed, NoMemory, NotAttached, Notice, Notices, NotInTransaction, NotYours, OutOfRange, Over, Reading, Refused, Request, SamePoint,
+    Slot, Slots, Spent, Stale, Status, Stopped, Taken, TooLong, TooManyProcesses, Unanswered, UnknownHost, UnknownOp, UnknownPoint,
+    UnknownTransaction, answer_of, check, line_of, milliseconds, renewal, thousandths, units, write,
+)
+
+__version__ = "0.2.0"
+
+__all__ = [
+    "Accepted", "Already", "Answer", "BadLease", "BadPriority", "BadReversion", "Client", "Ended", "Held", "LONGEST_LINE", "Malformed",
+    "NoMemory", "NotAttached", "NotInTransaction", "NotYours", "Notice", "Notices", "OutOfRange", "Over", "PARTING", "PAUSE", "PULSE",
+    "REFUSALS", "Reading", "Refused", "Request", "SILENCE", "SamePoint", "Slot", "Slots", "Spent", "Stale", "Status", "Stopped", "Taken",
+    "TooLong", "TooManyProcesses", "Unanswered", "UnknownHost", "UnknownOp", "UnknownPoint", "UnknownTransaction", "Watch", "answer_of",
+    "check", "connect", "connected", "line_of", "milliseconds", "renewal", "thousandths", "units", "watch", "write",
+]

@@ -1,0 +1,521 @@
+"""What both forms of the client share: what is asked and answered, what may be refused, and which requests are none.
+
+Nothing here opens a connection. `docs/PROTOCOL.md` describes the lines."""
+
+import json
+import socket
+from datetime import timedelta
+from decimal import Decimal
+from typing import Any, Callable, Dict, Iterable, List, Mapping, NamedTuple, Optional, Sequence, Tuple, Type, Union
+
+# A request or a write, by its keys as docs/PROTOCOL.md names them.
+Request = Dict[str, Any]
+# An answer or a notice, by its keys.
+Answer = Dict[str, Any]
+# A value, and for how many milliseconds it is held.
+Step = Tuple[int, int]
+
+# The longest line that is taken, in bytes without its end.
+LONGEST_LINE = 65_535
+# The longest lease, and the longest hold of a step of a reversion, in milliseconds: a week and a day.
+LONGEST_LEASE = 604_800_000
+LONGEST_HOLD = 86_400_000
+# How long to wait before connecting anew, in seconds.
+PAUSE = 0.2
+# How often the server is asked how a lease stands that is held, in seconds.
+PULSE = 1.0
+# How long to wait for the server when a client is closed, in seconds.
+PARTING = 2.0
+# How long a watch may be silent before it is connected anew, in seconds. The server ends one after a minute without a notice.
+SILENCE = 90.0
+# How many bytes of questions are sent before the answers to those before them are read. Twice as many may be under way: the system takes
+# them even while the server reads nothing, so that neither end waits for the other.
+WINDOW = 16_384
+
+
+class Refused(Exception):
+    """A request was refused: nothing was changed by it. `error` is the refusal's word, and its other fields are attributes."""
+
+    error: str
+
+    def __init__(self, fields: Mapping[str, Any]) -> None:
+        super().__init__(" ".join([fields["error"]] + [f"{key}={value}" for key, value in fields.items() if key != "error"]))
+        self.__dict__.update(fields)
+
+    def __reduce__(self) -> Tuple[Any, ...]:
+        return type(self), (self.fields,)
+
+    @property
+    def fields(self) -> Answer:
+        """The refusal's word and its other fields."""
+        return {key: value for key, value in vars(self).items() if not key.startswith("_") and value is not None}
+
+
+class Malformed(Refused):
+    """A key is missing, of another kind or out of its range. The client finds this before it sends anything: `key` is the key at
+    fault, as `writes[0].value`, `found` what stood there, and `wanted` what may stand there. Where it was the server that found
+    it, `key` is None."""
+
+    def __init__(self, fields: Mapping[str, Any]) -> None:
+        super().__init__(fields)
+        self.key: Optional[str] = fields.get("key")
+        self.found: Optional[str] = fields.get("found")
+        self.wanted: Optional[str] = fields.get("wanted")
+
+    def __str__(self) -> str:
+        return "malformed" if self.key is None else f"malformed: {self.key}: found {self.found}; wanted {self.wanted}"
+
+
+class UnknownOp(Refused):
+    """There is no such operation on a connection."""
+
+
+class UnknownPoint(Refused):
+    """`index`: this write, or this one of the points, counted from 0, names no point of the catalogue."""
+
+    index: int
+
+
+class NotAttached(Refused):
+    """The client speaks for no process."""
+
+
+class Stale(Refused):
+    """`kept`: a request of the process with this greater number was accepted: somebody else numbers its requests too."""
+
+    kept: int
+
+
+class SamePoint(Refused):
+    """`index`: an earlier write is on the same point."""
+
+    index: int
+
+
+class BadPriority(Refused):
+    """`index`: the priority of this write is outside 1 to 16, or 6."""
+
+    index: int
+
+
+class OutOfRange(Refused):
+    """`index`: the value of this write does not fit its point."""
+
+    index: int
+
+
+class BadLease(Refused):
+    """`index`: this lease, or the length of a renewal, is outside 1 to 604,800,000 milliseconds, which is a week."""
+
+    index: int
+
+
+class BadReversion(Refused):
+    """`index`: the reversion of this write has more than 8 steps, a hold of no or more than a day, or a value that does not fit."""
+
+    index: int
+
+
+class UnknownTransaction(Refused):
+    """No transaction of this number is kept; of those that are done the last 1,024 are."""
+
+
+class NotYours(Refused):
+    """The transaction is another process's."""
+
+
+class NotInTransaction(Refused):
+    """`index`: the transaction did not write this one of the points."""
+
+    index: int
+
+
+class Ended(Refused):
+    """A lease that was to be renewed ended at the moment `at`. `cause` is "expired", "cancelled", "died", "fault" or "superseded",
+    and then `by` is the transaction that took its slot. `moment` is when the renewal came."""
+
+    cause: str
+    at: int
+    moment: int
+    by: int
+
+
+class Over(Refused):
+    """A cancel of a transaction without a live lease: the last one ended at the moment `at`."""
+
+    at: int
+
+
+class Already(Refused):
+    """`process`: the client speaks for this process already."""
+
+    process: str
+
+
+class Taken(Refused):
+    """`session`: this other connection speaks for the process."""
+
+    session: int
+
+
+class TooManyProcesses(Refused):
+    """256 names of processes are known, and this is another one."""
+
+
+class Spent(Refused):
+    """The last transaction number was given."""
+
+
+class TooLong(Refused):
+    """The line has more than 65,535 bytes."""
+
+
+class NoMemory(Refused):
+    """The server is out of memory for this request; it may be asked again."""
+
+
+class Stopped(Refused):
+    """The server's disk failed. It keeps nothing any more until it is started anew."""
+
+
+REFUSALS: Dict[str, Type[Refused]] = {
+    "malformed": Malformed, "unknown-op": UnknownOp, "unknown-point": UnknownPoint, "not-attached": NotAttached, "stale": Stale,
+    "same-point": SamePoint, "bad-priority": BadPriority, "out-of-range": OutOfRange, "bad-lease": BadLease,
+    "bad-reversion": BadReversion, "unknown-txn": UnknownTransaction, "not-yours": NotYours, "not-in-txn": NotInTransaction,
+    "ended": Ended, "over": Over, "already": Already, "taken": Taken, "too-many-processes": TooManyProcesses, "spent": Spent,
+    "too-long": TooLong, "memory": NoMemory, "stopped": Stopped,
+}
+
+
+class Unanswered(ConnectionError):
+    """No answer came in time. `request` is what was asked: whether it was made is not known. Where it has a number, `Client.ask`
+    may be given it again, before any other numbered request, and it is made once. `__cause__` is what went wrong last."""
+
+    def __init__(self, request: Mapping[str, Any], why: str = "") -> None:
+        super().__init__(f"no answer to {json.dumps(request, default=repr)}" + (f": {why}" if why else ""))
+        self.request = request
+        self.why = why
+
+    def __reduce__(self) -> Tuple[Any, ...]:
+        return type(self), (self.request, self.why)
+
+
+class UnknownHost(ConnectionError):
+    """There is no host of the address's name."""
+
+
+class Accepted(NamedTuple):
+    """A transaction that holds its slots; `until` is the first moment at which one of its leases ends."""
+    txn: int
+    until: int
+
+
+class Reading(NamedTuple):
+    """The value that a point is to have, and what it rests on: `basis` is "lease", "pending" (a reversion under way) or "default",
+    and for the first two there are `priority` and `txn`. `mark` says how far the device has come: "settled", "pending", "failed"."""
+    point: str
+    value: int
+    basis: str
+    mark: str
+    priority: Optional[int] = None
+    txn: Optional[int] = None
+
+
+class Slot(NamedTuple):
+    """What stands in a slot: a lease up to the moment `until`, or a reversion up to the moment `end`; the other is None."""
+    value: int
+    txn: int
+    until: Optional[int] = None
+    end: Optional[int] = None
+
+
+class Slots(NamedTuple):
+    """The slots of a point, by priority, as far as something stands in them, and the value where nothing does."""
+    point: str
+    default: int
+    slots: Dict[int, Slot]
+
+
+class Status(NamedTuple):
+    """How far a transaction of the process `owner` has come: `stage` is "run", "revert" or "done"; it has `live` leases and `pending`
+    reversions under way."""
+    txn: int
+    owner: str
+    stage: str
+    live: int
+    pending: int
+
+
+class Notice(NamedTuple):
+    """What a process was told at the moment `at`, as its `n`-th notice, from 1: `kind` is "fault", "ended" (with its `cause`, and `by`
+    where that is "superseded"), "reverted", "cut" (with `by`, the transaction that took the slot) or "done" (without a point)."""
+    n: int
+    at: int
+    txn: int
+    kind: str
+    point: Optional[str] = None
+    cause: Optional[str] = None
+    by: Optional[int] = None
+
+
+class Notices(NamedTuple):
+    """Notices of a process; `first` is the least number that is kept, `next` the number to ask from next."""
+    first: int
+    next: int
+    list: List[Notice]
+
+
+def thousandths(units: Union[int, float, str, Decimal]) -> int:
+    """The value of so many units at an analog point: 21.5 is 21500. ValueError where that is no whole number."""
+    value = Decimal(str(units)) * 1000
+    if not value.is_finite() or value != value.to_integral_value():
+        raise ValueError(f"{units} is no whole number of thousandths")
+    return int(value)
+
+
+def units(value: int) -> Decimal:
+    """The units of a value of an analog point, as a Decimal: 21500 is 21.5."""
+    return Decimal(value) / 1000
+
+
+def milliseconds(**parts: float) -> int:
+    """A length of time: `milliseconds(hours=1, minutes=30)`. The parts are those of datetime.timedelta."""
+    return timedelta(**parts) // timedelta(milliseconds=1)
+
+
+def write(point: str, value: int, *, lease: int, priority: int = 16, revert: Iterable[Sequence[int]] = ()) -> Request:
+    """A write for `submit` and `hold`: the value is held on the point for `lease` milliseconds, 1 to 604,800,000. `revert` is played
+    when the lease ends otherwise than by supersession: at most 8 pairs of a value and for how many milliseconds it is held, 1 to
+    86,400,000."""
+    return {"point": point, "value": value, "priority": priority, "lease": lease, "revert": [list(step) for step in revert]}
+
+
+# ---- addresses
+
+def host_and_port(address: str) -> Tuple[str, int]:
+    """The two parts of an address, "HOST:PORT". ValueError where it is none."""
+    host, colon, port = address.rpartition(":")
+    if not colon or (":" in host and not (host.startswith("[") and host.endswith("]"))):
+        raise ValueError(f"{address!r} has no port: an address is HOST:PORT, as 127.0.0.1:7000 or [::1]:7000")
+    if not (port.isascii() and port.isdigit() and 1 <= int(port) <= 65_535):
+        raise ValueError(f"{port!r} in {address!r} is no port: that is a number of 1 to 65535")
+    if not host.strip("[]"):
+        raise ValueError(f"{address!r} has no host: an address is HOST:PORT, as 127.0.0.1:7000")
+    return host.strip("[]"), int(port)
+
+
+def prepare(link: socket.socket) -> None:
+    """Sets a connection up as a client wants it."""
+    link.setsockopt(socket.IPPROTO_TCP, socket.TCP_NODELAY, 1)
+    # A server whose machine went away without a word is found out.
+    link.setsockopt(socket.SOL_SOCKET, socket.SO_KEEPALIVE, 1)
+
+
+def no_such_host(address: str, error: socket.gaierror) -> Optional[UnknownHost]:
+    """What to raise where a name has no address; None where it may have one in a moment."""
+    if error.errno != socket.EAI_NONAME:
+        return None
+    return UnknownHost(f"{host_and_port(address)[0]}: there is no such host")
+
+
+# ---- which requests are none
+
+Check = Callable[[str, object], None]
+
+NAME_CHARACTERS = frozenset("abcdefghijklmnopqrstuvwxyz0123456789._-")
+LONGEST_NAME = 64
+GREATEST_WHOLE = (1 << 63) - 1
+GREATEST_NUMBER = (1 << 62) - 1
+
+
+class Said:
+    """Something that is shown by these words."""
+
+    def __init__(self, words: str) -> None:
+        self.words = words
+
+    def __repr__(self) -> str:
+        return self.words
+
+
+NOTHING = Said("nothing")
+
+
+def wrong(key: str, wanted: str, found: object) -> Malformed:
+    """The refusal of what stands under a key."""
+    shown = repr(found)
+    return Malformed({"error": "malformed", "key": key, "found": shown if len(shown) <= 80 else shown[:77] + "...", "wanted": wanted})
+
+
+def is_name(text: object) -> bool:
+    """Whether this is a name, of a process, a point or a driver."""
+    return isinstance(text, str) and 1 <= len(text) <= LONGEST_NAME and NAME_CHARACTERS.issuperset(text)
+
+
+def a_name(key: str, found: object) -> None:
+    if not is_name(found):
+        raise wrong(key, "1 to 64 characters of a-z 0-9 . _ -", found)
+
+
+def a_text(key: str, found: object) -> None:
+    if not isinstance(found, str):
+        raise wrong(key, "a text", found)
+
+
+def a_policy(key: str, found: object) -> None:
+    if found not in ("abort", "keep"):
+        raise wrong(key, '"abort" or "keep"', found)
+
+
+def whole(least: int, most: int, what: str = "") -> Check:
+    """The check for whole numbers from `least` to `most`."""
+    def check_whole(key: str, found: object) -> None:
+        if not isinstance(found, int) or isinstance(found, bool) or not least <= found <= most:
+            raise wrong(key, f"a whole number of {least} to {most}{what}", found)
+    return check_whole
+
+
+def several(least: int, most: Optional[int], one: Check) -> Check:
+    """The check for arrays of so many items, each of which passes the check `one`."""
+    wanted = f"an array of {least} to {most}" if most else "an array"
+
+    def check_several(key: str, found: object) -> None:
+        if not isinstance(found, (list, tuple)):
+            raise wrong(key, wanted, found)
+        if len(found) < least or (most and len(found) > most):
+            raise wrong(key, wanted, Said(f"an array of {len(found)}"))
+        for place, item in enumerate(found):
+            one(f"{key}[{place}]", item)
+    return check_several
+
+
+def table(required: Mapping[str, Check], optional: Mapping[str, Check]) -> Check:
+    """The check for objects with these keys. Others are passed over."""
+    def check_table(key: str, found: object) -> None:
+        if not isinstance(found, Mapping):
+            raise wrong(key, "an object", found)
+        before = f"{key}." if key else ""
+        for name, check in required.items():
+            check(before + name, found.get(name, NOTHING))
+        for name, check in optional.items():
+            if name in found:
+                check(before + name, found[name])
+    return check_table
+
+
+ANY_WHOLE = whole(-GREATEST_WHOLE - 1, GREATEST_WHOLE)
+A_VALUE = whole(-GREATEST_WHOLE - 1, GREATEST_WHOLE, " (thousandths of the unit at an analog point)")
+A_LENGTH = whole(-GREATEST_WHOLE - 1, GREATEST_WHOLE, " (milliseconds)")
+A_TXN = whole(0, GREATEST_WHOLE)
+
+
+def a_step(key: str, found: object) -> None:
+    if not isinstance(found, (list, tuple)) or len(found) != 2:
+        raise wrong(key, "a pair of a value and how long it is held, in milliseconds", found)
+    A_VALUE(f"{key}[0]", found[0])
+    A_LENGTH(f"{key}[1]", found[1])
+
+
+A_WRITE = table({"point": a_text, "value": A_VALUE, "lease": A_LENGTH}, {"priority": ANY_WHOLE, "revert": several(0, None, a_step)})
+SEQ = {"seq": whole(1, GREATEST_NUMBER)}
+FROM = {"from": whole(1, GREATEST_WHOLE)}
+
+# What each operation on a connection is checked for.
+REQUESTS: Dict[str, Check] = {
+    "attach": table({"process": a_name}, {}),
+    "submit": table({"writes": several(1, 32, A_WRITE)}, {"policy": a_policy, **SEQ}),
+    "renew": table({"txn": A_TXN, "length": A_LENGTH}, {"points": several(1, 32, a_text), **SEQ}),
+    "cancel": table({"txn": A_TXN}, SEQ),
+    "read": table({"point": a_text}, {}),
+    "array": table({"point": a_text}, {}),
+    "status": table({"txn": A_TXN}, {}),
+    "notices": table({}, {"process": a_name, **FROM, "max": whole(1, 64)}),
+    "watch": table({"process": a_name}, FROM),
+}
+
+
+def check(request: Mapping[str, Any]) -> None:
+    """Malformed, with the key at fault, where the server would answer so. An operation that is not known here is left to the
+    server."""
+    a_text("op", request.get("op", NOTHING))
+    one = REQUESTS.get(request["op"])
+    if one is not None:
+        one("", request)
+
+
+# ---- lines
+
+def line_of(request: Mapping[str, Any]) -> bytes:
+    """The line that asks this. Malformed where it is no request; ValueError where it is longer than a line may be."""
+    check(request)
+    line = json.dumps(request, separators=(",", ":")).encode()
+    if len(line) > LONGEST_LINE:
+        raise ValueError(f"a line of {len(line)} bytes; {LONGEST_LINE} is the most")
+    return line + b"\n"
+
+
+def refusal_of(answer: Answer) -> Optional[Refused]:
+    """The refusal that an answer is, if it is one."""
+    return REFUSALS.get(answer["error"], Refused)(answer) if "error" in answer else None
+
+
+def answer_of(line: Union[bytes, str]) -> Answer:
+    """The answer that a line tells, as a dict; raises the Refused that it may be."""
+    answer: Answer = json.loads(line)
+    refused = refusal_of(answer)
+    if refused is not None:
+        raise refused
+    return answer
+
+
+def windows(lines: Sequence[bytes]) -> List[List[bytes]]:
+    """The lines in parts of at most WINDOW bytes, or of one line that is longer."""
+    parts: List[List[bytes]] = []
+    size = WINDOW
+    for line in lines:
+        size += len(line)
+        if size > WINDOW:
+            parts.append([])
+            size = len(line)
+        parts[-1].append(line)
+    return parts
+
+
+# ---- requests, and what their answers say
+
+def submission(writes: Iterable[Mapping[str, Any]], policy: str = "abort") -> Request:
+    """A request that sets several points."""
+    return {"op": "submit", "writes": [dict(one) for one in writes], "policy": policy}
+
+
+def renewal(txn: int, length: int, points: Iterable[str] = ()) -> Request:
+    """A request that renews leases of a transaction: those on these points, or all."""
+    named = list(points)
+    return {"op": "renew", "txn": txn, "length": length, **({"points": named} if named else {})}
+
+
+def notices_from(process: Optional[str], first: int, most: int) -> Request:
+    """A request for notices of a process, or of the session's own."""
+    named = {} if process is None else {"process": process}
+    return {"op": "notices", "from": first, "max": most, **named}
+
+
+def reading_of(answer: Answer) -> Reading:
+    """What the answer to a `read` says."""
+    return Reading(answer["point"], answer["value"], answer["from"], answer["mark"], answer.get("priority"), answer.get("txn"))
+
+
+def slots_of(answer: Answer) -> Slots:
+    """What the answer to an `array` says."""
+    taken = {priority: Slot(**slot) for priority, slot in enumerate(answer["slots"], 1) if slot}
+    return Slots(answer["point"], answer["default"], taken)
+
+
+def status_of(answer: Answer) -> Status:
+    """What the answer to a `status` says."""
+    return Status(answer["txn"], answer["owner"], answer["stage"], answer["live"], answer["pending"])
+
+
+def notices_of(answer: Answer) -> Notices:
+    """What the answer to a `notices` says."""
+    return Notices(answer["first"], answer["next"], [Notice(**notice) for notice in answer["list"]])

@@ -1,0 +1,7 @@
+"""python3 -m bossd.ctl is bossctl."""
+
+import sys
+
+from ._main import main
+
+sys.exit(main())

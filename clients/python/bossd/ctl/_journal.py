@@ -1,0 +1,362 @@
+"""Reads the files of a journal: its events, and the kept state that they go on from. docs/FORMATS.md describes the bytes."""
+
+import os
+from typing import Any, Dict, Iterator, List, NamedTuple, Optional, Tuple
+
+from ._toml import Failure
+
+JOURNAL, STATE = b"OSSJRNL", b"OSSSNAP"
+HEADER = 41
+GATE_SHUT = 0
+MOST_EVENTS = 1 << 62
+DEFAULT = "/var/lib/bossd/journal"
+
+CAUSES = ("expired", "cancelled", "died", "fault", "superseded")
+REPLIES = ("none", "accepted", "renewed", "cancelled")
+
+
+class Damaged(Exception):
+    """At this byte of the file stands what no journal has."""
+
+    def __init__(self, place: int) -> None:
+        super().__init__(f"damaged at byte {place}")
+        self.place = place
+
+
+class Bytes:
+    """Bytes that are read one after another. IndexError where they end."""
+
+    def __init__(self, data: bytes, place: int = 0) -> None:
+        self.data, self.place = data, place
+
+    def whole(self, size: int, signed: bool = False) -> int:
+        return int.from_bytes(self.take(size), "big", signed=signed)
+
+    def take(self, size: int) -> bytes:
+        end = self.place + size
+        if end > len(self.data):
+            raise IndexError
+        taken, self.place = self.data[self.place:end], end
+        return taken
+
+    def text(self) -> str:
+        return self.take(self.whole(1)).decode("ascii", "replace")
+
+
+class Write(NamedTuple):
+    """A write of a submit: `point` is its place in the catalogue, `steps` are its reversion."""
+    point: int
+    value: int
+    priority: int
+    lease: int
+    steps: List[Tuple[int, int]]
+
+
+class Event(NamedTuple):
+    """What a record tells, at the moment `at`, in milliseconds. `kind` is "process", "submit", "renewal", "cancel", "lost", "time" or
+    "failed"; what does not belong to it is None or empty. `owner` is the place of a process, `points` are places in the catalogue."""
+    kind: str
+    at: int
+    owner: Optional[int] = None
+    name: Optional[str] = None
+    txn: Optional[int] = None
+    seq: Optional[int] = None
+    policy: Optional[str] = None
+    length: Optional[int] = None
+    points: Tuple[int, ...] = ()
+    writes: Tuple[Write, ...] = ()
+
+
+class Process(NamedTuple):
+    """A process, and how many notices it has had."""
+    name: str
+    notices: int
+
+
+class Transaction(NamedTuple):
+    """A transaction that a kept state has: its owner's place, and the slots that it took, as pairs of a point and a priority."""
+    txn: int
+    owner: int
+    policy: str
+    slots: List[Tuple[int, int]]
+
+
+class Lease(NamedTuple):
+    """A live lease of a kept state."""
+    txn: int
+    owner: int
+    point: int
+    priority: int
+    value: int
+    until: int
+    steps: List[Tuple[int, int]]
+
+
+class Reversion(NamedTuple):
+    """A reversion under way in a kept state, from the moment `start` on."""
+    txn: int
+    owner: int
+    point: int
+    priority: int
+    start: int
+    steps: List[Tuple[int, int]]
+
+
+class State(NamedTuple):
+    """What lasts, at the moment `now`; `next` is the number of the next transaction, `done` those that are done and still known."""
+    now: int
+    next: int
+    processes: List[Process]
+    transactions: List[Transaction]
+    done: List[int]
+    leases: List[Lease]
+    reversions: List[Reversion]
+
+
+NEW = State(0, 1, [], [], [], [], [])
+
+
+class Journal(NamedTuple):
+    """The file of a pair that is in force: `before` events led to `state`, and after them come those of the log. `generation` is None
+    where the log begins with the first event."""
+    path: str
+    version: int
+    digest: bytes
+    generation: Optional[int]
+    before: int
+    state: State
+    data: bytes
+    gate: int
+
+    def events(self) -> Iterator[Tuple[int, Event]]:
+        """The events of the log, each with its number, counted from the first that the journal ever had. Damaged."""
+        number, gate = self.before, self.gate
+        while True:
+            record, after = record_at(self.data, gate)
+            if record is None:
+                return
+            for event in events_of(record, self.version, gate):
+                number += 1
+                yield number, event
+            gate = after
+
+
+def record_at(data: bytes, gate: int) -> Tuple[Optional[bytes], int]:
+    """The record after a gate, and the next gate; None where the gate is shut."""
+    source = Bytes(data, gate)
+    try:
+        if source.whole(1) != 1:
+            return None, gate
+        record = source.take(source.whole(4))
+        if source.place >= len(data):
+            raise IndexError
+        return record, source.place
+    except IndexError:
+        raise Damaged(gate) from None
+
+
+def events_of(record: bytes, version: int, gate: int) -> List[Event]:
+    source, found = Bytes(record), []
+    try:
+        while source.place < len(record):
+            found.append(event_of(source, version))
+    except (IndexError, KeyError):
+        raise Damaged(gate) from None
+    return found
+
+
+def event_of(source: Bytes, version: int) -> Event:
+    """The next event. IndexError or KeyError where there is none."""
+    kind, at = source.whole(1), source.whole(8)
+    if kind == 1:
+        return Event("process", at, name=source.text())
+    if kind == 6:
+        return Event("time", at)
+    if kind == 7:
+        return Event("failed", at, points=(source.whole(4),))
+    owner = source.whole(2)
+    if kind == 5:
+        return Event("lost", at, owner)
+    seq = source.whole(8) if kind >= 8 and version >= 2 else None
+    plain = kind - 6 if seq is not None else kind
+    if plain == 2:
+        policy = {0: "abort", 1: "keep"}[source.whole(1)]
+        writes = tuple(write_of(source) for _ in range(source.whole(1)))
+        return Event("submit", at, owner, seq=seq, policy=policy, writes=writes)
+    if plain == 3:
+        txn, length = source.whole(8), source.whole(4)
+        return Event("renewal", at, owner, txn=txn, seq=seq, length=length, points=tuple(source.whole(4) for _ in range(source.whole(1))))
+    if plain == 4:
+        return Event("cancel", at, owner, txn=source.whole(8), seq=seq)
+    raise KeyError(kind)
+
+
+def write_of(source: Bytes) -> Write:
+    return Write(source.whole(4), source.whole(8, True), source.whole(1), source.whole(4), steps_of(source))
+
+
+def steps_of(source: Bytes) -> List[Tuple[int, int]]:
+    return [(source.whole(8, True), source.whole(4)) for _ in range(source.whole(1))]
+
+
+# ---- kept states
+
+def state_of(data: bytes, version: int) -> State:
+    """A kept state. IndexError or KeyError where the bytes are none."""
+    source = Bytes(data)
+    now, following = source.whole(8), source.whole(8)
+    processes = [process_of(source, version) for _ in range(source.whole(2))]
+    transactions = [transaction_of(source) for _ in range(source.whole(4))]
+    done = [source.whole(8) for _ in range(source.whole(2))]
+    leases = [lease_of(source) for _ in range(source.whole(4))]
+    reversions = [reversion_of(source) for _ in range(source.whole(4))]
+    if source.place != len(data):
+        raise IndexError
+    return State(now, following, processes, transactions, done, leases, reversions)
+
+
+def process_of(source: Bytes, version: int) -> Process:
+    name, notices = source.text(), source.whole(8)
+    for _ in range(source.whole(2)):
+        skip_notice(source)
+    if version >= 2 and REPLIES[source.whole(1)] != "none":
+        source.take(24)
+    return Process(name, notices)
+
+
+def skip_notice(source: Bytes) -> None:
+    source.take(16)
+    kind = source.whole(1)
+    if kind in (1, 2, 3, 4):
+        source.take(4)
+    if kind == 2:
+        cause_of(source)
+    elif kind == 4:
+        source.take(8)
+    elif kind not in (1, 3, 5):
+        raise KeyError(kind)
+
+
+def cause_of(source: Bytes) -> str:
+    cause = CAUSES[source.whole(1)]
+    if cause == "superseded":
+        source.take(8)
+    return cause
+
+
+def transaction_of(source: Bytes) -> Transaction:
+    txn, owner, policy = source.whole(8), source.whole(2), {0: "abort", 1: "keep"}[source.whole(1)]
+    slots = []
+    for _ in range(source.whole(1)):
+        slots.append((source.whole(4), source.whole(1)))
+        if source.whole(1) == 1:
+            cause_of(source)
+            source.take(8)
+    return Transaction(txn, owner, policy, slots)
+
+
+def lease_of(source: Bytes) -> Lease:
+    txn, owner, point, priority = source.whole(8), source.whole(2), source.whole(4), source.whole(1)
+    value, until, _ = source.whole(8, True), source.whole(8), source.whole(1)
+    return Lease(txn, owner, point, priority, value, until, steps_of(source))
+
+
+def reversion_of(source: Bytes) -> Reversion:
+    txn, owner, point, priority = source.whole(8), source.whole(2), source.whole(4), source.whole(1)
+    return Reversion(txn, owner, point, priority, source.whole(8), steps_of(source))
+
+
+# ---- files
+
+def bytes_of(path: str) -> bytes:
+    try:
+        with open(path, "rb") as file:
+            return file.read()
+    except FileNotFoundError:
+        return b""
+    except OSError as error:
+        raise Failure(f"{path}: {error.strerror}") from error
+
+
+def kind_of(data: bytes) -> str:
+    """What a disk is: "idle", "journal", "state", or "other" where another program wrote it."""
+    if len(data) <= 1 or data[0] == 0:
+        return "idle"
+    if len(data) >= HEADER + 1 and data[1:8] == JOURNAL:
+        return "journal"
+    if len(data) >= 66 and data[1:8] == STATE:
+        return "state"
+    return "other"
+
+
+def journal_of(path: str, data: bytes) -> Journal:
+    """What a file of the kinds "journal" and "state" holds. Damaged; Failure for a version that is not known here."""
+    version, digest = data[8], data[9:HEADER]
+    if version not in (1, 2):
+        raise Failure(f"{path}: a journal of version {version}; this bossctl reads 1 and 2")
+    if kind_of(data) == "journal":
+        return Journal(path, version, digest, None, 0, NEW, data, HEADER)
+    source = Bytes(data, HEADER)
+    generation, before, size = source.whole(8), source.whole(8), source.whole(8)
+    if before > MOST_EVENTS:
+        raise Damaged(49)
+    gate = source.place + size
+    if gate >= len(data):
+        raise Damaged(57)
+    try:
+        state = state_of(data[source.place:gate], version)
+    except (IndexError, KeyError):
+        raise Damaged(65) from None
+    return Journal(path, version, digest, generation, before, state, data, gate)
+
+
+def generation_of(data: bytes) -> int:
+    return int.from_bytes(data[41:49], "big")
+
+
+def find(path: str) -> Optional[Journal]:
+    """The file of a pair that is in force; None where there is nothing yet. Failure where there is no such file, or it is none."""
+    if not os.path.exists(path) and not os.path.exists(path + ".b"):
+        raise Failure(f"{path}: neither this file nor {path}.b exists")
+    pair = [(name, bytes_of(name)) for name in (path, path + ".b")]
+    kinds = [kind_of(data) for _, data in pair]
+    for (name, _), kind, is_wrong in zip(pair, kinds, (kinds[0] == "other", kinds[1] in ("other", "journal"))):
+        # The second file alone may be looked at too.
+        if is_wrong and not (kind == "journal" and kinds[0] == "idle"):
+            raise Failure(f"{name}: no journal of bossd")
+    states = [place for place in (0, 1) if kinds[place] == "state"]
+    if len(states) == 2:
+        follows = generation_of(pair[1][1]) == (generation_of(pair[0][1]) + 1) % (1 << 64)
+        return journal_of(*pair[1 if follows else 0])
+    chosen = states or [place for place in (0, 1) if kinds[place] == "journal"]
+    return journal_of(*pair[chosen[0]]) if chosen else None
+
+
+class Known(NamedTuple):
+    """What a journal says of processes and transactions: their names in order, when each changed something last, and each transaction
+    that the state or the log has, with its owner, its moment if the log has it, and its writes as points and priorities."""
+    names: List[str]
+    last: Dict[str, int]
+    transactions: Dict[int, Dict[str, Any]]
+    now: int
+
+
+def known(journal: Journal) -> Known:
+    """Follows the log, and numbers its transactions as the server does."""
+    state = journal.state
+    names, last, now = [process.name for process in state.processes], {}, state.now
+    transactions: Dict[int, Dict[str, Any]] = {
+        one.txn: {"txn": one.txn, "owner": names[one.owner], "policy": one.policy, "slots": one.slots} for one in state.transactions}
+    following = state.next
+    for _, event in journal.events():
+        now = max(now, event.at)
+        if event.kind == "process":
+            names.append(event.name or "")
+            last[event.name or ""] = event.at
+        elif event.owner is not None:
+            last[names[event.owner]] = event.at
+        if event.kind == "submit" and event.owner is not None:
+            transactions[following] = {"txn": following, "owner": names[event.owner], "policy": event.policy, "at": event.at,
+                                       "slots": [(write.point, write.priority) for write in event.writes]}
+            following += 1
+    return Known(names, last, transactions, now)

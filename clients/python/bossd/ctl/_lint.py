@@ -1,0 +1,357 @@
+"""What is wrong in a catalogue, in access rules and in a plan of devices: every mistake, by its line, its table and its key."""
+
+import difflib
+from typing import Any, Callable, Dict, List, NamedTuple, Optional, Sequence, Set, Tuple
+
+from .._protocol import is_name
+from . import _toml
+from ._toml import Broken, Failure, Lines, Path
+
+LONGEST_FILE = 1_048_576
+MOST_DRIVERS, MOST_POINTS, MOST_RULES = 16, 4_096, 256
+BOUND = 10**15
+A_DAY = 86_400_000
+A_NAME = "1 to 64 characters of a-z 0-9 . _ -"
+A_PATTERN = "a name, or up to 63 characters of a name followed by *"
+KINDS = ("analog", "binary", "multi")
+
+
+class Finding(NamedTuple):
+    """A mistake, or where `is_mistake` is False something that is passed over and looks like one. `line` counts from 1 and is None where
+    it is the file's as a whole; `table` is as `point[3]`, counted from 0 as the server does; `name` is what the table is called."""
+    file: str
+    line: Optional[int]
+    table: str
+    name: str
+    key: str
+    found: str
+    wanted: str
+    is_mistake: bool
+
+    def sentence(self) -> str:
+        """The finding on one line."""
+        where = f"{self.file}:{self.line}:" if self.line else f"{self.file}:"
+        table = f" {self.table}" + (f" {self.name}" if self.name else "") + ":" if self.table else ""
+        key = f" {self.key}:" if self.key else ""
+        found = f" found {self.found};" if self.found else ""
+        return f"{where}{table}{key}{'' if self.is_mistake else ' (passed over)'}{found} {self.wanted}"
+
+
+def shown(value: object) -> str:
+    """A value as it would stand in the file, shortened."""
+    if isinstance(value, bool):
+        return "true" if value else "false"
+    if isinstance(value, dict):
+        return "a table"
+    if isinstance(value, list):
+        return f"an array of {len(value)}"
+    text = '"' + value + '"' if isinstance(value, str) else str(value)
+    return text if len(text) <= 60 else text[:57] + "..."
+
+
+def is_whole(value: object, least: int, most: int) -> bool:
+    return isinstance(value, int) and not isinstance(value, bool) and least <= value <= most
+
+
+def is_pattern(value: object) -> bool:
+    return is_name(value) or (isinstance(value, str) and value.endswith("*") and (value == "*" or is_name(value[:-1])) and len(value) <= 64)
+
+
+class File:
+    """A file that is looked through, and what was found in it."""
+
+    def __init__(self, path: str) -> None:
+        self.path = path
+        self.findings: List[Finding] = []
+        self.tables: Dict[str, Any] = {}
+        self.is_read = False
+        self.lines = Lines("")
+        self._read()
+
+    def _read(self) -> None:
+        try:
+            with open(self.path, "rb") as file:
+                data = file.read()
+        except OSError as error:
+            raise Failure(f"{self.path}: {error.strerror}") from error
+        if len(data) > LONGEST_FILE:
+            self.note((), "", f"{len(data)} bytes", f"at most {LONGEST_FILE} bytes")
+        try:
+            text = data.decode()
+        except UnicodeDecodeError as error:
+            line = data.count(b"\n", 0, error.start) + 1
+            self.findings.append(Finding(self.path, line, "", "", "", "a byte that is no UTF-8", "a file in UTF-8", True))
+            return
+        tables = _toml.read(text)
+        if isinstance(tables, Broken):
+            self.findings.append(Finding(self.path, tables.line, "", "", "", "", f"no TOML: {tables.why}", True))
+            return
+        self.tables, self.lines, self.is_read = tables, Lines(text), True
+        self._whole_numbers((), tables)
+
+    def _whole_numbers(self, path: Path, value: Any) -> None:
+        items: Sequence[Tuple[Any, Any]] = ()
+        if isinstance(value, dict):
+            items = list(value.items())
+        elif isinstance(value, list):
+            items = list(enumerate(value))
+        elif isinstance(value, int) and not -(1 << 63) <= value < 1 << 63:
+            self.note(path, "", shown(value), "a whole number of at most 64 bits, for the file to be TOML")
+        for key, item in items:
+            self._whole_numbers(path + (key,), item)
+
+    def note(self, path: Path, name: str, found: str, wanted: str, is_mistake: bool = True) -> None:
+        """Keeps a finding at this path."""
+        table = f"{path[0]}[{path[1]}]" if len(path) > 1 and isinstance(path[1], int) else ""
+        key = path[2:] if table else path
+        self.findings.append(
+            Finding(self.path, self.lines.of(path), table, name, ".".join(map(str, key)), found, wanted, is_mistake))
+
+    def array(self, key: str, most: Optional[int], what: str) -> List[Any]:
+        """The array under a key of the top; an empty one where there is none, which is noted."""
+        value = self.tables.get(key)
+        if not isinstance(value, list):
+            found = "nothing" if value is None else shown(value)
+            self.note((key,), "", found, f"an array of {what}")
+            return []
+        if most is not None and len(value) > most:
+            self.note((key,), "", f"{len(value)} of them", f"at most {most} {what}")
+        return value
+
+    def known(self, path: Path, name: str, table: Dict[str, Any], keys: Sequence[str]) -> None:
+        """Notes keys that are passed over, with the key that may have been meant."""
+        for key in table:
+            if key not in keys:
+                near = difflib.get_close_matches(key, keys, 1, 0.6)
+                meant = f"is {near[0]} meant?" if near else f"known here are {', '.join(keys)}"
+                self.note(path + (key,), name, "a key that nothing reads", meant, is_mistake=False)
+
+    def one(self, path: Path, name: str, table: Dict[str, Any], key: str, test: Callable[[Any], bool], wanted: str, default: Any = None) -> bool:
+        """Whether the value of a key passes a test; where it does not, or is missing without a default, that is noted."""
+        if key not in table:
+            if default is None:
+                self.note(path + (key,), name, "nothing", wanted)
+            return default is not None
+        if not test(table[key]):
+            self.note(path + (key,), name, shown(table[key]), wanted)
+            return False
+        return True
+
+
+def name_of(table: Dict[str, Any], key: str = "name") -> str:
+    return shown(table[key]) if isinstance(table.get(key), str) else ""
+
+
+# ---- the catalogue
+
+POINT_KEYS = {
+    "analog": ("name", "driver", "kind", "min", "max", "default", "unit", "note"),
+    "binary": ("name", "driver", "kind", "default", "min_on", "min_off", "unit", "note"),
+    "multi": ("name", "driver", "kind", "states", "default", "unit", "note"),
+}
+ALL_KEYS = tuple(dict.fromkeys(key for keys in POINT_KEYS.values() for key in keys))
+
+
+class Catalogue(File):
+    """A catalogue, and of its points those that have a name."""
+
+    def __init__(self, path: str) -> None:
+        super().__init__(path)
+        self.drivers: List[str] = []
+        self.points: Dict[str, Dict[str, Any]] = {}
+        if self.is_read:
+            self.known((), "", self.tables, ("drivers", "point"))
+            self._drivers(self.array("drivers", MOST_DRIVERS, "names of drivers"))
+            for place, point in enumerate(self.array("point", MOST_POINTS, "points, each a table [[point]]")):
+                self._point(("point", place), point)
+            self._idle_drivers()
+
+    def _drivers(self, names: List[Any]) -> None:
+        for place, name in enumerate(names):
+            if not is_name(name):
+                self.note(("drivers", place), "", shown(name), A_NAME)
+            elif name in self.drivers:
+                self.note(("drivers", place), "", f"{shown(name)} again", "a name that no earlier driver has")
+            else:
+                self.drivers.append(name)
+
+    def _point(self, path: Path, point: Any) -> None:
+        if not isinstance(point, dict):
+            self.note(path, "", shown(point), "a table [[point]]")
+            return
+        name, kind = name_of(point), point.get("kind")
+        if self.one(path, name, point, "name", is_name, A_NAME):
+            if point["name"] in self.points:
+                self.note(path + ("name",), "", f"{name} again", "a name that no earlier point has")
+            self.points.setdefault(point["name"], point)
+        drivers = ", ".join(map(shown, self.drivers)) or "a name in drivers"
+        self.one(path, name, point, "driver", lambda value: isinstance(value, str) and value in self.drivers, f"one of drivers: {drivers}")
+        if self.one(path, name, point, "kind", lambda value: value in KINDS, 'one of "analog", "binary", "multi"'):
+            self._bounds(path, name, point)
+        for key in ("unit", "note"):
+            self.one(path, name, point, key, lambda value: isinstance(value, str), "a text", default="")
+        for key in ("min_on", "min_off"):
+            if key in point and kind in ("analog", "multi"):
+                self.note(path + (key,), name, f"a minimum time at {'an' if kind == 'analog' else 'a'} {kind} point", "binary points alone have these")
+            else:
+                self.one(path, name, point, key, lambda value: is_whole(value, 0, A_DAY), f"milliseconds, 0 to {A_DAY}", default=0)
+        keys = POINT_KEYS.get(kind, ALL_KEYS) if isinstance(kind, str) else ALL_KEYS
+        self.known(path, name, {key: value for key, value in point.items() if key not in ("min_on", "min_off")}, keys)
+
+    def _bounds(self, path: Path, name: str, point: Dict[str, Any]) -> None:
+        whole = "a whole number of -10^15 to 10^15, in thousandths of the unit: 20.5 is written 20500"
+        least, most = 0, 1
+        if point["kind"] == "analog":
+            has = [self.one(path, name, point, key, lambda value: is_whole(value, -BOUND, BOUND), whole) for key in ("min", "max")]
+            if not all(has):
+                return
+            least, most = point["min"], point["max"]
+            if least > most:
+                self.note(path + ("min",), name, f"{least}, above max = {most}", "min at most max")
+                return
+        elif point["kind"] == "multi":
+            if not self.one(path, name, point, "states", lambda value: is_whole(value, 2, 255), "how many states, 2 to 255"):
+                return
+            least, most = 1, point["states"]
+        unit = ", in thousandths of the unit" if point["kind"] == "analog" else ""
+        self.one(path, name, point, "default", lambda value: is_whole(value, least, most), f"a whole number of {least} to {most}{unit}")
+
+    def _idle_drivers(self) -> None:
+        used = {point.get("driver") for point in self.points.values() if isinstance(point.get("driver"), str)}
+        for place, name in enumerate(self.tables.get("drivers") or []):
+            if isinstance(name, str) and name in self.drivers and name not in used:
+                self.note(("drivers", place), "", f"{shown(name)}, which has no point", "a driver costs the server a thread", is_mistake=False)
+
+
+# ---- access rules
+
+RULE_KEYS = ("process", "point", "highest", "allow")
+
+
+class Rules(File):
+    """Access rules: an array of tables `rule`."""
+
+    def __init__(self, path: str, catalogue: Catalogue) -> None:
+        super().__init__(path)
+        if not self.is_read:
+            return
+        self.known((), "", self.tables, ("rule",))
+        closed: Optional[int] = None
+        for place, rule in enumerate(self.array("rule", MOST_RULES, "rules, each a table [[rule]]")):
+            at: Path = ("rule", place)
+            if not isinstance(rule, dict):
+                self.note(at, "", shown(rule), "a table [[rule]]")
+                continue
+            for key in ("process", "point"):
+                self.one(at, "", rule, key, is_pattern, A_PATTERN)
+            self.one(at, "", rule, "highest", lambda value: is_whole(value, 1, 16), "the highest priority, 1 to 16", default=1)
+            self.one(at, "", rule, "allow", lambda value: isinstance(value, bool), "true or false", default=True)
+            self.known(at, "", rule, RULE_KEYS)
+            if closed is not None:
+                self.note(at, "", f"a rule after rule[{closed}], which decides everything", "the first rule that matches decides", is_mistake=False)
+            elif (rule.get("process"), rule.get("point")) == ("*", "*"):
+                closed = place
+            point = rule.get("point")
+            if is_pattern(point) and catalogue.points and not any(matches(str(point), name) for name in catalogue.points):
+                self.note(at + ("point",), "", f"{shown(point)}, which no point has", "a point of the catalogue", is_mistake=False)
+
+
+def matches(pattern: str, name: str) -> bool:
+    """Whether a name fits a pattern of a rule."""
+    return name.startswith(pattern[:-1]) if pattern.endswith("*") else name == pattern
+
+
+# ---- a plan of devices
+
+A_PLACE = ("point", "unit", "coil", "register", "per")
+
+
+class Plan(File):
+    """A plan of Modbus devices: arrays of tables `driver` and `place`."""
+
+    def __init__(self, path: str, catalogue: Catalogue) -> None:
+        super().__init__(path)
+        self.catalogue = catalogue
+        self.planned: Set[str] = set()
+        self.placed: Set[str] = set()
+        if self.is_read:
+            self.known((), "", self.tables, ("driver", "place"))
+            for place, driver in enumerate(self.array("driver", None, "tables [[driver]]")):
+                self._driver(("driver", place), driver)
+            for place, one in enumerate(self.array("place", None, "tables [[place]]")):
+                self._place(("place", place), one)
+            self._missing()
+
+    def _driver(self, path: Path, driver: Any) -> None:
+        if not isinstance(driver, dict):
+            self.note(path, "", shown(driver), "a table [[driver]]")
+            return
+        name = name_of(driver)
+        known = ", ".join(map(shown, self.catalogue.drivers))
+        if self.one(path, name, driver, "name", lambda value: isinstance(value, str) and value in self.catalogue.drivers, f"a driver of the catalogue: {known}"):
+            if driver["name"] in self.planned:
+                self.note(path + ("name",), "", f"{name} again", "a driver that no earlier table has")
+            self.planned.add(driver["name"])
+        fits = lambda value: isinstance(value, str) and 1 <= len(value.encode()) <= 255
+        if self.one(path, name, driver, "host", fits, 'a text of 1 to 255 bytes, HOST:PORT, as "192.0.2.7:502"'):
+            if not driver["host"].rpartition(":")[2].isdigit():
+                self.note(path + ("host",), name, shown(driver["host"]), "it has no port: Modbus TCP has 502", is_mistake=False)
+        self.known(path, name, driver, ("name", "host"))
+
+    def _place(self, path: Path, place: Any) -> None:
+        if not isinstance(place, dict):
+            self.note(path, "", shown(place), "a table [[place]]")
+            return
+        name = name_of(place, "point")
+        self.one(path, name, place, "unit", lambda value: is_whole(value, 0, 255), "the unit, 0 to 255")
+        self.one(path, name, place, "per", lambda value: is_whole(value, 1, BOUND), "1 to 10^15: so many thousandths are 1 in the register",
+                 default=1)
+        both = [key for key in ("coil", "register") if key in place]
+        if len(both) != 1:
+            self.note(path, name, " and ".join(both) or "neither coil nor register", "one of coil and register")
+        for key in both:
+            self.one(path, name, place, key, lambda value: is_whole(value, 0, 65_535), "an address, 0 to 65535")
+        if self.one(path, name, place, "point", lambda value: isinstance(value, str) and value in self.catalogue.points, "a point of the catalogue"):
+            self._known_place(path, name, place, self.catalogue.points[place["point"]])
+        self.known(path, name, place, A_PLACE)
+
+    def _known_place(self, path: Path, name: str, place: Dict[str, Any], point: Dict[str, Any]) -> None:
+        if point["name"] in self.placed:
+            self.note(path + ("point",), "", f"{name} again", "a point that has no earlier place")
+        self.placed.add(point["name"])
+        if point.get("driver") not in self.planned:
+            self.note(path + ("point",), name, f"a point of the driver {shown(point.get('driver'))}", "a point of a driver that the plan has")
+        is_binary = point.get("kind") == "binary"
+        if "coil" in place and not is_binary:
+            self.note(path + ("coil",), name, f"a coil for a point of kind {shown(point.get('kind'))}", "a register; coils are for binary points")
+        if "register" in place and is_binary:
+            self.note(path + ("register",), name, "a register for a binary point", "a coil")
+        elif "register" in place:
+            self._range(path, name, place, point)
+
+    def _range(self, path: Path, name: str, place: Dict[str, Any], point: Dict[str, Any]) -> None:
+        least, most = (point.get("min"), point.get("max")) if point.get("kind") == "analog" else (1, point.get("states"))
+        per = place.get("per", 1)
+        if not isinstance(least, int) or not isinstance(most, int) or not is_whole(per, 1, BOUND):
+            return
+        if least < 0:
+            self.note(path + ("register",), name, f"a point with values down to {least}", "a register takes no value below 0")
+        if most // per > 65_535:
+            self.note(path + ("per",), name, f"{most} divided by {per}, which is {most // per}", f"at most 65535: per = {most // 65_536 + 1} or more")
+
+    def _missing(self) -> None:
+        for name, point in self.catalogue.points.items():
+            if point.get("driver") in self.planned and name not in self.placed:
+                line = self.lines.of(("driver",))
+                self.findings.append(Finding(self.path, line, "", "", "place", f"none for {shown(name)}", "a place for each point of a planned driver", True))
+
+
+def lint(catalogue: str, rules: Optional[str] = None, plan: Optional[str] = None) -> List[Finding]:
+    """What is to be said of these files, in the order of their lines. Failure where one cannot be read."""
+    points = Catalogue(catalogue)
+    files: List[File] = [points]
+    if rules is not None:
+        files.append(Rules(rules, points))
+    if plan is not None:
+        files.append(Plan(plan, points))
+    return [finding for file in files for finding in sorted(file.findings, key=lambda it: it.line or 0)]

@@ -1,0 +1,208 @@
+"""The words of bossctl."""
+
+import argparse
+import os
+import socket
+import sys
+from typing import Callable, Optional, Sequence
+
+from .._protocol import Refused, Unanswered, UnknownHost
+from . import _commands, _journal
+from ._toml import Failure
+
+SERVER, CATALOGUE = "127.0.0.1:7000", "/etc/bossd/plant.toml"
+FAULT, USAGE, NO_ANSWER, BROKEN = 1, 2, 3, 130
+
+ABOUT = """Shows and sets what a building's bossd holds.
+
+Each command asks a running server, but for journal and lint, which read files. Every connection takes one of the server's workers as
+long as it lasts."""
+
+ENDS = """A priority is 1 to 16 but not 6, and the least number wins; 8 is Manual Operator. Lengths of time are written 30m, 90s, 1h30m, 250ms
+or 2d. Values of analog points are in units, as 45 or 21.5.
+
+It ends with 0; with 1 where something is wrong or was refused; with 2 for faulty words; with 3 where the server does not answer.
+
+For example:
+    bossctl points 'air.*'
+    bossctl set air.damper 80 --for 30m --back 60,45 --step 5m
+    bossctl lint /etc/bossd/plant.toml"""
+
+Command = Callable[[argparse.Namespace], int]
+
+
+def at_every_place(parser: argparse.ArgumentParser, is_top: bool) -> None:
+    """The options that may stand before a command and after it."""
+    environment = os.environ
+
+    def given(value: object) -> object:
+        return value if is_top else argparse.SUPPRESS
+
+    group = parser.add_argument_group("options of every command")
+    group.add_argument("--server", metavar="HOST:PORT", default=given(environment.get("BOSSD_SERVER") or SERVER),
+                       help=f"where the server listens (or BOSSD_SERVER in the environment; {SERVER})")
+    group.add_argument("--catalogue", metavar="FILE", default=given(environment.get("BOSSD_CATALOGUE") or CATALOGUE),
+                       help=f"the server's catalogue (or BOSSD_CATALOGUE in the environment; {CATALOGUE}); its points may have a unit and a note,"
+                       " which the server passes over and bossctl shows")
+    group.add_argument("--json", action="store_true", default=given(False), help="write JSON, for programs: values are whole numbers,"
+                       " thousandths of the unit at analog points; moments are milliseconds since 1970")
+    group.add_argument("--patience", type=float, metavar="SECONDS", default=given(10.0),
+                       help="how long to wait for the server (10): where all its workers are busy, nothing is answered until one is free")
+
+
+def add(commands: "argparse._SubParsersAction[argparse.ArgumentParser]", name: str, run: Command, help: str, more: str = "") -> argparse.ArgumentParser:
+    text = f"{help[0].upper()}{help[1:]}." + (f"\n\n{more}" if more else "")
+    parser = commands.add_parser(name, help=help, description=text, formatter_class=argparse.RawDescriptionHelpFormatter)
+    parser.set_defaults(run=run)
+    at_every_place(parser, is_top=False)
+    return parser
+
+
+def priority(text: str) -> int:
+    if not text.isdigit() or not 1 <= int(text) <= 16 or int(text) == 6:
+        raise argparse.ArgumentTypeError(f"{text} is no priority: 1 to 16, but not 6, which is kept for minimum on and off times")
+    return int(text)
+
+
+def count(text: str) -> int:
+    if not text.isdigit():
+        raise argparse.ArgumentTypeError(f"{text} is no number")
+    return int(text)
+
+
+def sets_a_point(parser: argparse.ArgumentParser) -> None:
+    parser.add_argument("point", metavar="POINT", help="the point's name")
+    parser.add_argument("value", metavar="VALUE", help="the value, in units at an analog point")
+    parser.add_argument("--back", metavar="V,V,..", help="the reversion: up to 8 values that are played one after another when the lease ends,"
+                        " unless another transaction took the slot")
+    parser.add_argument("--step", metavar="TIME", type=_commands.length_of, default=60_000, help="how long each of these is held (1m)")
+
+
+def as_a_process(parser: argparse.ArgumentParser) -> None:
+    parser.add_argument("--priority", type=priority, default=8, metavar="N", help="the priority (8, Manual Operator)")
+    parser.add_argument("--as", dest="process", metavar="NAME", help="the name of the process that bossctl is for the server; without it the"
+                        " first of bossctl, bossctl-2, .. bossctl-8 that nobody has")
+
+
+def parser_of() -> argparse.ArgumentParser:
+    parser = argparse.ArgumentParser(prog="bossctl", description=ABOUT, epilog=ENDS, formatter_class=argparse.RawDescriptionHelpFormatter)
+    at_every_place(parser, is_top=True)
+    commands = parser.add_subparsers(dest="command", metavar="COMMAND", required=True)
+
+    points = add(commands, "points", _commands.points, "show points: value, where from, who holds it, how long yet, and the device's mark")
+    points.add_argument("pattern", metavar="PATTERN", nargs="?", help="only points that fit it, with * ? and [ ]; or whose names contain it")
+    points.add_argument("--held", action="store_true", help="only points that somebody holds, or that revert")
+
+    point = add(commands, "point", _commands.point, "show the sixteen slots of a point, and what comes next",
+                "The levels have the names of ASHRAE 135. The server does not say which reversion a lease was given before it begins.")
+    point.add_argument("name", metavar="NAME", help="the point's name")
+
+    one = add(commands, "set", _commands.set_point, "set a point for a while",
+              "Stays until the time is over, since the server lets go of what a lost connection held. Ctrl-C releases the point before.")
+    sets_a_point(one)
+    one.add_argument("--for", dest="lease", metavar="TIME", type=_commands.length_of, required=True, help="for how long: at most 7d")
+    as_a_process(one)
+
+    one = add(commands, "hold", _commands.hold_point, "set a point until Ctrl-C",
+              "Holds it by a short lease that is renewed, so the server lets go soon after this program or its machine is gone.")
+    sets_a_point(one)
+    one.add_argument("--lease", metavar="TIME", type=_commands.length_of, default=30_000, help="the lease that is renewed (30s)")
+    as_a_process(one)
+
+    one = add(commands, "release", _commands.release, "release a slot of a point, whoever holds it",
+              "Takes the slot by a transaction of its own and lets it go at once. Whoever held it is told that it was superseded, and its\n"
+              "reversion is not played. A program that holds the point by a loop may take it again.")
+    one.add_argument("point", metavar="POINT", help="the point's name")
+    as_a_process(one)
+
+    one = add(commands, "watch", _commands.watch, "show what a process is told, as it comes", "Goes on until Ctrl-C.")
+    one.add_argument("process", metavar="PROCESS", help="the name of the process")
+    one.add_argument("--from", dest="first", type=count, metavar="N", help="begin with this notice; without it with the last ten")
+
+    one = add(commands, "processes", _commands.processes, "show processes, and what they hold",
+              "The server tells of no process but those that hold something. The names of the others stand in its journal: with --journal,\n"
+              f"or where {_journal.DEFAULT} may be read, as by root, they are shown too. Whether a process is connected is not known.")
+    one.add_argument("--journal", metavar="FILE", help=f"the server's journal ({_journal.DEFAULT}, where it may be read)")
+
+    one = add(commands, "transactions", _commands.transactions, "show transactions that hold something: whose, how far, and which points",
+              "The server tells of a transaction by its number alone. The numbers of those that hold something are found in the slots of all\n"
+              "points; those of others stand in the journal, which --done reads.")
+    one.add_argument("--done", action="store_true", help="also those that are done and still known, by the journal")
+    one.add_argument("--most", type=count, default=1_024, metavar="N", help="with --done, look at the last N of the journal (1024)")
+    one.add_argument("--journal", metavar="FILE", help=f"the server's journal ({_journal.DEFAULT})")
+
+    add(commands, "faults", _commands.faults, "show points whose devices refused a value, or have not answered yet",
+        "Ends with 1 where a device refused. Also shown is what the processes that hold these points were told of faults.")
+
+    one = add(commands, "status", _commands.status, "show whether the server answers, how soon, and whether workers are free",
+              "Asks it something, and then over further connections, which take free workers for some thousandths of a second.")
+    one.add_argument("--workers", type=count, default=4, metavar="N", help="look for so many free workers at most (4)")
+
+    one = add(commands, "journal", _commands.journal, "show the events of a journal, one on a line",
+              "Reads the files and asks no server. Of the two files FILE and FILE.b it reads the one in force: the kept state that it may begin\n"
+              "with, and each event after that. Reading the files of a server that runs does no harm; as the last line it may miss what came\n"
+              "meanwhile.")
+    one.add_argument("file", metavar="FILE", help="the journal's name")
+    one.add_argument("--state", action="store_true", help="show the leases and reversions of the kept state too")
+    one.add_argument("--from", dest="first", type=count, default=1, metavar="N", help="begin with this event")
+    one.add_argument("--last", type=count, metavar="N", help="only the last N events")
+
+    one = add(commands, "top", _commands.top, "show what is held on a screen that goes on", "Failed devices come first, then what ends first. q ends it.")
+    one.add_argument("--every", type=float, default=1.0, metavar="SECONDS", help="how often to look (1)")
+    one.add_argument("--count", type=count, metavar="N", help="end after N looks")
+
+    one = add(commands, "lint", _commands.lint, "look through a catalogue, access rules and a plan of devices, and name every mistake",
+              "Each mistake has its line, its table, its key, what was found and what may stand there. Tables count from 0, as in what the server\n"
+              "prints. Keys that nothing reads are named too, as passed over. Whether the program has a device for a driver is not looked at.\n\n"
+              "RULES has tables [[rule]] with process, point, highest (1) and allow (true). PLAN has tables [[driver]] with name and host, and\n"
+              "[[place]] with point, unit, one of coil and register, and per (1). They are for servers that take such files.")
+    one.add_argument("file", metavar="CATALOGUE", help="the catalogue")
+    one.add_argument("rules", metavar="RULES", nargs="?", help="access rules; - for none")
+    one.add_argument("plan", metavar="PLAN", nargs="?", help="a plan of Modbus devices; - for none")
+
+    add(commands, "version", _commands.version, "show the version of bossctl")
+    return parser
+
+
+def main(arguments: Optional[Sequence[str]] = None) -> int:
+    """Runs the command, and gives the status to end with."""
+    words = parser_of().parse_args(arguments)
+    for name in ("rules", "plan"):
+        if getattr(words, name, None) == "-":
+            setattr(words, name, None)
+    try:
+        status: int = words.run(words)
+        sys.stdout.flush()
+        return status
+    except BrokenPipeError:
+        # Whoever read the output has enough. Nothing more is written as Python ends.
+        os.dup2(os.open(os.devnull, os.O_WRONLY), sys.stdout.fileno())
+        return FAULT
+    except KeyboardInterrupt:
+        return BROKEN
+    except Refused as error:
+        return say(f"refused: {error}", FAULT)
+    except UnknownHost as error:
+        return say(str(error), NO_ANSWER)
+    except Unanswered as error:
+        return say(no_answer(words.server, error), NO_ANSWER)
+    except Failure as error:
+        return say(str(error), FAULT)
+    except ValueError as error:
+        return say(str(error), USAGE)
+    except OSError as error:
+        return say(f"{words.server}: {error}", NO_ANSWER)
+
+
+def say(text: str, status: int) -> int:
+    print(f"bossctl: {text}", file=sys.stderr)
+    return status
+
+
+def no_answer(server: str, error: Unanswered) -> str:
+    cause: Optional[BaseException] = error.__cause__
+    if isinstance(cause, ConnectionRefusedError):
+        return f"nobody listens at {server}: does bossd run? (systemctl status bossd; --server or BOSSD_SERVER says where it listens)"
+    if isinstance(cause, socket.timeout):
+        return f"{server} takes the connection and answers nothing: all its workers are busy, or it hangs"
+    return f"{server} does not answer: {cause or error}"

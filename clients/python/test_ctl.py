@@ -1,0 +1,458 @@
+"""Tests of bossctl, against the built program where it asks one: python3 -m unittest, in this folder."""
+
+import contextlib
+import io
+import json
+import os
+import signal
+import subprocess
+import sys
+import tempfile
+import textwrap
+import time
+import unittest
+
+import bossd
+from bossd.ctl import _journal, _lint, _show, main
+from bossd.ctl._toml import Failure, Lines
+from test_bossd import MINUTE, common, eventually
+
+HERE = os.path.dirname(os.path.abspath(__file__))
+PLANT = """
+drivers = ["field"]
+
+[[point]]
+name = "ahu1.damper"
+driver = "field"
+kind = "analog"
+min = 0
+max = 100000
+default = 20000
+unit = "%"
+note = "supply air"
+
+[[point]]
+name = "lamp"
+driver = "field"
+kind = "binary"
+default = 0
+
+[[point]]
+name = "fan"
+driver = "field"
+kind = "multi"
+states = 3
+default = 1
+"""
+
+
+class Folder(unittest.TestCase):
+    def setUp(self):
+        folder = tempfile.TemporaryDirectory()
+        self.addCleanup(folder.cleanup)
+        self.folder = folder.name
+
+    def file(self, name, text):
+        path = os.path.join(self.folder, name)
+        with open(path, "wb") as file:
+            file.write(text if isinstance(text, bytes) else textwrap.dedent(text).encode())
+        return path
+
+    def run_here(self, *words):
+        """The status, what was written, and what was written aside."""
+        out, aside = io.StringIO(), io.StringIO()
+        with contextlib.redirect_stdout(out), contextlib.redirect_stderr(aside):
+            try:
+                status = main(list(words))
+            except SystemExit as end:
+                status = end.code
+        return status, out.getvalue(), aside.getvalue()
+
+
+class Linting(Folder):
+    def found(self, catalogue, rules=None, plan=None):
+        files = [self.file(name, text) for name, text in (("plant.toml", catalogue), ("rules.toml", rules), ("plan.toml", plan)) if text is not None]
+        return [(it.line, it.table, it.key, it.is_mistake) for it in _lint.lint(*files)]
+
+    def test_what_is_right(self):
+        self.assertEqual(self.found(PLANT), [])
+        for name in ("plant.toml", "floor.toml"):
+            self.assertEqual(_lint.lint(os.path.join(common.EXAMPLES, name)), [])
+
+    def test_every_mistake_by_its_line_and_key(self):
+        self.assertEqual(self.found("""\
+            drivers = ["field", "Field", "field"]
+            [[point]]
+            name = "a"
+            driver = "field"
+            kind = "analog"
+            min = 0.0
+            max = 100000
+            defualt = 0
+            [[point]]
+            name = "a"            # the name of an earlier one
+            driver = "roof"
+            kind = "binray"
+            default = 0
+            [[point]]
+            name = "c c"
+            driver = "field"
+            kind = "multi"
+            states = 1
+            [[point]]
+            name = "d"
+            driver = "field"
+            kind = "analog"
+            min = 10
+            max = 0
+            default = 5
+            [[point]]
+            name = "e"
+            driver = "field"
+            kind = "binary"
+            default = 2
+            min_on = -1
+            unit = 3
+            """), [
+            (1, "drivers[1]", "", True), (1, "drivers[2]", "", True),
+            (6, "point[0]", "min", True), (8, "point[0]", "defualt", False),
+            (10, "point[1]", "name", True), (11, "point[1]", "driver", True), (12, "point[1]", "kind", True),
+            (15, "point[2]", "name", True), (18, "point[2]", "states", True),
+            (23, "point[3]", "min", True),
+            (30, "point[4]", "default", True), (31, "point[4]", "min_on", True), (32, "point[4]", "unit", True)])
+
+    def test_a_missing_key_is_told_at_its_table(self):
+        self.assertEqual(self.found('drivers = []\n[[point]]\nname = "a"\n')[0], (2, "point[0]", "driver", True))
+        self.assertEqual(self.found("x = 1\n"), [(None, "", "drivers", True), (None, "", "point", True), (1, "", "x", False)])
+
+    def test_a_broken_table(self):
+        [(line, _, _, is_mistake)] = self.found('drivers = ["a"]\n[[point]\nname = "a"\n')
+        self.assertEqual((line, is_mistake), (2, True))
+        [(line, _, _, is_mistake)] = self.found(b'drivers = ["a"]\n# \xff\n')
+        self.assertEqual((line, is_mistake), (2, True))
+
+    def test_inline_tables_have_their_lines(self):
+        self.assertEqual(self.found("""\
+            drivers = ["field"]
+            point = [
+                { name = "a", driver = "field", kind = "binary", default = 0 },
+                { name = "b", driver = "field", kind = "binary", default = 7 },
+            ]
+            """), [(4, "point[1]", "default", True)])
+
+    def test_rules(self):
+        self.assertEqual(self.found(PLANT, """\
+            [[rule]]
+            process = "night-*"
+            point = "ahu1.*"
+            highest = 17
+            [[rule]]
+            process = "Night"
+            point = "roof.*"
+            allow = "no"
+            [[rule]]
+            process = "*"
+            point = "*"
+            [[rule]]
+            process = "a"
+            piont = "lamp"
+            """), [
+            (4, "rule[0]", "highest", True), (6, "rule[1]", "process", True), (7, "rule[1]", "point", False), (8, "rule[1]", "allow", True),
+            (12, "rule[3]", "point", True), (12, "rule[3]", "", False), (14, "rule[3]", "piont", False)])
+
+    def test_a_plan(self):
+        self.assertEqual(self.found(PLANT, "rule = []\n", """\
+            [[driver]]
+            name = "field"
+            host = "127.0.0.1:1502"
+            [[place]]
+            point = "ahu1.damper"
+            unit = 1
+            register = 2
+            [[place]]
+            point = "lamp"
+            unit = 256
+            register = 3
+            [[place]]
+            point = "roof"
+            unit = 1
+            coil = 19
+            register = 19
+            """), [
+            (1, "", "place", True), (4, "place[0]", "per", True), (10, "place[1]", "unit", True), (11, "place[1]", "register", True),
+            (12, "place[2]", "", True), (13, "place[2]", "point", True)])
+
+    def test_the_command(self):
+        path = self.file("plant.toml", 'drivers = ["field"]\n[[point]]\nname = "a"\ndriver = "field"\nkind = "analog"\nmin = 0.0\nmax = 1\ndefault = 0\n')
+        status, out, _ = self.run_here("lint", path)
+        self.assertEqual(status, 1)
+        self.assertIn(f'{path}:6: point[0] "a": min: found 0.0; a whole number of', out)
+        status, out, _ = self.run_here("lint", path, "--json")
+        self.assertEqual([it["line"] for it in json.loads(out)], [6])
+        self.assertEqual(self.run_here("lint", os.path.join(common.EXAMPLES, "plant.toml"))[0], 0)
+        self.assertEqual(self.run_here("lint", "/nowhere")[0], 1)
+
+
+class Finding(unittest.TestCase):
+    def test_lines_of_keys(self):
+        lines = Lines('a.b = """\n"quoted""""\n[t]\n"x y" = [1,\n 2] # end\n[[u]]\nk = \'#\'\n[[u]]\n[u.v]\nw = {z = 1}\n')
+        for path, line in [(("a", "b"), 1), (("t",), 3), (("t", "x y"), 4), (("t", "x y", 1), 5), (("u", 0, "k"), 7), (("u", 1), 8),
+                           (("u", 1, "v", "w"), 10), (("u", 1, "v", "w", "z"), 10), (("u", 1, "missing"), 8), (("nowhere",), None)]:
+            self.assertEqual(lines.of(path), line, path)
+
+
+class Showing(unittest.TestCase):
+    def test_values(self):
+        damper = _show.Point("d", "f", "analog", -10_000, 100_000, 0, "%")
+        self.assertEqual([damper.show(value) for value in (45_000, -500, 125, 0)], ["45.0 %", "-0.5 %", "0.125 %", "0.0 %"])
+        self.assertEqual([damper.value(text) for text in ("45", "-0.5", "0.125", "1e1")], [45_000, -500, 125, 10_000])
+        for text in ("0.0001", "101", "nan", "inf", "x"):
+            with self.assertRaises(Failure):
+                damper.value(text)
+        with self.assertRaises(Failure):
+            _show.Point("l", "f", "binary", 0, 1, 0).value("0.5")
+
+    def test_lengths_of_time(self):
+        self.assertEqual([_show.read_length(text) for text in ("30m", "90s", "1h30m", "250ms", "2d", "1.5s")],
+                         [1_800_000, 90_000, 5_400_000, 250, 172_800_000, 1_500])
+        for text in ("30", "m", "30 m", "-1s", "1x", "0.1ms"):
+            with self.assertRaises(ValueError):
+                _show.read_length(text)
+        self.assertEqual([_show.length(it) for it in (4_200, 30_000, 1_798_000, 5_400_000, 100_000_000)], ["4.2s", "30s", "29m58s", "1h30m", "1d3h"])
+        self.assertEqual([_show.exact_length(it) for it in (60_000, 90_500, 0)], ["1m", "1m30s500ms", "0s"])
+
+
+DIGEST = bytes(32)
+TAKEN_ON = bytes.fromhex("01 0000000000000000 01 61")
+SUBMIT = bytes.fromhex("02 00000000000003e8 0000 00 01 00000000 000000000000afc8 08 0000ea60 00")
+STATE = bytes.fromhex("""
+    00 00 00 00 00 00 03 e8  00 00 00 00 00 00 00 02  00 01  01 61  00 00 00 00 00 00 00 00  00 00  00  00 00 00 01
+    00 00 00 00 00 00 00 01  00 00  00  01  00 00 00 00  08  00  00 00  00 00 00 01
+    00 00 00 00 00 00 00 01  00 00  00 00 00 00  08  00 00 00 00 00 00 af c8  00 00 00 00 00 00 ee 48  00  00  00 00 00 00""")
+
+
+def record(*events):
+    data = b"".join(events)
+    return b"\1" + len(data).to_bytes(4, "big") + data
+
+
+JOURNAL = b"BOSSJRNL\2" + DIGEST + record(TAKEN_ON) + record(SUBMIT) + b"\0"
+KEPT = b"BOSSSNAP\2" + DIGEST + (1).to_bytes(8, "big") + (2).to_bytes(8, "big") + len(STATE).to_bytes(8, "big") + STATE
+
+
+class Journals(Folder):
+    """The bytes are those of docs/FORMATS.md."""
+
+    def events(self, data, second=None):
+        path = self.file("j", data)
+        if second is not None:
+            self.file("j.b", second)
+        found = _journal.find(path)
+        return found, list(found.events())
+
+    def test_a_small_journal(self):
+        self.assertEqual((len(JOURNAL), len(STATE), len(KEPT + b"\0")), (94, 96, 162))
+        found, events = self.events(JOURNAL)
+        self.assertEqual((found.before, found.version, found.generation), (0, 2, None))
+        write = _journal.Write(0, 45_000, 8, 60_000, [])
+        self.assertEqual(events, [(1, _journal.Event("process", 0, name="a")),
+                                  (2, _journal.Event("submit", 1_000, 0, policy="abort", writes=(write,)))])
+
+    def test_a_small_state_and_what_comes_after(self):
+        tick = bytes.fromhex("06 000000000000ee48")
+        numbered = bytes.fromhex("0a 000000000000ee49 0000 0000000000000005 0000000000000001")
+        found, events = self.events(JOURNAL, KEPT + record(tick, numbered) + b"\0")
+        self.assertTrue(found.path.endswith(".b"))
+        self.assertEqual((found.before, found.generation, found.state.now, found.state.next), (2, 1, 1_000, 2))
+        self.assertEqual(found.state.leases, [_journal.Lease(1, 0, 0, 8, 45_000, 61_000, [])])
+        self.assertEqual(events, [(3, _journal.Event("time", 61_000)), (4, _journal.Event("cancel", 61_001, 0, txn=1, seq=5))])
+        self.assertEqual(_journal.known(found).transactions[1]["owner"], "a")
+
+    def test_damage_is_told_by_its_place(self):
+        for cut, place in [(93, 57), (57, 41), (42, 41)]:
+            with self.assertRaises(_journal.Damaged) as caught:
+                self.events(JOURNAL[:cut])
+            self.assertEqual(caught.exception.place, place)
+        with self.assertRaises(_journal.Damaged) as caught:
+            self.events(b"\0", KEPT)
+        self.assertEqual(caught.exception.place, 57)
+        status, out, aside = self.run_here("journal", self.file("cut", JOURNAL[:93]))
+        self.assertEqual((status, "damaged at byte 57" in aside, "a is a new process" in out), (1, True, True))
+
+    def test_what_is_none(self):
+        for data, second in [(b"SQLite format 3\0" + bytes(80), b""), (JOURNAL, JOURNAL)]:
+            with self.assertRaises(Failure):
+                self.events(data, second)
+        with self.assertRaises(Failure):
+            _journal.find(os.path.join(self.folder, "nowhere"))
+        self.assertIsNone(_journal.find(self.file("new", b"\0")))
+
+
+class Serving(Folder):
+    def setUp(self):
+        super().setUp()
+        self.catalogue = self.file("plant.toml", PLANT)
+        self.journal = os.path.join(self.folder, "journal")
+        self.server = common.Server(self.catalogue, self.journal, workers=8)
+        self.server.start()
+        self.addCleanup(self.server.stop)
+
+    def words(self, *words):
+        return [*words, "--server", self.server.address, "--catalogue", self.catalogue]
+
+    def ask(self, *words):
+        return self.run_here(*self.words(*words))
+
+    def told(self, *words):
+        status, out, aside = self.ask(*words, "--json")
+        self.assertEqual(status, 0, aside)
+        return json.loads(out)
+
+    def begin(self, *words):
+        environment = {**os.environ, "PYTHONPATH": HERE, "PYTHONUNBUFFERED": "1"}
+        process = subprocess.Popen([sys.executable, "-m", "bossd.ctl", *self.words(*words)], env=environment, stdout=subprocess.PIPE,
+                                   stderr=subprocess.STDOUT, text=True)
+        self.addCleanup(process.stdout.close)
+        self.addCleanup(process.wait)
+        self.addCleanup(process.kill)
+        return process
+
+    def client(self, process):
+        made = bossd.Client(self.server.address, process)
+        self.addCleanup(made.close)
+        return made
+
+    def value(self, point):
+        return next(it["shown"] for it in self.told("points", point))
+
+    def test_points(self):
+        self.client("purge").submit([bossd.write("ahu1.damper", 45_500, priority=9, lease=30 * MINUTE)])
+        status, out, _ = self.ask("points")
+        self.assertEqual(status, 0)
+        self.assertRegex(out, r"ahu1.damper +45.5 % +lease +9 +purge +29m5\d?s")
+        self.assertIn("supply air", out)
+        self.assertIn("3 points: 1 held, 0 reverting, 2 at their defaults", out)
+        self.assertEqual([it["point"] for it in self.told("points", "*a*")], ["ahu1.damper", "lamp", "fan"])
+        self.assertEqual([it["point"] for it in self.told("points", "--held")], ["ahu1.damper"])
+        self.assertEqual([it["point"] for it in self.told("points", "lam")], ["lamp"])
+        [told] = self.told("points", "ahu1.damper")
+        self.assertEqual((told["value"], told["shown"], told["unit"], told["process"]), (45_500, "45.5", "%", "purge"))
+
+    def test_the_slots_of_a_point(self):
+        self.client("purge").submit([bossd.write("ahu1.damper", 45_500, priority=9, lease=30 * MINUTE)])
+        self.client("schedule").submit([bossd.write("ahu1.damper", 30_000, priority=16, lease=60 * MINUTE)])
+        status, out, _ = self.ask("point", "ahu1.damper")
+        self.assertRegex(out, r"9 +Available +45.5 % +lease, in force +purge")
+        self.assertRegex(out, r"8 +Manual Operator +-")
+        self.assertRegex(out, r"Next: in 29m5\d?s, at .*, the lease ends, unless it is renewed; then 30.0 %, lease of schedule at priority 16")
+        told = self.told("point", "ahu1.damper")
+        self.assertEqual(([slot and slot["process"] for slot in told["slots"]].count(None), told["next"][0]["value"]), (14, 30_000))
+
+    def test_set_until_the_time_is_over(self):
+        process = self.begin("set", "ahu1.damper", "80", "--for", "2s", "--back", "60,45", "--step", "2s")
+        out, _ = process.communicate(timeout=30)
+        self.assertEqual(process.returncode, 0, out)
+        self.assertIn("in force: 80.0 %, by a lease of bossctl at priority 8", out)
+        self.assertIn("its time is over; back by 60,45, 2s each", out)
+        self.assertTrue(eventually(lambda: self.value("ahu1.damper") == "45.0", 10))
+
+    def test_hold_until_it_is_stopped(self):
+        process = self.begin("hold", "ahu1.damper", "33.125", "--priority", "7", "--as", "me", "--lease", "1s")
+        self.assertTrue(eventually(lambda: self.value("ahu1.damper") == "33.125", 10))
+        time.sleep(2)
+        self.assertEqual(self.value("ahu1.damper"), "33.125")
+        process.send_signal(signal.SIGTERM)
+        out, _ = process.communicate(timeout=30)
+        self.assertEqual(process.returncode, 0, out)
+        self.assertEqual(self.value("ahu1.damper"), "20.0")
+
+    def test_release_what_somebody_else_holds(self):
+        process = self.begin("set", "lamp", "1", "--for", "1h")
+        self.assertTrue(eventually(lambda: self.value("lamp") == "1", 10))
+        status, out, aside = self.ask("release", "lamp")
+        self.assertEqual(status, 0, aside)
+        self.assertIn("where bossctl had 1; in force: 0, its default", out)
+        out, _ = process.communicate(timeout=30)
+        self.assertEqual(process.returncode, 1, out)
+        self.assertIn("took the slot", out)
+        status, _, aside = self.ask("release", "lamp")
+        self.assertEqual((status, "nothing stands at priority 8 of lamp" in aside), (1, True))
+
+    def test_words_that_are_wrong(self):
+        for words, status, word in [
+            (("set", "ahu1.damper", "101", "--for", "1s"), 1, "wanted 0.0 to 100.0 %"),
+            (("set", "door", "1", "--for", "1s"), 1, "has no point door"),
+            (("set", "lamp", "1", "--for", "30"), 2, "no length of time"),
+            (("set", "lamp", "1", "--for", "8d"), 1, "at most 7d"),
+            (("set", "lamp", "1", "--for", "1s", "--priority", "6"), 2, "no priority"),
+            (("set", "lamp", "1", "--for", "1s", "--as", "Me"), 1, "process: found 'Me'"),
+            (("paint",), 2, "invalid choice"),
+            (("status", "--server", "127.0.0.1"), 2, "no port"),
+        ]:
+            with self.subTest(words):
+                found, _, aside = self.run_here("--server", self.server.address, "--catalogue", self.catalogue, *words)
+                self.assertEqual((found, word in aside), (status, True), aside)
+
+    def test_processes_and_transactions(self):
+        purge = self.client("purge")
+        purge.submit([bossd.write("ahu1.damper", 45_500, lease=30 * MINUTE), bossd.write("lamp", 1, lease=30 * MINUTE)])
+        purge.submit([bossd.write("fan", 2, lease=MINUTE)])
+        purge.cancel(2)
+        with bossd.Client(self.server.address, "gone"):
+            pass
+        self.assertEqual([it["process"] for it in self.told("processes")], ["purge"])
+        with_journal = self.told("processes", "--journal", self.journal)
+        self.assertEqual([(it["process"], it["leases"], it["notices"]) for it in with_journal], [("gone", 0, 0), ("purge", 2, 2)])
+        [standing] = self.told("transactions")
+        self.assertEqual((standing["txn"], standing["owner"], standing["points"]), (1, "purge", ["ahu1.damper", "lamp"]))
+        done = self.told("transactions", "--done", "--journal", self.journal)
+        self.assertEqual([(it["txn"], it["stage"]) for it in done], [(1, "run"), (2, "done")])
+        for words in (("processes",), ("transactions",), ("transactions", "--done", "--journal", self.journal), ("faults",)):
+            self.assertEqual(self.ask(*words)[0], 0)
+
+    def test_the_journal(self):
+        self.client("purge").submit([bossd.write("ahu1.damper", 45_500, priority=9, lease=30 * MINUTE, revert=[(30_000, MINUTE)])])
+        status, out, aside = self.ask("journal", self.journal)
+        self.assertEqual((status, aside), (0, ""))
+        self.assertIn("which is this one", out)
+        self.assertIn("purge is a new process", out)
+        self.assertIn("purge submits transaction 1 (number 1): ahu1.damper = 45.5 % at 9 for 30m, back by 30.0 % for 1m", out)
+        status, out, _ = self.ask("journal", self.journal, "--json", "--last", "1")
+        head, last = map(json.loads, out.splitlines())
+        self.assertEqual((head["catalogue_agrees"], last["kind"], last["txn"]), (True, "submit", 1))
+
+    def test_watch(self):
+        purge = self.client("purge")
+        purge.submit([bossd.write("lamp", 1, lease=1)])
+        process = self.begin("watch", "purge")
+        lines = [process.stdout.readline() for _ in range(2)]
+        self.assertIn("transaction 1: its lease on lamp ended: expired", lines[0])
+        self.assertIn("transaction 1: done", lines[1])
+
+    def test_status(self):
+        status, out, _ = self.ask("status")
+        self.assertEqual(status, 0)
+        self.assertIn("4 or more workers are free", out)
+        told = self.told("status", "--workers", "20")
+        self.assertEqual((told["answers"], told["free"]), (True, 7))
+        self.server.stop()
+        status, out, _ = self.ask("status", "--patience", "1")
+        self.assertEqual((status, "does not answer" in out), (3, True))
+        status, _, aside = self.ask("points", "--patience", "1")
+        self.assertEqual((status, "nobody listens" in aside), (3, True))
+
+    def test_top(self):
+        self.client("purge").submit([bossd.write("ahu1.damper", 45_500, lease=30 * MINUTE)])
+        status, out, _ = self.ask("top", "--count", "2", "--every", "0.1")
+        self.assertEqual((status, out.count("ahu1.damper")), (0, 2))
+
+    def test_help_everywhere(self):
+        for command in ("", "points", "point", "set", "hold", "release", "watch", "processes", "transactions", "faults", "status", "journal",
+                        "top", "lint", "version"):
+            status, out, _ = self.run_here(*filter(None, [command]), "--help")
+            self.assertEqual((status, "--catalogue" in out), (0, True))
+        self.assertIn(bossd.__version__, self.run_here("version")[1])
+
+
+if __name__ == "__main__":
+    unittest.main()

@@ -1,0 +1,122 @@
+"""What the tools share: the built program, a free port, a server that is started and stopped, and what a process has in memory.
+
+The program is that of this repository (./bossd builds it), or the one that BOSSD in the environment names."""
+
+import os
+import signal
+import socket
+import subprocess
+import sys
+import time
+
+TOP = os.path.dirname(os.path.dirname(os.path.abspath(__file__)))
+PROGRAM = os.path.abspath(os.environ.get("BOSSD") or os.path.join(TOP, "crates", "bossd", "out", "bossd"))
+EXAMPLES = os.path.join(TOP, "examples")
+CLIENT = os.path.join(TOP, "clients", "python")
+# How long, in seconds, a server may take until it listens.
+PATIENCE = 60
+# So many free bytes at most the C library keeps for each thread, as in the unit for systemd.
+SETTINGS = {"MALLOC_TRIM_THRESHOLD_": "262144"}
+
+
+def need_program():
+    """Ends the tool where there is no program to try."""
+    if not os.access(PROGRAM, os.X_OK):
+        name = os.path.basename(sys.argv[0])
+        sys.exit(f"{name}: there is no program at {PROGRAM}: run ./bossd once, or name another one in BOSSD")
+
+
+def free_port():
+    """A port of 127.0.0.1 on which nobody listens."""
+    with socket.create_server(("127.0.0.1", 0)) as taken:
+        return taken.getsockname()[1]
+
+
+def eventually(test, seconds=5.0):
+    """Whether it comes true in so many seconds."""
+    deadline = time.monotonic() + seconds
+    while not test():
+        if time.monotonic() > deadline:
+            return False
+        time.sleep(0.02)
+    return True
+
+
+def listens(port):
+    """Whether somebody takes connections on this port."""
+    try:
+        socket.create_connection(("127.0.0.1", port), timeout=1).close()
+        return True
+    except OSError:
+        return False
+
+
+def memory_of(pid):
+    """What a process has in memory now, in kB; 0 where there is none."""
+    try:
+        with open(f"/proc/{pid}/status") as file:
+            return next((int(line.split()[1]) for line in file if line.startswith("VmRSS")), 0)
+    except OSError:
+        return 0
+
+
+def check(catalogue, journal):
+    """What `bossd check` writes of a journal, and its status."""
+    ran = subprocess.run([PROGRAM, "check", catalogue, journal], capture_output=True, text=True)
+    return ran.stdout.strip(), ran.returncode
+
+
+class Server:
+    """The program, serving a journal of its own; `-` keeps nothing. `in_all` is how many connections it serves before it ends."""
+
+    def __init__(self, catalogue, journal="-", workers=4, in_all=4_294_967_295, port=None):
+        self.catalogue, self.journal, self.workers, self.in_all = catalogue, journal, workers, in_all
+        self.port = port or free_port()
+        self.address = f"127.0.0.1:{self.port}"
+        self.process = None
+
+    def __enter__(self):
+        self.start()
+        return self
+
+    def __exit__(self, *_):
+        self.stop()
+
+    def start(self, **more):
+        """Starts it, and waits until it listens."""
+        self.launch(**more)
+        if not eventually(self.is_ready, PATIENCE):
+            raise AssertionError(f"the program does not listen {PATIENCE} seconds after its start")
+
+    def launch(self, **more):
+        """Starts it and no more. What is given goes to the process."""
+        words = ["serve", self.catalogue, self.journal, self.address, str(self.workers), str(self.in_all)]
+        given = {"stdin": subprocess.DEVNULL, "stdout": subprocess.DEVNULL, "env": {**os.environ, **SETTINGS}, **more}
+        self.process = subprocess.Popen([PROGRAM, *words], **given)
+
+    def is_ready(self):
+        """Whether it listens; AssertionError where it ended instead."""
+        if self.process.poll() is not None:
+            raise AssertionError(f"the program ended with {self.process.returncode}")
+        return listens(self.port)
+
+    def kill(self, how=signal.SIGKILL):
+        """Ends it by this signal."""
+        self.process.send_signal(how)
+        self.process.wait()
+
+    def stop(self):
+        """Ends it, if it runs."""
+        if self.process is not None and self.process.poll() is None:
+            self.kill()
+
+    def memory(self):
+        """What it has in memory now, in kB."""
+        return memory_of(self.process.pid)
+
+    def check(self):
+        """What a check writes of its journal."""
+        text, status = check(self.catalogue, self.journal)
+        if status != 0:
+            raise AssertionError(f"check ended with {status}: {text}")
+        return text
