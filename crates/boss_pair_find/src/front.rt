@@ -5,6 +5,7 @@ ghost use Rattle.boss_snapshot.specs.Fronts.{IsKnown, version_of, digest_of};
 
 use crate::DurableRefusal;
 use boss_disk::Disk;
+use boss_model::NEWEST_VERSION;
 
 /// Tests whether the journal of a disk is of a known version and of the catalogue with this digest. The disk stays as it is.
 pub fn check_front<D: Disk>(disk: &mut D, digest: &[u8; 32]) -> Result<(), DurableRefusal>
@@ -45,7 +46,7 @@ fn check_version(version: u8, kept: &[u8; 32], digest: &[u8; 32]) -> Result<(), 
 fn is_known(version: u8) -> bool
     ensures { IsTrue result ↔ IsKnown version }
 {
-    version == 1 || version == 2
+    version == 1 || version == NEWEST_VERSION
 }
 
 /// Whether these are the same bytes.

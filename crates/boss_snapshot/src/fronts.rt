@@ -5,7 +5,7 @@ ghost use Rattle.boss_snapshot.specs.Refusals.{ReadCause, TellsHead};
 
 use crate::SnapshotRefusal;
 use crate::kinds::is_same;
-use boss_model::LAST_NUMBER;
+use boss_model::{LAST_NUMBER, NEWEST_VERSION};
 
 /// How many bytes stand before a state.
 pub const HEAD: u64 = 65;
@@ -66,7 +66,7 @@ fn has_place(size: u64, end: u64) -> bool
 fn is_known(version: u8) -> bool
     ensures { IsTrue result ↔ IsKnown version }
 {
-    version == 1 || version == 2
+    version == 1 || version == NEWEST_VERSION
 }
 
 /// The number of 64 bits at this place, the highest byte first.

@@ -16,8 +16,8 @@ has_spelling plant d whole sound =
     let stored = storable plant whole d sound in
     state-fits 2 d stored (each-map IsStoredProcess (λ p. (reply 2).fits p.reply ≡ true) (λ p is. reply-fits p.reply is.reply) d.processes stored.processes)
 
-pub returns-then-version-eq-NEWEST-clause-passes : goal.returns-then-version-eq-NEWEST-clause-passes
-returns-then-version-eq-NEWEST-clause-passes g c = rests_passes c.args.pair.now c.args.engine.now.plant c.args.engine.now.state.persistent c.args.pair.now.events c.requires.rest
+pub returns-then-version-eq-NEWEST_VERSION-clause-passes : goal.returns-then-version-eq-NEWEST_VERSION-clause-passes
+returns-then-version-eq-NEWEST_VERSION-clause-passes g c = rests_passes c.args.pair.now c.args.engine.now.plant c.args.engine.now.state.persistent c.args.pair.now.events c.requires.rest
 
 pub go_on_behind-requires-clause-fits : goal.go_on_behind-requires-clause-fits
 go_on_behind-requires-clause-fits g c =
