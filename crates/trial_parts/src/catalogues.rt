@@ -1,8 +1,8 @@
 use crate::THREE_POINTS;
 use boss_model::{DriverId, PointId};
 use boss_points::CatalogueRefusal::{
-    BadDefault, BadDriver, BadKind, BadName, Missing, NotToml, SameName, TooLong, TooMany,
-    UnknownDriver,
+    BadDefault, BadDriver, BadKind, BadName, BadTimes, Missing, NotToml, SameName, TooLong,
+    TooMany, UnknownDriver,
 };
 use boss_points::{Catalogue, CatalogueRefusal, Key, Point};
 use std::alloc::Global;
@@ -317,6 +317,61 @@ const REFUSED: &[(&str, CatalogueRefusal)] = &[
         "drivers=[]\npoint=[{name='a',driver='f',kind='binary',default=0}]",
         UnknownDriver { place: 0 },
     ),
+    // A minimum time that is no whole number of 0 to a day.
+    (
+        "drivers=['f']\npoint=[{name='a',driver='f',kind='binary',default=0,min_on=86400001}]",
+        BadTimes { place: 0 },
+    ),
+    (
+        "drivers=['f']\npoint=[{name='a',driver='f',kind='binary',default=0,min_off=86400001}]",
+        BadTimes { place: 0 },
+    ),
+    (
+        "drivers=['f']\npoint=[{name='a',driver='f',kind='binary',default=0,min_on=-1}]",
+        BadTimes { place: 0 },
+    ),
+    (
+        "drivers=['f']\npoint=[{name='a',driver='f',kind='binary',default=0,min_off=-1}]",
+        BadTimes { place: 0 },
+    ),
+    (
+        "drivers=['f']\npoint=[{name='a',driver='f',kind='binary',default=0,min_on=1.0}]",
+        BadTimes { place: 0 },
+    ),
+    (
+        "drivers=['f']\npoint=[{name='a',driver='f',kind='binary',default=0,min_off='1'}]",
+        BadTimes { place: 0 },
+    ),
+    (
+        "drivers=['f']\npoint=[{name='a',driver='f',kind='binary',default=0,min_on=1,min_off=-1}]",
+        BadTimes { place: 0 },
+    ),
+    // One of the keys at a point that is not binary, be it 0.
+    (
+        "drivers=['f']\npoint=[{name='a',driver='f',kind='analog',min=0,max=9,default=0,min_on=0}]",
+        BadTimes { place: 0 },
+    ),
+    (
+        "drivers=['f']\npoint=[{name='a',driver='f',kind='analog',min=0,max=9,default=0,min_off=1}]",
+        BadTimes { place: 0 },
+    ),
+    (
+        "drivers=['f']\npoint=[{name='a',driver='f',kind='multi',states=3,default=1,min_on=1}]",
+        BadTimes { place: 0 },
+    ),
+    (
+        "drivers=['f']\npoint=[{name='a',driver='f',kind='multi',states=3,default=1,min_off=0}]",
+        BadTimes { place: 0 },
+    ),
+    // The least place of a time, and a driver before a time at a lesser place.
+    (
+        "drivers=['f']\npoint=[{name='a',driver='f',kind='binary',default=0,min_on=1},{name='b',driver='f',kind='binary',default=0,min_on=-1},{name='c',driver='f',kind='binary',default=0,min_off=-1}]",
+        BadTimes { place: 1 },
+    ),
+    (
+        "drivers=['f']\npoint=[{name='a',driver='f',kind='binary',default=0,min_on=-1},{name='b',driver='g',kind='binary',default=0}]",
+        UnknownDriver { place: 1 },
+    ),
 ];
 
 /// Whether a file is refused so.
@@ -384,6 +439,65 @@ fn accepts_the_bounds(rt: HostRuntime) {
     for (text, count) in ACCEPTED {
         let accepted = has_points(rt.alloc(), text.as_bytes(), *count);
         assert!(rt; accepted, "{text}");
+    }
+}
+
+/// The digests of `pump`, by its keys: what `sha256sum` says of `d heat` and `p pump heat binary 0 1 0`, a line each,
+/// and of the same with minimum times at the second line's end.
+const PLAIN: [u8; 32] = [
+    0x7d, 0x6d, 0x2d, 0xca, 0xd1, 0xab, 0x11, 0x1d, 0xc6, 0x5e, 0x2a, 0x54, 0x8e, 0xa3, 0x52, 0x9b,
+    0xa2, 0x30, 0xd3, 0x6e, 0x1d, 0xa2, 0xd9, 0x9a, 0x25, 0xf2, 0x3c, 0x3e, 0x45, 0x3d, 0x12, 0x90,
+];
+
+const WITH_BOTH_TIMES: [u8; 32] = [
+    0x08, 0xc4, 0x42, 0xe3, 0x85, 0xc5, 0xd0, 0xa3, 0x66, 0xa1, 0x48, 0x7b, 0xe7, 0xaf, 0xa1, 0x96,
+    0xf8, 0x23, 0x30, 0xba, 0x5b, 0x64, 0xe7, 0xc2, 0x47, 0x10, 0xe9, 0x72, 0x3f, 0x76, 0x9d, 0x4f,
+];
+
+const WITH_ONE_TIME: [u8; 32] = [
+    0xd2, 0xf5, 0x25, 0x77, 0xf4, 0x31, 0x0c, 0xa8, 0x36, 0xa2, 0xd0, 0x15, 0xda, 0x90, 0xd6, 0x5f,
+    0x46, 0x32, 0x55, 0x4d, 0x92, 0xcb, 0x1f, 0x4f, 0x66, 0x01, 0xe3, 0x67, 0x54, 0xb3, 0x2c, 0xc6,
+];
+
+/// Keys of `pump`, the minimum times that they spell, on and off, and the digest.
+const TIMES: &[(&str, i64, i64, [u8; 32])] = &[
+    ("", 0, 0, PLAIN),
+    ("min_on=0", 0, 0, PLAIN),
+    ("min_on=0\nmin_off=0", 0, 0, PLAIN),
+    (
+        "min_on=300000\nmin_off=86400000",
+        300_000,
+        86_400_000,
+        WITH_BOTH_TIMES,
+    ),
+    ("min_off=1", 0, 1, WITH_ONE_TIME),
+];
+
+/// A file of one binary point, with these keys too.
+fn pump(rt: &impl Abort, alloc: Global, keys: &str) -> String {
+    format!(in alloc;
+        "drivers=['heat']\n[[point]]\nname='pump'\ndriver='heat'\nkind='binary'\ndefault=0\n{keys}"
+    ).expect(rt, "memory")
+}
+
+/// Whether a file is accepted with this digest, and with a point of these minimum times.
+fn has_times(alloc: Global, file: &[u8], on: i64, off: i64, digest: [u8; 32]) -> bool {
+    let Ok(catalogue) = Catalogue::read(alloc, file) else {
+        return false;
+    };
+    if catalogue.count() != 1 {
+        return false;
+    }
+    let point = catalogue.point(PointId(0));
+    point.min_on == on && point.min_off == off && catalogue.digest() == digest
+}
+
+#[test]
+fn reads_minimum_times(rt: HostRuntime) {
+    for (keys, on, off, digest) in TIMES {
+        let file = pump(&rt, rt.alloc(), keys);
+        let read = has_times(rt.alloc(), file.as_bytes(), *on, *off, *digest);
+        assert!(rt; read, "{keys}");
     }
 }
 
