@@ -12,7 +12,7 @@ import sys
 sys.path.insert(0, os.path.join(os.path.dirname(os.path.abspath(__file__)), "..", "clients", "python"))
 import bossd
 
-# Behind an operator, who has 8.
+# After an operator, who has 8.
 PRIORITY = 12
 LEASE = bossd.milliseconds(seconds=30)
 STEP = bossd.milliseconds(seconds=10)

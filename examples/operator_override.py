@@ -1,5 +1,5 @@
 #!/usr/bin/env python3
-"""Sets an analog point by hand for a while, before whatever control programs want, and tells what it has meanwhile and behind it.
+"""Sets an analog point by hand for a while, before whatever control programs want, and shows what it has meanwhile and after it.
 
     examples/operator_override.py POINT UNITS SECONDS [ADDRESS]
 
@@ -26,7 +26,7 @@ def sentence(reading):
 
 
 def show_until_done(client, point, txn):
-    """Tells each change, up to the one behind the override and whatever reversions were under way."""
+    """Shows each change, up to the one after the override and whatever reversions were under way."""
     shown, over = None, False
     while not over:
         done, reading = client.status(txn).stage == "done", client.read(point)

@@ -105,7 +105,8 @@ def point(words: Words) -> int:
     tell([f"{one.name}: {sentence(view)}; its device: {view.reading.mark}"])
     about = f"{one.kind}, {one.range()}, default {one.show(view.slots.default)}, driver {one.driver}"
     tell([f"  {about}"] + ([f"  {one.note}"] if one.note else []) + [""])
-    tell(_show.table(("PRIORITY", "LEVEL", "VALUE", "WHAT", "HELD BY", "TXN", "LEFT"), [slot_row(view, priority) for priority in PRIORITIES], "r r  rr"))
+    heads = ("PRIORITY", "LEVEL", "VALUE", "WHAT", "HELD BY", "TXN", "LEFT")
+    tell(_show.table(heads, [slot_row(view, priority) for priority in PRIORITIES], "r r  rr"))
     tell(["", f"Next: {next_sentence(view)}"])
     return FINE
 

@@ -192,7 +192,7 @@ class Catalogue(File):
             self.one(path, name, point, key, lambda value: isinstance(value, str), "a text", default="")
         for key in ("min_on", "min_off"):
             if key in point and kind in ("analog", "multi"):
-                self.note(path + (key,), name, f"a minimum time at {'an' if kind == 'analog' else 'a'} {kind} point", "binary points alone have these")
+                self.note(path + (key,), name, f"a minimum time of a point of kind {kind}", "binary points alone have these")
             else:
                 self.one(path, name, point, key, lambda value: is_whole(value, 0, A_DAY), f"milliseconds, 0 to {A_DAY}", default=0)
         keys = POINT_KEYS.get(kind, ALL_KEYS) if isinstance(kind, str) else ALL_KEYS
@@ -288,7 +288,8 @@ class Plan(File):
             return
         name = name_of(driver)
         known = ", ".join(map(shown, self.catalogue.drivers))
-        if self.one(path, name, driver, "name", lambda value: isinstance(value, str) and value in self.catalogue.drivers, f"a driver of the catalogue: {known}"):
+        is_known = lambda value: isinstance(value, str) and value in self.catalogue.drivers
+        if self.one(path, name, driver, "name", is_known, f"a driver of the catalogue: {known}"):
             if driver["name"] in self.planned:
                 self.note(path + ("name",), "", f"{name} again", "a driver that no earlier table has")
             self.planned.add(driver["name"])
@@ -343,7 +344,8 @@ class Plan(File):
         for name, point in self.catalogue.points.items():
             if point.get("driver") in self.planned and name not in self.placed:
                 line = self.lines.of(("driver",))
-                self.findings.append(Finding(self.path, line, "", "", "place", f"none for {shown(name)}", "a place for each point of a planned driver", True))
+                wanted = "a place for each point of a planned driver"
+                self.findings.append(Finding(self.path, line, "", "", "place", f"none for {shown(name)}", wanted, True))
 
 
 def lint(catalogue: str, rules: Optional[str] = None, plan: Optional[str] = None) -> List[Finding]:

@@ -4,6 +4,7 @@ import argparse
 import os
 import socket
 import sys
+import textwrap
 from typing import Callable, Optional, Sequence
 
 from .._protocol import Refused, Unanswered, UnknownHost
@@ -31,6 +32,14 @@ For example:
 Command = Callable[[argparse.Namespace], int]
 
 
+class Paragraphs(argparse.HelpFormatter):
+    """Fills each paragraph to the terminal's width, and leaves those that are indented as they are."""
+
+    def _fill_text(self, text: str, width: int, indent: str) -> str:
+        parts = text.split("\n\n")
+        return "\n\n".join(part if "\n    " in part else textwrap.fill(" ".join(part.split()), width) for part in parts)
+
+
 def at_every_place(parser: argparse.ArgumentParser, is_top: bool) -> None:
     """The options that may stand before a command and after it."""
     environment = os.environ
@@ -50,9 +59,10 @@ def at_every_place(parser: argparse.ArgumentParser, is_top: bool) -> None:
                        help="how long to wait for the server (10): where all its workers are busy, nothing is answered until one is free")
 
 
-def add(commands: "argparse._SubParsersAction[argparse.ArgumentParser]", name: str, run: Command, help: str, more: str = "") -> argparse.ArgumentParser:
+def add(commands: "argparse._SubParsersAction[argparse.ArgumentParser]", name: str, run: Command, help: str,
+        more: str = "") -> argparse.ArgumentParser:
     text = f"{help[0].upper()}{help[1:]}." + (f"\n\n{more}" if more else "")
-    parser = commands.add_parser(name, help=help, description=text, formatter_class=argparse.RawDescriptionHelpFormatter)
+    parser = commands.add_parser(name, help=help, description=text, formatter_class=Paragraphs)
     parser.set_defaults(run=run)
     at_every_place(parser, is_top=False)
     return parser
@@ -85,7 +95,7 @@ def as_a_process(parser: argparse.ArgumentParser) -> None:
 
 
 def parser_of() -> argparse.ArgumentParser:
-    parser = argparse.ArgumentParser(prog="bossctl", description=ABOUT, epilog=ENDS, formatter_class=argparse.RawDescriptionHelpFormatter)
+    parser = argparse.ArgumentParser(prog="bossctl", description=ABOUT, epilog=ENDS, formatter_class=Paragraphs)
     at_every_place(parser, is_top=True)
     commands = parser.add_subparsers(dest="command", metavar="COMMAND", required=True)
 
@@ -147,7 +157,8 @@ def parser_of() -> argparse.ArgumentParser:
     one.add_argument("--from", dest="first", type=count, default=1, metavar="N", help="begin with this event")
     one.add_argument("--last", type=count, metavar="N", help="only the last N events")
 
-    one = add(commands, "top", _commands.top, "show what is held on a screen that goes on", "Failed devices come first, then what ends first. q ends it.")
+    one = add(commands, "top", _commands.top, "show what is held on a screen that goes on",
+              "Failed devices come first, then what ends first. q ends it.")
     one.add_argument("--every", type=float, default=1.0, metavar="SECONDS", help="how often to look (1)")
     one.add_argument("--count", type=count, metavar="N", help="end after N looks")
 
