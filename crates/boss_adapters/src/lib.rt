@@ -1,11 +1,14 @@
 //! The real things: the standard input and output, the files of this machine, read whole or kept open as disks, the system's
 //! clock, a TCP listener and its connections, a waiter that sleeps, and threads. They count their faults, and tell nothing of
-//! what they hold, gave, took or did. The devices are not real yet: they take every command.
+//! what they hold, gave, took or did. The devices are not real yet: they take every command. Why a file, a disk or an address failed is
+//! said on the standard error.
 #![tactic(auto)]
 
+mod aside;
 mod connection;
 mod console;
 mod devices;
+mod holder;
 mod real_clock;
 mod real_disk;
 mod real_files;
@@ -14,6 +17,7 @@ mod real_spawner;
 mod real_waiter;
 mod signals;
 
+pub use aside::say_aside;
 pub use connection::{RealSink, RealSource};
 pub use console::{StdSink, StdSource};
 pub use devices::idle_devices;

@@ -4,17 +4,28 @@ ghost use Rattle.std.specs.Prelude.{◌≡◌, ◌^◌, ◌+◌, ◌<◌, ◌≤
 ghost use Rattle.boss_outside.specs.Counts.{HasCause, one_more};
 ghost use Rattle.boss_disk.specs.Window.{settled};
 
+use crate::aside::say_failed;
+use crate::holder::held;
 use boss_disk::{Disk, MOST};
 use boss_outside::Failed;
 use std::alloc::Global;
-use std::fs::{self, File, OpenOptions};
+use std::fs::{self, File, OpenOptions, TryLockError};
 use std::io::{self, ErrorKind};
 use std::os::unix::fs::FileExt;
 use std::path::Path;
 
+/// What could not be done where a call failed.
+const READ: &str = "read";
+
+/// The same of a call that writes, cuts or syncs.
+const WRITTEN: &str = "written, so nothing is kept from here on";
+
 /// A file of this machine. Where there is none under its name, the first write makes it, and no other call does. One that is there is
 /// opened to be read, and to be written only at the first write, cut or sync: who looks at a file needs no leave to change it, and who
 /// means to change it finds out at the sync with which it begins.
+///
+/// From then on the disk holds the file's lock, which goes with it or with the process, so no two programs write one file. A lock that
+/// another holds is a fault. The first fault is said at once on the standard error, with the system's reason.
 #[derive(Drop)]
 pub struct RealDisk {
     rt: HostRuntime,
@@ -50,6 +61,11 @@ impl RealDisk {
         })
     }
 
+    /// Whether there is a file under its name.
+    pub fn is_there(&self) -> bool {
+        self.file.is_some()
+    }
+
     /// How many of its calls failed.
     pub fn faults(&self) -> u64
         ensures { result ≡ ⟦<RealDisk as Disk>⟧.faults self.now }
@@ -57,10 +73,13 @@ impl RealDisk {
         self.faults
     }
 
-    /// Counts a fault.
-    fn fault(&mut self) -> Failed
+    /// Counts a fault of a call for this reason. The first is said.
+    fn fault(&mut self, call: &str, reason: io::Error) -> Failed
         ensures { self.new ≡ record self.old { faults = one_more self.old.faults } }
     {
+        if self.faults == 0 {
+            say_failed(&self.rt, "journal", self.name.as_str(), call, reason);
+        }
         self.faults = self.faults.saturating_add(1);
         Failed
     }
@@ -109,7 +128,8 @@ impl RealDisk {
         }
         let file = open_file(&self.rt, self.name.as_str(), Purpose::Make)?;
         if file.metadata()?.len() > 0 {
-            return Err(ErrorKind::AlreadyExists.into());
+            let reason = "another program made it meanwhile";
+            return Err(io::Error::new(ErrorKind::AlreadyExists, reason));
         }
         self.file = Some(file);
         self.is_writable = true;
@@ -181,10 +201,15 @@ impl RealDisk {
 fn is_missing(rt: &HostRuntime, name: &str) -> io::Result<bool> {
     match fs::metadata(rt, name) {
         Ok(found) if found.is_file() => Ok(false),
-        Ok(_) => Err(ErrorKind::InvalidInput.into()),
+        Ok(_) => Err(no_file()),
         Err(error) if error.kind() == ErrorKind::NotFound => Ok(true),
         Err(error) => Err(error),
     }
+}
+
+/// The error of a name under which something else than a file stands.
+fn no_file() -> io::Error {
+    io::Error::new(ErrorKind::InvalidInput, "it is not a plain file")
 }
 
 /// What a file is opened for, besides reading.
@@ -194,7 +219,7 @@ enum Purpose {
     Make,
 }
 
-/// The file under a name. It is made only for that purpose, where there is none.
+/// The file under a name. It is made only for that purpose, where there is none, and locked where it may be written.
 fn open_file(rt: &HostRuntime, name: &str, purpose: Purpose) -> io::Result<File> {
     let (may_write, may_make) = match purpose {
         Purpose::Read => (false, false),
@@ -205,9 +230,21 @@ fn open_file(rt: &HostRuntime, name: &str, purpose: Purpose) -> io::Result<File>
     how.read(true).write(may_write).create(may_make);
     let file = how.open(rt, name)?;
     if !file.metadata()?.is_file() {
-        return Err(ErrorKind::InvalidInput.into());
+        return Err(no_file());
+    }
+    if may_write {
+        lock(rt, &file)?;
     }
     Ok(file)
+}
+
+/// Takes a file's lock for as long as it stays open, unless another opening of it has it.
+fn lock(rt: &HostRuntime, file: &File) -> io::Result<()> {
+    match file.try_lock() {
+        Ok(()) => Ok(()),
+        Err(TryLockError::WouldBlock) => Err(held(rt, file)),
+        Err(TryLockError::Error(reason)) => Err(reason),
+    }
 }
 
 /// The folder in which a name stands.
@@ -231,31 +268,31 @@ impl Disk for RealDisk {
     ghost reads_stay = { λ disk told. absurd told };
 
     fn length(&mut self) -> Result<u64, Failed> {
-        let Ok(size) = self.size() else {
-            return Err(self.fault());
-        };
-        Ok(size)
+        match self.size() {
+            Ok(size) => Ok(size),
+            Err(reason) => Err(self.fault(READ, reason)),
+        }
     }
 
     fn read_at(&mut self, at: u64, into: &mut [u8]) -> Result<(), Failed> {
-        let Ok(()) = self.fill(at, into) else {
-            return Err(self.fault());
-        };
-        Ok(())
+        match self.fill(at, into) {
+            Ok(()) => Ok(()),
+            Err(reason) => Err(self.fault(READ, reason)),
+        }
     }
 
     fn write_at(&mut self, at: u64, bytes: &[u8]) -> Result<(), Failed> {
-        let Ok(()) = self.put(at, bytes) else {
-            return Err(self.fault());
-        };
-        Ok(())
+        match self.put(at, bytes) {
+            Ok(()) => Ok(()),
+            Err(reason) => Err(self.fault(WRITTEN, reason)),
+        }
     }
 
     fn cut(&mut self, size: u64) -> Result<(), Failed> {
-        let Ok(()) = self.drop_from(size) else {
-            return Err(self.fault());
-        };
-        Ok(())
+        match self.drop_from(size) {
+            Ok(()) => Ok(()),
+            Err(reason) => Err(self.fault(WRITTEN, reason)),
+        }
     }
 
     // Once a sync has failed, no later one succeeds.
@@ -264,9 +301,9 @@ impl Disk for RealDisk {
         ensures kept { OnOk result (self.new.is_lost ≡ false) }
         ensures lost { IsTrue self.old.is_lost → IsErr result }
     {
-        let Ok(()) = self.keep_or_lose() else {
-            return Err(self.fault());
-        };
-        Ok(())
+        match self.keep_or_lose() {
+            Ok(()) => Ok(()),
+            Err(reason) => Err(self.fault(WRITTEN, reason)),
+        }
     }
 }

@@ -5,16 +5,20 @@ ghost use Rattle.boss_outside.specs.Counts.{one_more};
 ghost use Rattle.boss_files.specs.Files.{FileCause};
 
 use crate::RealDisk;
+use crate::aside::say_failed;
 use boss_files::{FileBytes, FileFault, Files};
 use boss_model::Items;
 use std::alloc::Global;
 use std::fs::File;
 use std::io::{self, ErrorKind, Read};
 
-/// The files of this machine.
+/// The files of this machine: a catalogue, which is read whole, and a journal's two, which are opened as disks. A call that fails says
+/// why on the standard error.
 #[derive(Drop)]
 pub struct RealFiles {
     rt: HostRuntime,
+    /// A disk that was opened has a file.
+    has_disk: bool,
     faults: u64,
 }
 
@@ -23,7 +27,16 @@ impl RealFiles {
     pub fn new(rt: HostRuntime) -> RealFiles
         ensures { ⟦<RealFiles as Files>⟧.faults result ≡ 0 }
     {
-        RealFiles { rt, faults: 0 }
+        RealFiles {
+            rt,
+            has_disk: false,
+            faults: 0,
+        }
+    }
+
+    /// Whether any of the disks that were opened has a file.
+    pub fn has_disk(&self) -> bool {
+        self.has_disk
     }
 
     /// The bytes of a file, but no more than one beyond the limit, and the length that the system tells of it.
@@ -35,14 +48,21 @@ impl RealFiles {
         Ok((bytes, told))
     }
 
-    /// What a call that fails with this error answers: want of memory is no fault of the files.
-    fn fail<T>(&mut self, error: io::Error) -> Result<T, FileFault>
+    /// What a call on a file answers that fails for this reason: want of memory is no fault of the files, and any other is said.
+    fn fail<T>(
+        &mut self,
+        role: &str,
+        name: &str,
+        call: &str,
+        reason: io::Error,
+    ) -> Result<T, FileFault>
         ensures fails { IsErr result }
         ensures cause { FileCause self.old.faults self.new.faults result }
     {
-        if error.kind() == ErrorKind::OutOfMemory {
+        if reason.kind() == ErrorKind::OutOfMemory {
             return Err(FileFault::NoMemory);
         }
+        say_failed(&self.rt, role, name, call, reason);
         self.count_fault();
         Err(FileFault::Failed)
     }
@@ -68,7 +88,7 @@ impl Files for RealFiles {
     fn read(&mut self, alloc: Global, name: &str, limit: u64) -> Result<FileBytes, FileFault> {
         let (bytes, told) = match self.read_front(alloc, name, limit) {
             Ok(front) => front,
-            Err(error) => return self.fail(error),
+            Err(reason) => return self.fail("catalogue", name, "read", reason),
         };
         let length = bytes.len() as u64;
         if length > limit {
@@ -81,8 +101,11 @@ impl Files for RealFiles {
 
     fn disk(&mut self, alloc: Global, name: &str) -> Result<RealDisk, FileFault> {
         match RealDisk::open(self.rt, alloc, name) {
-            Ok(store) => Ok(store),
-            Err(error) => self.fail(error),
+            Ok(store) => {
+                self.has_disk = self.has_disk || store.is_there();
+                Ok(store)
+            }
+            Err(reason) => self.fail("journal", name, "opened", reason),
         }
     }
 

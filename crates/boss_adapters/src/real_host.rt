@@ -1,12 +1,13 @@
-ghost use Rattle.std.specs.Prelude.{◌≡◌, [], IfSome};
+ghost use Rattle.std.specs.Prelude.{◌≡◌, [], IfOk};
 ghost use Rattle.boss_outside.specs.Counts.{one_more};
 
+use crate::aside::say_aside;
 use crate::{RealSink, RealSource};
 use boss_model::{NoMemory, SessionId};
 use boss_outside::Failed;
 use boss_outside_server::{Accepted, Host};
 use std::alloc::Global;
-use std::io::ErrorKind;
+use std::io::{self, Eprint, ErrorKind};
 use std::net::{Net, SocketAddr, TcpListener, TcpStream};
 use std::sync::Arc;
 
@@ -14,7 +15,8 @@ use std::sync::Arc;
 const TRIES: u32 = 1_000;
 
 /// A TCP listener. All its parts wait at the same one, and the system hands each connection to one of them. A part that has
-/// handed out its share says so without asking the system.
+/// handed out its share says so without asking the system. On the standard error it says where it listens, or why it can't, and why a
+/// connection could not be accepted.
 #[derive(Drop)]
 pub struct RealHost<R> {
     alloc: Global,
@@ -26,7 +28,7 @@ pub struct RealHost<R> {
     faults: u64,
 }
 
-impl<R: Net<Listener = TcpListener, Stream = TcpStream> + Copy> RealHost<R> {
+impl<R: Net<Listener = TcpListener, Stream = TcpStream> + Eprint + Copy> RealHost<R> {
     /// A host that listens nowhere yet. `rt` is what makes the listener.
     pub fn new(alloc: Global, rt: R) -> RealHost<R>
         ensures handed { ⟦<RealHost<R> as Host>⟧.handed result ≡ 0 }
@@ -58,31 +60,43 @@ impl<R: Net<Listener = TcpListener, Stream = TcpStream> + Copy> RealHost<R> {
         Failed
     }
 
+    /// A listener at this address.
+    fn listen(&self, address: &str) -> io::Result<Arc<TcpListener, Global>> {
+        let listener = Arc::new(self.alloc, TcpListener::bind(&self.rt, address)?)?;
+        // With port 0 the system has chosen one.
+        if let Ok(found) = listener.local_addr() {
+            say_aside(&self.rt, format_args!("listening at {found}"));
+        }
+        Ok(listener)
+    }
+
     /// The two ends of the next connection.
-    fn connect(&self) -> Option<(RealSource, RealSink)>
-        ensures { IfSome result (λ ends. (ends.0.faults ≡ 0) × (ends.1.faults ≡ 0)) }
+    fn connect(&self) -> io::Result<(RealSource, RealSink)>
+        ensures { IfOk result (λ ends. (ends.0.faults ≡ 0) × (ends.1.faults ≡ 0)) }
     {
-        let listener = self.listener.as_ref()?;
-        let stream = Arc::new(self.alloc, accept_past_signals(listener)?).ok()?;
-        let other = Arc::try_clone(&stream).ok()?;
-        Some((RealSource::new(stream), RealSink::new(other)))
+        let Some(listener) = &self.listener else {
+            return Err(ErrorKind::NotConnected.into());
+        };
+        let stream = Arc::new(self.alloc, accept_past_signals(listener)?)?;
+        let other = Arc::try_clone(&stream)?;
+        Ok((RealSource::new(stream), RealSink::new(other)))
     }
 }
 
 /// Waits for a connection, and tries again where a signal came between or the client had gone.
-fn accept_past_signals(listener: &TcpListener) -> Option<TcpStream> {
+fn accept_past_signals(listener: &TcpListener) -> io::Result<TcpStream> {
     for _ in 0..TRIES {
         match listener.accept() {
-            Ok((stream, _)) => return Some(stream),
-            Err(error) if error.kind() == ErrorKind::Interrupted => {}
-            Err(error) if error.kind() == ErrorKind::ConnectionAborted => {}
-            Err(_) => return None,
+            Ok((stream, _)) => return Ok(stream),
+            Err(reason) if reason.kind() == ErrorKind::Interrupted => {}
+            Err(reason) if reason.kind() == ErrorKind::ConnectionAborted => {}
+            Err(reason) => return Err(reason),
         }
     }
-    None
+    Err(ErrorKind::Interrupted.into())
 }
 
-impl<R: Net<Listener = TcpListener, Stream = TcpStream> + Copy> Host for RealHost<R> {
+impl<R: Net<Listener = TcpListener, Stream = TcpStream> + Eprint + Copy> Host for RealHost<R> {
     type In = RealSource;
 
     type Out = RealSink;
@@ -102,14 +116,19 @@ impl<R: Net<Listener = TcpListener, Stream = TcpStream> + Copy> Host for RealHos
     ghost faults = { λ host. host.faults };
 
     fn bind(&mut self, address: &str) -> Result<(), Failed> {
-        let Ok(listener) = TcpListener::bind(&self.rt, address) else {
-            return Err(self.fault());
-        };
-        let Ok(listener) = Arc::new(self.alloc, listener) else {
-            return Err(self.fault());
-        };
-        self.listener = Some(listener);
-        Ok(())
+        match self.listen(address) {
+            Ok(listener) => {
+                self.listener = Some(listener);
+                Ok(())
+            }
+            Err(reason) => {
+                say_aside(
+                    &self.rt,
+                    format_args!("could not listen at {address}: {reason}"),
+                );
+                Err(self.fault())
+            }
+        }
     }
 
     fn split(&mut self, alloc: Global, connections: u32) -> Result<Self, NoMemory> {
@@ -132,13 +151,21 @@ impl<R: Net<Listener = TcpListener, Stream = TcpStream> + Copy> Host for RealHos
         if self.handed >= u64::from(self.share) {
             return Accepted::Closed;
         }
-        let Some((input, output)) = self.connect() else {
-            self.fault();
-            return Accepted::Failed;
-        };
-        self.handed += 1;
-        self.away = 1;
-        Accepted::Conn(input, output)
+        match self.connect() {
+            Ok((input, output)) => {
+                self.handed += 1;
+                self.away = 1;
+                Accepted::Conn(input, output)
+            }
+            Err(reason) => {
+                say_aside(
+                    &self.rt,
+                    format_args!("a connection could not be accepted: {reason}"),
+                );
+                self.fault();
+                Accepted::Failed
+            }
+        }
     }
 
     /// The connection closes.

@@ -3,17 +3,25 @@
 use boss_manager::Status;
 use std::alloc::{AllocError, Global};
 
-/// One sentence for a status: what happened, and what to do about it, with the names among the program's words. There is none where all
-/// was done.
+/// One sentence for a status: what happened, and what to do about it, with the names among the program's words. Where all was done there
+/// is one only for a check that found neither of a journal's files.
 pub fn advice(
     alloc: Global,
     status: Status,
     words: &Vec<String>,
+    has_journal: bool,
 ) -> Result<Option<String>, AllocError> {
-    if status == Status::DONE {
+    if status != Status::DONE {
+        return Ok(Some(sentence(alloc, status, words)?));
+    }
+    let journal = word_at(words, 2);
+    if has_journal || word_at(words, 0) != "check" || journal == "-" {
         return Ok(None);
     }
-    Ok(Some(sentence(alloc, status, words)?))
+    let sentence = format!(in alloc;
+        "neither {journal} nor {journal}.b exists: there is no journal of that name yet"
+    )?;
+    Ok(Some(sentence))
 }
 
 fn sentence(alloc: Global, status: Status, words: &Vec<String>) -> Result<String, AllocError> {
@@ -24,21 +32,21 @@ fn sentence(alloc: Global, status: Status, words: &Vec<String>) -> Result<String
     }
     if status == Status::CATALOGUE {
         return format!(in alloc;
-            "the catalogue {catalogue} was refused, as its line tells; correct that file"
+            "the catalogue {catalogue} was refused, as its line says; correct that file"
         );
     }
     if status == Status::JOURNAL {
         return format!(in alloc;
-            "the journal {journal} was refused, as its line tells; name this catalogue's journal, or a new one"
+            "the journal {journal} was refused, as its line says; name this catalogue's journal, or a new one"
         );
     }
     if status == Status::FILE_FAULT {
-        return file_fault(alloc, catalogue, journal);
+        return String::from_str(alloc, FILE_FAULT);
     }
     if status == Status::HOST_FAULT {
         let address = word_at(words, 3);
         return format!(in alloc;
-            "no connection could be taken at {address}; see that it is an address of this machine with a free port, as 127.0.0.1:7000"
+            "no connection could be taken at {address}, as an earlier line says; it has to be an address of this machine with a free port, as 127.0.0.1:7000"
         );
     }
     String::from_str(alloc, of_this_run(status))
@@ -48,15 +56,7 @@ const USAGE: &str =
     "these words ask for nothing that it does; write script CATALOGUE JOURNAL, check CATALOGUE JOURNAL or \
     serve CATALOGUE JOURNAL ADDRESS WORKERS CONNECTIONS, with - for a journal in memory alone, or load COUNT SEED";
 
-/// A file failed.
-fn file_fault(alloc: Global, catalogue: &str, journal: &str) -> Result<String, AllocError> {
-    if journal == "-" {
-        return format!(in alloc; "a file failed; see that {catalogue} is there and can be read");
-    }
-    format!(in alloc;
-        "a file failed; see that {catalogue} can be read, and {journal} and {journal}.b read and written"
-    )
-}
+const FILE_FAULT: &str = "a file failed, as an earlier line says; mend that and start again";
 
 /// What happened where no file of the words is concerned.
 fn of_this_run(status: Status) -> &'static str {
@@ -67,7 +67,7 @@ fn of_this_run(status: Status) -> &'static str {
         return "the standard output could not be written; see where it leads";
     }
     if status == Status::NO_MEMORY {
-        return "no memory was to be had; free some and go on from where the answers end";
+        return "out of memory; free some and go on from where the answers end";
     }
     if status == Status::UNSTARTED {
         return "not all workers could be started; free some memory, or serve by fewer";
@@ -81,7 +81,7 @@ fn of_this_run(status: Status) -> &'static str {
     if status == Status::TOO_MANY_LINES {
         return "the standard input has more than 4,294,967,296 lines; go on with the others in another run";
     }
-    "it ended with a status that is not told here"
+    "it ended with a status that has no sentence"
 }
 
 /// The word at this place, counted from 0, or an empty one.

@@ -1,6 +1,6 @@
 //! The program on this machine: its words, its files, its standard input and output, devices that take every command behind each of
-//! the sixteen drivers, and for a server the system's clock, its network and threads. Where not all was done, one sentence on the
-//! standard error says what happened and what to do.
+//! the sixteen drivers, and for a server the system's clock, its network and threads. Where not all was done, the last line on the
+//! standard error says what happened and what to do; why the system refused something was said there when it did.
 #![tactic(auto)]
 
 mod advice;
@@ -8,20 +8,22 @@ mod advice;
 use crate::advice::advice;
 use boss_adapters::{
     RealClock, RealFiles, RealHost, RealSpawner, RealWaiter, StdSink, StdSource, idle_devices,
+    say_aside,
 };
 use boss_manager::{Status, boss};
 use boss_model::{MOST_DRIVERS, NoMemory};
 use std::alloc::AllocError;
+use std::env;
+use std::io::{self, Eprint};
 use std::net::{Net, TcpListener, TcpStream};
 use std::process::ExitCode;
 use std::sync::Wait;
 use std::thread::Threads;
-use std::{env, io};
 
 /// Does what the program's words ask for, and tells how it ended. By the second handle a server listens, starts threads and waits.
 pub fn start<R>(rt: HostRuntime, server: &R) -> ExitCode
 where
-    R: Net<Listener = TcpListener, Stream = TcpStream> + Threads + Wait + Sync,
+    R: Net<Listener = TcpListener, Stream = TcpStream> + Threads + Wait + Eprint + Sync,
 {
     let status = run(rt, server).unwrap_or(Status::NO_MEMORY);
     ExitCode::from(status.0)
@@ -29,7 +31,7 @@ where
 
 fn run<R>(rt: HostRuntime, server: &R) -> Result<Status, NoMemory>
 where
-    R: Net<Listener = TcpListener, Stream = TcpStream> + Threads + Wait + Sync,
+    R: Net<Listener = TcpListener, Stream = TcpStream> + Threads + Wait + Eprint + Sync,
 {
     let words = words_of(&rt)?;
     let mut devices = idle_devices(rt.alloc(), MOST_DRIVERS)?;
@@ -54,8 +56,8 @@ where
         &mut spawner,
     );
     // Where there is no memory for a sentence, or the standard error can't be written, the status alone tells.
-    if let Ok(Some(sentence)) = advice(rt.alloc(), status, &words) {
-        let _ = eprintln!(rt; "bossd: {sentence}");
+    if let Ok(Some(sentence)) = advice(rt.alloc(), status, &words, files.has_disk()) {
+        say_aside(&rt, sentence);
     }
     Ok(status)
 }

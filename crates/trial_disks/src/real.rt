@@ -156,6 +156,25 @@ fn a_file_that_came_in_between_is_not_written_over(rt: HostRuntime) -> Result<()
     folder.remove()
 }
 
+/// Writes this disk's file of this name. Whether another disk of it may then read it, and not sync it.
+fn keeps_others_out(rt: HostRuntime, name: &str, mut first: RealDisk) -> Result<bool, Fail> {
+    put(&mut first, 0, b"ours")?;
+    let mut other = disk(rt, name)?;
+    let bytes = whole(rt.alloc(), &mut other)?;
+    Ok(bytes.as_slice() == b"ours".as_slice() && other.sync().is_err() && other.faults() == 1)
+}
+
+#[test]
+fn a_file_is_written_by_one_disk_at_a_time(rt: HostRuntime) -> Result<(), Fail> {
+    let folder = Folder::make(rt, "held")?;
+    let name = folder.path_of("log")?;
+    let kept_out = keeps_others_out(rt, name.as_str(), disk(rt, name.as_str())?)?;
+    // That disk is gone, and its lock with it.
+    let mut next = disk(rt, name.as_str())?;
+    assert!(rt; kept_out && next.sync().is_ok());
+    folder.remove()
+}
+
 /// Whether a disk of three bytes refuses what is past its bounds, with a fault each, and no cut makes it longer.
 fn keeps_bounds(disk: &mut RealDisk) -> bool {
     // No byte may stand past the greatest length, and a read does not pass the end.

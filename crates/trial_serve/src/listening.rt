@@ -7,6 +7,7 @@ use boss_model::{NoMemory, SessionId};
 use boss_outside::Failed;
 use boss_outside_server::{Accepted, Host};
 use std::alloc::Global;
+use std::io::Eprint;
 use std::net::{Net, TcpListener, TcpStream};
 
 /// A host that listens already.
@@ -15,7 +16,8 @@ pub struct Listening<R> {
     pub host: RealHost<R>,
 }
 
-impl<R: Net<Listener = TcpListener, Stream = TcpStream> + Copy + Drop> Host for Listening<R> {
+impl<R: Net<Listener = TcpListener, Stream = TcpStream> + Eprint + Copy + Drop> Host
+    for Listening<R> {
     type In = RealSource;
 
     type Out = RealSink;

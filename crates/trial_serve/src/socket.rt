@@ -8,7 +8,7 @@ use boss_model::NoMemory;
 use boss_outside_server::Host;
 use boss_points::Catalogue;
 use std::alloc::Global;
-use std::io::{Read, Write};
+use std::io::{Eprint, Read, Write};
 use std::net::{Net, Shutdown, TcpListener, TcpStream};
 use std::sync::Wait;
 use std::test::Fail;
@@ -29,7 +29,7 @@ status 0
 "#;
 
 /// A client of this host, which has sent all that it sends. The system keeps it until the host accepts.
-fn client<R: Net<Listener = TcpListener, Stream = TcpStream> + Copy>(
+fn client<R: Net<Listener = TcpListener, Stream = TcpStream> + Eprint + Copy>(
     rt: R,
     host: &RealHost<R>,
 ) -> io::Result<Option<TcpStream>> {
@@ -63,6 +63,7 @@ fn serve_client<
         + Threads
         + Wait
         + time::Clock
+        + Eprint
         + Copy
         + Drop
         + Send
@@ -87,6 +88,7 @@ fn run<
         + Threads
         + Wait
         + time::Clock
+        + Eprint
         + Copy
         + Drop
         + Send

@@ -12,6 +12,7 @@ use boss_outside_server::{
     Waiter, Woke,
 };
 use std::alloc::Global;
+use std::io::Eprint;
 use std::net::{Net, SocketAddr, TcpListener, TcpStream};
 use std::test::Fail;
 use std::thread::Threads;
@@ -284,7 +285,7 @@ fn a_task_that_is_not_started_is_abandoned(rt: HostRuntime) -> Result<(), Fail> 
 }
 
 /// Two tasks that serve five connections of a host, and the clients that make them.
-fn tasks_over<R: Net<Listener = TcpListener, Stream = TcpStream> + Copy + Drop>(
+fn tasks_over<R: Net<Listener = TcpListener, Stream = TcpStream> + Eprint + Copy + Drop>(
     rt: R,
     alloc: Global,
     host: &mut RealHost<R>,
@@ -307,7 +308,7 @@ fn tasks_over<R: Net<Listener = TcpListener, Stream = TcpStream> + Copy + Drop>(
 
 /// Ten for a task that served, whose part the host takes back; for the clients how many of them were answered; and for a
 /// task that was not started a thousand.
-fn points<R: Net<Listener = TcpListener, Stream = TcpStream> + Copy + Drop>(
+fn points<R: Net<Listener = TcpListener, Stream = TcpStream> + Eprint + Copy + Drop>(
     host: &mut RealHost<R>,
     ran: Ran<OneOf<Serving<RealHost<R>>, Clients<R>>>,
 ) -> u32 {
@@ -322,12 +323,9 @@ fn points<R: Net<Listener = TcpListener, Stream = TcpStream> + Copy + Drop>(
 }
 
 /// The points of the tasks over a host that listens at this address.
-fn points_at<R: Net<Listener = TcpListener, Stream = TcpStream> + Threads + Copy + Drop + Send>(
-    rt: R,
-    alloc: Global,
-    host: &mut RealHost<R>,
-    address: SocketAddr,
-) -> Result<u32, NoMemory> {
+fn points_at<
+    R: Net<Listener = TcpListener, Stream = TcpStream> + Threads + Eprint + Copy + Drop + Send,
+>(rt: R, alloc: Global, host: &mut RealHost<R>, address: SocketAddr) -> Result<u32, NoMemory> {
     let tasks = tasks_over(rt, alloc, host, address)?;
     let Ok(done) = RealSpawner::new(rt).run_all(alloc, tasks) else {
         return Err(NoMemory);
@@ -340,7 +338,7 @@ fn points_at<R: Net<Listener = TcpListener, Stream = TcpStream> + Threads + Copy
 }
 
 /// A free port of this machine, at which the host listens from now on.
-fn listen<R: Net<Listener = TcpListener, Stream = TcpStream> + Copy + Drop>(
+fn listen<R: Net<Listener = TcpListener, Stream = TcpStream> + Eprint + Copy + Drop>(
     host: &mut RealHost<R>,
 ) -> Option<SocketAddr> {
     host.bind("127.0.0.1:0").ok()?;
@@ -359,7 +357,7 @@ fn five_clients_are_served_by_two_parts_of_a_listener(rt: HostRuntime) -> Result
 }
 
 /// Whether a host can't listen at this address.
-fn is_refused<R: Net<Listener = TcpListener, Stream = TcpStream> + Copy + Drop>(
+fn is_refused<R: Net<Listener = TcpListener, Stream = TcpStream> + Eprint + Copy + Drop>(
     rt: R,
     alloc: Global,
     address: SocketAddr,
@@ -381,7 +379,7 @@ fn a_taken_address_is_a_fault(rt: HostRuntime) -> Result<(), Fail> {
 }
 
 /// Whether an accept of a part of this host fails.
-fn fails_to_accept<R: Net<Listener = TcpListener, Stream = TcpStream> + Copy + Drop>(
+fn fails_to_accept<R: Net<Listener = TcpListener, Stream = TcpStream> + Eprint + Copy + Drop>(
     alloc: Global,
     host: &mut RealHost<R>,
 ) -> Result<bool, NoMemory> {
