@@ -128,6 +128,11 @@ class Client(Closable):
                 await asyncio.wait_for(self._await_end(stream[0]), PARTING)
         self._drop()
 
+    @property
+    def is_connected(self) -> bool:
+        """Whether a connection stands at the moment. It may wait for a worker of the server."""
+        return self._stream is not None
+
     async def attach(self, process: str) -> int:
         """Becomes the control process of this name. Gives the number of its next notice. Malformed, Already, Taken, TooManyProcesses,
         NoMemory, Unanswered."""
