@@ -24,7 +24,6 @@ const points = new Map();
 const groups = new Map();
 let about = {}, server = {}, processes = [], offset = 0, filter = "all", search = "";
 let opened = null, detail = null, notices = [], seconds = 0, lost = false;
-const began = Date.now();
 
 // ---- small things
 
@@ -39,6 +38,8 @@ function make(tag, properties, ...children) {
 
 function say(node, text) { if (node.textContent !== text) node.textContent = text; }
 function serverNow() { return Date.now() + offset; }
+// What an event needs to come is no other clock: only one that is wrong by more is set.
+function setClock(now) { if (Math.abs(now - serverNow()) > 500) offset = now - Date.now(); }
 function level(priority) { return `${priority} ${LEVELS[priority] || "Available"}`; }
 function isOverridden(now) { return now.from === "lease" && now.priority <= OPERATOR_PRIORITY; }
 
@@ -68,7 +69,7 @@ function left(until) {
 }
 
 function clock(moment) {
-  const at = new Date(moment - offset), today = at.toDateString() === new Date().toDateString();
+  const at = new Date(Math.round((moment - offset) / 1000) * 1000), today = at.toDateString() === new Date().toDateString();
   return (today ? "" : at.toLocaleDateString("sv") + " ") + at.toLocaleTimeString("sv");
 }
 
@@ -104,7 +105,7 @@ function countDown(group) {
 
 function addPoint(told) {
   const node = find("row").content.firstElementChild.cloneNode(true), cells = {};
-  for (const cell of node.querySelectorAll("td")) cells[cell.className] = cell;
+  for (const cell of node.querySelectorAll("td")) cells[cell.className] = cell.firstElementChild || cell;
   const point = {...told, node, cells, link: node.querySelector("a"), now: {}, history: [], group: groupNamed(groupOf(told.name))};
   point.link.textContent = told.name;
   point.link.href = "#point/" + told.name;
@@ -203,7 +204,7 @@ function listen() {
   source.addEventListener("all", (event) => {
     const told = JSON.parse(event.data);
     about = told;
-    offset = told.now - Date.now();
+    setClock(told.now);
     say(find("address"), told.address);
     say(find("role"), told.operator ? `Operator: ${told.operator}` : "Looking only");
     if (told.points.length !== points.size || told.points.some((one) => !points.has(one.name))) {
@@ -217,7 +218,7 @@ function listen() {
   });
   source.addEventListener("changes", (event) => {
     const told = JSON.parse(event.data);
-    offset = told.now - Date.now();
+    setClock(told.now);
     seconds = told.seconds;
     for (const one of told.points || []) setPoint(one);
     if (told.points) countAll();
@@ -332,16 +333,16 @@ function drawPoint() {
     about.operator ? make("div", {className: "buttons"},
       make("button", {type: "button", id: "take", className: "first", textContent: "Take…", onclick: () => askTake(point)}),
       ...own.flatMap((slot) => [
-        make("button", {type: "button", id: `prolong-${slot.txn}`, textContent: `Prolong ${own.length > 1 ? slot.priority : ""}…`, onclick: () => askProlong(point, slot)}),
-        make("button", {type: "button", id: `release-${slot.txn}`, textContent: `Release ${own.length > 1 ? slot.priority : ""}…`, onclick: () => askRelease(point, slot)}),
+        make("button", {type: "button", id: `prolong-${slot.txn}`, textContent: `Prolong${own.length > 1 ? " " + slot.priority : ""}…`, onclick: () => askProlong(point, slot)}),
+        make("button", {type: "button", id: `release-${slot.txn}`, textContent: `Release${own.length > 1 ? " " + slot.priority : ""}…`, onclick: () => askRelease(point, slot)}),
       ])) : null,
     make("h3", {textContent: "What comes next"}),
     comingList(point, coming, now),
-    make("h3", {textContent: "Slots"}),
-    slotTable(point, slots, now),
     make("h3", {textContent: `Value since ${clock(point.history.length ? point.history[0][0] : serverNow())}`}),
     plot(point),
     make("ul", {className: "changes"}, ...point.history.slice(-6).reverse().map(([at, value]) => make("li", {textContent: `${clock(at)}: ${shown(point, value)}`}))),
+    make("h3", {textContent: "Slots"}),
+    slotTable(point, slots, now),
   );
   countOpened();
 }
@@ -355,7 +356,7 @@ function comingList(point, coming, now) {
 
 function comingSentence(point, one) {
   const what = one.from === "default" ? "its default" : `${FROM[one.from]} at priority ${one.priority}`;
-  const doubt = one.sure ? "" : one.from === "pending" ? "; steps of reversions that nobody told may come before" : ", or a reversion that nobody told comes before";
+  const doubt = one.sure ? "" : one.from === "pending" ? "; its steps are not known" : ", unless a reversion comes first that is not known";
   return `at ${clock(one.at)}: ${shown(point, one.value)}, ${what}${doubt}`;
 }
 
@@ -366,8 +367,8 @@ function slotTable(point, slots, now) {
     const priority = place + 1, slot = taken.get(priority), force = slot && now.priority === priority && now.txn === slot.txn;
     const title = priority === 6 ? "6 Minimum On/Off" : level(priority);
     if (!slot) return make("tr", {className: "soft"}, make("th", {scope: "row", textContent: title}), make("td", {textContent: "–"}), make("td"), make("td"));
-    return make("tr", {className: force ? "force" : ""}, make("th", {scope: "row", textContent: (force ? "▶ " : "") + title}),
-      make("td", {textContent: shown(point, slot.value) + (slot.kind === "lease" ? "" : " (reversion)") + (force ? ", in force" : "")}),
+    return make("tr", {className: force ? "force" : ""}, make("th", {scope: "row"}, title, force ? make("span", {textContent: " ▶ in force"}) : null),
+      make("td", {textContent: shown(point, slot.value) + (slot.kind === "lease" ? "" : " (reversion)")}),
       make("td", {}, slot.owner ? processLink(slot.owner) : ""), make("td", {className: "left", "data-until": String(slot.until)}));
   });
   return make("table", {className: "slots"}, make("thead", {}, make("tr", {}, ...head)), make("tbody", {}, ...rows));
