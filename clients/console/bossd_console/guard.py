@@ -79,7 +79,7 @@ def policy(script: str, style: str) -> str:
 
 HEADERS = {
     "X-Content-Type-Options": "nosniff", "X-Frame-Options": "DENY", "Referrer-Policy": "no-referrer",
-    "Cross-Origin-Resource-Policy": "same-origin", "Cross-Origin-Opener-Policy": "same-origin", "Cache-Control": "no-store",
+    "Cross-Origin-Resource-Policy": "same-origin", "Cache-Control": "no-store",
 }
 NO_PAGE = "default-src 'none'; frame-ancestors 'none'"
 

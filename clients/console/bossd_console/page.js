@@ -465,6 +465,9 @@ function show(dialog) {
   find("ask-token").hidden = token() !== "";
   find("ask-token").querySelector("input").value = "";
   find("ask").showModal();
+  const first = find("ask-fields").querySelector("input, select") || yes;
+  first.focus();
+  if (first.select) first.select();
   asked.changed();
 }
 

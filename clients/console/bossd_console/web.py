@@ -151,7 +151,7 @@ class Web:
         except Unmade as why:
             return refused(why.error, str(why), 503 if why.error == "unanswered" else 409)
         except Open:
-            return refused("open", "no answer came: ask again under the same id, and it is made once", 504)
+            return refused("open", "no answer came yet: ask again under the same id, and it is made once", 504)
 
     async def _make(self, operator: Operator, change: Change) -> Dict[str, Any]:
         point = change.point.name

@@ -166,15 +166,22 @@ class Changing(Case):
         self.assertEqual(answer["txn"], 2)
         self.assertEqual(self.take(console, id="c-2", point="ahu1.supply", value=21_000)[1]["txn"], 3)
 
-    def test_another_change_settles_the_one_before(self):
+    def test_a_server_that_hangs_loses_nothing(self):
         console = self.console("--operator", "operator")
         self.take(console, id="c-0", point="ahu1.fan", value=2)
         self.server.process.send_signal(signal.SIGSTOP)
         self.assertEqual(self.take(console)[0], 504)
         self.server.process.send_signal(signal.SIGCONT)
-        status, answer = self.eventually(lambda: (lambda it: it if it[0] == 200 else None)(self.take(console, id="c-2", point="ahu1.supply", value=21_000)))
-        self.assertEqual(answer["txn"], 3)
-        self.assertEqual(self.take(console)[1]["txn"], 2)
+        self.eventually(lambda: self.take(console)[0] == 200)
+        self.assertEqual((console.point(DAMPER)["owner"], console.point("ahu1.fan")["owner"]), ("operator", "operator"))
+
+    def test_what_is_held_outlasts_a_restart_of_the_server(self):
+        console = self.console("--operator", "operator")
+        self.take(console, length=10 * MINUTE)
+        self.server.kill()
+        self.server.start()
+        self.eventually(lambda: console.change("prolong", id="c-2", point=DAMPER, txn=1, length=20 * MINUTE)[0] == 200)
+        self.assertEqual(console.point(DAMPER)["owner"], "operator")
 
     def test_a_name_that_is_taken(self):
         self.client("operator")
