@@ -80,10 +80,9 @@ class Looking:
         began, changes = time.monotonic(), self.answering.changed
         self.longest = 0.0
         changed = await self._read_points()
-        if self.answering.changed != changes:
-            self.picture.forget_owners()
         await self._see_slots(changed)
-        await self._see_owners()
+        # A server that was away may have come back with another journal, whose transactions have the same numbers.
+        await self._see_owners(self.answering.changed != changes)
         await self._hear()
         self.seconds, self.rounds = time.monotonic() - began, self.rounds + 1
         self.seen()
@@ -138,12 +137,12 @@ class Looking:
     def _turn(self, number: int) -> bool:
         return number % TURNS == self.rounds % TURNS
 
-    async def _see_owners(self) -> None:
-        """Asks whose the transactions are that hold something; of those that are known once in a while, so that none is kept for ever."""
+    async def _see_owners(self, anew: bool) -> None:
+        """Asks whose the transactions are that hold something; of those that are known once in a while, or anew."""
         standing = {slot.txn for slots in self.picture.slots.values() for slot in slots.slots.values()}
         for gone in self.picture.owners.keys() - standing:
             del self.picture.owners[gone]
-        wanted = sorted(txn for txn in standing if txn not in self.picture.owners or self._turn(txn))
+        wanted = sorted(txn for txn in standing if anew or txn not in self.picture.owners or self._turn(txn))
         answers = await self._ask_all([{"op": "status", "txn": txn} for txn in wanted])
         for txn, answer in zip(wanted, answers):
             self.picture.owned(txn, answer["owner"] if isinstance(answer, dict) else None)

@@ -520,7 +520,9 @@ function post(path, body, more) {
 }
 
 async function preview() {
-  const mine = asked, {point} = mine;
+  const mine = asked;
+  if (!mine) return;
+  const {point} = mine;
   say(find("ask-now"), `It has ${shown(point, point.now.value)}. ${whose(point.now)}`);
   try {
     const answer = await post("api/preview", {do: mine.do, id: mine.id, point: point.name, ...mine.body()}), told = await answer.json();

@@ -144,10 +144,6 @@ class Picture:
         if len(self.ways) > KEPT_WAYS:
             del self.ways[min(self.ways)]
 
-    def forget_owners(self) -> None:
-        """Forgets whose the transactions are: a server that was away may have come back with another journal."""
-        self.owners.clear()
-
     # -- what there is to be seen
 
     def slot_in_force(self, point: str) -> Optional[bossd.Slot]:
