@@ -12,8 +12,9 @@ from .answering import SLOW, Answering
 from .catalogue import now
 from .picture import Picture
 
-# How many requests are sent before their answers are waited for: as many as the server makes and keeps together.
-GROUP = 16
+# How many requests are asked at once. The client sends them on while the answers come, and the server makes sixteen at a time of those that
+# have come; it would not do to wait for each sixteen answers, since the last of them come only once the system has acknowledged those before.
+GROUP = 1_024
 # For how many seconds a connection is waited for at a time, and how long an answer: a connection that is given up while it waits for a
 # worker would lose its place, and hold one up later.
 REACHING, WAITING = 1.0, 10 * 365 * 86_400.0
@@ -29,18 +30,18 @@ Answer = Union[Dict[str, Any], bossd.Refused]
 
 
 def grouped(requests: Sequence[Request]) -> Iterator[Sequence[Request]]:
-    """The requests in groups that are sent together."""
+    """The requests in groups that are asked at once."""
     for place in range(0, len(requests), GROUP):
         yield requests[place:place + GROUP]
 
 
 class Looking:
     """Looks each `every` seconds, and calls `seen` after each look and whenever the server is found to answer or not. `seconds` is how
-    long the last whole look took, `longest` the longest wait for a group of answers in it, `rounds` how many there were."""
+    long the last whole look took, `first` how long its first request did, `rounds` how many there were."""
 
     def __init__(self, address: str, picture: Picture, answering: Answering, every: float) -> None:
         self.address, self.picture, self.answering, self.every = address, picture, answering, every
-        self.seconds, self.longest, self.rounds = 0.0, 0.0, 0
+        self.seconds, self.first, self.rounds = 0.0, 0.0, 0
         self.seen: Callable[[], None] = lambda: None
         self._client: Optional[bossd.aio.Client] = None
         self._asked_since: Optional[float] = None
@@ -78,8 +79,9 @@ class Looking:
         if self._client is None:
             await self._reach()
         began, changes = time.monotonic(), self.answering.changed
-        self.longest = 0.0
-        changed = await self._read_points()
+        changed = await self._read_points(self._reads[:1])
+        self.first = time.monotonic() - began
+        changed |= await self._read_points(self._reads[1:])
         await self._see_slots(changed)
         # A server that was away may have come back with another journal, whose transactions have the same numbers.
         await self._see_owners(self.answering.changed != changes)
@@ -101,10 +103,10 @@ class Looking:
         finally:
             self.seen()
 
-    async def _read_points(self) -> Set[str]:
-        """Reads all points, and gives those that are held by something else than before."""
+    async def _read_points(self, reads: Sequence[Request]) -> Set[str]:
+        """Reads points, and gives those that are held by something else than before."""
         changed: Set[str] = set()
-        for group in grouped(self._reads):
+        for group in grouped(reads):
             for request, answer in zip(group, await self._ask(group)):
                 if isinstance(answer, bossd.UnknownPoint):
                     self.picture.unknown(request["point"])
@@ -182,12 +184,11 @@ class Looking:
     async def _ask(self, group: Iterable[Request]) -> List[Answer]:
         """Asks a group at once."""
         assert self._client is not None
-        began = self._asked_since = time.monotonic()
+        self._asked_since = time.monotonic()
         try:
             answers = await self._client.ask_all(group)
         finally:
             self._asked_since = None
-        self.longest = max(self.longest, time.monotonic() - began)
         before = self.answering.changed
         self.answering.answered("stopped" if any(isinstance(answer, bossd.Stopped) for answer in answers) else "up")
         if self.answering.changed != before:

@@ -51,8 +51,7 @@ class Standing(Collector):
 
     def _looks(self) -> Iterator[Metric]:
         yield GaugeMetricFamily("bossd_look_seconds", "How long the last look at all points took.", value=self.looking.seconds)
-        yield GaugeMetricFamily(
-            "bossd_answer_seconds", "The longest wait for the answers to sixteen requests in the last look.", value=self.looking.longest)
+        yield GaugeMetricFamily("bossd_answer_seconds", "How long the first request of the last look took.", value=self.looking.first)
         yield CounterMetricFamily("bossd_looks", "Whole looks at all points.", value=self.looking.rounds)
 
     def _notices(self) -> Iterator[Metric]:

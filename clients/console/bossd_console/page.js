@@ -52,7 +52,7 @@ function shown(point, value) {
   if (value === undefined) return "not known";
   if (point.kind === "binary") return value ? "1 on" : "0 off";
   if (point.kind === "multi") return `${value} of ${point.max}`;
-  return number(point, value) + (point.unit === "percent" ? " %" : point.unit ? ` ${point.unit}` : "");
+  return number(point, value) + (point.unit ? `\u00a0${point.unit === "percent" ? "%" : point.unit}` : "");
 }
 
 function length(milliseconds) {

@@ -3,10 +3,11 @@
 import json
 import socketserver
 import threading
+import time
 
 from tests.common import tools
 
-UNTIL = 4_000_000_000_000
+UNTIL = round(time.time() * 1000) + 3_600_000
 
 
 class Stub:

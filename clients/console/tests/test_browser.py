@@ -73,7 +73,7 @@ class Page(Case):
     def text(self, selector):
         try:
             found = self.find(selector)
-            return found.text if found is not None else ""
+            return found.text.replace("\u00a0", " ") if found is not None else ""
         except StaleElementReferenceException:
             return ""
 
@@ -81,7 +81,7 @@ class Page(Case):
         """What the row of a point shows, by its columns."""
         return browser.execute_script(
             "const {node, cells} = points.get(arguments[0]); return {shown: !node.hidden && !node.closest('.group').hidden,"
-            "...Object.fromEntries(Object.entries(cells).map(([key, cell]) => [key, cell.textContent]))}", point)
+            "...Object.fromEntries(Object.entries(cells).map(([key, cell]) => [key, cell.textContent.replace('\u00a0', ' ')]))}", point)
 
     def see(self, test):
         """Waits until it is so, while what is drawn may be drawn anew."""
@@ -133,7 +133,7 @@ class WhatIsSeen(Page):
         self.see(lambda: self.row(DAMPER)["value"] == "30.0 %")
         self.see(lambda: "A reversion of comfort" in self.text("#whose"))
         self.see(lambda: self.row(DAMPER)["from"] == "default" and self.text("#pane .big") == "20.0 %")
-        self.assertEqual([one.text.split(": ")[1] for one in browser.find_elements(By.CSS_SELECTOR, "#pane .changes li")],
+        self.assertEqual([one.text.replace("\u00a0", " ").split(": ")[1] for one in browser.find_elements(By.CSS_SELECTOR, "#pane .changes li")],
                          ["20.0 %", "30.0 %", "35.0 %", "20.0 %"])
         self.assertIn("3 changes", self.find("#pane svg").get_attribute("aria-label"))
 
@@ -389,7 +389,7 @@ class Pictures(Page):
         blinds = fire.submit([bossd.write("floor2.blinds", 100_000, priority=2, lease=hour, revert=[(50_000, 5 * MINUTE)])]).txn
         fire.cancel(blinds)
         console = self.console("--operator", "operator")
-        self.open(console, f"#token={console.token}")
+        self.open(console, f"#token={console.token}", high=1360)
         self.see(lambda: self.row("boiler.flow")["owner"] == "boiler-plant")
         for value in (45_000, 70_000):
             console.change("take", id=f"c-{value}", point=DAMPER, value=value, length=30 * MINUTE, revert=[[50_000, 5 * MINUTE], [30_000, 5 * MINUTE]])
@@ -398,6 +398,7 @@ class Pictures(Page):
         self.click("#list a[href='#point/ahu1.damper']")
         self.see(lambda: self.find("#pane .coming"))
         self.picture("console-1280")
+        browser.set_window_size(1280, 1000)
         self.click("#take")
         self.type("value", "90")
         self.type("steps", "2")
