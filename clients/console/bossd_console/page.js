@@ -227,7 +227,12 @@ function listen() {
     if (told.server || lost) { lost = false; sayHealth(); }
     if (opened) drawChanges(told);
   });
-  source.onerror = () => { lost = true; sayHealth(); };
+  source.onerror = () => {
+    lost = true;
+    sayHealth();
+    // Where it was refused, the browser does not try again by itself.
+    if (source.readyState === EventSource.CLOSED) setTimeout(listen, 3000);
+  };
 }
 
 function drawChanges(told) {
@@ -245,7 +250,7 @@ function drawChanges(told) {
 // ---- what is opened
 
 function openHash() {
-  const [kind, name] = decodeURIComponent(location.hash.slice(1)).split("/");
+  const [kind, name] = location.hash.slice(1).split("/");
   if (kind === "point" && points.has(name)) open_(kind, name);
   else if (kind === "process" && name) open_(kind, name);
   else close_();
@@ -286,7 +291,7 @@ async function look() {
   if (!opened) return;
   const {kind, name} = opened, here = () => opened && opened.kind === kind && opened.name === name;
   try {
-    const answer = await fetch(kind === "point" ? `api/points/${name}` : `api/processes/${name}/notices`);
+    const answer = await fetch(kind === "point" ? `api/points/${name}` : `api/processes/${encodeURIComponent(name)}/notices`);
     const told = await answer.json();
     if (!here()) return;
     if (kind === "point" && answer.ok) { detail = told; drawPoint(); }
