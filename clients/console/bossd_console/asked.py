@@ -62,7 +62,8 @@ def change_of(do: str, asked: object, points: Mapping[str, Point]) -> Change:
     priority = whole(asked, "priority", 1, 16, 8)
     if priority == 6:
         raise Faulty("priority 6 is kept for minimum on and off times")
-    return Change(do, str(change), point, whole(asked, "value", point.least, point.most), priority, length, way_of(point, asked.get("revert", [])), 0)
+    value, way = whole(asked, "value", point.least, point.most), way_of(point, asked.get("revert", []))
+    return Change(do, str(change), point, value, priority, length, way, 0)
 
 
 def preview(change: Change, picture: Picture) -> List[Any]:

@@ -12,9 +12,9 @@ from .answering import SLOW, Answering
 from .catalogue import now
 from .picture import Picture
 
-# How many requests are asked at once. The client sends them on while the answers come, and the server makes sixteen at a time of those that
-# have come; it would not do to wait for each sixteen answers, since the last of them come only once the system has acknowledged those before.
-GROUP = 1_024
+# How many requests are asked at once. The client sends on while the answers come, and the server makes sixteen at a time of those that have
+# come. To wait for each sixteen answers would not do: the system holds the last of them back until those before are acknowledged.
+GROUP = 2_048
 # For how many seconds a connection is waited for at a time, and how long an answer: a connection that is given up while it waits for a
 # worker would lose its place, and hold one up later.
 REACHING, WAITING = 1.0, 10 * 365 * 86_400.0

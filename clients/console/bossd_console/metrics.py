@@ -55,7 +55,8 @@ class Standing(Collector):
         yield CounterMetricFamily("bossd_looks", "Whole looks at all points.", value=self.looking.rounds)
 
     def _notices(self) -> Iterator[Metric]:
-        yield CounterMetricFamily("bossd_faults", "Notices that a device refused the value of a lease in force.", value=self.picture.faults)
+        yield CounterMetricFamily(
+            "bossd_faults", "Notices that a device refused the value of a lease in force.", value=self.picture.faults)
         family = CounterMetricFamily("bossd_leases_ended", "Notices that a lease ended, by cause.", labels=["cause"])
         for cause in CAUSES:
             family.add_metric([cause], self.picture.ended[cause])
@@ -66,10 +67,10 @@ class Standing(Collector):
         readings = self.picture.readings.values()
         marks, bases = each((one.mark for one in readings), MARKS), each((one.basis for one in readings), BASES)
         yield gauges("bossd_points_by_mark", "Points, by how far their devices have come.", "mark", marks)
-        yield gauges("bossd_points_by_basis", "Points, by what decides them: a lease, a reversion under way (pending), the default.", "basis",
-                     bases)
-        yield GaugeMetricFamily("bossd_points_unknown", "Points of the catalogue that the server does not have.",
-                                value=len(self.picture.foreign))
+        yield gauges(
+            "bossd_points_by_basis", "Points, by what decides them: a lease, a reversion under way (pending), the default.", "basis", bases)
+        yield GaugeMetricFamily(
+            "bossd_points_unknown", "Points of the catalogue that the server does not have.", value=len(self.picture.foreign))
 
     def _slots(self) -> Iterator[Metric]:
         leases: Counter[int] = Counter()

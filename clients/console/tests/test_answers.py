@@ -2,12 +2,14 @@
 
 import http.client
 import json
+import os
+import re
 import signal
 import subprocess
 import time
 import unittest
 
-from tests.common import CATALOGUE, CONSOLE, MINUTE, PATIENCE, Case, bossd
+from tests.common import CATALOGUE, CONSOLE, MINUTE, PATIENCE, TOP, Case, bossd
 
 DAMPER = "ahu1.damper"
 
@@ -90,6 +92,15 @@ class Looking(Case):
         metrics = self.eventually(lambda: (lambda it: it if it.get(lease) == 0 else None)(console.metrics()))
         self.assertEqual((metrics["bossd_up"], metrics['bossd_points_by_mark{mark="settled"}'], metrics["bossd_processes"]), (1, 10, 1))
         self.assertGreater(metrics["bossd_look_seconds"], 0)
+        self.assertGreater(metrics["bossd_console_process_cpu_seconds_total"], 0)
+
+    def test_the_dashboard_asks_for_what_is_told(self):
+        console = self.console()
+        self.eventually(lambda: console.metrics().get('bossd_points_by_basis{basis="default"}') == 10)
+        told = set(re.findall(r"^# TYPE (\w+)", console.ask("/metrics")[1], re.M))
+        with open(os.path.join(TOP, "packaging", "grafana", "bossd.json"), encoding="utf-8") as file:
+            asked = [target["expr"] for panel in json.load(file)["panels"] for target in panel["targets"]]
+        self.assertEqual(set(re.findall(r"bossd_\w+", " ".join(asked))) - told, set())
 
 
 class Safety(Case):

@@ -18,7 +18,7 @@ from selenium.webdriver.chrome.service import Service
 from selenium.webdriver.common.by import By
 from selenium.webdriver.common.keys import Keys
 
-from tests.common import MINUTE, PATIENCE, TOP, Case, Console, bossd, eventually, tools
+from tests.common import MINUTE, PATIENCE, Case, Console, bossd
 from tests.stub import Stub
 
 DAMPER = "ahu1.damper"

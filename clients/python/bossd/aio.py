@@ -27,9 +27,8 @@ from typing import (
 
 from ._protocol import (
     LONGEST_LINE, PARTING, PAUSE, PULSE, SILENCE, Accepted, Answer, NoMemory, Notice, Notices, Over, Reading, Refused, Request,
-    Slots, Stale, Status, Stopped, Taken, Unanswered, UnknownHost, UnknownTransaction, answer_of, host_and_port, line_of, no_such_host,
-    notices_from, notices_of, prepare, reading_of, refusal_of, renewal, slots_of, status_of, submission,
-    windows,
+    Slots, Stale, Status, Stopped, Taken, Unanswered, UnknownHost, UnknownTransaction, acknowledge, answer_of, host_and_port, line_of,
+    no_such_host, notices_from, notices_of, prepare, reading_of, refusal_of, renewal, slots_of, status_of, submission, windows,
 )
 
 __all__ = ["Client", "Held", "Watch", "connect", "watch"]
@@ -334,6 +333,7 @@ class Client(Closable):
         for part, following in zip(parts, parts[1:] + [[]]):
             sink.write(b"".join(following))
             await sink.drain()
+            acknowledge(sink.get_extra_info("socket"))
             answers += [await whole_line(source) for _ in part]
         return answers
 
