@@ -12,7 +12,7 @@ import unittest
 
 from PIL import Image
 from selenium import webdriver
-from selenium.common.exceptions import NoSuchElementException, StaleElementReferenceException
+from selenium.common.exceptions import NoSuchElementException, SessionNotCreatedException, StaleElementReferenceException
 from selenium.webdriver.chrome.options import Options
 from selenium.webdriver.chrome.service import Service
 from selenium.webdriver.common.by import By
@@ -35,8 +35,18 @@ def setUpModule():
                  "--disable-background-networking", "--disable-lcd-text", "--hide-scrollbars", "--no-proxy-server", "--host-resolver-rules=MAP evil.example 127.0.0.1"]:
         options.add_argument(word)
     options.set_capability("goog:loggingPrefs", {"browser": "ALL"})
-    browser = webdriver.Chrome(service=Service("/usr/bin/chromedriver"), options=options)
+    browser = started(options)
     unittest.addModuleCleanup(browser.quit)
+
+
+def started(options):
+    """A browser. On a machine with much other work it may not be there in time."""
+    for _ in range(3):
+        try:
+            return webdriver.Chrome(service=Service("/usr/bin/chromedriver"), options=options)
+        except SessionNotCreatedException:
+            pass
+    return webdriver.Chrome(service=Service("/usr/bin/chromedriver"), options=options)
 
 
 class Page(Case):
