@@ -87,6 +87,11 @@ class Page(Case):
         except StaleElementReferenceException:
             return ""
 
+    def texts(self, selector):
+        """What stands in all that fit, at one moment."""
+        found = browser.execute_script("return [...document.querySelectorAll(arguments[0])].map((it) => it.innerText)", selector)
+        return [text.replace("\u00a0", " ") for text in found]
+
     def row(self, point):
         """What the row of a point shows, by its columns."""
         return browser.execute_script(
@@ -143,8 +148,7 @@ class WhatIsSeen(Page):
         self.see(lambda: self.row(DAMPER)["value"] == "30.0 %")
         self.see(lambda: "A reversion of comfort" in self.text("#whose"))
         self.see(lambda: self.row(DAMPER)["from"] == "default" and self.text("#pane .big") == "20.0 %")
-        self.assertEqual([one.text.replace("\u00a0", " ").split(": ")[1] for one in browser.find_elements(By.CSS_SELECTOR, "#pane .changes li")],
-                         ["20.0 %", "30.0 %", "35.0 %", "20.0 %"])
+        self.assertEqual([one.split(": ")[1] for one in self.texts("#pane .changes li")], ["20.0 %", "30.0 %", "35.0 %", "20.0 %"])
         self.assertIn("3 changes", self.find("#pane svg").get_attribute("aria-label"))
 
     def test_slots_search_and_filters(self):
@@ -154,9 +158,9 @@ class WhatIsSeen(Page):
         fire.submit([bossd.write(DAMPER, 0, priority=2, lease=10 * MINUTE)])
         self.open(self.console(), "#point/" + DAMPER)
         self.see(lambda: "fire-panel" in self.text("#pane .slots"))
-        slots = [line.text for line in browser.find_elements(By.CSS_SELECTOR, "#pane .slots tbody tr")]
+        slots = self.texts("#pane .slots tbody tr")
         self.assertEqual(len(slots), 16)
-        self.assertIn("2 Automatic-Life Safety ▶ in force", slots[1].replace("\n", " ").replace("  ", " "))
+        self.assertRegex(slots[1], r"^2 Automatic-Life Safety\s+▶ in force")
         self.assertIn("comfort", slots[11])
         self.see(lambda: "35.0 %, lease at priority 12" in self.text("#pane .coming"))
         shown = functools.partial(browser.execute_script, "return [...points.values()].filter(({node}) => !node.hidden).map(({name}) => name)")
