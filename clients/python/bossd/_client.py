@@ -87,6 +87,11 @@ class Client:
         with self._lock:
             self._drop()
 
+    @property
+    def is_connected(self) -> bool:
+        """Whether a connection stands at the moment. It may wait for a worker of the server."""
+        return self._link is not None
+
     def attach(self, process: str) -> int:
         """Becomes the control process of this name: 1 to 64 characters of `a-z 0-9 . _ -`. Gives the number of its next notice.
         Malformed, Already, Taken, TooManyProcesses, NoMemory, Unanswered."""

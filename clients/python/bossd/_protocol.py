@@ -311,6 +311,13 @@ def prepare(link: socket.socket) -> None:
     link.setsockopt(socket.SOL_SOCKET, socket.SO_KEEPALIVE, 1)
 
 
+def acknowledge(link: Any) -> None:
+    """Has what comes next acknowledged at once, where the system can: the server sends each answer by itself, and its system holds the
+    last ones of many back, for up to 40 ms, until those before are acknowledged."""
+    if hasattr(socket, "TCP_QUICKACK"):
+        link.setsockopt(socket.IPPROTO_TCP, socket.TCP_QUICKACK, 1)
+
+
 def no_such_host(address: str, error: socket.gaierror) -> Optional[UnknownHost]:
     """What to raise where a name has no address; None where it may have one in a moment."""
     if error.errno != socket.EAI_NONAME:

@@ -27,9 +27,8 @@ from typing import (
 
 from ._protocol import (
     LONGEST_LINE, PARTING, PAUSE, PULSE, SILENCE, Accepted, Answer, NoMemory, Notice, Notices, Over, Reading, Refused, Request,
-    Slots, Stale, Status, Stopped, Taken, Unanswered, UnknownHost, UnknownTransaction, answer_of, host_and_port, line_of, no_such_host,
-    notices_from, notices_of, prepare, reading_of, refusal_of, renewal, slots_of, status_of, submission,
-    windows,
+    Slots, Stale, Status, Stopped, Taken, Unanswered, UnknownHost, UnknownTransaction, acknowledge, answer_of, host_and_port, line_of,
+    no_such_host, notices_from, notices_of, prepare, reading_of, refusal_of, renewal, slots_of, status_of, submission, windows,
 )
 
 __all__ = ["Client", "Held", "Watch", "connect", "watch"]
@@ -127,6 +126,11 @@ class Client(Closable):
                     stream[1].write_eof()
                 await asyncio.wait_for(self._await_end(stream[0]), PARTING)
         self._drop()
+
+    @property
+    def is_connected(self) -> bool:
+        """Whether a connection stands at the moment. It may wait for a worker of the server."""
+        return self._stream is not None
 
     async def attach(self, process: str) -> int:
         """Becomes the control process of this name. Gives the number of its next notice. Malformed, Already, Taken, TooManyProcesses,
@@ -329,6 +333,7 @@ class Client(Closable):
         for part, following in zip(parts, parts[1:] + [[]]):
             sink.write(b"".join(following))
             await sink.drain()
+            acknowledge(sink.get_extra_info("socket"))
             answers += [await whole_line(source) for _ in part]
         return answers
 

@@ -1,0 +1,17 @@
+"""The catalogue's points, as `bossctl` reads them: the one place that reaches into the client's own modules."""
+
+from typing import Any, Dict
+
+from bossd._protocol import is_name
+from bossd.ctl._show import Catalogue, Point, level, now, read_catalogue
+from bossd.ctl._toml import Failure
+
+__all__ = ["Catalogue", "Failure", "Point", "described", "is_name", "level", "now", "read_catalogue"]
+
+
+def described(point: Point) -> Dict[str, Any]:
+    """What the catalogue says of a point, as JSON has it."""
+    return {
+        "name": point.name, "driver": point.driver, "kind": point.kind, "min": point.least, "max": point.most, "default": point.default,
+        "unit": point.unit, "note": point.note,
+    }

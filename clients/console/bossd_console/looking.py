@@ -1,0 +1,206 @@
+"""Asks the server, once in a while, how everything stands. It takes one of the server's workers."""
+
+import asyncio
+import contextlib
+import time
+from typing import Any, Callable, Dict, Iterable, Iterator, List, Optional, Sequence, Set, Union
+
+import bossd
+import bossd.aio
+
+from .answering import SLOW, Answering
+from .catalogue import now
+from .picture import Picture
+
+# How many requests are asked at once. The client sends on while the answers come, and the server makes sixteen at a time of those that have
+# come. To wait for each sixteen answers would not do: the system holds the last of them back until those before are acknowledged.
+GROUP = 2_048
+# For how many seconds a connection is waited for at a time, and how long an answer: a connection that is given up while it waits for a
+# worker would lose its place, and hold one up later.
+REACHING, WAITING = 1.0, 10 * 365 * 86_400.0
+# How often it is looked whether an answer is late, in seconds.
+GLANCE = 0.25
+# The slots of a point that somebody holds are asked for when they change, when a lease is about to end, and once in so many rounds.
+TURNS = 10
+# How many notices are asked for at once, the most that a server gives.
+MOST_NOTICES = 64
+
+Request = Dict[str, Any]
+Answer = Union[Dict[str, Any], bossd.Refused]
+
+
+def grouped(requests: Sequence[Request]) -> Iterator[Sequence[Request]]:
+    """The requests in groups that are asked at once."""
+    for place in range(0, len(requests), GROUP):
+        yield requests[place:place + GROUP]
+
+
+class Looking:
+    """Looks each `every` seconds, and calls `seen` after each look and whenever the server is found to answer or not. `seconds` is how
+    long the last whole look took, `first` how long its first request did, `rounds` how many there were."""
+
+    def __init__(self, address: str, picture: Picture, answering: Answering, every: float) -> None:
+        self.address, self.picture, self.answering, self.every = address, picture, answering, every
+        self.seconds, self.first, self.rounds = 0.0, 0.0, 0
+        self.seen: Callable[[], None] = lambda: None
+        self._client: Optional[bossd.aio.Client] = None
+        self._asked_since: Optional[float] = None
+        self._reads = [{"op": "read", "point": name} for name in picture.points]
+
+    async def run(self) -> None:
+        """Looks, for ever."""
+        glancing = asyncio.ensure_future(self._glance())
+        try:
+            while True:
+                began = time.monotonic()
+                with contextlib.suppress(bossd.Unanswered):
+                    await self._look()
+                await asyncio.sleep(max(0.0, began + self.every - time.monotonic()))
+        finally:
+            glancing.cancel()
+            if self._client is not None:
+                await self._client.close()
+
+    async def notices_of(self, process: str) -> bool:
+        """Asks for the notices of a process that was not met before. Gives whether there is such a process."""
+        if process in self.picture.processes:
+            return True
+        if self._client is None or self.answering.state.state != "up":
+            return False
+        with contextlib.suppress(asyncio.TimeoutError, bossd.Unanswered):
+            answer, = await asyncio.wait_for(self._client.ask_all([self._asking(process, 1)]), SLOW)
+            if isinstance(answer, dict) and answer["next"] > 1:
+                self.picture.met(process)
+        return process in self.picture.processes
+
+    # -- a look
+
+    async def _look(self) -> None:
+        if self._client is None:
+            await self._reach()
+        began, changes = time.monotonic(), self.answering.changed
+        changed = await self._read_points(self._reads[:1])
+        self.first = time.monotonic() - began
+        changed |= await self._read_points(self._reads[1:])
+        await self._see_slots(changed)
+        # A server that was away may have come back with another journal, whose transactions have the same numbers.
+        await self._see_owners(self.answering.changed != changes)
+        await self._hear()
+        self.seconds, self.rounds = time.monotonic() - began, self.rounds + 1
+        self.seen()
+
+    async def _reach(self) -> None:
+        began = time.monotonic()
+        try:
+            self._client = await bossd.aio.connect(self.address, patience=REACHING)
+            self._client.patience = WAITING
+        except bossd.UnknownHost as error:
+            self.answering.silent(False, WAITING, str(error))
+            raise bossd.Unanswered({}, str(error)) from error
+        except bossd.Unanswered as error:
+            self.answering.silent(False, time.monotonic() - began)
+            raise
+        finally:
+            self.seen()
+
+    async def _read_points(self, reads: Sequence[Request]) -> Set[str]:
+        """Reads points, and gives those that are held by something else than before."""
+        changed: Set[str] = set()
+        for group in grouped(reads):
+            for request, answer in zip(group, await self._ask(group)):
+                if isinstance(answer, bossd.UnknownPoint):
+                    self.picture.unknown(request["point"])
+                elif isinstance(answer, dict) and self._read(answer):
+                    changed.add(answer["point"])
+        return changed
+
+    def _read(self, answer: Dict[str, Any]) -> bool:
+        reading = bossd.Reading(answer["point"], answer["value"], answer["from"], answer["mark"], answer.get("priority"), answer.get("txn"))
+        return self.picture.read(reading)
+
+    async def _see_slots(self, changed: Set[str]) -> None:
+        """Asks for the slots of points that may have other ones."""
+        wanted = [name for name in self.picture.points if name in self.picture.readings and self._is_due(name, changed)]
+        wanted += sorted((self.picture.points_looked.names() & self.picture.readings.keys()) - set(wanted))
+        for answer in await self._ask_all([{"op": "array", "point": name} for name in wanted]):
+            if isinstance(answer, dict):
+                taken = {place: bossd.Slot(**slot) for place, slot in enumerate(answer["slots"], 1) if slot}
+                self.picture.stands(bossd.Slots(answer["point"], answer["default"], taken))
+
+    def _is_due(self, name: str, changed: Set[str]) -> bool:
+        if self.picture.readings[name].basis == "default":
+            return False
+        slots = self.picture.slots.get(name)
+        if name in changed or slots is None or self.picture.slot_in_force(name) is None or self._turn(hash(name)):
+            return True
+        soon = now() + int(2_000 * self.every)
+        return any((slot.until or slot.end or 0) <= soon for slot in slots.slots.values())
+
+    def _turn(self, number: int) -> bool:
+        return number % TURNS == self.rounds % TURNS
+
+    async def _see_owners(self, anew: bool) -> None:
+        """Asks whose the transactions are that hold something; of those that are known once in a while, or anew."""
+        standing = {slot.txn for slots in self.picture.slots.values() for slot in slots.slots.values()}
+        for gone in self.picture.owners.keys() - standing:
+            del self.picture.owners[gone]
+        wanted = sorted(txn for txn in standing if anew or txn not in self.picture.owners or self._turn(txn))
+        answers = await self._ask_all([{"op": "status", "txn": txn} for txn in wanted])
+        for txn, answer in zip(wanted, answers):
+            self.picture.owned(txn, answer["owner"] if isinstance(answer, dict) else None)
+
+    async def _hear(self) -> None:
+        """Asks for the notices of all processes that were met, up to the last."""
+        behind = sorted(self.picture.processes)
+        while behind:
+            answers = await self._ask_all([self._asking(name, self.picture.processes[name].next) for name in behind])
+            full = []
+            for name, answer in zip(behind, answers):
+                if isinstance(answer, dict):
+                    self._heard(name, answer)
+                    full += [name] if len(answer["list"]) == MOST_NOTICES else []
+            behind = full
+
+    def _heard(self, name: str, answer: Dict[str, Any]) -> None:
+        process = self.picture.processes[name]
+        if answer["next"] < process.next:
+            # Another journal, whose process of this name was sent fewer notices.
+            process.next = 1
+            return
+        listed = [bossd.Notice(**notice) for notice in answer["list"]]
+        self.picture.noticed(name, bossd.Notices(answer["first"], answer["next"], listed))
+
+    def _asking(self, process: str, first: int) -> Request:
+        return {"op": "notices", "process": process, "from": first, "max": MOST_NOTICES}
+
+    # -- asking
+
+    async def _ask_all(self, requests: Sequence[Request]) -> List[Answer]:
+        answers: List[Answer] = []
+        for group in grouped(requests):
+            answers += await self._ask(group)
+        return answers
+
+    async def _ask(self, group: Iterable[Request]) -> List[Answer]:
+        """Asks a group at once."""
+        assert self._client is not None
+        self._asked_since = time.monotonic()
+        try:
+            answers = await self._client.ask_all(group)
+        finally:
+            self._asked_since = None
+        before = self.answering.changed
+        self.answering.answered("stopped" if any(isinstance(answer, bossd.Stopped) for answer in answers) else "up")
+        if self.answering.changed != before:
+            self.seen()
+        return answers
+
+    async def _glance(self) -> None:
+        """Finds out when an answer is late."""
+        while True:
+            await asyncio.sleep(GLANCE)
+            since, before = self._asked_since, self.answering.changed
+            if since is not None and self._client is not None:
+                self.answering.silent(self._client.is_connected, time.monotonic() - since)
+            if self.answering.changed != before:
+                self.seen()

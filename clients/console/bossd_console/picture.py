@@ -1,0 +1,224 @@
+"""What is known of a server's points, transactions and processes, and what of it changed since it was sent on last."""
+
+import time
+from collections import Counter, deque
+from typing import Any, Deque, Dict, List, Mapping, NamedTuple, Optional, Set
+
+import bossd
+
+from .catalogue import Catalogue, described, level, now
+from .coming import Way, what_comes
+
+# How many notices of a process are kept here, and how many ways back of transactions.
+KEPT_NOTICES = 256
+KEPT_WAYS = 1_024
+# For how long somebody who looked at a point or a process counts as looking at it, in seconds.
+LOOKED = 25.0
+
+
+class Row(NamedTuple):
+    """What is shown of a point: its Reading, whose it is, up to when (where that is known), and since when its device has not answered.
+    Moments are milliseconds since 1970."""
+    value: int
+    basis: str
+    mark: str
+    priority: Optional[int]
+    txn: Optional[int]
+    owner: Optional[str]
+    until: Optional[int]
+    waiting: Optional[int]
+
+    def described(self, name: str) -> Dict[str, Any]:
+        """As JSON has it. A key without a value is left out."""
+        told = {"name": name, "value": self.value, "from": self.basis, "mark": self.mark, "priority": self.priority, "txn": self.txn,
+                "owner": self.owner, "until": self.until, "waiting": self.waiting}
+        return {key: one for key, one in told.items() if one is not None}
+
+
+class Process:
+    """The notices of a process: the last ones, and the number to ask from next."""
+
+    def __init__(self, first: int = 1) -> None:
+        self.next = first
+        self.notices: Deque[bossd.Notice] = deque(maxlen=KEPT_NOTICES)
+
+
+def notice_described(notice: bossd.Notice) -> Dict[str, Any]:
+    """As JSON has it."""
+    return {key: one for key, one in notice._asdict().items() if one is not None}
+
+
+class Looked:
+    """Names that somebody looked at a moment ago."""
+
+    def __init__(self) -> None:
+        self._at: Dict[str, float] = {}
+
+    def look(self, name: str) -> None:
+        """Somebody looks at this one now."""
+        self._at[name] = time.monotonic()
+
+    def names(self) -> Set[str]:
+        """Those that are looked at."""
+        since = time.monotonic() - LOOKED
+        self._at = {name: at for name, at in self._at.items() if at > since}
+        return set(self._at)
+
+
+class Picture:
+    """What is known. `began` is when the console began, in milliseconds since 1970."""
+
+    def __init__(self, catalogue: Catalogue) -> None:
+        self.points = catalogue.points
+        self.began = now()
+        self.readings: Dict[str, bossd.Reading] = {}
+        self.slots: Dict[str, bossd.Slots] = {}
+        self.owners: Dict[int, str] = {}
+        self.waiting: Dict[str, int] = {}
+        self.foreign: Set[str] = set()
+        self.processes: Dict[str, Process] = {}
+        # The ways back of transactions that this console took.
+        self.ways: Dict[int, Way] = {}
+        self.ended: Counter[str] = Counter()
+        self.faults = 0
+        self.points_looked, self.processes_looked = Looked(), Looked()
+        self._sent: Dict[str, Row] = {}
+        self._told: Dict[str, Dict[str, Any]] = {}
+        self._fresh: Dict[str, List[bossd.Notice]] = {}
+        self._named = 0
+
+    # -- what the server answered
+
+    def read(self, reading: bossd.Reading) -> bool:
+        """A point was read. Gives whether somebody else decides it than before, or something else."""
+        before = self.readings.get(reading.point)
+        if reading == before:
+            return False
+        self.readings[reading.point] = reading
+        self.foreign.discard(reading.point)
+        if reading.mark != "pending":
+            self.waiting.pop(reading.point, None)
+        else:
+            self.waiting.setdefault(reading.point, now())
+        if reading.basis == "default":
+            self.slots[reading.point] = bossd.Slots(reading.point, reading.value, {})
+        return before is None or before[:3] + before[4:] != reading[:3] + reading[4:]
+
+    def unknown(self, point: str) -> None:
+        """The server has no such point."""
+        self.foreign.add(point)
+
+    def stands(self, slots: bossd.Slots) -> None:
+        """The slots of a point."""
+        self.slots[slots.point] = slots
+
+    def owned(self, txn: int, owner: Optional[str]) -> None:
+        """Whose a transaction is; None where the server does not know it any more."""
+        if owner is not None:
+            self.owners[txn] = owner
+            self.met(owner)
+        else:
+            self.owners.pop(txn, None)
+
+    def met(self, process: str) -> Process:
+        """A process that there is."""
+        return self.processes.setdefault(process, Process())
+
+    def noticed(self, process: str, notices: bossd.Notices) -> None:
+        """Notices of a process came. Those of before the console began are kept and not counted."""
+        known = self.met(process)
+        for notice in notices.list:
+            known.notices.append(notice)
+            if notice.at >= self.began and notice.kind == "fault":
+                self.faults += 1
+            if notice.at >= self.began and notice.kind == "ended":
+                self.ended[notice.cause or ""] += 1
+        known.next = max(known.next, notices.next)
+        if notices.list:
+            self._fresh.setdefault(process, []).extend(notices.list)
+
+    def took(self, txn: int, owner: str, way: Way) -> None:
+        """This console took a point by a transaction, with this way back."""
+        self.owned(txn, owner)
+        self.ways[txn] = way
+        if len(self.ways) > KEPT_WAYS:
+            del self.ways[min(self.ways)]
+
+    # -- what there is to be seen
+
+    def slot_in_force(self, point: str) -> Optional[bossd.Slot]:
+        """The slot that decides, where the slots agree with what was read."""
+        reading, slots = self.readings.get(point), self.slots.get(point)
+        if reading is None or slots is None or reading.priority is None:
+            return None
+        slot = slots.slots.get(reading.priority)
+        agrees = slot is not None and slot.txn == reading.txn and (slot.until is not None) == (reading.basis == "lease")
+        return slot if agrees else None
+
+    def row(self, point: str) -> Optional[Row]:
+        """What is shown of a point; None where it was never read."""
+        reading = self.readings.get(point)
+        if reading is None:
+            return None
+        slot = self.slot_in_force(point)
+        owner = self.owners.get(reading.txn) if reading.txn is not None else None
+        until = None if slot is None else slot.end if slot.until is None else slot.until
+        return Row(reading.value, reading.basis, reading.mark, reading.priority, reading.txn, owner, until, self.waiting.get(point))
+
+    def rows(self) -> List[Dict[str, Any]]:
+        """What is shown of all points, with what the catalogue says of each, in its order."""
+        told = []
+        for name, point in self.points.items():
+            row = self.row(name)
+            told.append({**described(point), **(row.described(name) if row else {})})
+        return told
+
+    def changed_rows(self) -> List[Dict[str, Any]]:
+        """The rows that are others than when this was last asked."""
+        told = []
+        for name in self.readings:
+            row = self.row(name)
+            if row is not None and row != self._sent.get(name):
+                self._sent[name] = row
+                told.append(row.described(name))
+        return told
+
+    def detail(self, point: str) -> Dict[str, Any]:
+        """The slots of a point, and what comes next."""
+        slots = self.slots.get(point)
+        if slots is None:
+            return {"slots": [], "next": []}
+        standing = []
+        for priority, slot in sorted(slots.slots.items()):
+            told = {"priority": priority, "level": level(priority), "kind": "lease" if slot.until is not None else "reversion",
+                    "value": slot.value, "txn": slot.txn, "owner": self.owners.get(slot.txn), "until": slot.until or slot.end}
+            standing.append({key: one for key, one in told.items() if one is not None})
+        return {"slots": standing, "next": [one.described() for one in what_comes(slots, self.ways, now())[1:]]}
+
+    def changed_details(self) -> Dict[str, Dict[str, Any]]:
+        """The details of points that somebody looks at, where they are others than when this was last asked."""
+        looked = self.points_looked.names()
+        told = {point: self.detail(point) for point in sorted(looked & self.points.keys())}
+        changed = {point: detail for point, detail in told.items() if detail != self._told.get(point)}
+        self._told = told
+        return changed
+
+    def fresh_notices(self) -> Dict[str, List[Dict[str, Any]]]:
+        """The notices that came since this was last asked, of processes that somebody looks at."""
+        looked, fresh = self.processes_looked.names(), self._fresh
+        self._fresh = {}
+        return {process: [notice_described(one) for one in list_of] for process, list_of in fresh.items() if process in looked}
+
+    def named(self) -> Optional[List[str]]:
+        """The names of the processes, where there are more than when this was last asked."""
+        if len(self.processes) == self._named:
+            return None
+        self._named = len(self.processes)
+        return sorted(self.processes)
+
+    def transactions_of(self, owner: str) -> Mapping[int, str]:
+        """The transactions of a process that have a lease, each with a point of theirs, as far as is known."""
+        return {
+            slot.txn: slots.point for slots in self.slots.values() for slot in slots.slots.values()
+            if slot.until is not None and self.owners.get(slot.txn) == owner
+        }

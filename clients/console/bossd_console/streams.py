@@ -1,0 +1,87 @@
+"""Sends changes on to the pages that listen, as server-sent events: first all, then what changed, once for each look."""
+
+import asyncio
+import json
+from typing import Any, Dict, Optional, Set
+
+from .answering import Answering
+from .catalogue import now
+from .looking import Looking
+from .picture import Picture
+
+# So many pages may listen at once, and so many events may wait for one of them. A page that is slower is sent all anew.
+MOST_STREAMS = 64
+MOST_WAITING = 32
+
+
+def event(kind: str, told: Dict[str, Any]) -> bytes:
+    """A server-sent event."""
+    return f"event: {kind}\ndata: {json.dumps(told, separators=(',', ':'))}\n\n".encode()
+
+
+class Streams:
+    """The pages that listen. `about` is what is said to each first, beside the points."""
+
+    def __init__(self, picture: Picture, answering: Answering, looking: Looking, about: Dict[str, Any]) -> None:
+        self.picture, self.answering, self.looking, self.about = picture, answering, looking, about
+        self._queues: Set["asyncio.Queue[Optional[bytes]]"] = set()
+        self._said = -1
+
+    def __len__(self) -> int:
+        return len(self._queues)
+
+    def open(self) -> "asyncio.Queue[Optional[bytes]]":
+        """The events for another page. None stands for their end."""
+        queue: "asyncio.Queue[Optional[bytes]]" = asyncio.Queue(MOST_WAITING)
+        if not self._queues:
+            # What changed while no page listened stands in what this one is sent.
+            self.picture.changed_rows()
+        queue.put_nowait(self.all())
+        self._queues.add(queue)
+        return queue
+
+    def close(self, queue: "asyncio.Queue[Optional[bytes]]") -> None:
+        """A page that listens no more."""
+        self._queues.discard(queue)
+
+    def end(self) -> None:
+        """Ends all."""
+        for queue in self._queues:
+            while not queue.empty():
+                queue.get_nowait()
+            queue.put_nowait(None)
+
+    def everything(self) -> Dict[str, Any]:
+        """All that is known of points, and how the server stands."""
+        return {"now": now(), **self.about, "server": self._server(), "points": self.picture.rows(),
+                "processes": sorted(self.picture.processes)}
+
+    def all(self) -> bytes:
+        """The event that says everything."""
+        return event("all", self.everything())
+
+    def publish(self) -> None:
+        """Sends on what changed."""
+        if not self._queues:
+            return
+        told: Dict[str, Any] = {"now": now(), "seconds": round(self.looking.seconds, 3)}
+        parts = {"points": self.picture.changed_rows(), "details": self.picture.changed_details(),
+                 "notices": self.picture.fresh_notices(), "processes": self.picture.named()}
+        told.update({key: part for key, part in parts.items() if part})
+        if self._said != self.answering.changed:
+            self._said = self.answering.changed
+            told["server"] = self._server()
+        sent = event("changes", told)
+        for queue in self._queues:
+            self._send(queue, sent)
+
+    def _send(self, queue: "asyncio.Queue[Optional[bytes]]", sent: bytes) -> None:
+        if not queue.full():
+            queue.put_nowait(sent)
+            return
+        while not queue.empty():
+            queue.get_nowait()
+        queue.put_nowait(self.all())
+
+    def _server(self) -> Dict[str, Any]:
+        return {**self.answering.state.described(), "foreign": sorted(self.picture.foreign)[:16]}

@@ -1,0 +1,59 @@
+"""Speaks the protocol as far as the console asks, with a device that refuses: the devices of the real program take every command."""
+
+import json
+import socketserver
+import threading
+import time
+
+from tests.common import tools
+
+UNTIL = round(time.time() * 1000) + 3_600_000
+
+
+class Stub:
+    """A server whose point ahu1.damper is held by `comfort` and refused by its device; `failed` may be cleared."""
+
+    def __init__(self):
+        self.failed, self.listed = True, []
+        stub = self
+
+        class Handler(socketserver.StreamRequestHandler):
+            def handle(self):
+                for line in self.rfile:
+                    self.wfile.write(json.dumps(stub.answer(json.loads(line))).encode() + b"\n")
+
+        class Server(socketserver.ThreadingTCPServer):
+            allow_reuse_address, daemon_threads = True, True
+
+        self.port = tools.free_port()
+        self.address = f"127.0.0.1:{self.port}"
+        self.server = Server(("127.0.0.1", self.port), Handler)
+        threading.Thread(target=self.server.serve_forever, daemon=True).start()
+
+    def stop(self):
+        self.server.shutdown()
+        self.server.server_close()
+
+    def fault(self, at):
+        self.listed.append({"n": len(self.listed) + 1, "at": at, "txn": 1, "kind": "fault", "point": "ahu1.damper"})
+
+    def answer(self, asked):
+        return getattr(self, asked["op"])(asked)
+
+    def read(self, asked):
+        if asked["point"] == "ahu1.damper":
+            return {"ok": "read", "point": "ahu1.damper", "value": 35_000, "from": "lease", "priority": 12, "txn": 1,
+                    "mark": "failed" if self.failed else "settled"}
+        if asked["point"] == "floor2.office":
+            return {"error": "unknown-point", "index": 0}
+        return {"ok": "read", "point": asked["point"], "value": 20_000, "from": "default", "mark": "settled"}
+
+    def array(self, asked):
+        return {"ok": "array", "point": asked["point"], "default": 20_000, "slots": [None] * 11 + [{"value": 35_000, "txn": 1, "until": UNTIL}] + [None] * 4}
+
+    def status(self, asked):
+        return {"ok": "status", "txn": 1, "owner": "comfort", "stage": "run", "live": 1, "pending": 0}
+
+    def notices(self, asked):
+        fresh = [one for one in self.listed if one["n"] >= asked["from"]]
+        return {"ok": "notices", "first": 1, "next": len(self.listed) + 1, "list": fresh}

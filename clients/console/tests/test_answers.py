@@ -1,0 +1,283 @@
+"""Tests of what the console answers programs, against the built program: no browser."""
+
+import http.client
+import json
+import os
+import re
+import signal
+import subprocess
+import time
+import unittest
+
+from tests.common import CATALOGUE, CONSOLE, MINUTE, PATIENCE, TOP, Case, bossd
+
+DAMPER = "ahu1.damper"
+
+
+class Stream:
+    """The events of /api/changes."""
+
+    def __init__(self, console):
+        self.link = http.client.HTTPConnection("127.0.0.1", console.port, timeout=PATIENCE)
+        self.link.request("GET", "/api/changes")
+        self.lines = self.link.getresponse()
+
+    def next(self):
+        """The kind and the contents of the next event."""
+        kind = ""
+        while True:
+            line = self.lines.readline().decode().rstrip("\n")
+            if line.startswith("event: "):
+                kind = line[7:]
+            if line.startswith("data: "):
+                return kind, json.loads(line[6:])
+
+    def close(self):
+        self.link.close()
+
+
+class Looking(Case):
+    def test_points_slots_and_owners(self):
+        console, comfort = self.console(), self.client("comfort")
+        comfort.submit([bossd.write(DAMPER, 35_000, priority=12, lease=MINUTE)])
+        point = self.eventually(lambda: (lambda it: it if it.get("owner") else None)(console.point(DAMPER)))
+        self.assertEqual({key: point[key] for key in ("value", "from", "priority", "owner", "unit")},
+                         {"value": 35_000, "from": "lease", "priority": 12, "owner": "comfort", "unit": "percent"})
+        self.assertEqual([(slot["priority"], slot["kind"], slot["value"], slot["owner"]) for slot in point["slots"]], [(12, "lease", 35_000, "comfort")])
+        self.assertEqual([(one["from"], one["sure"]) for one in point["next"]], [("default", False)])
+        listed = console.ask("/api/points")[1]
+        self.assertEqual((len(listed["points"]), listed["server"]["state"], listed["operator"]), (10, "up", None))
+        self.assertEqual(console.ask("/api/points/no.such")[0], 404)
+
+    def test_a_renewal_is_seen(self):
+        console, comfort = self.console(), self.client("comfort")
+        txn = comfort.submit([bossd.write(DAMPER, 35_000, lease=MINUTE)]).txn
+        self.eventually(lambda: "until" in console.point(DAMPER))
+        until = comfort.renew(txn, 5 * MINUTE)
+        self.eventually(lambda: console.point(DAMPER)["until"] == until)
+
+    def test_notices(self):
+        console, comfort = self.console(), self.client("comfort")
+        self.assertEqual(console.ask("/api/processes/comfort/notices")[0], 404)
+        txn = comfort.submit([bossd.write(DAMPER, 35_000, lease=MINUTE)]).txn
+        comfort.cancel(txn)
+        comfort.submit([bossd.write(DAMPER, 35_000, lease=MINUTE)])
+        listed = self.eventually(lambda: console.ask("/api/processes/comfort/notices")[1].get("list"))
+        self.assertEqual([one["kind"] for one in listed], ["ended", "done"])
+        self.assertEqual(console.ask("/api/processes")[1]["processes"], [{"name": "comfort", "notices": 2, "holding": [2]}])
+        self.assertEqual(console.ask("/api/processes/No%20Name/notices")[0], 404)
+
+    def test_changes_alone_are_sent(self):
+        console, comfort = self.console(), self.client("comfort")
+        self.eventually(lambda: "mark" in console.ask("/api/points")[1]["points"][0])
+        stream = Stream(console)
+        self.addCleanup(stream.close)
+        self.assertEqual(stream.next()[0], "all")
+        self.assertEqual([set(stream.next()[1]) - {"server"} for _ in range(2)], [{"now", "seconds"}] * 2)
+        began = time.monotonic()
+        comfort.submit([bossd.write(DAMPER, 35_000, lease=MINUTE)])
+        told = []
+        while not told and time.monotonic() < began + PATIENCE:
+            told = stream.next()[1].get("points", [])
+        self.assertEqual([(one["name"], one["value"], one["owner"]) for one in told], [(DAMPER, 35_000, "comfort")])
+
+    def test_metrics(self):
+        console, comfort = self.console(), self.client("comfort")
+        self.eventually(lambda: console.metrics().get('bossd_points_by_basis{basis="default"}') == 10)
+        comfort.submit([bossd.write(DAMPER, 35_000, priority=12, lease=MINUTE), bossd.write("ahu1.fan", 2, priority=12, lease=MINUTE)])
+        lease = 'bossd_leases{level="Available",priority="12"}'
+        self.eventually(lambda: console.metrics().get(lease) == 2)
+        comfort.close()
+        self.eventually(lambda: console.metrics()['bossd_leases_ended_total{cause="died"}'] == 2)
+        metrics = self.eventually(lambda: (lambda it: it if it.get(lease) == 0 else None)(console.metrics()))
+        self.assertEqual((metrics["bossd_up"], metrics['bossd_points_by_mark{mark="settled"}'], metrics["bossd_processes"]), (1, 10, 1))
+        self.assertGreater(metrics["bossd_look_seconds"], 0)
+        self.assertGreater(metrics["bossd_console_process_cpu_seconds_total"], 0)
+
+    def test_the_dashboard_asks_for_what_is_told(self):
+        console = self.console()
+        self.eventually(lambda: console.metrics().get('bossd_points_by_basis{basis="default"}') == 10)
+        told = set(re.findall(r"^# TYPE (\w+)", console.ask("/metrics")[1], re.M))
+        with open(os.path.join(TOP, "packaging", "grafana", "bossd.json"), encoding="utf-8") as file:
+            asked = [target["expr"] for panel in json.load(file)["panels"] for target in panel["targets"]]
+        self.assertEqual(set(re.findall(r"bossd_\w+", " ".join(asked))) - told, set())
+
+
+class Safety(Case):
+    def test_foreign_pages_are_refused(self):
+        console = self.console("--operator", "operator")
+        body = {"id": "x", "point": DAMPER, "value": 90_000, "length": MINUTE}
+        for headers in [{"Host": "evil.example"}, {"Origin": "http://evil.example"}, {"Origin": "null"}, {"Sec_Fetch_Site": "cross-site"}]:
+            for path, sent in [("/api/points", None), ("/api/changes", None), ("/metrics", None), ("/api/take", body), ("/api/preview", body)]:
+                status, answer = console.ask(path, sent, Authorization=f"Bearer {console.token}", **headers)
+                self.assertEqual((status, answer["error"]), (403, "foreign"), (path, headers))
+
+    def test_a_change_wants_the_token(self):
+        console = self.console("--operator", "operator")
+        body = {"id": "x", "point": DAMPER, "value": 90_000, "length": MINUTE}
+        for do in ["take", "prolong", "release"]:
+            self.assertEqual(console.ask(f"/api/{do}", body)[0], 401)
+            self.assertEqual(console.ask(f"/api/{do}", body, Authorization="Bearer " + "x" * 32)[0], 401)
+        status, answer = console.ask("/api/take", body, Authorization=f"Bearer {console.token}", Content_Type="text/plain")
+        self.assertEqual((status, answer["error"]), (400, "faulty"))
+        self.assertEqual(self.client("other").submit([bossd.write(DAMPER, 1, lease=MINUTE)]).txn, 1)
+
+    def test_without_an_operator_nothing_is_changed(self):
+        console = self.console()
+        self.assertEqual(console.change("take", id="x", point=DAMPER, value=90_000, length=MINUTE)[0], 403)
+
+    def test_headers(self):
+        console = self.console()
+        link = http.client.HTTPConnection("127.0.0.1", console.port, timeout=PATIENCE)
+        self.addCleanup(link.close)
+        link.request("GET", "/")
+        answer = link.getresponse()
+        text, policy = answer.read().decode(), answer.headers["Content-Security-Policy"]
+        for part in ["default-src 'none'", "frame-ancestors 'none'", "connect-src 'self'", "script-src 'sha256-"]:
+            self.assertIn(part, policy)
+        self.assertNotIn("unsafe", policy)
+        for outside in ["src=", "@import", "url("]:
+            self.assertNotIn(outside, text)
+
+
+class Changing(Case):
+    WORKERS = 4
+
+    def take(self, console, **more):
+        return console.change("take", **{"id": "c-1", "point": DAMPER, "value": 90_000, "length": MINUTE, **more})
+
+    def test_taken_prolonged_and_released(self):
+        console = self.console("--operator", "operator")
+        self.eventually(lambda: console.point(DAMPER).get("mark"))
+        status, taken = self.take(console, revert=[[50_000, MINUTE]])
+        self.assertEqual((status, taken["txn"]), (200, 1))
+        point = console.point(DAMPER)
+        self.assertEqual((point["value"], point["priority"], point["owner"]), (90_000, 8, "operator"))
+        self.assertEqual([(one["value"], one["from"], one["sure"]) for one in point["next"]], [(50_000, "pending", True), (20_000, "default", True)])
+        status, told = console.change("prolong", id="c-2", point=DAMPER, txn=1, length=5 * MINUTE)
+        self.assertGreater(told["until"], taken["until"] + 3 * MINUTE)
+        status, _ = console.change("release", id="c-3", point=DAMPER, txn=1)
+        self.assertEqual((status, console.point(DAMPER)["from"]), (200, "pending"))
+        status, answer = console.change("release", id="c-4", point=DAMPER, txn=1)
+        self.assertEqual((status, answer["error"]), (409, "over"))
+
+    def test_asked_twice_it_is_made_once(self):
+        console = self.console("--operator", "operator")
+        self.assertEqual(self.take(console), self.take(console))
+        self.assertEqual(self.take(console, id="c-2", point="ahu1.fan", value=2)[1]["txn"], 2)
+
+    def test_a_lost_answer_is_asked_again_and_made_once(self):
+        console = self.console("--operator", "operator")
+        self.take(console, id="c-0", point="ahu1.fan", value=2)
+        self.server.process.send_signal(signal.SIGSTOP)
+        status, answer = self.take(console)
+        self.assertEqual((status, answer["error"]), (504, "open"))
+        self.server.process.send_signal(signal.SIGCONT)
+        status, answer = self.eventually(lambda: (lambda it: it if it[0] == 200 else None)(self.take(console)))
+        self.assertEqual(answer["txn"], 2)
+        self.assertEqual(self.take(console, id="c-2", point="ahu1.supply", value=21_000)[1]["txn"], 3)
+
+    def test_a_server_that_hangs_loses_nothing(self):
+        console = self.console("--operator", "operator")
+        self.take(console, id="c-0", point="ahu1.fan", value=2)
+        self.server.process.send_signal(signal.SIGSTOP)
+        self.assertEqual(self.take(console)[0], 504)
+        self.server.process.send_signal(signal.SIGCONT)
+        self.eventually(lambda: self.take(console)[0] == 200)
+        self.assertEqual((console.point(DAMPER)["owner"], console.point("ahu1.fan")["owner"]), ("operator", "operator"))
+
+    def test_what_is_held_outlasts_a_restart_of_the_server(self):
+        console = self.console("--operator", "operator")
+        self.take(console, length=10 * MINUTE)
+        self.server.kill()
+        self.server.start()
+        self.eventually(lambda: console.change("prolong", id="c-2", point=DAMPER, txn=1, length=20 * MINUTE)[0] == 200)
+        self.assertEqual(console.point(DAMPER)["owner"], "operator")
+
+    def test_a_name_that_is_taken(self):
+        self.client("operator")
+        status, answer = self.take(self.console("--operator", "operator"))
+        self.assertEqual((status, answer["error"]), (409, "taken"))
+
+    def test_a_second_worker_while_something_is_held(self):
+        console = self.console("--operator", "operator")
+        self.eventually(lambda: console.point(DAMPER).get("mark"))
+        others = [self.client() for _ in range(3)]
+        status, answer = self.take(console)
+        self.assertEqual((status, answer["error"]), (503, "unanswered"))
+        others[0].close()
+        self.eventually(lambda: self.take(console, id="c-2")[0] == 200)
+        console.change("release", id="c-3", point=DAMPER, txn=1)
+        # Once nothing is held, the worker is free for another one.
+        last = bossd.Client(self.server.address, "last", patience=PATIENCE)
+        self.addCleanup(last.close)
+
+    def test_a_refused_value(self):
+        console = self.console("--operator", "operator")
+        self.assertEqual(self.take(console, value=100_001)[0], 400)
+        self.assertEqual(console.change("release", id="c-2", point=DAMPER, txn=77)[1]["error"], "unknown-txn")
+        txn = self.client("comfort").submit([bossd.write(DAMPER, 1, lease=MINUTE)]).txn
+        self.assertEqual(console.change("release", id="c-3", point=DAMPER, txn=txn)[1]["error"], "not-yours")
+
+
+class ComingAndGoing(Case):
+    WORKERS = 2
+
+    def state(self, console):
+        return console.ask("/api/points")[1]["server"]["state"]
+
+    def test_the_server_goes_down_and_comes_back(self):
+        console = self.console()
+        self.eventually(lambda: self.state(console) == "up")
+        self.server.kill()
+        self.eventually(lambda: self.state(console) == "down")
+        metrics = console.metrics()
+        self.assertEqual((metrics["bossd_up"], 'bossd_points_by_mark{mark="settled"}' in metrics), (0, False))
+        self.server.start()
+        self.eventually(lambda: self.state(console) == "up")
+        self.assertGreater(console.ask("/api/points")[1]["server"]["away"], 0)
+
+    def test_no_worker_is_free(self):
+        first, second = bossd.Client(self.server.address), bossd.Client(self.server.address)
+        self.addCleanup(second.close)
+        for one in (first, second):
+            one.read(DAMPER)
+        console = self.console()
+        self.eventually(lambda: self.state(console) == "busy")
+        first.close()
+        self.eventually(lambda: self.state(console) == "up")
+
+    def test_it_begins_before_the_server(self):
+        self.server.kill()
+        console = self.console()
+        self.eventually(lambda: self.state(console) == "down")
+        self.server.start()
+        self.eventually(lambda: self.state(console) == "up")
+
+    def test_another_journal(self):
+        console = self.console()
+        comfort = self.client("comfort")
+        comfort.submit([bossd.write(DAMPER, 35_000, lease=MINUTE)])
+        comfort.cancel(1)
+        comfort.submit([bossd.write(DAMPER, 35_000, lease=10 * MINUTE)])
+        self.eventually(lambda: console.point(DAMPER).get("owner") == "comfort")
+        self.server.kill()
+        self.server.journal += "-2"
+        self.server.start()
+        other = self.client("other")
+        for value in (1_000, 2_000):
+            other.submit([bossd.write(DAMPER, value, lease=10 * MINUTE)])
+        self.eventually(lambda: console.point(DAMPER).get("owner") == "other")
+
+
+class Words(unittest.TestCase):
+    def test_faulty_words(self):
+        for words in [["--every", "0"], ["--operator", "No Name"], ["--listen", "8080"], ["--listen", "127.0.0.1:99999"]]:
+            ran = subprocess.run(["/usr/bin/python3", f"{CONSOLE}/bossd-console", CATALOGUE, "127.0.0.1:1", *words], capture_output=True, text=True)
+            self.assertEqual((ran.returncode, ran.stderr.count("\n")), (1, 1), ran.stderr)
+        ran = subprocess.run(["/usr/bin/python3", f"{CONSOLE}/bossd-console", "/no/such/file", "127.0.0.1:1"], capture_output=True, text=True)
+        self.assertIn("no such file", ran.stderr)
+
+
+if __name__ == "__main__":
+    unittest.main()

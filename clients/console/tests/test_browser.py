@@ -1,0 +1,438 @@
+"""Tests of the page in a real browser, against the built program. They want Debian's chromium, chromium-driver, python3-selenium
+and python3-pil."""
+
+import functools
+import http.server
+import os
+import signal
+import tempfile
+import threading
+import time
+import unittest
+
+from PIL import Image
+from selenium import webdriver
+from selenium.common.exceptions import NoSuchElementException, SessionNotCreatedException, StaleElementReferenceException
+from selenium.webdriver.chrome.options import Options
+from selenium.webdriver.chrome.service import Service
+from selenium.webdriver.common.by import By
+from selenium.webdriver.common.keys import Keys
+
+from tests.common import MINUTE, PATIENCE, Case, Console, bossd
+from tests.stub import Stub
+
+DAMPER = "ahu1.damper"
+# Where the pictures go. Without it they are made and thrown away.
+PICTURES = os.environ.get("PICTURES")
+COLOURS = 128
+
+
+def setUpModule():
+    global browser
+    options = Options()
+    options.binary_location = "/usr/bin/chromium"
+    for word in ["--headless=new", "--no-sandbox", "--disable-gpu", "--disable-dev-shm-usage", "--no-first-run", "--disable-extensions",
+                 "--disable-background-networking", "--disable-lcd-text", "--hide-scrollbars", "--no-proxy-server", "--host-resolver-rules=MAP evil.example 127.0.0.1"]:
+        options.add_argument(word)
+    options.set_capability("goog:loggingPrefs", {"browser": "ALL"})
+    browser = started(options)
+    unittest.addModuleCleanup(browser.quit)
+
+
+def started(options):
+    """A browser. On a machine with much other work it may not be there in time."""
+    for _ in range(3):
+        try:
+            return webdriver.Chrome(service=Service("/usr/bin/chromedriver"), options=options)
+        except SessionNotCreatedException:
+            pass
+    return webdriver.Chrome(service=Service("/usr/bin/chromedriver"), options=options)
+
+
+class Page(Case):
+    def setUp(self):
+        super().setUp()
+        self.addCleanup(self.blank)
+
+    def blank(self):
+        while len(browser.window_handles) > 1:
+            browser.close()
+            browser.switch_to.window(browser.window_handles[-1])
+        browser.get("about:blank")
+        said = [line["message"] for line in browser.get_log("browser") if line["level"] == "SEVERE" and "favicon" not in line["message"]]
+        self.unexpected = [line for line in said if not any(word in line for word in self.expected())]
+        self.assertEqual(self.unexpected, [])
+
+    def expected(self):
+        """What the browser may complain of: that the server or the console is gone, or refuses."""
+        return ["net::ERR_", "status of 4", "status of 5"]
+
+    def open(self, console, where="", wide=1280, high=1000):
+        # The window's own frame takes a part of the height.
+        browser.set_window_size(wide, high)
+        browser.get("about:blank")
+        browser.get(console.address + where)
+        self.eventually(lambda: self.text("#health") == "answers" and self.find(".group tbody tr"))
+
+    def find(self, selector):
+        try:
+            return browser.find_element(By.CSS_SELECTOR, selector)
+        except NoSuchElementException:
+            return None
+
+    def text(self, selector):
+        try:
+            found = self.find(selector)
+            return found.text.replace("\u00a0", " ") if found is not None else ""
+        except StaleElementReferenceException:
+            return ""
+
+    def texts(self, selector):
+        """What stands in all that fit, at one moment."""
+        found = browser.execute_script("return [...document.querySelectorAll(arguments[0])].map((it) => it.innerText)", selector)
+        return [text.replace("\u00a0", " ") for text in found]
+
+    def row(self, point):
+        """What the row of a point shows, by its columns."""
+        return browser.execute_script(
+            "const {node, cells} = points.get(arguments[0]); return {shown: !node.hidden && !node.closest('.group').hidden,"
+            "...Object.fromEntries(Object.entries(cells).map(([key, cell]) => [key, cell.textContent.replace('\u00a0', ' ')]))}", point)
+
+    def see(self, test):
+        """Waits until it is so, while what is drawn may be drawn anew."""
+        def looked():
+            try:
+                return test()
+            except StaleElementReferenceException:
+                return False
+        return self.eventually(looked)
+
+    def click(self, selector):
+        def clicked():
+            found = self.find(selector)
+            if found is None or not found.is_displayed() or not found.is_enabled():
+                return False
+            found.click()
+            return True
+        self.see(clicked)
+
+    def type(self, name, text):
+        found = self.find(f"#ask [name={name}]")
+        found.clear()
+        found.send_keys(text)
+
+    def picture(self, name):
+        folder = PICTURES or self.folder
+        os.makedirs(folder, exist_ok=True)
+        path = os.path.join(folder, name + ".png")
+        browser.save_screenshot(path)
+        # With all shades of its letters a picture is three times as large.
+        Image.open(path).convert("RGB").quantize(COLOURS, dither=Image.Dither.NONE).save(path, optimize=True)
+        self.assertLess(os.path.getsize(path), 150_000)
+
+
+class WhatIsSeen(Page):
+    def test_a_lease_counts_down_reverts_and_ends_while_one_looks(self):
+        comfort = self.client("comfort")
+        console = self.console()
+        self.open(console, "#point/" + DAMPER)
+        comfort.submit([bossd.write(DAMPER, 35_000, priority=12, lease=10_000, revert=[(30_000, 6_000)])])
+        self.see(lambda: self.row(DAMPER)["left"])
+        row = self.row(DAMPER)
+        self.assertEqual([row[key] for key in ("value", "from", "priority", "owner", "mark")],
+                         ["35.0 %", "lease", "12 Available", "comfort", "✓ settled"])
+        left = [self.row(DAMPER)["left"]]
+        self.see(lambda: self.row(DAMPER)["left"] != left[0])
+        self.assertLess(self.row(DAMPER)["left"], left[0])
+        self.see(lambda: self.row(DAMPER)["from"] == "reversion")
+        self.see(lambda: self.row(DAMPER)["value"] == "30.0 %")
+        self.see(lambda: "A reversion of comfort" in self.text("#whose"))
+        self.see(lambda: self.row(DAMPER)["from"] == "default" and self.text("#pane .big") == "20.0 %")
+        self.assertEqual([one.split(": ")[1] for one in self.texts("#pane .changes li")], ["20.0 %", "30.0 %", "35.0 %", "20.0 %"])
+        self.assertIn("3 changes", self.find("#pane svg").get_attribute("aria-label"))
+
+    def test_slots_search_and_filters(self):
+        comfort, boiler, fire = self.client("comfort"), self.client("boiler"), self.client("fire-panel")
+        comfort.submit([bossd.write(DAMPER, 35_000, priority=12, lease=20 * MINUTE), bossd.write("ahu1.fan", 2, priority=12, lease=10 * MINUTE)])
+        boiler.submit([bossd.write("boiler.pump", 1, lease=10 * MINUTE)])
+        fire.submit([bossd.write(DAMPER, 0, priority=2, lease=10 * MINUTE)])
+        self.open(self.console(), "#point/" + DAMPER)
+        self.see(lambda: "fire-panel" in self.text("#pane .slots"))
+        slots = self.texts("#pane .slots tbody tr")
+        self.assertEqual(len(slots), 16)
+        self.assertRegex(slots[1], r"^2 Automatic-Life Safety\s+▶ in force")
+        self.assertIn("comfort", slots[11])
+        self.see(lambda: "35.0 %, lease at priority 12" in self.text("#pane .coming"))
+        shown = functools.partial(browser.execute_script, "return [...points.values()].filter(({node}) => !node.hidden).map(({name}) => name)")
+        self.click("#filters [value=overridden]")
+        self.see(lambda: shown() == [DAMPER])
+        self.click("#filters [value=held]")
+        self.see(lambda: shown() == [DAMPER, "ahu1.fan", "boiler.pump"])
+        self.find("#search").send_keys("boiler")
+        self.see(lambda: shown() == ["boiler.pump"])
+        self.find("#search").send_keys("x")
+        self.see(lambda: self.text("#none") == "No point fits.")
+
+    def test_a_process_and_its_notices_as_they_come(self):
+        comfort = self.client("comfort")
+        txn = comfort.submit([bossd.write(DAMPER, 35_000, lease=10 * MINUTE)]).txn
+        self.open(self.console())
+        self.see(lambda: self.row(DAMPER)["owner"] == "comfort")
+        self.click("tr.lease .owner a")
+        self.see(lambda: "Decides 1 point" in self.text("#pane"))
+        self.client("other").submit([bossd.write(DAMPER, 50_000, lease=10 * MINUTE)])
+        self.see(lambda: f"transaction {txn}: the lease on {DAMPER} ended: transaction 2 took its slot" in self.text("#pane .notices"))
+        self.see(lambda: "Decides 0 points" in self.text("#pane"))
+
+    def test_a_failed_device(self):
+        stub = Stub()
+        self.addCleanup(stub.stop)
+        console = Console(stub.address)
+        self.addCleanup(console.stop)
+        self.open(console)
+        self.see(lambda: self.row(DAMPER)["mark"] == "✕ failed")
+        self.see(lambda: self.text("#banner") == "The server does not have floor2.office: it was started with another catalogue.")
+        self.click("#filters [value=failed]")
+        self.see(lambda: not self.row("ahu1.fan")["shown"] and self.row(DAMPER)["shown"])
+        self.click("tr.trouble a")
+        self.see(lambda: "device failed: it refused the value" in self.text("#pane"))
+        self.assertEqual(console.metrics()['bossd_points_by_mark{mark="failed"}'], 1)
+        self.picture("console-failed-1280")
+        stub.fault(round(time.time() * 1000))
+        self.see(lambda: console.metrics()["bossd_faults_total"] == 1)
+        stub.failed = False
+        self.see(lambda: self.row(DAMPER)["mark"] == "✓ settled" and self.text("#none") == "No point fits.")
+
+    def test_the_server_is_killed_and_started_again(self):
+        comfort = self.client("comfort")
+        comfort.submit([bossd.write(DAMPER, 35_000, lease=10 * MINUTE)])
+        self.open(self.console())
+        self.see(lambda: self.row(DAMPER)["owner"] == "comfort")
+        self.server.kill()
+        self.see(lambda: "The server is down: nobody listens at its address." in self.text("#banner") and self.text("#health") == "is down")
+        self.assertIn("What stands here is of", self.text("#banner"))
+        self.server.start()
+        self.see(lambda: "The server is back" in self.text("#banner") and self.text("#health") == "answers")
+        self.assertEqual(self.row(DAMPER)["value"], "35.0 %")
+
+    def test_no_worker_is_free(self):
+        self.server.stop()
+        self.server.workers = 1
+        self.server.start()
+        console = self.console()
+        self.open(console)
+        self.server.process.send_signal(signal.SIGSTOP)
+        self.see(lambda: "none of its workers is free, or it hangs" in self.text("#banner"))
+        self.server.process.send_signal(signal.SIGCONT)
+        self.see(lambda: self.text("#health") == "answers")
+
+    def test_the_console_is_gone(self):
+        console = self.console()
+        self.open(console)
+        console.stop()
+        self.see(lambda: "The console does not answer" in self.text("#banner"))
+
+    def test_two_pages_at_once(self):
+        console, one = self.console("--operator", "operator"), browser.current_window_handle
+        self.open(console, f"#token={console.token}")
+        browser.switch_to.new_window("tab")
+        self.open(console, "#point/" + DAMPER)
+        two = browser.current_window_handle
+        browser.switch_to.window(one)
+        browser.get(console.address + "#point/" + DAMPER)
+        self.click("#take")
+        self.see(lambda: self.find("#ask-next li"))
+        self.type("value", "90")
+        self.click("#ask [value=yes]")
+        self.see(lambda: self.row(DAMPER)["value"] == "90.0 %")
+        browser.switch_to.window(two)
+        self.see(lambda: self.row(DAMPER)["value"] == "90.0 %" and self.text("#pane .big") == "90.0 %")
+
+
+class WhatIsChanged(Page):
+    def test_an_override_and_its_release_by_keyboard_alone(self):
+        self.client("comfort").submit([bossd.write(DAMPER, 35_000, priority=12, lease=60 * MINUTE)])
+        console = self.console("--operator", "operator")
+        self.open(console)
+        self.see(lambda: self.row(DAMPER)["owner"] == "comfort")
+        press = lambda *keys: webdriver.ActionChains(browser).send_keys(*keys).perform()
+        focused = lambda: browser.execute_script("const it = document.activeElement; return it.id || it.name || it.value || it.textContent")
+        press("/", "damper")
+        self.see(lambda: not self.row("ahu1.fan")["shown"])
+        press(Keys.ARROW_DOWN)
+        self.assertEqual(focused(), DAMPER)
+        press(Keys.ENTER)
+        self.see(lambda: focused() == "pane")
+        press(Keys.TAB)
+        self.assertEqual(focused(), "close")
+        self.see(lambda: self.find("#take"))
+        press(Keys.TAB, Keys.TAB)
+        if focused() != "take":
+            press(Keys.TAB)
+        self.see(lambda: self.find("#pane .coming"))
+        browser.execute_script("document.getElementById('take').focus()")
+        press(Keys.ENTER)
+        self.see(lambda: focused() == "value" and "at once: 35.0 %" in self.text("#ask-next"))
+        press("80", Keys.TAB, Keys.TAB)
+        self.assertEqual(focused(), "minutes")
+        press(Keys.TAB, "2")
+        self.see(lambda: "Step 2" in self.text("#ask-fields") and "at once: 80.0 %" in self.text("#ask-next"))
+        # A live lease comes before the reversion.
+        self.assertEqual([line.split(": ", 1)[1] for line in self.text("#ask-next").splitlines()][:2],
+                         ["80.0 %, lease at priority 8 Manual Operator", "35.0 %, lease at priority 12"])
+        self.find("#ask-token input").send_keys("wrong")
+        press(Keys.ENTER)
+        self.see(lambda: "Not made: a change wants the console's token" in self.text("#ask-said"))
+        self.find("#ask-token input").clear()
+        self.find("#ask-token input").send_keys(console.token, Keys.ENTER)
+        self.see(lambda: not self.find("#ask").is_displayed() and self.row(DAMPER)["value"] == "80.0 %")
+        row = self.row(DAMPER)
+        self.assertEqual([row[key] for key in ("from", "priority", "owner")], ["lease", "8 Manual Operator", "operator"])
+        self.release()
+
+    def release(self):
+        self.click("#pane [id^=prolong]")
+        self.see(lambda: "80.0 %, lease at priority 8" in self.text("#ask-next"))
+        self.type("minutes", "90")
+        self.click("#ask [value=yes]")
+        self.see(lambda: not self.find("#ask").is_displayed() and self.row(DAMPER)["left"] > "1:20")
+        self.click("#pane [id^=release]")
+        self.see(lambda: "at once: 35.0 %, lease at priority 12" in self.text("#ask-next"))
+        self.click("#ask [value=yes]")
+        self.see(lambda: self.row(DAMPER)["value"] == "35.0 %" and self.row(DAMPER)["owner"] == "comfort")
+
+    def test_looking_only(self):
+        self.open(self.console(), "#point/" + DAMPER)
+        self.see(lambda: "Slots" in self.text("#pane"))
+        self.assertIsNone(self.find("#take"))
+        self.assertEqual(self.text("#role"), "Looking only")
+
+    def test_a_lost_answer_is_asked_again_and_made_once(self):
+        console = self.console("--operator", "operator")
+        self.open(console, f"#token={console.token}")
+        console.change("take", id="c-0", point="ahu1.fan", value=2, length=60 * MINUTE)
+        browser.get(console.address + "#point/" + DAMPER)
+        self.click("#take")
+        self.type("value", "80")
+        self.see(lambda: "at once: 80.0 %" in self.text("#ask-next"))
+        self.server.process.send_signal(signal.SIGSTOP)
+        self.click("#ask [value=yes]")
+        self.see(lambda: "Asked again, under the same number" in self.text("#ask-said"))
+        self.server.process.send_signal(signal.SIGCONT)
+        self.see(lambda: not self.find("#ask").is_displayed() and self.row(DAMPER)["value"] == "80.0 %")
+        self.assertEqual(self.client("other").submit([bossd.write("boiler.pump", 1, lease=MINUTE)]).txn, 3)
+
+
+class WhoIsRefused(Page):
+    def serve(self, text):
+        """A page of another site."""
+        folder = tempfile.TemporaryDirectory()
+        self.addCleanup(folder.cleanup)
+        with open(os.path.join(folder.name, "index.html"), "w", encoding="utf-8") as file:
+            file.write(text)
+
+        class Quiet(http.server.SimpleHTTPRequestHandler):
+            def log_message(self, *_):
+                pass
+
+        site = http.server.ThreadingHTTPServer(("127.0.0.1", 0), functools.partial(Quiet, directory=folder.name))
+        threading.Thread(target=site.serve_forever, daemon=True).start()
+        self.addCleanup(site.server_close)
+        self.addCleanup(site.shutdown)
+        return site.server_address[1]
+
+    def expected(self):
+        return super().expected() + ["CORS policy", "refused to connect", "X-Frame-Options", "frame-ancestors"]
+
+    def test_a_foreign_page_drives_nothing(self):
+        console = self.console("--operator", "operator")
+        body = {"id": "x", "point": DAMPER, "value": 90_000, "length": MINUTE}
+        site = self.serve(f"""<!doctype html><title>elsewhere</title><iframe src="{console.address}"></iframe><script>
+            const told = window.told = {{}}, note = (key) => (it) => {{ told[key] = String(it.status || it); }};
+            const body = JSON.stringify({body}), Authorization = "Bearer {console.token}";
+            fetch("{console.address}api/points").then(note("read"), note("read"));
+            fetch("{console.address}api/take", {{method: "POST", body, mode: "no-cors"}}).then(note("plain"), note("plain"));
+            fetch("{console.address}api/take", {{method: "POST", body, headers: {{Authorization, "Content-Type": "application/json"}}}}).then(note("take"), note("take"));
+            const stream = new EventSource("{console.address}api/changes");
+            stream.onmessage = stream.onopen = note("stream"); stream.onerror = () => {{ told.stream = "refused"; }};
+        </script>""")
+        browser.get(f"http://evil.example:{site}/")
+        told = self.eventually(lambda: (lambda it: it if len(it) == 4 else None)(browser.execute_script("return window.told")))
+        self.assertEqual((told["stream"], told["read"], told["take"]), ("refused", "TypeError: Failed to fetch", "TypeError: Failed to fetch"))
+        # The name of another site that leads to this machine.
+        browser.get(f"http://evil.example:{console.port}/")
+        self.assertIn("this is not the address of the console", browser.find_element(By.TAG_NAME, "body").text)
+        self.assertEqual(self.client("other").submit([bossd.write(DAMPER, 1_000, lease=MINUTE)]).txn, 1)
+
+
+class Many(Page):
+    def test_4096_points(self):
+        catalogue = os.path.join(self.folder, "many.toml")
+        names = [f"part{place // 64}.point{place % 64}" for place in range(4_096)]
+        with open(catalogue, "w", encoding="utf-8") as file:
+            file.write('drivers = ["field"]\n')
+            file.writelines(f'[[point]]\nname = "{name}"\ndriver = "field"\nkind = "analog"\nmin = 0\nmax = 100000\ndefault = 0\n' for name in names)
+        self.server.stop()
+        self.server.catalogue, self.server.journal = catalogue, os.path.join(self.folder, "many")
+        self.server.start()
+        comfort = self.client("comfort")
+        for place in range(0, 2_048, 32):
+            comfort.submit([bossd.write(name, 1_000, lease=60 * MINUTE) for name in names[place:place + 32]])
+        console = self.console(catalogue=catalogue)
+        self.open(console)
+        self.see(lambda: browser.execute_script("return [...points.values()].filter(({now}) => now.owner === 'comfort').length") == 2_048)
+        name = names[4_000]
+        began = time.monotonic()
+        comfort.submit([bossd.write(name, 50_000, lease=60 * MINUTE)])
+        self.see(lambda: self.row(name)["value"] == "50.0")
+        self.assertLess(time.monotonic() - began, PATIENCE)
+        # What a search over all takes.
+        took = browser.execute_script("const began = performance.now(); search = 'part7.'; siftAll(); return performance.now() - began")
+        self.assertLess(took, 2_000)
+        self.assertEqual(browser.execute_script("return [...points.values()].filter(({node}) => !node.hidden).length"), 64)
+
+
+class Pictures(Page):
+    def test_pictures(self):
+        schedule, comfort, boiler, fire = (self.client(name) for name in ["schedule", "comfort", "boiler-plant", "fire-panel"])
+        hour = 60 * MINUTE
+        schedule.submit([bossd.write("ahu1.fan", 2, lease=8 * hour), bossd.write("floor2.hall", 1, lease=8 * hour),
+                         bossd.write("ahu1.supply", 21_500, lease=8 * hour)])
+        comfort.submit([bossd.write(DAMPER, 35_000, priority=12, lease=14 * MINUTE), bossd.write("ahu1.heating", 60_000, priority=12, lease=14 * MINUTE)])
+        boiler.submit([bossd.write("boiler.pump", 1, priority=10, lease=20 * MINUTE), bossd.write("boiler.flow", 62_500, priority=10, lease=20 * MINUTE)])
+        blinds = fire.submit([bossd.write("floor2.blinds", 100_000, priority=2, lease=hour, revert=[(50_000, 5 * MINUTE)])]).txn
+        fire.cancel(blinds)
+        console = self.console("--operator", "operator")
+        self.open(console, f"#token={console.token}", high=1360)
+        self.see(lambda: self.row("boiler.flow")["owner"] == "boiler-plant")
+        for value in (45_000, 70_000):
+            console.change("take", id=f"c-{value}", point=DAMPER, value=value, length=30 * MINUTE, revert=[[50_000, 5 * MINUTE], [30_000, 5 * MINUTE]])
+            self.see(lambda: self.row(DAMPER)["value"] == f"{value / 1000} %")
+            time.sleep(2)
+        self.click("#list a[href='#point/ahu1.damper']")
+        self.see(lambda: self.find("#pane .coming"))
+        self.picture("console-1280")
+        browser.set_window_size(1280, 1000)
+        self.click("#take")
+        self.type("value", "90")
+        self.type("steps", "2")
+        self.see(lambda: "at once: 90.0 %" in self.text("#ask-next") and "reversion at priority 8" in self.text("#ask-next"))
+        self.picture("console-take-1280")
+        self.click("#ask [value=no]")
+        # Chromium's window is no narrower than 500 pixels, so the view is set.
+        browser.execute_cdp_cmd("Emulation.setDeviceMetricsOverride", {"width": 400, "height": 800, "deviceScaleFactor": 1, "mobile": True})
+        self.addCleanup(browser.execute_cdp_cmd, "Emulation.clearDeviceMetricsOverride", {})
+        self.eventually(lambda: self.fits())
+        self.picture("console-point-400")
+        self.click("#close")
+        self.see(lambda: not self.find("#pane").is_displayed())
+        self.assertTrue(self.fits())
+        self.picture("console-400")
+
+    def fits(self):
+        """Whether nothing has to be moved sideways."""
+        return browser.execute_script("return document.documentElement.scrollWidth <= 400")
+
+
+if __name__ == "__main__":
+    unittest.main()

@@ -1,0 +1,152 @@
+"""Tests of the parts that ask nobody: what comes next, who may ask, whether the server answers."""
+
+import os
+import stat
+import tempfile
+import unittest
+
+from tests import common  # noqa: F401, which finds the modules
+
+import bossd
+from bossd_console import answering, asked, coming, guard
+from bossd_console.catalogue import read_catalogue
+
+BOTH = bossd.Slots("p", 20, {8: bossd.Slot(80, 1, until=100), 12: bossd.Slot(35, 2, until=300)})
+
+
+def told(found):
+    return [(one.at, one.value, one.basis, one.sure) for one in found]
+
+
+class WhatComes(unittest.TestCase):
+    def test_nobody_holds_it(self):
+        self.assertEqual(told(coming.what_comes(bossd.Slots("p", 20, {}), {}, 5)), [(5, 20, "default", True)])
+
+    def test_a_lease_below_comes_before_every_reversion(self):
+        self.assertEqual(told(coming.what_comes(BOTH, {1: [(60, 1_000)]}, 5)),
+                         [(5, 80, "lease", True), (100, 35, "lease", True), (300, 60, "pending", True), (1_100, 20, "default", False)])
+
+    def test_all_is_sure_where_the_ways_are_known(self):
+        found = coming.what_comes(BOTH, {1: [(60, 150), (50, 150)], 2: []}, 5)
+        self.assertEqual(told(found), [(5, 80, "lease", True), (100, 35, "lease", True), (300, 50, "pending", True), (400, 20, "default", True)])
+
+    def test_a_reversion_under_way_whose_steps_are_known_goes_through_them(self):
+        slots = bossd.Slots("p", 20, {8: bossd.Slot(60, 1, end=500)})
+        self.assertEqual(told(coming.what_comes(slots, {1: [(60, 100), (50, 200)]}, 250)),
+                         [(250, 60, "pending", True), (300, 50, "pending", True), (500, 20, "default", True)])
+        self.assertEqual(told(coming.what_comes(slots, {}, 250)), [(250, 60, "pending", True), (500, 20, "default", False)])
+
+    def test_a_lease_before_it_is_no_matter_of_doubt(self):
+        self.assertEqual(told(coming.what_comes(BOTH, {}, 5))[1], (100, 35, "lease", True))
+
+    def test_what_a_take_brings(self):
+        slots = coming.with_take(BOTH, 8, 50, 200)
+        self.assertEqual(told(coming.what_comes(slots, {0: [], 2: []}, 5)), [(5, 50, "lease", True), (200, 35, "lease", True), (300, 20, "default", True)])
+
+    def test_a_take_below_another_lease_does_not_show(self):
+        slots = coming.with_take(BOTH, 10, 50, 200)
+        self.assertEqual([one.value for one in coming.what_comes(slots, {0: []}, 5)], [80, 50, 35, 20])
+
+    def test_what_a_prolongation_brings(self):
+        self.assertEqual(coming.what_comes(coming.with_prolonged(BOTH, 1, 250), {}, 5)[1].at, 250)
+        self.assertEqual(coming.with_prolonged(BOTH, 1, 50), BOTH)
+
+    def test_what_a_release_brings(self):
+        lone = bossd.Slots("p", 20, {8: bossd.Slot(80, 1, until=100)})
+        self.assertEqual(told(coming.what_comes(coming.with_release(lone, 1, {1: [(60, 30)]}, 5), {1: [(60, 30)]}, 5)),
+                         [(5, 60, "pending", True), (35, 20, "default", True)])
+        self.assertEqual(coming.what_comes(coming.with_release(BOTH, 1, {}, 5), {}, 5)[0].value, 35)
+
+
+class WhoMayAsk(unittest.TestCase):
+    def setUp(self):
+        self.guard = guard.Guard(guard.hosts_of("127.0.0.1", 8080, ["panel.example"]), "t" * 20)
+
+    def refusal(self, path="/api/points", **headers):
+        return self.guard.refusal(path, {"Host": "127.0.0.1:8080", **{key.replace("_", "-"): value for key, value in headers.items()}})
+
+    def test_hosts(self):
+        for host in ["127.0.0.1:8080", "localhost:8080", "LOCALHOST:8080", "[::1]:8080", "panel.example"]:
+            self.assertIsNone(self.refusal(Host=host), host)
+        for host in ["", "127.0.0.1", "127.0.0.1:80", "evil.example:8080", "panel.example:8080", "127.0.0.1:8080.evil.example"]:
+            self.assertIsNotNone(self.refusal(Host=host), host)
+
+    def test_origins(self):
+        for origin in ["http://127.0.0.1:8080", "http://localhost:8080", "https://panel.example"]:
+            self.assertIsNone(self.refusal(Origin=origin), origin)
+        for origin in ["null", "http://evil.example", "http://127.0.0.1:8081", "http://127.0.0.1", "file://"]:
+            self.assertIsNotNone(self.refusal(Origin=origin), origin)
+
+    def test_sites(self):
+        self.assertIsNone(self.refusal(Sec_Fetch_Site="same-origin"))
+        self.assertIsNone(self.refusal("/", Sec_Fetch_Site="cross-site"))
+        for site in ["cross-site", "same-site"]:
+            self.assertIsNotNone(self.refusal(Sec_Fetch_Site=site))
+
+    def test_the_token(self):
+        self.assertTrue(self.guard.allows({"Authorization": "Bearer " + "t" * 20}))
+        for given in ["", "Bearer", "Bearer ", "Bearer tt", "Basic " + "t" * 20, "Bearer " + "t" * 21, "Bearer é"]:
+            self.assertFalse(self.guard.allows({"Authorization": given}), given)
+        self.assertFalse(guard.Guard(frozenset(), None).allows({"Authorization": "Bearer "}))
+
+    def test_a_file_with_a_token(self):
+        with tempfile.TemporaryDirectory() as folder:
+            path = os.path.join(folder, "token")
+            made = guard.token_in(path)
+            self.assertEqual((guard.token_in(path), stat.S_IMODE(os.stat(path).st_mode)), (made, 0o600))
+            with open(path, "w", encoding="utf-8") as file:
+                file.write("short\n")
+            with self.assertRaises(ValueError):
+                guard.token_in(path)
+
+
+class WhetherItAnswers(unittest.TestCase):
+    def test_it_goes_and_comes_back(self):
+        kept = answering.Answering()
+        kept.answered()
+        self.assertEqual((kept.state.state, kept.state.away), ("up", None))
+        kept.silent(True, 1.0)
+        self.assertEqual(kept.state.state, "up")
+        kept.silent(True, 4.0)
+        self.assertIn("none of its workers is free", kept.state.sentence())
+        kept.silent(False, 4.0)
+        self.assertIn("down", kept.state.sentence())
+        kept.answered("stopped")
+        self.assertIn("disk", kept.state.sentence())
+        kept.answered()
+        self.assertEqual(kept.state.state, "up")
+        self.assertIsNotNone(kept.state.away)
+        changed = kept.changed
+        kept.answered()
+        self.assertEqual(kept.changed, changed)
+
+
+class WhatIsAsked(unittest.TestCase):
+    def setUp(self):
+        self.points = read_catalogue(common.CATALOGUE).points
+
+    def change(self, do="take", **more):
+        body = {"id": "x", "point": "ahu1.damper", "value": 45_000, "length": 60_000, **more}
+        return asked.change_of(do, {key: value for key, value in body.items() if value is not None}, self.points)
+
+    def test_what_is_left_out(self):
+        self.assertEqual((self.change().priority, self.change().way), (8, []))
+        self.assertEqual(self.change("release", txn=3, length=None).txn, 3)
+
+    def test_what_is_none(self):
+        faulty = [
+            {"point": "no.point"}, {"id": None}, {"id": "Ä"}, {"value": 100_001}, {"value": 1.5}, {"value": True}, {"value": "1"}, {"priority": 6},
+            {"priority": 0}, {"length": 0}, {"length": None}, {"length": 604_800_001}, {"revert": [1]}, {"revert": [[1, 0]]}, {"revert": [[0, 1]] * 9},
+            {"revert": {}},
+        ]
+        for wrong in faulty:
+            with self.assertRaises(asked.Faulty, msg=str(wrong)):
+                self.change(**wrong)
+        with self.assertRaises(asked.Faulty):
+            self.change("prolong")
+        with self.assertRaises(asked.Faulty):
+            asked.change_of("take", [], self.points)
+
+
+if __name__ == "__main__":
+    unittest.main()
