@@ -107,8 +107,8 @@ class Requests(Case):
 class Holding(Case):
     async def test_a_lease_is_kept_alive_and_released(self):
         client = await self.client("a")
-        async with client.hold([damper(lease=500), bossd.write("lamp", 1, lease=MINUTE)]) as held:
-            self.assertFalse(await held.wait(2))
+        async with client.hold([damper(lease=1_500), bossd.write("lamp", 1, lease=MINUTE)]) as held:
+            self.assertFalse(await held.wait(4))
             self.assertEqual(((await client.status(held.txn)).live, held.ended), (2, None))
         self.assertEqual((await client.status(held.txn)).stage, "done")
 
