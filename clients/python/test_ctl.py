@@ -46,6 +46,28 @@ default = 1
 """
 
 
+# A plan for it. A table begins at lines 1, 4, 9 and 14.
+DRIVER = """[[driver]]
+name = "field"
+host = "127.0.0.1:1502"
+"""
+PLAN = DRIVER + """[[place]]
+point = "ahu1.damper"
+unit = 1
+register = 2
+per = 1000
+[[place]]
+point = "lamp"
+unit = 2
+coil = 19
+
+[[place]]
+point = "fan"
+unit = 1
+register = 3
+"""
+
+
 class Folder(unittest.TestCase):
     def setUp(self):
         folder = tempfile.TemporaryDirectory()
@@ -160,27 +182,86 @@ class Linting(Folder):
             (4, "rule[0]", "highest", True), (6, "rule[1]", "process", True), (7, "rule[1]", "point", False), (8, "rule[1]", "allow", True),
             (12, "rule[3]", "point", True), (12, "rule[3]", "", False), (14, "rule[3]", "piont", False)])
 
+    def of_plan(self, plan, catalogue=PLANT):
+        """What is found of a plan: line, table, key, what was found, and whether it is a mistake."""
+        files = [self.file("plant.toml", catalogue), None, self.file("plan.toml", plan)]
+        return [(it.line, it.table, it.key, it.found, it.is_mistake) for it in _lint.lint(*files)]
+
     def test_a_plan(self):
-        self.assertEqual(self.found(PLANT, "rule = []\n", """\
-            [[driver]]
-            name = "field"
-            host = "127.0.0.1:1502"
-            [[place]]
-            point = "ahu1.damper"
-            unit = 1
-            register = 2
-            [[place]]
-            point = "lamp"
-            unit = 256
-            register = 3
-            [[place]]
-            point = "roof"
-            unit = 1
-            coil = 19
-            register = 19
-            """), [
-            (1, "", "place", True), (4, "place[0]", "per", True), (10, "place[1]", "unit", True), (11, "place[1]", "register", True),
-            (12, "place[2]", "", True), (13, "place[2]", "point", True)])
+        self.assertEqual(self.of_plan(PLAN), [])
+        self.assertEqual(self.of_plan("driver = []\nplace = []\n"), [])
+        self.assertEqual(self.of_plan("place = []\n" + DRIVER + DRIVER, "drivers = []\npoint = []\n"), [
+            (3, "driver[0]", "name", '"field"', True), (6, "driver[1]", "name", '"field"', True)])
+        path = os.path.join(common.EXAMPLES, "plant.plan.toml")
+        self.assertEqual(_lint.lint(os.path.join(common.EXAMPLES, "plant.toml"), None, path), [])
+
+    def test_a_plan_that_is_no_file_of_tables(self):
+        self.assertEqual(self.of_plan(PLAN + "#" * 1_048_576), [(None, "", "", f"{len(PLAN) + 1_048_576} bytes", True)])
+        [(line, _, _, _, is_mistake)] = self.of_plan(PLAN.replace("unit = 1", "unit = one"))
+        self.assertEqual((line, is_mistake), (6, True))
+        self.assertEqual(self.of_plan("place = []\n"), [(None, "", "driver", "nothing", True)])
+        self.assertEqual(self.of_plan('[driver]\nname = "field"\n'), [(None, "", "place", "nothing", True), (1, "", "driver", "a table", True)])
+        self.assertEqual(self.of_plan("driver = 1\nplace = true\n"), [(1, "", "driver", "1", True), (2, "", "place", "true", True)])
+
+    def test_drivers_of_a_plan(self):
+        for old, new, line, key, found in [
+            ('name = "field"', 'name = "roof"', 2, "name", '"roof"'),
+            ('name = "field"', "name = 3", 2, "name", "3"),
+            ('name = "field"', "", 1, "name", "nothing"),
+            ('host = "127.0.0.1:1502"', "", 1, "host", "nothing"),
+            ('host = "127.0.0.1:1502"', 'host = ""', 3, "host", '""'),
+            ('host = "127.0.0.1:1502"', f'host = "{"h" * 256}"', 3, "host", '"' + "h" * 56 + "..."),
+            ('host = "127.0.0.1:1502"', "host = 502", 3, "host", "502"),
+        ]:
+            with self.subTest(new):
+                self.assertIn((line, "driver[0]", key, found, True), self.of_plan(PLAN.replace(old, new)))
+        self.assertEqual(self.of_plan(DRIVER + PLAN), [(5, "driver[1]", "name", '"field" again', True)])
+        self.assertEqual(self.of_plan("driver = [7]\nplace = []\n"), [(1, "driver[0]", "", "7", True)])
+        for host in ("plant-server", "192.0.2.10:0", "192.0.2.10:70000"):
+            self.assertEqual(self.of_plan(PLAN.replace("127.0.0.1:1502", host)), [(3, "driver[0]", "host", f'"{host}"', False)])
+
+    def test_places_of_a_plan(self):
+        """Each fault of a place, in that of the lamp, which begins at line 9."""
+        for old, new, line, key, found in [
+            ('point = "lamp"', "", 9, "point", "nothing"),
+            ('point = "lamp"', 'point = "door"', 10, "point", '"door"'),
+            ('point = "lamp"', 'point = "ahu1.damper"', 10, "point", '"ahu1.damper" again'),
+            ("unit = 2", "", 9, "unit", "nothing"),
+            ("unit = 2", "unit = 256", 11, "unit", "256"),
+            ("unit = 2", "unit = -1", 11, "unit", "-1"),
+            ("unit = 2", "unit = 2.0", 11, "unit", "2.0"),
+            ("coil = 19", "", 9, "", "neither coil nor register"),
+            ("coil = 19", "coil = 19\nregister = 19", 9, "", "coil and register"),
+            ("coil = 19", "coil = 65536", 12, "coil", "65536"),
+            ("coil = 19", "coil = true", 12, "coil", "true"),
+            ("coil = 19", "register = 19", 12, "register", "a register for a binary point"),
+            ("coil = 19", "coil = 19\nper = 0", 13, "per", "0"),
+            ("coil = 19", "coil = 19\nper = 1000000000000001", 13, "per", "1000000000000001"),
+        ]:
+            with self.subTest(new):
+                self.assertIn((line, "place[1]", key, found, True), self.of_plan(PLAN.replace(old, new)))
+        self.assertIn((17, "place[2]", "coil", 'a coil for a point of kind "multi"', True), self.of_plan(PLAN.replace("register = 3", "coil = 3")))
+        self.assertIn((8, "place[0]", "per", "100000 divided by 1, which is 100000", True), self.of_plan(PLAN.replace("per = 1000", "per = 1")))
+        self.assertIn((7, "place[0]", "register", "a point with values down to -1", True), self.of_plan(PLAN, PLANT.replace("min = 0", "min = -1")))
+        self.assertIn((1, "place[0]", "", "7", True), self.of_plan("place = [7]\n" + DRIVER))
+        self.assertIn((5, "place[0]", "point", 'a point of the driver "field"', True),
+                      self.of_plan(PLAN.replace('"field"', '"roof"'), PLANT.replace('["field"]', '["field", "roof"]')))
+
+    def test_points_without_a_place(self):
+        places = PLAN.index("[[place]]\npoint = \"lamp\"")
+        self.assertEqual(self.of_plan(PLAN[:places]), [
+            (1, "driver[0]", "", 'no place for "lamp"', True), (1, "driver[0]", "", 'no place for "fan"', True)])
+
+    def test_what_a_plan_can_hardly_mean(self):
+        for old, new, line, key, found in [
+            ("coil = 19", "coil = 19\nper = 1000", 13, "per", "per at a coil"),
+            ("register = 3", "register = 3\nper = 1000", 18, "per", "1000, by which each of 1 to 3 comes to 0"),
+            ("per = 1000", "per = 1000000", 8, "per", "1000000, by which each of 0 to 100000 comes to 0"),
+            ("register = 3", "register = 2", 17, "register", 'register 2 again, which "ahu1.damper" has'),
+        ]:
+            with self.subTest(new):
+                self.assertEqual(self.of_plan(PLAN.replace(old, new)), [(line, "place[1]" if line == 13 else "place[2]" if line > 13 else "place[0]",
+                                                                        key, found, False)])
 
     def test_the_command(self):
         path = self.file("plant.toml", 'drivers = ["field"]\n[[point]]\nname = "a"\ndriver = "field"\nkind = "analog"\nmin = 0.0\nmax = 1\ndefault = 0\n')
@@ -448,7 +529,7 @@ class Serving(Folder):
 
     def test_help_everywhere(self):
         for command in ("", "points", "point", "set", "hold", "release", "watch", "processes", "transactions", "faults", "status", "journal",
-                        "top", "lint", "version"):
+                        "top", "lint", "field", "version"):
             status, out, _ = self.run_here(*filter(None, [command]), "--help")
             self.assertEqual((status, "--catalogue" in out), (0, True))
         self.assertIn(bossd.__version__, self.run_here("version")[1])

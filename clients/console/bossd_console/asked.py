@@ -68,9 +68,10 @@ def change_of(do: str, asked: object, points: Mapping[str, Point]) -> Change:
 
 def preview(change: Change, picture: Picture) -> List[Any]:
     """What a change would bring: first what the point would have at once, and then what follows."""
-    slots, ways, moment = picture.slots.get(change.point.name), dict(picture.ways), now()
+    slots, moment = picture.slots.get(change.point.name), now()
     if slots is None:
         raise Faulty("the point was not read yet")
+    ways = picture.ways_at(change.point.name)
     if change.do == "take":
         ways[0] = change.way
         slots = with_take(slots, change.priority, change.value, moment + change.length)

@@ -1,12 +1,13 @@
-"""The catalogue's points, as `bossctl` reads them: the one place that reaches into the client's own modules."""
+"""The catalogue's points and a journal's bytes, as `bossctl` reads them: the one place that reaches into the client's own modules."""
 
 from typing import Any, Dict
 
 from bossd._protocol import is_name
+from bossd.ctl import _journal as journals
 from bossd.ctl._show import Catalogue, Point, level, now, read_catalogue
 from bossd.ctl._toml import Failure
 
-__all__ = ["Catalogue", "Failure", "Point", "described", "is_name", "level", "now", "read_catalogue"]
+__all__ = ["Catalogue", "Failure", "Point", "described", "is_name", "journals", "level", "now", "read_catalogue"]
 
 
 def described(point: Point) -> Dict[str, Any]:

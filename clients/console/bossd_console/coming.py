@@ -1,8 +1,8 @@
 """What comes next at a point, as far as its slots tell, if nobody asks for anything more.
 
 A live lease comes before every reversion, of two of a kind the one with the lesser priority number comes first, and where there is neither
-the point has its default. No request tells the reversion that a lease will be followed by, or the steps that a reversion still has; they
-are known of what this console took itself."""
+the point has its default. No request asks for the reversion that a lease will be followed by, or for the steps that a reversion still has;
+they are known by the server's journal, where it is read, and of what this console took itself."""
 
 from typing import Any, Dict, Iterable, List, Mapping, NamedTuple, Optional, Sequence
 
@@ -55,6 +55,21 @@ def parts_of(priority: int, slot: bossd.Slot, way: Optional[Way]) -> List[Part]:
     if way is None:
         return [Part(False, priority, slot.value, slot.txn, 0, end)]
     return steps_after(end - sum(hold for _, hold in way), priority, slot.txn, way)
+
+
+def steps_to_come(priority: int, slot: bossd.Slot, way: Optional[Way], at: int) -> Optional[List[Part]]:
+    """The steps that come after what stands in a slot, as it was answered at a moment; None where they are not known."""
+    if way is None:
+        return None
+    parts = parts_of(priority, slot, way)
+    return parts[1:] if slot.until is not None else parts[standing(parts, slot.value, at) + 1:]
+
+
+def standing(parts: Sequence[Part], value: int, at: int) -> int:
+    """Which step of a reversion has this value at a moment: the last of those that have begun, or the first that will."""
+    places = [place for place, part in enumerate(parts) if part.value == value]
+    begun = [place for place in places if parts[place].start <= at]
+    return begun[-1] if begun else places[0] if places else len(parts)
 
 
 def in_force(parts: Iterable[Part], at: int) -> Optional[Part]:

@@ -10,6 +10,7 @@ import bossd.aio
 
 from .answering import SLOW, Answering
 from .catalogue import now
+from .journal import Following
 from .picture import Picture
 
 # How many requests are asked at once. The client sends on while the answers come, and the server makes sixteen at a time of those that have
@@ -43,6 +44,7 @@ class Looking:
         self.address, self.picture, self.answering, self.every = address, picture, answering, every
         self.seconds, self.first, self.rounds = 0.0, 0.0, 0
         self.seen: Callable[[], None] = lambda: None
+        self._following = Following(picture.journal) if picture.journal is not None else None
         self._client: Optional[bossd.aio.Client] = None
         self._asked_since: Optional[float] = None
         self._reads = [{"op": "read", "point": name} for name in picture.points]
@@ -58,6 +60,8 @@ class Looking:
                 await asyncio.sleep(max(0.0, began + self.every - time.monotonic()))
         finally:
             glancing.cancel()
+            if self._following is not None:
+                self._following.end()
             if self._client is not None:
                 await self._client.close()
 
@@ -85,6 +89,7 @@ class Looking:
         await self._see_slots(changed)
         # A server that was away may have come back with another journal, whose transactions have the same numbers.
         await self._see_owners(self.answering.changed != changes)
+        await self._see_journal()
         await self._hear()
         self.seconds, self.rounds = time.monotonic() - began, self.rounds + 1
         self.seen()
@@ -148,6 +153,14 @@ class Looking:
         answers = await self._ask_all([{"op": "status", "txn": txn} for txn in wanted])
         for txn, answer in zip(wanted, answers):
             self.picture.owned(txn, answer["owner"] if isinstance(answer, dict) else None)
+
+    async def _see_journal(self) -> None:
+        """Reads on in the journal. What the server has answered stands in it by now."""
+        if self._following is None or self.picture.journal is None:
+            return
+        await self._following.follow()
+        for name in self.picture.journal.names():
+            self.picture.met(name)
 
     async def _hear(self) -> None:
         """Asks for the notices of all processes that were met, up to the last."""

@@ -15,6 +15,7 @@ from . import __version__
 from .answering import Answering
 from .catalogue import Failure, is_name, read_catalogue
 from .guard import Guard, hosts_of, token_in
+from .journal import Reader
 from .looking import Looking
 from .metrics import registry_of
 from .operating import Operator
@@ -40,6 +41,8 @@ def words() -> argparse.ArgumentParser:
                                                         "start has a new one")
     parser.add_argument("--host", metavar="HOST[:PORT]", action="append", default=[],
                         help="another name under which browsers come, as that of a proxy before it")
+    parser.add_argument("--journal", metavar="FILE", help="the server's journal, which is read to see what comes after every lease; an empty "
+                                                          "word is none")
     parser.add_argument("--version", action="version", version=f"bossd-console {__version__}")
     return parser
 
@@ -85,7 +88,8 @@ def greeting(given: argparse.Namespace, token: Optional[str]) -> str:
 async def serve(given: argparse.Namespace) -> None:
     """Runs until it is told to end. Failure, OSError."""
     host, port = address(given.listen)
-    picture, answering = Picture(read_catalogue(given.catalogue)), Answering()
+    catalogue = read_catalogue(given.catalogue)
+    picture, answering = Picture(catalogue, Reader(given.journal, catalogue) if given.journal else None), Answering()
     looking = Looking(given.server, picture, answering, given.every)
     about = {"address": given.server, "every": given.every, "operator": given.operator, "catalogue": given.catalogue}
     streams = Streams(picture, answering, looking, about)

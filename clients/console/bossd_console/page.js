@@ -22,7 +22,7 @@ const LOOK = 10000, BACK = 60000;
 const find = (id) => document.getElementById(id);
 const points = new Map();
 const groups = new Map();
-let about = {}, server = {}, processes = [], offset = 0, filter = "all", search = "";
+let about = {}, server = {}, journal = null, processes = [], offset = 0, filter = "all", search = "";
 let opened = null, detail = null, notices = [], seconds = 0, lost = false;
 
 // ---- small things
@@ -213,7 +213,7 @@ function listen() {
       told.points.forEach(addPoint);
     }
     told.points.forEach(setPoint);
-    server = told.server; processes = told.processes; lost = false;
+    server = told.server; journal = told.journal; processes = told.processes; lost = false;
     countAll(); sayProcesses(); sayHealth(); openHash();
   });
   source.addEventListener("changes", (event) => {
@@ -224,6 +224,7 @@ function listen() {
     if (told.points) countAll();
     if (told.processes) { processes = told.processes; sayProcesses(); }
     if (told.server) { server = told.server; }
+    if (told.journal) { journal = told.journal; if (opened && opened.kind === "point") drawPoint(); }
     if (told.server || lost) { lost = false; sayHealth(); }
     if (opened) drawChanges(told);
   });
@@ -343,6 +344,7 @@ function drawPoint() {
       ])) : null,
     make("h3", {textContent: "What comes next"}),
     comingList(point, coming, now),
+    knownNote(),
     make("h3", {textContent: `Value since ${clock(point.history.length ? point.history[0][0] : serverNow())}`}),
     plot(point),
     make("ul", {className: "changes"}, ...point.history.slice(-6).reverse().map(([at, value]) => make("li", {textContent: `${clock(at)}: ${shown(point, value)}`}))),
@@ -359,6 +361,14 @@ function comingList(point, coming, now) {
   return make("ol", {className: "coming"}, ...coming.map((one) => make("li", {textContent: comingSentence(point, one)})));
 }
 
+// What comes next of leases that others took stands in the server's journal alone.
+function knownNote() {
+  if (journal && !journal.sentence) return null;
+  const text = journal ? `What comes next is known for leases taken from this page alone, since the journal is not followed: ${journal.sentence}`
+    : "What comes next is known for leases taken from this page; start the console with --journal to see all.";
+  return make("p", {id: "known", className: journal ? "note" : "soft", textContent: text});
+}
+
 function comingSentence(point, one) {
   const what = one.from === "default" ? "its default" : `${FROM[one.from]} at priority ${one.priority}`;
   const doubt = one.sure ? "" : one.from === "pending" ? "; its steps are not known" : ", unless a reversion comes first that is not known";
@@ -368,15 +378,24 @@ function comingSentence(point, one) {
 function slotTable(point, slots, now) {
   const taken = new Map(slots.map((slot) => [slot.priority, slot]));
   const head = ["Priority", "Value", "Owner", "Left"].map((text) => make("th", {scope: "col", textContent: text}));
-  const rows = Array.from({length: 16}, (_, place) => {
+  const rows = Array.from({length: 16}).flatMap((_, place) => {
     const priority = place + 1, slot = taken.get(priority), force = slot && now.priority === priority && now.txn === slot.txn;
     const title = priority === 6 ? "6 Minimum On/Off" : level(priority);
-    if (!slot) return make("tr", {className: "soft"}, make("th", {scope: "row", textContent: title}), make("td", {textContent: "–"}), make("td"), make("td"));
-    return make("tr", {className: force ? "force" : ""}, make("th", {scope: "row"}, title, force ? make("span", {textContent: " ▶ in force"}) : null),
-      make("td", {textContent: shown(point, slot.value) + (slot.kind === "lease" ? "" : " (reversion)")}),
+    if (!slot) return [make("tr", {className: "soft"}, make("th", {scope: "row", textContent: title}), make("td", {textContent: "–"}), make("td"), make("td"))];
+    const row = make("tr", {className: force ? "force" : ""}, make("th", {scope: "row"}, title, force ? make("span", {textContent: " ▶ in force"}) : null),
+      make("td", {textContent: shown(point, slot.value)}),
       make("td", {}, slot.owner ? processLink(slot.owner) : ""), make("td", {className: "left", "data-until": String(slot.until)}));
+    return [row, make("tr", {className: force ? "then force" : "then"}, make("td", {colSpan: 4}, ...stepsOf(point, slot)))];
   });
   return make("table", {className: "slots"}, make("thead", {}, make("tr", {}, ...head)), make("tbody", {}, ...rows));
+}
+
+// What comes after what stands in a slot, whatever stands in the others.
+function stepsOf(point, slot) {
+  const {steps} = slot, lease = slot.kind === "lease";
+  if (!steps) return [(lease ? "lease" : "reversion") + "; not known what follows"];
+  if (!steps.length) return [lease ? "lease, no way back" : "reversion, its last step"];
+  return [lease ? "lease, then:" : `reversion, this step until ${clock(steps[0].at)}, then:`, make("ol", {className: "steps"}, ...steps.map((step) => make("li", {textContent: `${shown(point, step.value)} for ${length(step.hold)}, from ${clock(step.at)}`})))];
 }
 
 function countOpened() {

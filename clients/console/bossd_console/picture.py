@@ -2,12 +2,13 @@
 
 import time
 from collections import Counter, deque
-from typing import Any, Deque, Dict, List, Mapping, NamedTuple, Optional, Set
+from typing import Any, Deque, Dict, List, Mapping, NamedTuple, Optional, Set, Tuple
 
 import bossd
 
 from .catalogue import Catalogue, described, level, now
-from .coming import Way, what_comes
+from .coming import Way, steps_to_come, what_comes
+from .journal import Reader
 
 # How many notices of a process are kept here, and how many ways back of transactions.
 KEPT_NOTICES = 256
@@ -66,19 +67,21 @@ class Looked:
 
 
 class Picture:
-    """What is known. `began` is when the console began, in milliseconds since 1970."""
+    """What is known. `began` is when the console began, in milliseconds since 1970; `journal` is the server's, where it may be read."""
 
-    def __init__(self, catalogue: Catalogue) -> None:
-        self.points = catalogue.points
+    def __init__(self, catalogue: Catalogue, journal: Optional[Reader] = None) -> None:
+        self.points, self.journal = catalogue.points, journal
         self.began = now()
         self.readings: Dict[str, bossd.Reading] = {}
         self.slots: Dict[str, bossd.Slots] = {}
+        # When the slots of a point were answered.
+        self.stood: Dict[str, int] = {}
         self.owners: Dict[int, str] = {}
         self.waiting: Dict[str, int] = {}
         self.foreign: Set[str] = set()
         self.processes: Dict[str, Process] = {}
-        # The ways back of transactions that this console took.
-        self.ways: Dict[int, Way] = {}
+        # The owners and the ways back of transactions that this console took.
+        self.ways: Dict[int, Tuple[str, Way]] = {}
         self.ended: Counter[str] = Counter()
         self.faults = 0
         self.points_looked, self.processes_looked = Looked(), Looked()
@@ -86,6 +89,7 @@ class Picture:
         self._told: Dict[str, Dict[str, Any]] = {}
         self._fresh: Dict[str, List[bossd.Notice]] = {}
         self._named = 0
+        self._said_of_journal: Optional[Dict[str, Any]] = None
 
     # -- what the server answered
 
@@ -109,8 +113,9 @@ class Picture:
         self.foreign.add(point)
 
     def stands(self, slots: bossd.Slots) -> None:
-        """The slots of a point."""
+        """The slots of a point, as they were answered just now."""
         self.slots[slots.point] = slots
+        self.stood[slots.point] = now()
 
     def owned(self, txn: int, owner: Optional[str]) -> None:
         """Whose a transaction is; None where the server does not know it any more."""
@@ -140,7 +145,7 @@ class Picture:
     def took(self, txn: int, owner: str, way: Way) -> None:
         """This console took a point by a transaction, with this way back."""
         self.owned(txn, owner)
-        self.ways[txn] = way
+        self.ways[txn] = owner, way
         if len(self.ways) > KEPT_WAYS:
             del self.ways[min(self.ways)]
 
@@ -183,17 +188,51 @@ class Picture:
                 told.append(row.described(name))
         return told
 
+    def ways_at(self, point: str) -> Dict[int, Way]:
+        """The ways back of what stands in a point's slots, by transactions, as far as they are known."""
+        slots = self.slots[point].slots
+        ways = {slot.txn: self._way_of(point, priority, slot) for priority, slot in slots.items()}
+        return {txn: way for txn, way in ways.items() if way is not None}
+
+    def _way_of(self, point: str, priority: int, slot: bossd.Slot) -> Optional[Way]:
+        owner = self.owners.get(slot.txn)
+        way = self.journal.way_of(point, priority, slot, owner) if self.journal is not None else None
+        taker, own = self.ways.get(slot.txn, (None, None))
+        return own if way is None and taker == owner else way
+
     def detail(self, point: str) -> Dict[str, Any]:
         """The slots of a point, and what comes next."""
         slots = self.slots.get(point)
         if slots is None:
             return {"slots": [], "next": []}
-        standing = []
-        for priority, slot in sorted(slots.slots.items()):
-            told = {"priority": priority, "level": level(priority), "kind": "lease" if slot.until is not None else "reversion",
-                    "value": slot.value, "txn": slot.txn, "owner": self.owners.get(slot.txn), "until": slot.until or slot.end}
-            standing.append({key: one for key, one in told.items() if one is not None})
-        return {"slots": standing, "next": [one.described() for one in what_comes(slots, self.ways, now())[1:]]}
+        ways = self.ways_at(point)
+        standing = [self._standing(point, priority, slot, ways.get(slot.txn)) for priority, slot in sorted(slots.slots.items())]
+        return {"slots": standing, "next": [one.described() for one in what_comes(slots, ways, now())[1:]]}
+
+    def _standing(self, point: str, priority: int, slot: bossd.Slot, way: Optional[Way]) -> Dict[str, Any]:
+        """What stands in a slot, and its steps to come where they are known."""
+        told: Dict[str, Any] = {
+            "priority": priority, "level": level(priority), "kind": "lease" if slot.until is not None else "reversion", "value": slot.value,
+            "txn": slot.txn, "owner": self.owners.get(slot.txn), "until": slot.until or slot.end,
+        }
+        steps = steps_to_come(priority, slot, way, self.stood.get(point, 0))
+        if steps is not None:
+            told["steps"] = [{"at": step.start, "value": step.value, "hold": step.end - step.start} for step in steps]
+        return {key: one for key, one in told.items() if one is not None}
+
+    def journal_described(self) -> Optional[Dict[str, Any]]:
+        """Which journal is followed, and why it is not if it is not; None where none is to be."""
+        if self.journal is None:
+            return None
+        return {"path": self.journal.path, **({"sentence": self.journal.sentence} if self.journal.sentence else {})}
+
+    def changed_journal(self) -> Optional[Dict[str, Any]]:
+        """The same where it is another than when this was last asked."""
+        said = self.journal_described()
+        if said == self._said_of_journal:
+            return None
+        self._said_of_journal = said
+        return said
 
     def changed_details(self) -> Dict[str, Dict[str, Any]]:
         """The details of points that somebody looks at, where they are others than when this was last asked."""

@@ -53,8 +53,8 @@ class Streams:
 
     def everything(self) -> Dict[str, Any]:
         """All that is known of points, and how the server stands."""
-        return {"now": now(), **self.about, "server": self._server(), "points": self.picture.rows(),
-                "processes": sorted(self.picture.processes)}
+        return {"now": now(), **self.about, "server": self._server(), "journal": self.picture.journal_described(),
+                "points": self.picture.rows(), "processes": sorted(self.picture.processes)}
 
     def all(self) -> bytes:
         """The event that says everything."""
@@ -66,7 +66,7 @@ class Streams:
             return
         told: Dict[str, Any] = {"now": now(), "seconds": round(self.looking.seconds, 3)}
         parts = {"points": self.picture.changed_rows(), "details": self.picture.changed_details(),
-                 "notices": self.picture.fresh_notices(), "processes": self.picture.named()}
+                 "notices": self.picture.fresh_notices(), "processes": self.picture.named(), "journal": self.picture.changed_journal()}
         told.update({key: part for key, part in parts.items() if part})
         if self._said != self.answering.changed:
             self._said = self.answering.changed

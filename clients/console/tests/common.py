@@ -25,8 +25,8 @@ spec = importlib.util.spec_from_file_location("tools_common", os.path.join(TOP, 
 tools = importlib.util.module_from_spec(spec)
 spec.loader.exec_module(tools)
 
-# How long something may take until it is seen, in seconds. The machine may have other work.
-PATIENCE = 30.0
+# How long something may take until it is seen, in seconds. A machine with much other work may want more.
+PATIENCE = float(os.environ.get("PATIENCE", 30))
 MINUTE = 60_000
 
 
@@ -101,6 +101,15 @@ class Case(unittest.TestCase):
         self.server = tools.Server(CATALOGUE, os.path.join(folder.name, "journal"), workers=self.WORKERS)
         self.server.start()
         self.addCleanup(self.server.stop)
+
+    def start_over(self, first, second):
+        """Starts the server anew, over a journal of these two files."""
+        self.server.kill()
+        self.server.journal = os.path.join(self.folder, "anew")
+        for name, data in [(self.server.journal, first), (self.server.journal + ".b", second)]:
+            with open(name, "wb") as file:
+                file.write(data)
+        self.server.start()
 
     def console(self, *words, **more):
         made = Console(self.server.address, *words, **more)

@@ -9,7 +9,10 @@ import subprocess
 import time
 import unittest
 
+from tests import journals
 from tests.common import CATALOGUE, CONSOLE, MINUTE, PATIENCE, TOP, Case, bossd
+
+from bossd_console.catalogue import read_catalogue
 
 DAMPER = "ahu1.damper"
 
@@ -101,6 +104,107 @@ class Looking(Case):
         with open(os.path.join(TOP, "packaging", "grafana", "bossd.json"), encoding="utf-8") as file:
             asked = [target["expr"] for panel in json.load(file)["panels"] for target in panel["targets"]]
         self.assertEqual(set(re.findall(r"bossd_\w+", " ".join(asked))) - told, set())
+
+
+class Journal(Case):
+    STEPS = [(30_000, MINUTE), (25_000, 2 * MINUTE), (22_000, 3 * MINUTE)]
+
+    def journaled(self):
+        return self.console("--journal", self.server.journal)
+
+    def slot(self, console, until):
+        """The damper's slot, once it is so."""
+        def found():
+            slots = console.point(DAMPER)["slots"]
+            return slots[0] if len(slots) == 1 and until(slots[0]) else None
+        return self.eventually(found)
+
+    def test_what_follows_anothers_lease(self):
+        console, comfort = self.journaled(), self.client("comfort")
+        until = comfort.submit([bossd.write(DAMPER, 35_000, priority=12, lease=MINUTE, revert=self.STEPS)]).until
+        slot = self.slot(console, lambda it: it["kind"] == "lease" and "steps" in it)
+        starts = [until, until + MINUTE, until + 3 * MINUTE]
+        self.assertEqual(slot["steps"], [{"at": at, "value": value, "hold": hold} for at, (value, hold) in zip(starts, self.STEPS)])
+        self.assertEqual([(one["at"], one["value"], one["from"], one["sure"]) for one in console.point(DAMPER)["next"]],
+                         [(at, value, "pending", True) for at, (value, _) in zip(starts, self.STEPS)] + [(until + 6 * MINUTE, 20_000, "default", True)])
+        self.assertEqual(console.ask("/api/points")[1]["journal"], {"path": self.server.journal})
+
+    def test_the_steps_of_a_reversion_under_way(self):
+        console, comfort = self.journaled(), self.client("comfort")
+        txn = comfort.submit([bossd.write(DAMPER, 35_000, lease=MINUTE, revert=self.STEPS)]).txn
+        at = comfort.cancel(txn)
+        slot = self.slot(console, lambda it: it["kind"] == "reversion" and "steps" in it)
+        self.assertEqual((slot["value"], slot["until"]), (30_000, at + 6 * MINUTE))
+        self.assertEqual(slot["steps"], [{"at": at + MINUTE, "value": 25_000, "hold": 2 * MINUTE}, {"at": at + 3 * MINUTE, "value": 22_000, "hold": 3 * MINUTE}])
+
+    def test_a_renewal_moves_the_steps(self):
+        console, comfort = self.journaled(), self.client("comfort")
+        txn = comfort.submit([bossd.write(DAMPER, 35_000, lease=MINUTE, revert=self.STEPS)]).txn
+        until = comfort.renew(txn, 5 * MINUTE)
+        self.assertEqual(self.slot(console, lambda it: it["until"] == until and "steps" in it)["steps"][0]["at"], until)
+
+    def test_a_lease_without_a_way_back(self):
+        console, comfort = self.journaled(), self.client("comfort")
+        comfort.submit([bossd.write(DAMPER, 35_000, lease=MINUTE)])
+        self.assertEqual(self.slot(console, lambda it: "steps" in it)["steps"], [])
+
+    def test_all_slots_of_a_point(self):
+        console = self.journaled()
+        for place, name in enumerate(["comfort", "boiler"]):
+            self.client(name).submit([bossd.write(DAMPER, 35_000 + place, priority=12 + place, lease=MINUTE, revert=self.STEPS[place:])])
+        slots = self.eventually(lambda: (lambda it: it if len(it) == 2 and all("steps" in one for one in it) else None)(console.point(DAMPER)["slots"]))
+        self.assertEqual([(one["owner"], [step["value"] for step in one["steps"]]) for one in slots],
+                         [("comfort", [30_000, 25_000, 22_000]), ("boiler", [25_000, 22_000])])
+
+    def test_without_it_anothers_steps_are_not_known(self):
+        console, comfort = self.console(), self.client("comfort")
+        comfort.submit([bossd.write(DAMPER, 35_000, lease=MINUTE, revert=self.STEPS)])
+        self.assertNotIn("steps", self.slot(console, lambda it: it.get("owner")))
+        self.assertIsNone(console.ask("/api/points")[1]["journal"])
+
+    def test_another_servers_journal_says_nothing_of_this_ones_slots(self):
+        comfort = self.client("comfort")
+        comfort.submit([bossd.write(DAMPER, 35_000, lease=MINUTE, revert=self.STEPS)])
+        other = os.path.join(self.folder, "other")
+        with open(other, "wb") as file:
+            file.write(journals.journal(
+                journals.record(journals.taken_on(0, "comfort")), journals.record(journals.submit(5, 0, journals.write(0, 36_000, 16, 60_000, [(1, 1)]))),
+                digest=read_catalogue(CATALOGUE).digest))
+        console = self.console("--journal", other)
+        self.eventually(lambda: console.ask("/api/points")[1]["journal"] == {"path": other})
+        self.assertNotIn("steps", self.slot(console, lambda it: it.get("owner")))
+
+    def test_a_journal_that_is_not_there_yet(self):
+        path = os.path.join(self.folder, "later")
+        console, comfort = self.console("--journal", path), self.client("comfort")
+        comfort.submit([bossd.write(DAMPER, 35_000, lease=MINUTE, revert=self.STEPS)])
+        self.eventually(lambda: "neither" in console.ask("/api/points")[1]["journal"].get("sentence", ""))
+        os.link(self.server.journal, path)
+        self.slot(console, lambda it: len(it.get("steps", [])) == 3)
+
+    def test_processes_that_hold_nothing(self):
+        self.client("silent")
+        console = self.journaled()
+        silent = {"name": "silent", "notices": 0, "holding": []}
+        self.eventually(lambda: console.ask("/api/processes")[1]["processes"] == [silent])
+        self.assertEqual(console.ask("/api/processes/silent/notices")[1], {"process": "silent", "next": 1, "list": []})
+
+    def test_over_a_log_that_began_anew(self):
+        now, digest = round(time.time() * 1000), read_catalogue(CATALOGUE).digest
+        state = journals.state(
+            now, 9, [journals.process(name) for name in ("boiler", "comfort")],
+            [journals.expired(7, 1, 0, 12, now), journals.running(8, 0, 5, 16)],
+            [journals.lease(8, 0, 5, 16, 1, now + 10 * MINUTE, [(0, MINUTE)])], [journals.reversion(7, 1, 0, 12, now, self.STEPS)])
+        self.start_over(journals.journal(digest=digest), journals.kept(1, 70_000, state, digest=digest))
+        console = self.journaled()
+        slot = self.slot(console, lambda it: "steps" in it)
+        self.assertEqual((slot["value"], slot["owner"], [step["value"] for step in slot["steps"]]), (30_000, "comfort", [25_000, 22_000]))
+        self.eventually(lambda: [slot.get("steps") for slot in console.point("boiler.pump")["slots"]]
+                        == [[{"at": now + 10 * MINUTE, "value": 0, "hold": MINUTE}]])
+        # What is appended after the state goes on with its numbers.
+        comfort = self.client("comfort")
+        comfort.submit([bossd.write("ahu1.fan", 2, lease=MINUTE, revert=[(3, MINUTE)])])
+        self.eventually(lambda: [[step["value"] for step in slot.get("steps", [])] for slot in console.point("ahu1.fan")["slots"]] == [[3]])
 
 
 class Safety(Case):

@@ -18,8 +18,11 @@ from selenium.webdriver.chrome.service import Service
 from selenium.webdriver.common.by import By
 from selenium.webdriver.common.keys import Keys
 
-from tests.common import MINUTE, PATIENCE, Case, Console, bossd
+from tests import journals
+from tests.common import CATALOGUE, MINUTE, PATIENCE, Case, Console, bossd
 from tests.stub import Stub
+
+from bossd_console.catalogue import read_catalogue
 
 DAMPER = "ahu1.damper"
 # Where the pictures go. Without it they are made and thrown away.
@@ -151,6 +154,59 @@ class WhatIsSeen(Page):
         self.assertEqual([one.split(": ")[1] for one in self.texts("#pane .changes li")], ["20.0 %", "30.0 %", "35.0 %", "20.0 %"])
         self.assertIn("3 changes", self.find("#pane svg").get_attribute("aria-label"))
 
+    def steps(self):
+        """What the page shows to come after what stands in the damper's slots."""
+        return self.texts("#pane .slots .steps li")
+
+    def see_three_steps_pass(self, end=lambda: None):
+        """A lease of comfort that is followed by three steps ends, and they come one after another. `end` ends it, where it is long."""
+        self.see(lambda: [one.split(",")[0] for one in self.steps()] == ["50.0 % for 0:10", "40.0 % for 0:10", "30.0 % for 0:30"])
+        self.assertEqual([one.split(": ")[1] for one in self.texts("#pane .coming li")],
+                         ["50.0 %, reversion at priority 12", "40.0 %, reversion at priority 12", "30.0 %, reversion at priority 12", "20.0 %, its default"])
+        end()
+        self.see(lambda: [one.split(",")[0] for one in self.steps()] == ["40.0 % for 0:10", "30.0 % for 0:30"])
+        self.see(lambda: "A reversion of comfort" in self.text("#whose") and self.text("#pane .big") == "50.0 %")
+        self.assertIn("this step until", self.text("#pane .slots"))
+        self.see(lambda: [one.split(",")[0] for one in self.steps()] == ["30.0 % for 0:30"])
+        self.see(lambda: self.text("#pane .big") == "40.0 %")
+        self.assertIsNone(self.find("#known"))
+
+    def test_the_steps_of_a_reversion_whoever_it_is_of(self):
+        comfort = self.client("comfort")
+        self.client("boiler").submit([bossd.write("boiler.pump", 1, lease=10 * MINUTE)])
+        self.open(self.console("--journal", self.server.journal), "#point/" + DAMPER)
+        comfort.submit([bossd.write(DAMPER, 60_000, priority=12, lease=15_000, revert=[(50_000, 10_000), (40_000, 10_000), (30_000, 30_000)])])
+        self.see_three_steps_pass()
+        self.see(lambda: "its last step" in self.text("#pane .slots"))
+
+    def test_the_steps_over_a_log_that_began_anew(self):
+        moment, digest = round(time.time() * 1000), read_catalogue(CATALOGUE).digest
+        state = journals.state(
+            moment, 4, [journals.process(name) for name in ("boiler", "comfort")],
+            [journals.running(2, 0, 5, 16), journals.running(3, 1, 0, 12)],
+            [journals.lease(3, 1, 0, 12, 60_000, moment + 600_000, [(50_000, 10_000), (40_000, 10_000), (30_000, 30_000)]),
+             journals.lease(2, 0, 5, 16, 1, moment + 600_000)])
+        self.start_over(journals.journal(digest=digest), journals.kept(1, 70_000, state, digest=digest))
+        self.open(self.console("--journal", self.server.journal), "#point/" + DAMPER)
+        self.see_three_steps_pass(lambda: self.client("comfort").cancel(3))
+
+    def test_without_a_journal_it_says_what_it_knows(self):
+        self.client("comfort").submit([bossd.write(DAMPER, 35_000, lease=10 * MINUTE, revert=[(30_000, MINUTE)])])
+        self.open(self.console(), "#point/" + DAMPER)
+        self.see(lambda: "not known what follows" in self.text("#pane .slots"))
+        self.assertEqual(self.text("#known"), "What comes next is known for leases taken from this page; start the console with --journal to see all.")
+        self.open(self.console("--journal", os.path.join(self.folder, "nowhere")), "#point/" + DAMPER)
+        self.see(lambda: "the journal is not followed" in self.text("#known") and "neither this file nor" in self.text("#known"))
+
+    def test_a_process_that_holds_nothing(self):
+        self.client("silent")
+        self.open(self.console("--journal", self.server.journal))
+        self.see(lambda: self.text("#process-count") == "1")
+        self.click("#processes summary")
+        self.click("#processes li a")
+        self.see(lambda: "Decides 0 points" in self.text("#pane"))
+        self.assertEqual(self.texts("#pane .notices li"), ["none"])
+
     def test_slots_search_and_filters(self):
         comfort, boiler, fire = self.client("comfort"), self.client("boiler"), self.client("fire-panel")
         comfort.submit([bossd.write(DAMPER, 35_000, priority=12, lease=20 * MINUTE), bossd.write("ahu1.fan", 2, priority=12, lease=10 * MINUTE)])
@@ -158,7 +214,7 @@ class WhatIsSeen(Page):
         fire.submit([bossd.write(DAMPER, 0, priority=2, lease=10 * MINUTE)])
         self.open(self.console(), "#point/" + DAMPER)
         self.see(lambda: "fire-panel" in self.text("#pane .slots"))
-        slots = self.texts("#pane .slots tbody tr")
+        slots = self.texts("#pane .slots tbody tr:not(.then)")
         self.assertEqual(len(slots), 16)
         self.assertRegex(slots[1], r"^2 Automatic-Life Safety\s+▶ in force")
         self.assertIn("comfort", slots[11])
@@ -398,11 +454,12 @@ class Pictures(Page):
         hour = 60 * MINUTE
         schedule.submit([bossd.write("ahu1.fan", 2, lease=8 * hour), bossd.write("floor2.hall", 1, lease=8 * hour),
                          bossd.write("ahu1.supply", 21_500, lease=8 * hour)])
-        comfort.submit([bossd.write(DAMPER, 35_000, priority=12, lease=14 * MINUTE), bossd.write("ahu1.heating", 60_000, priority=12, lease=14 * MINUTE)])
+        comfort.submit([bossd.write(DAMPER, 35_000, priority=12, lease=32 * MINUTE, revert=[(30_000, 5 * MINUTE), (25_000, 5 * MINUTE)]),
+                        bossd.write("ahu1.heating", 60_000, priority=12, lease=14 * MINUTE)])
         boiler.submit([bossd.write("boiler.pump", 1, priority=10, lease=20 * MINUTE), bossd.write("boiler.flow", 62_500, priority=10, lease=20 * MINUTE)])
-        blinds = fire.submit([bossd.write("floor2.blinds", 100_000, priority=2, lease=hour, revert=[(50_000, 5 * MINUTE)])]).txn
+        blinds = fire.submit([bossd.write("floor2.blinds", 100_000, priority=2, lease=hour, revert=[(50_000, 5 * MINUTE), (25_000, 5 * MINUTE), (10_000, 10 * MINUTE)])]).txn
         fire.cancel(blinds)
-        console = self.console("--operator", "operator")
+        console = self.console("--operator", "operator", "--journal", self.server.journal)
         self.open(console, f"#token={console.token}", high=1360)
         self.see(lambda: self.row("boiler.flow")["owner"] == "boiler-plant")
         for value in (45_000, 70_000):
@@ -424,6 +481,11 @@ class Pictures(Page):
         self.addCleanup(browser.execute_cdp_cmd, "Emulation.clearDeviceMetricsOverride", {})
         self.eventually(lambda: self.fits())
         self.picture("console-point-400")
+        browser.execute_script("location.hash = '#point/floor2.blinds'")
+        self.see(lambda: len(self.texts("#pane .slots .steps li")) == 2)
+        browser.execute_script("document.querySelector('#pane .slots').scrollIntoView()")
+        self.assertTrue(self.fits())
+        self.picture("console-steps-400")
         self.click("#close")
         self.see(lambda: not self.find("#pane").is_displayed())
         self.assertTrue(self.fits())

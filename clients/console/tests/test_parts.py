@@ -58,6 +58,36 @@ class WhatComes(unittest.TestCase):
         self.assertEqual(coming.what_comes(coming.with_release(BOTH, 1, {}, 5), {}, 5)[0].value, 35)
 
 
+class StepsToCome(unittest.TestCase):
+    """Three steps of 100, 200 and 300 ms; the last two have one value."""
+    WAY = [(60, 100), (50, 200), (50, 300)]
+
+    def steps(self, slot, at):
+        return [(part.start, part.end, part.value) for part in coming.steps_to_come(8, slot, self.WAY, at)]
+
+    def reverting(self, value, at):
+        return self.steps(bossd.Slot(value, 1, end=1_600), at)
+
+    def test_after_a_lease_all_come(self):
+        expected = [(1_000, 1_100, 60), (1_100, 1_300, 50), (1_300, 1_600, 50)]
+        self.assertEqual(self.steps(bossd.Slot(80, 1, until=1_000), 5), expected)
+        self.assertEqual(self.steps(bossd.Slot(80, 1, until=1_000), 1_200), expected)
+
+    def test_in_a_reversion_those_after_the_one_that_stands(self):
+        self.assertEqual(self.reverting(60, 1_050), [(1_100, 1_300, 50), (1_300, 1_600, 50)])
+        self.assertEqual(self.reverting(50, 1_250), [(1_300, 1_600, 50)])
+        self.assertEqual(self.reverting(50, 1_350), [])
+
+    def test_the_answered_value_counts_where_the_clock_is_a_little_before_or_after(self):
+        self.assertEqual(len(self.reverting(60, 1_101)), 2)
+        self.assertEqual(len(self.reverting(60, 999)), 2)
+        self.assertEqual(len(self.reverting(50, 1_099)), 1)
+
+    def test_what_is_not_known(self):
+        self.assertIsNone(coming.steps_to_come(8, bossd.Slot(60, 1, end=1_600), None, 1_050))
+        self.assertEqual(coming.steps_to_come(8, bossd.Slot(80, 1, until=1_000), [], 5), [])
+
+
 class WhoMayAsk(unittest.TestCase):
     def setUp(self):
         self.guard = guard.Guard(guard.hosts_of("127.0.0.1", 8080, ["panel.example"]), "t" * 20)

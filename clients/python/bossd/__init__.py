@@ -29,7 +29,7 @@ from ._protocol import (
     UnknownTransaction, answer_of, check, line_of, milliseconds, renewal, thousandths, units, write,
 )
 
-__version__ = "0.2.0"
+__version__ = "0.3.0"
 
 __all__ = [
     "Accepted", "Already", "Answer", "BadLease", "BadPriority", "BadReversion", "Client", "Ended", "Held", "LONGEST_LINE", "Malformed",

@@ -247,7 +247,7 @@ class Taking:
         for notice in page.list:
             self.first = notice.n + 1
             if notice.txn == self.txn and notice.kind == "fault":
-                self.say("the device refused the value")
+                self.say("the device did not take the value")
             if notice.txn == self.txn and notice.kind == "ended":
                 return notice
         return None
@@ -255,7 +255,7 @@ class Taking:
     def over(self, ended: Notice) -> int:
         back = f"; back by {self.words.back}, {exact_length(self.words.step)} each" if self.words.back and ended.cause != "superseded" else ""
         why = {"expired": "its time is over", "superseded": f"transaction {ended.by} took the slot", "cancelled": "it was released",
-               "died": "the connection was lost, so the server let go", "fault": "the device refused the value, so the server let go"}
+               "died": "the connection was lost, so the server let go", "fault": "the device did not take the value, so the server let go"}
         self.say(f"no longer held: {why.get(ended.cause or '', ended.cause)}{back}", cause=ended.cause, by=ended.by)
         self.look()
         return FINE if ended.cause in ("expired", "cancelled") else WRONG
@@ -316,7 +316,7 @@ def watch(words: Words) -> int:
 
 def notice_sentence(notice: Notice) -> str:
     return {
-        "fault": f"transaction {notice.txn}: the device of {notice.point} refused the value",
+        "fault": f"transaction {notice.txn}: the device of {notice.point} did not take the value",
         "ended": f"transaction {notice.txn}: its lease on {notice.point} ended: {notice.cause}" + (f" by {notice.by}" if notice.by else ""),
         "reverted": f"transaction {notice.txn}: its reversion of {notice.point} is over",
         "cut": f"transaction {notice.txn}: its reversion of {notice.point} was cut by {notice.by}",
@@ -418,8 +418,7 @@ def faults(words: Words) -> int:
     if views:
         tell(_show.table(HEADS, [point_row(view) for view in views], RIGHT, width_of_terminal()))
     tell(f"{exact_moment(notice.at)}  {name}: {notice_sentence(notice)}" for name, notice in told)
-    tell([f"{len(failed)} points failed: their devices refused the value, and are tried again after five seconds; "
-          f"{len(views) - len(failed)} not yet answered"])
+    tell([f"{len(failed)} failed, whose devices are tried again every five seconds; {len(views) - len(failed)} not yet answered"])
     return WRONG if failed else FINE
 
 

@@ -1,7 +1,7 @@
 """Reads the files of a journal: its events, and the kept state that they go on from. docs/FORMATS.md describes the bytes."""
 
 import os
-from typing import Any, Dict, Iterator, List, NamedTuple, Optional, Tuple
+from typing import Any, Dict, Iterator, List, NamedTuple, Optional, Sequence, Tuple
 
 from ._toml import Failure
 
@@ -9,6 +9,9 @@ JOURNAL, STATE = b"OSSJRNL", b"OSSSNAP"
 HEADER = 41
 GATE_SHUT = 0
 MOST_EVENTS = 1 << 62
+LONGEST_RECORD = 65_535
+# So many bytes of a file say what it is, and how long the state is that it begins with.
+FRONT = 66
 DEFAULT = "/var/lib/bossd/journal"
 
 CAUSES = ("expired", "cancelled", "died", "fault", "superseded")
@@ -147,7 +150,10 @@ def record_at(data: bytes, gate: int) -> Tuple[Optional[bytes], int]:
     try:
         if source.whole(1) != 1:
             return None, gate
-        record = source.take(source.whole(4))
+        size = source.whole(4)
+        if size > LONGEST_RECORD:
+            raise Damaged(gate)
+        record = source.take(size)
         if source.place >= len(data):
             raise IndexError
         return record, source.place
@@ -289,11 +295,16 @@ def kind_of(data: bytes) -> str:
     return "other"
 
 
+def front_size(front: bytes) -> int:
+    """How many bytes a disk has up to the first gate and with it, by what it begins with, FRONT bytes where it has them."""
+    return HEADER + 1 if kind_of(front) == "journal" else 65 + int.from_bytes(front[57:65], "big") + 1
+
+
 def journal_of(path: str, data: bytes) -> Journal:
     """What a file of the kinds "journal" and "state" holds. Damaged; Failure for a version that is not known here."""
     version, digest = data[8], data[9:HEADER]
     if version not in (1, 2):
-        raise Failure(f"{path}: a journal of version {version}; this bossctl reads 1 and 2")
+        raise Failure(f"{path}: a journal of version {version}; known are 1 and 2")
     if kind_of(data) == "journal":
         return Journal(path, version, digest, None, 0, NEW, data, HEADER)
     source = Bytes(data, HEADER)
@@ -314,22 +325,33 @@ def generation_of(data: bytes) -> int:
     return int.from_bytes(data[41:49], "big")
 
 
-def find(path: str) -> Optional[Journal]:
-    """The file of a pair that is in force; None where there is nothing yet. Failure where there is no such file, or it is none."""
-    if not os.path.exists(path) and not os.path.exists(path + ".b"):
-        raise Failure(f"{path}: neither this file nor {path}.b exists")
-    pair = [(name, bytes_of(name)) for name in (path, path + ".b")]
-    kinds = [kind_of(data) for _, data in pair]
-    for (name, _), kind, is_wrong in zip(pair, kinds, (kinds[0] == "other", kinds[1] in ("other", "journal"))):
+def no_pair(path: str) -> Failure:
+    return Failure(f"{path}: neither this file nor {path}.b exists")
+
+
+def in_force(names: Sequence[str], fronts: Sequence[bytes]) -> Optional[int]:
+    """Which file of a pair is in force, by what each begins with, at least FRONT bytes where it has them; None where there is nothing yet.
+    Failure where a file is no journal."""
+    kinds = [kind_of(front) for front in fronts]
+    for name, kind, is_wrong in zip(names, kinds, (kinds[0] == "other", kinds[1] in ("other", "journal"))):
         # The second file alone may be looked at too.
         if is_wrong and not (kind == "journal" and kinds[0] == "idle"):
             raise Failure(f"{name}: no journal of bossd")
     states = [place for place in (0, 1) if kinds[place] == "state"]
     if len(states) == 2:
-        follows = generation_of(pair[1][1]) == (generation_of(pair[0][1]) + 1) % (1 << 64)
-        return journal_of(*pair[1 if follows else 0])
+        return 1 if generation_of(fronts[1]) == (generation_of(fronts[0]) + 1) % (1 << 64) else 0
     chosen = states or [place for place in (0, 1) if kinds[place] == "journal"]
-    return journal_of(*pair[chosen[0]]) if chosen else None
+    return chosen[0] if chosen else None
+
+
+def find(path: str) -> Optional[Journal]:
+    """The file of a pair that is in force; None where there is nothing yet. Failure where there is no such file, or it is none."""
+    if not os.path.exists(path) and not os.path.exists(path + ".b"):
+        raise no_pair(path)
+    names = (path, path + ".b")
+    disks = [bytes_of(name) for name in names]
+    chosen = in_force(names, disks)
+    return None if chosen is None else journal_of(names[chosen], disks[chosen])
 
 
 class Known(NamedTuple):

@@ -272,8 +272,10 @@ class Plan(File):
     def __init__(self, path: str, catalogue: Catalogue) -> None:
         super().__init__(path)
         self.catalogue = catalogue
-        self.planned: Set[str] = set()
+        # The place of each driver's table, which points have a place, and which point has each register and coil.
+        self.planned: Dict[str, int] = {}
         self.placed: Set[str] = set()
+        self.taken: Dict[Tuple[Any, ...], str] = {}
         if self.is_read:
             self.known((), "", self.tables, ("driver", "place"))
             for place, driver in enumerate(self.array("driver", None, "tables [[driver]]")):
@@ -292,10 +294,11 @@ class Plan(File):
         if self.one(path, name, driver, "name", is_known, f"a driver of the catalogue: {known}"):
             if driver["name"] in self.planned:
                 self.note(path + ("name",), "", f"{name} again", "a driver that no earlier table has")
-            self.planned.add(driver["name"])
+            self.planned.setdefault(driver["name"], int(path[1]))
         fits = lambda value: isinstance(value, str) and 1 <= len(value.encode()) <= 255
         if self.one(path, name, driver, "host", fits, 'a text of 1 to 255 bytes, HOST:PORT, as "192.0.2.7:502"'):
-            if not driver["host"].rpartition(":")[2].isdigit():
+            port = driver["host"].rpartition(":")[2]
+            if not port.isdigit() or not 1 <= int(port) <= 65_535:
                 self.note(path + ("host",), name, shown(driver["host"]), "it has no port: Modbus TCP has 502", is_mistake=False)
         self.known(path, name, driver, ("name", "host"))
 
@@ -329,6 +332,9 @@ class Plan(File):
             self.note(path + ("register",), name, "a register for a binary point", "a coil")
         elif "register" in place:
             self._range(path, name, place, point)
+        elif "per" in place:
+            self.note(path + ("per",), name, "per at a coil", "a coil is 0 or 1, and per means nothing there", is_mistake=False)
+        self._same_place(path, name, place, point)
 
     def _range(self, path: Path, name: str, place: Dict[str, Any], point: Dict[str, Any]) -> None:
         least, most = (point.get("min"), point.get("max")) if point.get("kind") == "analog" else (1, point.get("states"))
@@ -339,13 +345,27 @@ class Plan(File):
             self.note(path + ("register",), name, f"a point with values down to {least}", "a register takes no value below 0")
         if most // per > 65_535:
             self.note(path + ("per",), name, f"{most} divided by {per}, which is {most // per}", f"at most 65535: per = {most // 65_536 + 1} or more")
+        if 0 <= least < most and least // per == most // per:
+            found = f"{per}, by which each of {least} to {most} comes to {most // per}"
+            self.note(path + ("per",), name, found, f"so many {'states' if point.get('kind') == 'multi' else 'thousandths'} are 1 in the register",
+                      is_mistake=False)
+
+    def _same_place(self, path: Path, name: str, place: Dict[str, Any], point: Dict[str, Any]) -> None:
+        """Notes a register or coil that an earlier point of the same driver has."""
+        for key in ("coil", "register"):
+            if key in place and is_whole(place.get("unit"), 0, 255):
+                at = (point.get("driver"), place["unit"], key, str(place[key]))
+                other = self.taken.setdefault(at, name)
+                if other != name:
+                    self.note(path + (key,), name, f"{key} {shown(place[key])} again, which {other} has", "two points would be written to one",
+                              is_mistake=False)
 
     def _missing(self) -> None:
         for name, point in self.catalogue.points.items():
-            if point.get("driver") in self.planned and name not in self.placed:
-                line = self.lines.of(("driver",))
-                wanted = "a place for each point of a planned driver"
-                self.findings.append(Finding(self.path, line, "", "", "place", f"none for {shown(name)}", wanted, True))
+            driver = point.get("driver")
+            if driver in self.planned and name not in self.placed:
+                self.note(("driver", self.planned[driver]), shown(driver), f"no place for {shown(name)}",
+                          f"a table [[place]] with point = {shown(name)}: each point of a planned driver has one")
 
 
 def lint(catalogue: str, rules: Optional[str] = None, plan: Optional[str] = None) -> List[Finding]:

@@ -8,7 +8,7 @@ import textwrap
 from typing import Callable, Optional, Sequence
 
 from .._protocol import Refused, Unanswered, UnknownHost
-from . import _commands, _journal
+from . import _commands, _field, _journal
 from ._toml import Failure
 
 SERVER, CATALOGUE = "127.0.0.1:7000", "/etc/bossd/plant.toml"
@@ -16,7 +16,7 @@ FAULT, USAGE, NO_ANSWER, BROKEN = 1, 2, 3, 130
 
 ABOUT = """Shows and sets what a building's bossd holds.
 
-Each command asks a running server, but for journal and lint, which read files. Every connection takes one of the server's workers as
+Each command asks a running server, but for journal and lint, which read files, and field, which stands for devices. Every connection takes one of the server's workers as
 long as it lasts."""
 
 ENDS = """A priority is 1 to 16 but not 6, and the least number wins; 8 is Manual Operator. Lengths of time are written 30m, 90s, 1h30m, 250ms
@@ -77,6 +77,12 @@ def priority(text: str) -> int:
 def count(text: str) -> int:
     if not text.isdigit():
         raise argparse.ArgumentTypeError(f"{text} is no number")
+    return int(text)
+
+
+def port(text: str) -> int:
+    if not text.isdigit() or int(text) > 65_535:
+        raise argparse.ArgumentTypeError(f"{text} is no port: 1 to 65535, or 0")
     return int(text)
 
 
@@ -141,8 +147,8 @@ def parser_of() -> argparse.ArgumentParser:
     one.add_argument("--most", type=count, default=1_024, metavar="N", help="with --done, look at the last N of the journal (1024)")
     one.add_argument("--journal", metavar="FILE", help=f"the server's journal ({_journal.DEFAULT})")
 
-    add(commands, "faults", _commands.faults, "show points whose devices refused a value, or have not answered yet",
-        "Ends with 1 where a device refused. Also shown is what the processes that hold these points were told of faults.")
+    add(commands, "faults", _commands.faults, "show points whose devices did not take a value, or have not answered yet",
+        "Ends with 1 where there is one that did not take it. Also shown is what the processes that hold these points were told of faults.")
 
     one = add(commands, "status", _commands.status, "show whether the server answers, how soon, and whether workers are free",
               "Asks it something, and then over further connections, which take free workers for some thousandths of a second.")
@@ -166,10 +172,21 @@ def parser_of() -> argparse.ArgumentParser:
               "Each mistake has its line, its table, its key, what was found and what may stand there. Tables count from 0, as in what the server\n"
               "prints. Keys that nothing reads are named too, as passed over. Whether the program has a device for a driver is not looked at.\n\n"
               "RULES has tables [[rule]] with process, point, highest (1) and allow (true). PLAN has tables [[driver]] with name and host, and\n"
-              "[[place]] with point, unit, one of coil and register, and per (1). They are for servers that take such files.")
+              "[[place]] with point, unit, one of coil and register, and per (1). No server takes RULES yet.")
     one.add_argument("file", metavar="CATALOGUE", help="the catalogue")
     one.add_argument("rules", metavar="RULES", nargs="?", help="access rules; - for none")
     one.add_argument("plan", metavar="PLAN", nargs="?", help="a plan of Modbus devices; - for none")
+
+    one = add(commands, "field", _field.field, "serve the Modbus hosts of a plan on this machine: a field to play with",
+              "Shows each write as it comes: the moment, the point, its register or coil, the value, and what was answered. Words that are typed\n"
+              "make a point or a whole host fail:\n\n" + _field.HELP + "\n\n"
+              "It takes the functions 5 and 6 (write single coil, write single register) and answers every other one with exception 1.\n"
+              "A write to a place that the plan does not have is answered with exception 2. It goes on until quit or Ctrl-C.\n\n"
+              "A plan whose hosts are at 127.0.0.1 is served as it is. For any other, --ports 1502 serves its hosts at 127.0.0.1:1502 and the\n"
+              "ports after it, and writes a plan that says so, for bossd to be started with.")
+    one.add_argument("plan", metavar="PLAN", help="the plan of Modbus devices")
+    one.add_argument("--ports", type=port, metavar="FROM", help="serve the hosts at 127.0.0.1, at this port and those after it; 0 for free ones")
+    one.add_argument("--to", metavar="FILE", help="where to write the plan with these hosts (its name with .local, in this folder)")
 
     add(commands, "version", _commands.version, "show the version of bossctl")
     return parser
