@@ -21,11 +21,11 @@ def range_of(point):
     return {"analog": (0, 100_000), "binary": (0, 1), "multi": (1, 5)}[kind_of(point)]
 
 
-def catalogue(points):
+def catalogue(points, drivers=DRIVERS):
     bounds = {"analog": "min = 0\nmax = 100000\ndefault = 20000", "binary": "default = 0", "multi": "states = 5\ndefault = 1"}
-    tables = [f'[[point]]\nname = "{name_of(p)}"\ndriver = "{DRIVERS[p * 7 % 4]}"\nkind = "{kind_of(p)}"\n{bounds[kind_of(p)]}'
+    tables = [f'[[point]]\nname = "{name_of(p)}"\ndriver = "{drivers[p * 7 % len(drivers)]}"\nkind = "{kind_of(p)}"\n{bounds[kind_of(p)]}'
               for p in range(points)]
-    return "\n\n".join([f"drivers = {json.dumps(DRIVERS)}", *tables]) + "\n"
+    return "\n\n".join([f"drivers = {json.dumps(drivers)}", *tables]) + "\n"
 
 
 class Lines:

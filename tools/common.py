@@ -67,10 +67,11 @@ def check(catalogue, journal):
 
 
 class Server:
-    """The program, serving a journal of its own; `-` keeps nothing. `in_all` is how many connections it serves before it ends."""
+    """The program, serving a journal of its own; `-` keeps nothing. `in_all` is how many connections it serves before it ends,
+    `more` the words after that."""
 
-    def __init__(self, catalogue, journal="-", workers=4, in_all=4_294_967_295, port=None):
-        self.catalogue, self.journal, self.workers, self.in_all = catalogue, journal, workers, in_all
+    def __init__(self, catalogue, journal="-", workers=4, in_all=4_294_967_295, port=None, more=()):
+        self.catalogue, self.journal, self.workers, self.in_all, self.more = catalogue, journal, workers, in_all, more
         self.port = port or free_port()
         self.address = f"127.0.0.1:{self.port}"
         self.process = None
@@ -90,7 +91,7 @@ class Server:
 
     def launch(self, **more):
         """Starts it and no more. What is given goes to the process."""
-        words = ["serve", self.catalogue, self.journal, self.address, str(self.workers), str(self.in_all)]
+        words = ["serve", self.catalogue, self.journal, self.address, str(self.workers), str(self.in_all), *self.more]
         given = {"stdin": subprocess.DEVNULL, "stdout": subprocess.DEVNULL, "env": {**os.environ, **SETTINGS}, **more}
         self.process = subprocess.Popen([PROGRAM, *words], **given)
 

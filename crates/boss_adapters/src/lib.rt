@@ -1,13 +1,11 @@
 //! The real things: the standard input and output, the files of this machine, read whole or kept open as disks, the system's
 //! clock, a TCP listener and its connections, a waiter that sleeps, and threads. They count their faults, and tell nothing of
-//! what they hold, gave, took or did. The devices are not real yet: they take every command. Why a file, a disk or an address failed is
-//! said on the standard error.
+//! what they hold, gave, took or did. Why a file, a disk or an address failed is said on the standard error.
 #![tactic(auto)]
 
 mod aside;
 mod connection;
 mod console;
-mod devices;
 mod holder;
 mod real_clock;
 mod real_disk;
@@ -20,7 +18,6 @@ mod signals;
 pub use aside::say_aside;
 pub use connection::{RealSink, RealSource};
 pub use console::{StdSink, StdSource};
-pub use devices::idle_devices;
 pub use real_clock::RealClock;
 pub use real_disk::RealDisk;
 pub use real_files::RealFiles;
@@ -28,3 +25,6 @@ pub use real_host::RealHost;
 pub use real_spawner::RealSpawner;
 pub use real_waiter::RealWaiter;
 pub use signals::read_past_signals;
+
+/// The program's version, as a server says it where it begins.
+pub const VERSION: &str = "0.3.0";

@@ -2,10 +2,10 @@ ghost use Rattle.std.specs.Prelude.{◌≡◌, [], IfOk};
 ghost use Rattle.boss_outside.specs.Counts.{one_more};
 
 use crate::aside::say_aside;
-use crate::{RealSink, RealSource};
+use crate::{RealSink, RealSource, VERSION};
 use boss_model::{NoMemory, SessionId};
 use boss_outside::Failed;
-use boss_outside_server::{Accepted, Host};
+use boss_outside_server::{Accepted, Announcement, Host};
 use std::alloc::Global;
 use std::io::{self, Eprint, ErrorKind};
 use std::net::{Net, SocketAddr, TcpListener, TcpStream};
@@ -15,8 +15,8 @@ use std::sync::Arc;
 const TRIES: u32 = 1_000;
 
 /// A TCP listener. All its parts wait at the same one, and the system hands each connection to one of them. A part that has
-/// handed out its share says so without asking the system. On the standard error it says where it listens, or why it can't, and why a
-/// connection could not be accepted.
+/// handed out its share says so without asking the system. On the standard error it says where it listens and what is served there, or why
+/// it can't listen, and why a connection could not be accepted.
 #[derive(Drop)]
 pub struct RealHost<R> {
     alloc: Global,
@@ -62,12 +62,7 @@ impl<R: Net<Listener = TcpListener, Stream = TcpStream> + Eprint + Copy> RealHos
 
     /// A listener at this address.
     fn listen(&self, address: &str) -> io::Result<Arc<TcpListener, Global>> {
-        let listener = Arc::new(self.alloc, TcpListener::bind(&self.rt, address)?)?;
-        // With port 0 the system has chosen one.
-        if let Ok(found) = listener.local_addr() {
-            say_aside(&self.rt, format_args!("listening at {found}"));
-        }
-        Ok(listener)
+        Ok(Arc::new(self.alloc, TcpListener::bind(&self.rt, address)?)?)
     }
 
     /// The two ends of the next connection.
@@ -77,7 +72,10 @@ impl<R: Net<Listener = TcpListener, Stream = TcpStream> + Eprint + Copy> RealHos
         let Some(listener) = &self.listener else {
             return Err(ErrorKind::NotConnected.into());
         };
-        let stream = Arc::new(self.alloc, accept_past_signals(listener)?)?;
+        let stream = accept_past_signals(listener)?;
+        // Else a reply waits until the client has confirmed the one before. Where it can't be had, replies are late and whole.
+        let _ = stream.set_nodelay(true);
+        let stream = Arc::new(self.alloc, stream)?;
         let other = Arc::try_clone(&stream)?;
         Ok((RealSource::new(stream), RealSink::new(other)))
     }
@@ -128,6 +126,23 @@ impl<R: Net<Listener = TcpListener, Stream = TcpStream> + Eprint + Copy> Host fo
                 );
                 Err(self.fault())
             }
+        }
+    }
+
+    /// Says where it listens; with port 0 the system has chosen one. Then what is served there, and by which version of the program.
+    fn announce(&mut self, announcement: Announcement) {
+        let Announcement {
+            points,
+            drivers,
+            events,
+        } = announcement;
+        if let Some(found) = self.local_addr() {
+            say_aside(
+                &self.rt,
+                format_args!(
+                    "listening at {found}: points {points}, drivers {drivers}, events {events}, version {VERSION}"
+                ),
+            );
         }
     }
 

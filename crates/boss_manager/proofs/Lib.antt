@@ -3,6 +3,7 @@ pub mod KeptLemmas
 pub mod Lifting
 pub mod OpenedLemmas
 pub mod Places
+pub mod PreparingLemmas
 pub mod Refusals
 pub mod Reopening
 pub mod RunLemmas

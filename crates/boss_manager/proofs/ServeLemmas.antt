@@ -1,5 +1,5 @@
 -- A server's job, by its ends.
-use Rattle.std.proofs.Common.{◌≡◌, ◌≢◌, ◌⊎◌, inl, inr, ℕ, Bool, true, false, List, [], ◌∷◌, Some, Ok, Err, if◌then◌else◌, refl, sym, ap, subst, ◌∙◌}
+use Rattle.std.proofs.Common.{◌≡◌, ◌≢◌, ◌⊎◌, inl, inr, ℕ, Bool, true, false, List, [], ◌∷◌, ◌++◌, Option, Some, Ok, if◌then◌else◌, refl, sym, ap, subst, ◌∙◌}
 use Rattle.boss_model.specs.Catalogue.{Catalogue, actuators}
 use Rattle.boss_model.specs.Settle.{first_state}
 use Rattle.boss_model.specs.State.{State}
@@ -17,11 +17,13 @@ use Rattle.def_history.specs.declared.entry.Entry.{Entry}
 use Rattle.def_history.specs.History.{is_broken}
 use Rattle.boss_server.specs.Together.{RoseWhere}
 use Rattle.boss_files.specs.Names.{second_name}
-use Rattle.boss_manager.specs.Journals.{AsksFront, HadNoJournal, in_files, IsRefused, Pair, RefusedJournal}
+use Rattle.boss_manager.specs.Jobs.{TellsLine}
+use Rattle.boss_manager.specs.Journals.{AsksFront, in_files, IsRefused, Pair}
+use Rattle.boss_manager.specs.Preparing.{listed, TakesPlan}
 use Rattle.boss_manager.specs.Programs.{usable}
 use Rattle.boss_manager.specs.ServeJobs.{DoesServe, EndsBy, Faults, faults_at, NoneRose, outside_at, ServedCatalogue, ServedFiles, ServerWorld, ServesInMemory, ServesNone}
-use Rattle.boss_manager.proofs.KeptLemmas.{no-catalogue-fine, not-refused, one-catalogue}
-use Rattle.boss_manager.specs.Serving.{after_write_fault, NoneRan, NotBound, Outside, Served, ServedFrom, ServedJournal, ServesMemory, ServesOver, status_of, TellsLast}
+use Rattle.boss_manager.proofs.PreparingLemmas.{not-refused, one-catalogue, plan-not-refused}
+use Rattle.boss_manager.specs.Serving.{after_write_fault, Outside, Served, ServedFrom, ServesMemory, ServesOver, status_of}
 
 -- ---- statuses
 
@@ -128,69 +130,77 @@ module _ {K A H In Out C W P Runtime : Type 0} (k : sink.Ghosts K) (a : actuator
 
 module _ {F D S K A H In Out C W P Runtime : Type 0} (f : files.Ghosts F D) (s : source.Ghosts S) (k : sink.Ghosts K) (a : actuators_of.Ghosts A)
     (h : host.Ghosts H In Out) (i : source.Ghosts In) (o : sink.Ghosts Out) (c : clock.Ghosts C) (w : waiter.Ghosts W) (p : spawner.Ghosts P Runtime)
-    (name : List ℕ) (count workers connections : ℕ) (old new : ServerWorld F S K A C H W P) (status : ℕ) where
+    (name : List ℕ) (plan : Option (List ℕ)) (count workers connections : ℕ) (old new : ServerWorld F S K A C H W P) (status : ℕ) where
   abbrev was : Faults
   was = faults_at f s k a h i o c w p old
 
   abbrev now : Faults
   now = faults_at f s k a h i o c w p new
 
-  none-ends : ServesNone f s k a h i o c w p name count old new status → EndsBy was now status ⊎ (status ≡ 3)
+  line-ends : (line : List ℕ) (told : ℕ) → TellsLine k line told old.world.sink new.world.sink status → EndsBy was now status ⊎ (status ≡ told)
+  line-ends line told tells = elim tells [
+    | inl said ↦ inr said.0
+    | inr (inl fault) ↦ inl (inr (inr (inl (fault.0, fault.2))))
+    | inr (inr lack) ↦ inl (lacks was now status lack.0)
+  ]
+
+  none-ends : ServesNone f s k a h i o c w p name plan count old new status → EndsBy was now status ⊎ (status ≡ 3) ⊎ (status ≡ 17)
   none-ends none = elim none.0 [
     | inl lost ↦ elim lost.why [ inl fault ↦ inl (inr (inl fault)) | inr lack ↦ inl (lacks was now status lack.0) ]
-    | inr refused ↦ elim refused.tells [
-      | inl said ↦ inr said.0
-      | inr (inl fault) ↦ inl (inr (inr (inl (fault.0, fault.2))))
-      | inr (inr lack) ↦ inl (lacks was now status lack.0)
-    ]
+    | inr (inl refused) ↦ elim (line-ends _ 3 refused.tells) [ inl ends ↦ inl ends | inr told ↦ inr (inl told) ]
+    | inr (inr refused) ↦ elim (line-ends _ 17 refused.tells) [ inl ends ↦ inl ends | inr told ↦ inr (inr told) ]
   ]
 
-  none-fine : (catalogue : Catalogue) (file : List ℕ) → f.tells → f.holds old.world.files name ≡ Some file → usable count file ≡ Ok catalogue →
-      ServesNone f s k a h i o c w p name count old new status → NoneRose was now → (status ≡ 0) ⊎ (status ≡ 8)
-  none-fine catalogue file tells holds used none fine = elim none.0 [
-    | inl lost ↦ no-catalogue-fine f s k a old.world new.world status lost fine.files
-    | inr refused ↦ not-refused f s k a old.world new.world status name count catalogue file tells holds used refused
+  none-fine : (catalogue : Catalogue) (file : List ℕ) → f.tells → f.holds old.world.files name ≡ Some file → usable count file ≡ Ok catalogue → TakesPlan f plan catalogue old.world.files →
+      ServesNone f s k a h i o c w p name plan count old new status → NoneRose was now → (status ≡ 0) ⊎ (status ≡ 8)
+  none-fine catalogue file tells holds used takes none fine = elim none.0 [
+    | inl lost ↦ elim lost.why [ inl fault ↦ absurd (fine.files fault.1) | inr lack ↦ inr lack.0 ]
+    | inr (inl refused) ↦ not-refused f old.world.files tells name count file catalogue holds used refused.refusal refused.comes
+    | inr (inr refused) ↦
+        let same : refused.catalogue ≡ catalogue = one-catalogue f old.world.files tells name count file catalogue holds used refused.catalogue refused.comes in
+        plan-not-refused f old.world.files tells plan refused.catalogue refused.refusal (subst (λ one. TakesPlan f plan one old.world.files) (sym same) takes) refused.refuses
   ]
 
-  pub does-serve : (journal : List ℕ) → ServesNone f s k a h i o c w p name count old new status ⊎ ServedFiles f s k a h i o c w p name journal count workers connections old new status →
-      new.world.source ≡ old.world.source → (f.tells → AsksFront (name ∷ journal ∷ second_name journal ∷ []) (f.asked old.world.files) (f.asked new.world.files)) →
+  pub does-serve : (journal : List ℕ) → ServesNone f s k a h i o c w p name plan count old new status ⊎ ServedFiles f s k a h i o c w p name journal plan count workers connections old new status →
+      new.world.source ≡ old.world.source → (f.tells → AsksFront ((name ∷ listed plan) ++ journal ∷ second_name journal ∷ []) (f.asked old.world.files) (f.asked new.world.files)) →
       (f.tells → (file : List ℕ) → file ≢ journal → file ≢ second_name journal → f.holds new.world.files file ≡ f.holds old.world.files file) →
-      DoesServe f s k a h i o c w p name journal count workers connections old new status
+      DoesServe f s k a h i o c w p name journal plan count workers connections old new status
   does-serve journal did source asks others = record {
     did = did;
     source = source;
     asks = asks;
     others = others;
     causes = elim did [
-      | inl none ↦ elim (none-ends none) [ inl ends ↦ inl ends | inr refused ↦ inr (inl refused) ]
+      | inl none ↦ elim (none-ends none) [ inl ends ↦ inl ends | inr (inl refused) ↦ inr (inl refused) | inr (inr refused) ↦ inr (inr (inr refused)) ]
       | inr served ↦
-          elim (over-ends k a h i o c w p served.catalogue workers connections (outside_at old) (outside_at new) status _ _ served.serves) [ inl ends ↦ inl ends | inr refused ↦ inr (inr refused) ]
+          elim (over-ends k a h i o c w p served.catalogue workers connections (record (outside_at old) { devices = served.devices }) (outside_at new) status _ _ served.serves)
+          [ inl ends ↦ inl ends | inr refused ↦ inr (inr (inl refused)) ]
     ];
-    complete = λ catalogue file tells holds used opens fine. elim did [
-      | inl none ↦ none-fine catalogue file tells holds used none fine
+    complete = λ catalogue file tells holds used takes opens fine. elim did [
+      | inl none ↦ none-fine catalogue file tells holds used takes none fine
       | inr served ↦
-          let same : served.catalogue ≡ catalogue = one-catalogue f s k a old.world new.world status name count catalogue served.catalogue file holds used (served.spells tells) in
-          over-fine k a h i o c w p served.catalogue workers connections (outside_at old) (outside_at new) status _ _ served.serves tells
+          let same : served.catalogue ≡ catalogue = one-catalogue f old.world.files tells name count file catalogue holds used served.catalogue served.comes in
+          over-fine k a h i o c w p served.catalogue workers connections (record (outside_at old) { devices = served.devices }) (outside_at new) status _ _ served.serves tells
           (λ refusal refused. opens refusal (subst (λ one. IsRefused one (in_files f journal old.world.files) refusal) same refused)) fine
     ];
   }
 
-  pub serves-memory : ServesNone f s k a h i o c w p name count old new status ⊎ ServedCatalogue f s k a h i o c w p name count workers connections old new status →
-      new.world.source ≡ old.world.source → (f.tells → AsksFront (name ∷ []) (f.asked old.world.files) (f.asked new.world.files)) →
-      (f.tells → (file : List ℕ) → f.holds new.world.files file ≡ f.holds old.world.files file) → ServesInMemory f s k a h i o c w p name count workers connections old new status
+  pub serves-memory : ServesNone f s k a h i o c w p name plan count old new status ⊎ ServedCatalogue f s k a h i o c w p name plan count workers connections old new status →
+      new.world.source ≡ old.world.source → (f.tells → AsksFront (name ∷ listed plan) (f.asked old.world.files) (f.asked new.world.files)) →
+      (f.tells → (file : List ℕ) → f.holds new.world.files file ≡ f.holds old.world.files file) → ServesInMemory f s k a h i o c w p name plan count workers connections old new status
   serves-memory did source asks others = record {
     did = did;
     source = source;
     asks = asks;
     others = others;
     causes = elim did [ inl none ↦ none-ends none | inr served ↦ inl (memory-causes served) ];
-    complete = λ catalogue file tells holds used fine. elim did [
-      | inl none ↦ none-fine catalogue file tells holds used none fine
+    complete = λ catalogue file tells holds used takes fine. elim did [
+      | inl none ↦ none-fine catalogue file tells holds used takes none fine
       | inr served ↦ ends-fine was now status (memory-causes served) fine
     ];
   }
     where
-      memory-causes : ServedCatalogue f s k a h i o c w p name count workers connections old new status → EndsBy was now status
+      memory-causes : ServedCatalogue f s k a h i o c w p name plan count workers connections old new status → EndsBy was now status
       memory-causes served =
           subst (λ n. EndsBy was (record { files = n; sink = now.sink; host = now.host; spawner = now.spawner; clock = now.clock }) status) (sym served.files)
-          (memory-ends k a h i o c w p served.catalogue workers connections (outside_at old) (outside_at new) status (f.faults old.world.files) served.serves)
+          (memory-ends k a h i o c w p served.catalogue workers connections (record (outside_at old) { devices = served.devices }) (outside_at new) status (f.faults old.world.files) served.serves)

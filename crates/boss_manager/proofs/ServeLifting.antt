@@ -1,5 +1,5 @@
 -- What is said of a server over a journal on two disks is said of one over its two files.
-use Rattle.std.proofs.Common.{inl, inr, ℕ, ◌≡◌}
+use Rattle.std.proofs.Common.{inl, inr, ℕ, ◌≡◌, List, subst}
 use Rattle.boss_model.specs.Catalogue.{Catalogue, actuators}
 use Rattle.boss_model.specs.State.{State}
 use Rattle.boss_outside.specs.declared.actuators.Actuators as actuators_of
@@ -11,7 +11,7 @@ use Rattle.boss_outside_server.specs.declared.spawner.Spawner as spawner
 use Rattle.boss_outside_server.specs.declared.waiter.Waiter as waiter
 use Rattle.boss_opening.specs.Opens.{digest_of, OpenedAt}
 use Rattle.boss_manager.specs.Journals.{HoldsAfter, Pair}
-use Rattle.boss_manager.specs.Serving.{Outside, Served, ServedFrom, ServedJournal, ServesOver}
+use Rattle.boss_manager.specs.Serving.{Outside, outside, ServedFrom, ServedJournal, ServesMemory, ServesOver}
 use Rattle.boss_manager.proofs.Lifting.{Follows, none-so, refused-so, same-two, stands-so}
 
 module _ {K A H In Out C W P Runtime : Type 0} (k : sink.Ghosts K) (a : actuators_of.Ghosts A) (h : host.Ghosts H In Out) (i : source.Ghosts In) (o : sink.Ghosts Out)
@@ -57,3 +57,15 @@ module _ {K A H In Out C W P Runtime : Type 0} (k : sink.Ghosts K) (a : actuator
       | inr (inl refused) ↦ inr (inl (refused-so was now was' now' so k catalogue old.sink new.sink status refused.0, refused.1))
       | inr (inr ran) ↦ inr (inr (served-so ran))
     ]
+
+-- where nothing was told before, the sink is the one that was handed in
+module _ {K A H In Out C W P Runtime : Type 0} (k : sink.Ghosts K) (a : actuators_of.Ghosts A) (h : host.Ghosts H In Out) (i : source.Ghosts In) (o : sink.Ghosts Out)
+    (c : clock.Ghosts C) (w : waiter.Ghosts W) (p : spawner.Ghosts P Runtime) (catalogue : Catalogue) (workers connections : ℕ)
+    (devices : List A) (clock : C) (host : H) (waiter : W) (spawner : P) (first later : K) (same : later ≡ first) (new : Outside K A H C W P) (status : ℕ) where
+  pub over-first-sink : (was now : Pair) → ServesOver k a h i o c w p catalogue was now workers connections (outside later devices clock host waiter spawner) new status →
+      ServesOver k a h i o c w p catalogue was now workers connections (outside first devices clock host waiter spawner) new status
+  over-first-sink was now it = subst (λ sink. ServesOver k a h i o c w p catalogue was now workers connections (outside sink devices clock host waiter spawner) new status) same it
+
+  pub memory-first-sink : ServesMemory k a h i o c w p catalogue workers connections (outside later devices clock host waiter spawner) new status →
+      ServesMemory k a h i o c w p catalogue workers connections (outside first devices clock host waiter spawner) new status
+  memory-first-sink it = subst (λ sink. ServesMemory k a h i o c w p catalogue workers connections (outside sink devices clock host waiter spawner) new status) same it

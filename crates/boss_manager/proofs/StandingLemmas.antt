@@ -1,5 +1,5 @@
 -- What a journal stands for is still there, where none was opened.
-use Rattle.std.proofs.Common.{◌≡◌, inl, inr, ℕ, List, [], unwrap_or, Result, Err, refl, sym, subst, ◌∙◌}
+use Rattle.std.proofs.Common.{◌≡◌, inl, inr, ℕ, List, [], unwrap_or, Result, Err, refl, sym, subst}
 use Rattle.boss_model.specs.Catalogue.{Catalogue, actuators}
 use Rattle.boss_model.specs.State.{Persistent}
 use Rattle.boss_disk.specs.declared.disk.Disk as disk

@@ -1,5 +1,5 @@
 -- What the words of a server ask for is within the bounds of its row.
-use Rattle.std.proofs.Common.{◌≡◌, ℕ, ◌≤◌, Bool, true, false, ◌&&◌, if◌then◌else◌, nat_le, List, [], ◌∷◌, codes, Option, Some, None, refl, sym, subst, ◌∙◌, arith}
+use Rattle.std.proofs.Common.{◌≡◌, ℕ, ◌≤◌, Bool, true, false, ◌&&◌, if◌then◌else◌, nat_le, List, [], ◌∷◌, codes, Option, Some, None, refl, subst, arith}
 use Rattle.std.proofs.lemmas.Bool.{and_parts}
 use Rattle.std.proofs.lemmas.Bool.Decides.{nat_tests}
 use Rattle.std.specs.Option.{option_and_then}
@@ -7,11 +7,11 @@ use Rattle.std.specs.Str.{bytes_eq}
 use Rattle.std.specs.Str.Parse.{digits_value}
 use Rattle.boss_words.specs.declared.job.Job.{Job}
 use Rattle.boss_words.specs.declared.job.Job.TheVariants.{Script, Serve, Check, Load}
-use Rattle.boss_words.specs.Words.{check_of, is_number, job_of, load_of, number_of, script_of, serve_of, word_of}
+use Rattle.boss_words.specs.Words.{check_of, is_number, job_of, load_of, number_of, optional_of, script_of, serve_of, word_of}
 
 -- the workers of a server are 1 to 32; of other jobs nothing is said
 abbrev Fits : Option Job → Type 0
-Fits (Some (Serve catalogue journal address workers connections)) = (1 ≤ workers) × (workers ≤ 32)
+Fits (Some (Serve catalogue journal address workers connections plan)) = (1 ≤ workers) × (workers ≤ 32)
 Fits (Some (Script catalogue journal)) = Unit {0}
 Fits (Some (Check catalogue journal)) = Unit {0}
 Fits (Some (Load count seed)) = Unit {0}
@@ -66,15 +66,14 @@ fits-load (a ∷ []) = tt
 fits-load (a ∷ b ∷ c ∷ more) = tt
 
 fits-serve : (arguments : List (List ℕ)) → Fits (serve_of arguments)
-fits-serve (catalogue ∷ journal ∷ address ∷ workers ∷ connections ∷ []) =
+fits-serve (catalogue ∷ journal ∷ address ∷ workers ∷ connections ∷ optional) =
     fits-then _ (number_of 1 32 workers) (λ n is. fits-then _ (number_of 1 4294967295 connections) (λ m _. fits-then _ (word_of catalogue) (λ c _. fits-then _ (word_of journal) (λ j _.
-    fits-then _ (word_of address) (λ a _. number-within 1 32 workers n is)))))
+    fits-then _ (word_of address) (λ a _. fits-then _ (optional_of optional) (λ p _. number-within 1 32 workers n is))))))
 fits-serve [] = tt
 fits-serve (a ∷ []) = tt
 fits-serve (a ∷ b ∷ []) = tt
 fits-serve (a ∷ b ∷ c ∷ []) = tt
 fits-serve (a ∷ b ∷ c ∷ d ∷ []) = tt
-fits-serve (a ∷ b ∷ c ∷ d ∷ e ∷ f ∷ more) = tt
 
 fits-job : (words : List (List ℕ)) → Fits (job_of words)
 fits-job [] = tt
@@ -85,5 +84,5 @@ fits-job (job ∷ arguments) =
     (fits-if (bytes_eq job (codes "load")) _ _ (fits-load arguments) tt)))
 
 -- a server that the words ask for has 1 to 32 workers
-pub workers-fit : (words : List (List ℕ)) (name journal address : List ℕ) (workers connections : ℕ) → job_of words ≡ Some (Serve name journal address workers connections) → (1 ≤ workers) × (workers ≤ 32)
-workers-fit words name journal address workers connections is = subst Fits is (fits-job words)
+pub workers-fit : (words : List (List ℕ)) (name journal address : List ℕ) (workers connections : ℕ) (plan : Option (List ℕ)) → job_of words ≡ Some (Serve name journal address workers connections plan) → (1 ≤ workers) × (workers ≤ 32)
+workers-fit words name journal address workers connections plan is = subst Fits is (fits-job words)

@@ -5,6 +5,7 @@ pub mod Journals
 pub mod KeptScripts
 pub mod Loads
 pub mod Openings
+pub mod Preparing
 pub mod Programs
 pub mod Scripts
 pub mod ServeJobs

@@ -14,7 +14,7 @@ use Rattle.boss_words.specs.Words.{job_of}
 -- the catalogue's file of a script whose journal is in memory alone
 abbrev pub catalogue_word : Job → Option (List ℕ)
 catalogue_word (Script catalogue journal) = if bytes_eq journal (codes "-") then Some catalogue else None
-catalogue_word (Serve catalogue journal address workers connections) = None
+catalogue_word (Serve catalogue journal address workers connections plan) = None
 catalogue_word (Check catalogue journal) = None
 catalogue_word (Load count seed) = None
 
@@ -25,7 +25,7 @@ script_of_words words = option_and_then catalogue_word (job_of words)
 abbrev pub is_served : Option Job → Bool
 is_served (Some (Script catalogue journal)) = true
 is_served (Some (Check catalogue journal)) = true
-is_served (Some (Serve catalogue journal address workers connections)) = true
+is_served (Some (Serve catalogue journal address workers connections plan)) = true
 is_served (Some (Load count seed)) = true
 is_served None = false
 

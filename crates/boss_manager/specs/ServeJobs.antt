@@ -1,8 +1,8 @@
--- `serve CATALOGUE JOURNAL ADDRESS WORKERS CONNECTIONS`.
+-- `serve CATALOGUE JOURNAL ADDRESS WORKERS CONNECTIONS RULES PLAN`.
 use denote.Ref.{MutBor}
 use Rattle.std.specs.declared.alloc.Global.{Global}
 use Rattle.std.specs.declared.vec.Vec.{Vec}
-use Rattle.std.specs.Prelude.{◌≡◌, ◌≢◌, ◌⊎◌, ℕ, Bool, true, false, List, [], ◌∷◌, Option, Some, None, Ok}
+use Rattle.std.specs.Prelude.{◌≡◌, ◌≢◌, ◌⊎◌, ℕ, Bool, true, false, List, [], ◌∷◌, ◌++◌, Option, Some, None, Ok}
 use Rattle.boss_model.specs.Catalogue.{Catalogue}
 use Rattle.boss_outside.specs.Counts.{Rose}
 use Rattle.boss_outside.specs.declared.actuators.Actuators as actuators
@@ -18,14 +18,15 @@ use Rattle.boss_files.specs.Names.{second_name}
 use Rattle.boss_words.specs.declared.job.Job.{Job}
 use Rattle.boss_words.specs.declared.job.Job.TheVariants.{Script, Serve, Check, Load}
 use Rattle.boss_manager.specs.declared.world.World.{World as Given}
-use Rattle.boss_manager.specs.Jobs.{HadNoCatalogue, RefusedCatalogue, Spells, World, world}
+use Rattle.boss_manager.specs.Jobs.{World, world}
 use Rattle.boss_manager.specs.Journals.{AsksFront, in_files, IsRefused}
+use Rattle.boss_manager.specs.Preparing.{AreSet, Comes, listed, Setting, setting, TakesPlan, Unprepared}
 use Rattle.boss_manager.specs.Programs.{usable}
 use Rattle.boss_manager.specs.Serving.{Outside, outside, ServesMemory, ServesOver}
 
 -- whether the words ask for a server
 abbrev pub is_serve : Option Job → Bool
-is_serve (Some (Serve catalogue journal address workers connections)) = true
+is_serve (Some (Serve catalogue journal address workers connections plan)) = true
 is_serve (Some (Script catalogue journal)) = false
 is_serve (Some (Check catalogue journal)) = false
 is_serve (Some (Load count seed)) = false
@@ -57,6 +58,10 @@ all_at_end left =
 -- the same without the files and the source
 abbrev pub outside_at : {F S K A C H W P : Type 0} → ServerWorld F S K A C H W P → Outside K A H C W P
 outside_at all = outside all.world.sink all.world.devices all.clock all.host all.waiter all.spawner
+
+-- the same while it is set up
+abbrev pub setting_at : {F S K A C H W P : Type 0} → ServerWorld F S K A C H W P → Setting F K A
+setting_at all = setting all.world.files all.world.sink all.world.devices
 
 -- only the world changed: nothing was listened at, waited for or started, and no clock was read
 pub record StaysApart {F S K A C H W P : Type 0} (old new : ServerWorld F S K A C H W P) : Type 0 where
@@ -107,50 +112,55 @@ module _ {F D S K A H In Out C W P Runtime : Type 0} (f : files.Ghosts F D) (s :
     clock = c.faults all.clock;
   }
 
-  -- no catalogue was had, or it is refused, and nothing was served
-  abbrev pub ServesNone : List ℕ → ℕ → ServerWorld F S K A C H W P → ServerWorld F S K A C H W P → ℕ → Type 0
-  ServesNone name count old new status =
-      (HadNoCatalogue f s k a old.world new.world status ⊎ RefusedCatalogue f s k a name count old.world new.world status) × StaysApart old new
+  -- no catalogue or no plan was had, or one of them is refused, and nothing was served
+  abbrev pub ServesNone : List ℕ → Option (List ℕ) → ℕ → ServerWorld F S K A C H W P → ServerWorld F S K A C H W P → ℕ → Type 0
+  ServesNone name plan count old new status = Unprepared f a k name plan count (setting_at old) (setting_at new) status × StaysApart old new
 
   -- over a journal in two files, where there are so many devices
-  module _ (name journal : List ℕ) (count workers connections : ℕ) (old new : ServerWorld F S K A C H W P) (status : ℕ) where
-    -- the catalogue can be used, and the journal of this name was served, as far as there is one
+  module _ (name journal : List ℕ) (plan : Option (List ℕ)) (count workers connections : ℕ) (old new : ServerWorld F S K A C H W P) (status : ℕ) where
+    -- The catalogue can be used, and the devices are as the plan assigns them; then the journal of this name was served, as far as
+    -- there is one.
     pub record ServedFiles : Type 0 where
       pub catalogue : Catalogue
-      pub spells : Spells f s k a name count old.world.files (Ok catalogue)
+      pub comes : Comes f name count old.world.files (Ok catalogue)
+      pub devices : List A
+      pub set : AreSet f a plan catalogue old.world.files old.world.devices devices
       pub serves : ServesOver k a h i o c w p catalogue (in_files f journal old.world.files) (in_files f journal new.world.files) workers connections
-          (outside_at old) (outside_at new) status
+          (record (outside_at old) { devices = devices }) (outside_at new) status
 
     pub record DoesServe : Type 0 where
-      pub did : ServesNone name count old new status ⊎ ServedFiles
+      pub did : ServesNone name plan count old new status ⊎ ServedFiles
       -- nothing is read
       pub source : new.world.source ≡ old.world.source
-      -- the catalogue's file is asked for, and the journal's two behind it, as far as it comes to that; and no other
-      pub asks : f.tells → AsksFront (name ∷ journal ∷ second_name journal ∷ []) (f.asked old.world.files) (f.asked new.world.files)
+      -- the catalogue's file is asked for, then the plan's, and the journal's two, as far as it comes to that; and no other
+      pub asks : f.tells → AsksFront ((name ∷ listed plan) ++ journal ∷ second_name journal ∷ []) (f.asked old.world.files) (f.asked new.world.files)
       -- no other file changes
       pub others : f.tells → (file : List ℕ) → file ≢ journal → file ≢ second_name journal → f.holds new.world.files file ≡ f.holds old.world.files file
-      -- the status has its cause, or tells that the catalogue or the journal is refused
-      pub causes : EndsBy (faults_at old) (faults_at new) status ⊎ (status ≡ 3) ⊎ (status ≡ 4)
-      -- where the catalogue can be used, the journal is not refused and nothing failed, all connections were served, or memory was wanting
+      -- the status has its cause, or tells that the catalogue, the journal or the plan is refused
+      pub causes : EndsBy (faults_at old) (faults_at new) status ⊎ (status ≡ 3) ⊎ (status ≡ 4) ⊎ (status ≡ 17)
+      -- where the catalogue and the plan can be used, the journal is not refused and nothing failed, all connections were served, or
+      -- memory was wanting
       pub complete : (catalogue : Catalogue) (file : List ℕ) → f.tells → f.holds old.world.files name ≡ Some file → usable count file ≡ Ok catalogue
-          → ((refusal : DurableRefusal) → IsRefused catalogue (in_files f journal old.world.files) refusal → ⊥)
+          → TakesPlan f plan catalogue old.world.files → ((refusal : DurableRefusal) → IsRefused catalogue (in_files f journal old.world.files) refusal → ⊥)
           → NoneRose (faults_at old) (faults_at new) → (status ≡ 0) ⊎ (status ≡ 8)
 
   -- over memory alone, where there are so many devices
-  module _ (name : List ℕ) (count workers connections : ℕ) (old new : ServerWorld F S K A C H W P) (status : ℕ) where
-    -- the catalogue can be used, and was served
+  module _ (name : List ℕ) (plan : Option (List ℕ)) (count workers connections : ℕ) (old new : ServerWorld F S K A C H W P) (status : ℕ) where
+    -- the catalogue can be used, and the devices are as the plan assigns them; then it was served
     pub record ServedCatalogue : Type 0 where
       pub catalogue : Catalogue
-      pub spells : Spells f s k a name count old.world.files (Ok catalogue)
+      pub comes : Comes f name count old.world.files (Ok catalogue)
+      pub devices : List A
+      pub set : AreSet f a plan catalogue old.world.files old.world.devices devices
       pub files : f.faults new.world.files ≡ f.faults old.world.files
-      pub serves : ServesMemory k a h i o c w p catalogue workers connections (outside_at old) (outside_at new) status
+      pub serves : ServesMemory k a h i o c w p catalogue workers connections (record (outside_at old) { devices = devices }) (outside_at new) status
 
     pub record ServesInMemory : Type 0 where
-      pub did : ServesNone name count old new status ⊎ ServedCatalogue
+      pub did : ServesNone name plan count old new status ⊎ ServedCatalogue
       pub source : new.world.source ≡ old.world.source
-      -- the catalogue's file is asked for, and no other; none changes
-      pub asks : f.tells → AsksFront (name ∷ []) (f.asked old.world.files) (f.asked new.world.files)
+      -- the catalogue's file is asked for, then the plan's, and no other; none changes
+      pub asks : f.tells → AsksFront (name ∷ listed plan) (f.asked old.world.files) (f.asked new.world.files)
       pub others : f.tells → (file : List ℕ) → f.holds new.world.files file ≡ f.holds old.world.files file
-      pub causes : EndsBy (faults_at old) (faults_at new) status ⊎ (status ≡ 3)
+      pub causes : EndsBy (faults_at old) (faults_at new) status ⊎ (status ≡ 3) ⊎ (status ≡ 17)
       pub complete : (catalogue : Catalogue) (file : List ℕ) → f.tells → f.holds old.world.files name ≡ Some file → usable count file ≡ Ok catalogue
-          → NoneRose (faults_at old) (faults_at new) → (status ≡ 0) ⊎ (status ≡ 8)
+          → TakesPlan f plan catalogue old.world.files → NoneRose (faults_at old) (faults_at new) → (status ≡ 0) ⊎ (status ≡ 8)

@@ -8,6 +8,7 @@ mod kept_jobs;
 mod laws;
 mod load_job;
 mod memory_jobs;
+mod preparing;
 mod saying;
 mod script;
 mod serve_jobs;

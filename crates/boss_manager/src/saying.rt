@@ -1,11 +1,13 @@
 ghost use Rattle.std.specs.Prelude.{◌≡◌, IfOk};
 ghost use Rattle.boss_answers.specs.Refused.{refusal_line, usage_line};
+ghost use Rattle.boss_plans.specs.Lines.{refusal_line as plan_refusal_line};
 ghost use Rattle.boss_manager.specs.Jobs.{TellsLine};
 
 use crate::Status;
 use boss_answers::{refusal_line, tell_usage};
 use boss_outside::Sink;
-use boss_points::CatalogueRefusal;
+use boss_plans::{PlanRefusal, refusal_line as plan_refusal_line};
+use boss_points::{Catalogue, CatalogueRefusal};
 use std::alloc::Global;
 
 /// Tells how the program is used.
@@ -24,6 +26,21 @@ pub fn say_refusal<K: Sink>(alloc: Global, sink: &mut K, refusal: CatalogueRefus
 {
     match refusal_line(alloc, refusal) {
         Ok(line) => say(sink, &line, Status::CATALOGUE),
+        Err(_) => Status::NO_MEMORY,
+    }
+}
+
+/// Tells why a plan was refused under a catalogue.
+pub fn say_plan_refusal<K: Sink>(
+    alloc: Global,
+    sink: &mut K,
+    catalogue: &Catalogue,
+    refusal: PlanRefusal,
+) -> Status
+    ensures { TellsLine ⟦<K as Sink>⟧ (plan_refusal_line catalogue.now refusal) 17 sink.old sink.new result.0 }
+{
+    match plan_refusal_line(alloc, catalogue, refusal) {
+        Ok(line) => say(sink, &line, Status::PLAN),
         Err(_) => Status::NO_MEMORY,
     }
 }

@@ -5,8 +5,7 @@ ghost use Rattle.boss_manager.specs.ServeJobs.{all_at_end, all_at_start, DoesSer
 ghost use Rattle.boss_manager.specs.Serving.{at_end, at_start, ServesOver};
 
 use crate::Status;
-use crate::catalogue::{Unusable, load};
-use crate::saying::say_refusal;
+use crate::preparing::prepare;
 use crate::serving::{serve_in_memory, serve_on_disks};
 use crate::world::{Service, Surroundings, World};
 use boss_files::{FileFault, Files, close_stores, open_stores, second_name};
@@ -16,8 +15,8 @@ use boss_points::Catalogue;
 use std::alloc::Global;
 use std::sync::Wait;
 
-/// Serves so many connections at an address under the catalogue of a file, over a journal that is kept in two files: that of its name,
-/// and that of its name with `.b` behind it.
+/// Serves so many connections at an address under the catalogue of a file, with the devices as a plan assigns them, over a journal that
+/// is kept in two files: that of its name, and that of its name with `.b` after it.
 pub fn do_kept_serve<
     R: Wait + Sync + Drop,
     F: Files,
@@ -45,7 +44,7 @@ where
     requires few { service.workers ≤ 32 }
     ensures sound { H.sound (all_at_end world.exit).host }
     ensures serves { DoesServe F.Files S.Source K.Sink A.Actuators H.Host H.In.Source H.Out.Sink
-        C.Clock W.Waiter P.Spawner name.now journal.now (vec_len world.entry.devices.now) service.entry.workers service.entry.connections
+        C.Clock W.Waiter P.Spawner name.now journal.now service.entry.plan.now (vec_len world.entry.devices.now) service.entry.workers service.entry.connections
         (all_at_start world.entry)
         (all_at_end world.exit) result.0 }
 {
@@ -59,22 +58,19 @@ where
         spawner,
         ..
     } = world;
-    match load(alloc, files, name, devices.len()) {
-        Ok(catalogue) => {
-            let surroundings = Surroundings {
-                sink,
-                devices,
-                clock,
-                host,
-                waiter,
-                spawner,
-            };
-            serve_in_files(rt, alloc, &catalogue, journal, service, files, surroundings)
-        }
-        Err(Unusable::Refused(refusal)) => say_refusal(alloc, sink, refusal),
-        Err(Unusable::FileFault) => Status::FILE_FAULT,
-        Err(Unusable::NoMemory) => Status::NO_MEMORY,
-    }
+    let catalogue = match prepare(alloc, name, service.plan, files, sink, devices) {
+        Ok(catalogue) => catalogue,
+        Err(status) => return status,
+    };
+    let surroundings = Surroundings {
+        sink,
+        devices,
+        clock,
+        host,
+        waiter,
+        spawner,
+    };
+    serve_in_files(rt, alloc, &catalogue, journal, service, files, surroundings)
 }
 
 /// Serves over the journal of this name.
@@ -133,7 +129,7 @@ where
     }
 }
 
-/// Serves so many connections at an address under the catalogue of a file, over memory alone.
+/// Serves so many connections at an address under the catalogue of a file, with the devices as a plan assigns them, over memory alone.
 pub fn do_memory_serve<
     R: Wait + Sync + Drop,
     F: Files,
@@ -159,7 +155,7 @@ where
     requires few { service.workers ≤ 32 }
     ensures sound { H.sound (all_at_end world.exit).host }
     ensures serves { ServesInMemory F.Files S.Source K.Sink A.Actuators H.Host H.In.Source H.Out.Sink
-        C.Clock W.Waiter P.Spawner name.now (vec_len world.entry.devices.now) service.entry.workers service.entry.connections
+        C.Clock W.Waiter P.Spawner name.now service.entry.plan.now (vec_len world.entry.devices.now) service.entry.workers service.entry.connections
         (all_at_start world.entry)
         (all_at_end world.exit) result.0 }
 {
@@ -173,20 +169,17 @@ where
         spawner,
         ..
     } = world;
-    match load(alloc, files, name, devices.len()) {
-        Ok(catalogue) => {
-            let surroundings = Surroundings {
-                sink,
-                devices,
-                clock,
-                host,
-                waiter,
-                spawner,
-            };
-            serve_in_memory(rt, alloc, &catalogue, service, surroundings)
-        }
-        Err(Unusable::Refused(refusal)) => say_refusal(alloc, sink, refusal),
-        Err(Unusable::FileFault) => Status::FILE_FAULT,
-        Err(Unusable::NoMemory) => Status::NO_MEMORY,
-    }
+    let catalogue = match prepare(alloc, name, service.plan, files, sink, devices) {
+        Ok(catalogue) => catalogue,
+        Err(status) => return status,
+    };
+    let surroundings = Surroundings {
+        sink,
+        devices,
+        clock,
+        host,
+        waiter,
+        spawner,
+    };
+    serve_in_memory(rt, alloc, &catalogue, service, surroundings)
 }

@@ -28,10 +28,9 @@ use boss_memory_keeper::Unkept;
 use boss_model::{LOG_LIMIT, NoMemory};
 use boss_opening::open;
 use boss_outside::{Actuators, Failed, Sink};
-use boss_outside_server::{Clock, Host, Spawner, Waiter};
+use boss_outside_server::{Announcement, Clock, Host, Spawner, Waiter};
 use boss_points::Catalogue;
 use boss_server::{Ended, Outside, serve_keeper};
-use boss_shared::Keeper;
 use std::alloc::Global;
 use std::sync::Wait;
 
@@ -204,7 +203,7 @@ where
 /// stands for one history from the keeper as it was handed over, which is all that the workers did.
 fn run_workers<
     R: Wait + Sync + Drop,
-    V: Keeper + Send,
+    V: Tally + Send,
     A: Actuators + Drop + Send,
     C: Clock + Send,
     H: Host + Send,
@@ -237,6 +236,9 @@ where
 {
     match outside.host.bind(service.address) {
         Ok(()) => {
+            outside
+                .host
+                .announce(announcement(catalogue, keeper.standing()));
             let (keeper, ended) = serve_keeper(
                 rt,
                 alloc,
@@ -252,6 +254,15 @@ where
             }
         }
         Err(Failed) => (keeper, Run::NotBound),
+    }
+}
+
+/// What a server says where it begins to listen.
+fn announcement(catalogue: &Catalogue, standing: Standing) -> Announcement {
+    Announcement {
+        points: catalogue.count(),
+        drivers: catalogue.drivers(),
+        events: standing.events,
     }
 }
 

@@ -31,6 +31,8 @@ impl Status {
     pub const LINE_TOO_LONG: Status = Status(13);
     /// There are more than 2^32 lines.
     pub const TOO_MANY_LINES: Status = Status(14);
+    /// The plan of the devices was refused.
+    pub const PLAN: Status = Status(17);
 }
 
 impl fmt::Display for Status {
@@ -49,6 +51,7 @@ impl fmt::Display for Status {
             Status::CLOCK_FAULT => "the clock failed",
             Status::LINE_TOO_LONG => "a line is too long",
             Status::TOO_MANY_LINES => "there are too many lines",
+            Status::PLAN => "the plan of the devices was refused",
             Status(_) => "no status of the program",
         })
     }

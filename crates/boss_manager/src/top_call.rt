@@ -1,4 +1,4 @@
-ghost use Rattle.std.specs.Prelude.{◌≡◌, ◌≢◌, List, ℕ, None, Some, codes, false, vec_len};
+ghost use Rattle.std.specs.Prelude.{◌≡◌, ◌≢◌, List, ℕ, Option, None, Some, codes, false, vec_len};
 ghost use Rattle.boss_words.specs.declared.job.Job.TheVariants as job;
 ghost use Rattle.boss_words.specs.Words.{job_of, texts};
 ghost use Rattle.boss_manager.specs.Checks.{ChecksJournal, ChecksMemory};
@@ -24,7 +24,7 @@ use std::sync::Wait;
 
 /// Does what the words ask for. They do not include the program's own name.
 ///
-/// This is a script, `script CATALOGUE JOURNAL`, a server, `serve CATALOGUE JOURNAL ADDRESS WORKERS CONNECTIONS`, a check, `check
+/// This is a script, `script CATALOGUE JOURNAL`, a server, `serve CATALOGUE JOURNAL ADDRESS WORKERS CONNECTIONS RULES PLAN`, a check, `check
 /// CATALOGUE JOURNAL`, or a generated load, `load COUNT SEED`. A script reads the catalogue, opens the journal, answers the lines of
 /// the source to the sink and drives the devices, the d-th of them for driver d. A server does so for so many connections that the host
 /// takes at the address, by so many workers, in time that the clock tells. A check tells what the journal stands for. The journal is
@@ -72,16 +72,16 @@ where
     ensures check_memory { (name : List ℕ) → job_of (texts words.now.items) ≡ Some (job.Check name (codes "-"))
         → ChecksMemory ⟦<F as Files>⟧ ⟦<S as Source>⟧ ⟦<K as Sink>⟧ ⟦<A as Actuators>⟧ name (vec_len devices.old)
         (world files.old source.old sink.old devices.old.items) (world files.new source.new sink.new devices.new.items) result.0 }
-    ensures serve { (name journal address : List ℕ) (workers connections : ℕ)
-        → job_of (texts words.now.items) ≡ Some (job.Serve name journal address workers connections) → journal ≢ codes "-"
+    ensures serve { (name journal address : List ℕ) (workers connections : ℕ) (plan : Option (List ℕ))
+        → job_of (texts words.now.items) ≡ Some (job.Serve name journal address workers connections plan) → journal ≢ codes "-"
         → DoesServe F.Files S.Source K.Sink A.Actuators H.Host H.In.Source H.Out.Sink
-        C.Clock W.Waiter P.Spawner name journal (vec_len devices.old) workers connections
+        C.Clock W.Waiter P.Spawner name journal plan (vec_len devices.old) workers connections
         (server_world (world files.old source.old sink.old devices.old.items) clock.old host.old waiter.old spawner.old)
         (server_world (world files.new source.new sink.new devices.new.items) clock.new host.new waiter.new spawner.new) result.0 }
-    ensures serve_memory { (name address : List ℕ) (workers connections : ℕ)
-        → job_of (texts words.now.items) ≡ Some (job.Serve name (codes "-") address workers connections)
+    ensures serve_memory { (name address : List ℕ) (workers connections : ℕ) (plan : Option (List ℕ))
+        → job_of (texts words.now.items) ≡ Some (job.Serve name (codes "-") address workers connections plan)
         → ServesInMemory F.Files S.Source K.Sink A.Actuators H.Host H.In.Source H.Out.Sink
-        C.Clock W.Waiter P.Spawner name (vec_len devices.old) workers connections
+        C.Clock W.Waiter P.Spawner name plan (vec_len devices.old) workers connections
         (server_world (world files.old source.old sink.old devices.old.items) clock.old host.old waiter.old spawner.old)
         (server_world (world files.new source.new sink.new devices.new.items) clock.new host.new waiter.new spawner.new) result.0 }
     ensures load { (count seed : ℕ) → job_of (texts words.now.items) ≡ Some (job.Load count seed)
@@ -137,12 +137,14 @@ where
                 address,
                 workers,
                 connections,
+                plan,
             },
         ) => {
             let service = Service {
                 address: address.text(),
                 workers,
                 connections,
+                plan: &plan,
             };
             let world = World {
                 files,

@@ -1,3 +1,5 @@
+use boss_words::Word;
+
 /// What a server is asked for.
 #[derive(Clone, Copy, Debug)]
 pub struct Service<'a> {
@@ -7,6 +9,8 @@ pub struct Service<'a> {
     pub workers: u32,
     /// How many connections are served. Then the server ends.
     pub connections: u32,
+    /// The file that says where the drivers' points are in the field, if there is one.
+    pub plan: &'a Option<Word>,
 }
 
 /// What a server has beside its files.

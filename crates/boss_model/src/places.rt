@@ -4,7 +4,7 @@ use crate::numbers::PointId;
 /// Where in a Modbus device a point is written (Modbus Application Protocol 1.1b3, sections 4.4 and 6).
 #[derive(Clone, Copy, Debug, PartialEq, Eq)]
 pub enum Where {
-    /// A single coil: on where the value is not 0.
+    /// A single coil: on where the value is 1, off where it is 0.
     Coil { address: u16 },
     /// A single holding register, which has the value divided by `per`, which is 1 to 10^15, rounded towards 0.
     Register { address: u16, per: i64 },

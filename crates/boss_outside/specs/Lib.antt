@@ -1,4 +1,5 @@
 pub mod Counts
+pub mod Links
 pub mod Plan
 pub mod Stores
 pub mod Streams

@@ -1,11 +1,12 @@
 ghost use Rattle.std.specs.Prelude.{◌≡◌, ◌⊎◌, ℕ, List, [], ◌∷◌, ◌++◌, true, false, is_ok, is_err, IfOk, OnOk, OnErr, IsTrue, IsErr};
+ghost use Rattle.boss_model.specs.declared.places.DriverPlan.{DriverPlan as Part};
 ghost use Rattle.boss_outside.specs.Counts.{HasCause};
 ghost use Rattle.boss_outside.specs.DeviceCall.{DeviceCall as Called};
 ghost use Rattle.boss_outside.specs.Plan.{new_plan, fails_next, after_call};
 
 use crate::Failed;
 use crate::plan::FaultPlan;
-use boss_model::{Items, NoMemory, PointId};
+use boss_model::{DriverPlan, Items, NoMemory, PointId};
 use std::alloc::Global;
 use std::marker::Model;
 
@@ -24,6 +25,9 @@ pub trait Actuators {
     /// The number of writes that failed, up to `2 ^ 64 - 1`, where it stands still.
     ghost faults: { Self → ℕ };
 
+    /// What being assigned a part does: how the devices were, the part, and how they are then.
+    ghost assigned: { Self → Part → Self → Type 0 };
+
     /// Commands a point to take a value: thousandths of the unit for an analog point, a state number otherwise.
     fn write(&mut self, point: PointId, value: i64) -> Result<(), Failed>
         // As long as the record is whole it was so before, and it gained this call.
@@ -33,6 +37,13 @@ pub trait Actuators {
         ensures noted { tells → OnOk result ((whole self.old → whole self.new) × (calls self.new
             ≡ calls self.old ++ record { point = point; value = value; ok = true } ∷ [])) }
         ensures cause { HasCause (faults self.old) (faults self.new) result };
+
+    /// Tells the devices where their points are. It comes before the first write, or between two, and writes nothing.
+    fn assign(&mut self, part: DriverPlan)
+        ensures assigned { assigned self.old part self.new }
+        ensures calls { tells → calls self.new ≡ calls self.old }
+        ensures whole { tells → (whole self.old → whole self.new) × (whole self.new → whole self.old) }
+        ensures faults { faults self.new ≡ faults self.old };
 }
 
 /// One command to a device, and whether the device took it.
@@ -106,6 +117,8 @@ impl Actuators for SimActuators {
 
     ghost faults = { λ devices. devices.plan.faults };
 
+    ghost assigned = { λ old part new. new ≡ old };
+
     fn write(&mut self, point: PointId, value: i64) -> Result<(), Failed>
         ensures recorded { IsTrue self.new.whole → IsTrue self.old.whole × (self.new.calls
             ≡ self.old.calls ++ record { point = point; value = value; ok = is_ok result } ∷ []) }
@@ -127,6 +140,8 @@ impl Actuators for SimActuators {
         answer?;
         Err(self.plan.fault())
     }
+
+    fn assign(&mut self, _part: DriverPlan) {}
 }
 
 /// Devices that take every command and note nothing.
@@ -149,7 +164,11 @@ impl Actuators for IdleActuators {
 
     ghost faults = { λ devices. 0 };
 
+    ghost assigned = { λ old part new. new ≡ old };
+
     fn write(&mut self, _point: PointId, _value: i64) -> Result<(), Failed> {
         Ok(())
     }
+
+    fn assign(&mut self, _part: DriverPlan) {}
 }

@@ -1,5 +1,5 @@
-//! What `bossd` has to do with: a source of bytes, a sink and devices, each as a trait whose contract tells what a call
-//! does, and each with a form in memory that meets it.
+//! What `bossd` has to do with: a source of bytes, a sink, devices and a link, each as a trait whose contract tells what a
+//! call does, and each with a form in memory that meets it.
 //!
 //! Each trait counts its faults. A call answers a fault exactly where this count rose in it, so a layer above can say of
 //! its own answers which object is their cause.
@@ -7,12 +7,18 @@
 
 mod actuators;
 mod failed;
+mod link;
+mod list_link;
+mod noted;
 mod plan;
 mod sink;
 mod source;
 
 pub use actuators::{Actuators, DeviceCall, IdleActuators, SimActuators};
 pub use failed::Failed;
+pub use link::Link;
+pub use list_link::ListLink;
+pub use noted::Noted;
 pub use plan::FaultPlan;
 pub use sink::{BytesSink, Sink};
 pub use source::{BytesSource, Got, Source};

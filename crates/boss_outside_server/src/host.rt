@@ -16,6 +16,17 @@ pub enum Accepted<I, O> {
     Failed,
 }
 
+/// What a server serves from the moment on that it listens.
+#[derive(Clone, Copy, Debug, PartialEq, Eq)]
+pub struct Announcement {
+    /// How many points its catalogue has.
+    pub points: u32,
+    /// How many drivers its catalogue names.
+    pub drivers: u16,
+    /// How many events its journal holds.
+    pub events: u64,
+}
+
 /// Something that hands out connections, one at a time, and takes each back when it has ended.
 pub trait Host: Sized + Drop {
     ghost use Rattle.boss_outside_server.specs.Hosts.{Served, served_of, IsFresh, HandsOut, AcceptCause};
@@ -55,6 +66,15 @@ pub trait Host: Sized + Drop {
             × (away self.new ≡ away self.old) }
         ensures connections { tells → served self.new ≡ served self.old }
         ensures cause { HasCause (faults self.old) (faults self.new) result };
+
+    /// Hears what is served at the address from now on, so that it can say so to whoever started the server. It is called once, after
+    /// `bind`.
+    fn announce(&mut self, announcement: Announcement)
+        requires { sound self.old }
+        ensures sound { sound self.new }
+        ensures counts { (handed self.new ≡ handed self.old) × (share self.new ≡ share self.old)
+            × (away self.new ≡ away self.old) × (faults self.new ≡ faults self.old) }
+        ensures connections { tells → served self.new ≡ served self.old };
 
     /// A part that is to hand out so many connections.
     fn split(&mut self, alloc: Global, connections: u32) -> Result<Self, NoMemory>

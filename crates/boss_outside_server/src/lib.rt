@@ -24,7 +24,7 @@ mod turn_waiter;
 mod waiter;
 
 pub use clock::Clock;
-pub use host::{Accepted, Host};
+pub use host::{Accepted, Announcement, Host};
 pub use list_clock::ListClock;
 pub use list_host::{Ended, ListHost};
 pub use list_spawner::ListSpawner;

@@ -3,7 +3,7 @@ ghost use Rattle.std.specs.List.{AllByRecursion};
 ghost use Rattle.boss_outside.specs.Plan.{fails_next, after_call, after_join};
 
 use crate::log::{Log, Room};
-use crate::{Accepted, Host};
+use crate::{Accepted, Announcement, Host};
 use boss_model::{Items, NoMemory, SessionId};
 use boss_outside::{Failed, FaultPlan, Sink, Source};
 use std::alloc::Global;
@@ -112,6 +112,11 @@ impl<S: Source + Drop, K: Sink + Drop> Host for ListHost<S, K> {
     {
         self.plan.call()
     }
+
+    /// Nobody is there to hear it.
+    fn announce(&mut self, _announcement: Announcement)
+        ensures same { self.new ≡ self.old }
+    {}
 
     fn split(&mut self, alloc: Global, connections: u32) -> Result<Self, NoMemory>
         requires { AreUntouched S.Source K.Sink self.old.waiting

@@ -4,15 +4,16 @@ use boss_manager::Status;
 use std::alloc::{AllocError, Global};
 
 /// One sentence for a status: what happened, and what to do about it, with the names among the program's words. Where all was done there
-/// is one only for a check that found neither of a journal's files.
+/// is one only for a check that found neither of a journal's files. Where the catalogue was refused for a point, it has that point's name.
 pub fn advice(
     alloc: Global,
     status: Status,
     words: &Vec<String>,
+    point: Option<&str>,
     has_journal: bool,
 ) -> Result<Option<String>, AllocError> {
     if status != Status::DONE {
-        return Ok(Some(sentence(alloc, status, words)?));
+        return Ok(Some(sentence(alloc, status, words, point)?));
     }
     let journal = word_at(words, 2);
     if has_journal || word_at(words, 0) != "check" || journal == "-" {
@@ -24,20 +25,29 @@ pub fn advice(
     Ok(Some(sentence))
 }
 
-fn sentence(alloc: Global, status: Status, words: &Vec<String>) -> Result<String, AllocError> {
+fn sentence(
+    alloc: Global,
+    status: Status,
+    words: &Vec<String>,
+    point: Option<&str>,
+) -> Result<String, AllocError> {
     let catalogue = word_at(words, 1);
     let journal = word_at(words, 2);
     if status == Status::USAGE {
         return String::from_str(alloc, USAGE);
     }
     if status == Status::CATALOGUE {
-        return format!(in alloc;
-            "the catalogue {catalogue} was refused, as its line says; correct that file"
-        );
+        return of_catalogue(alloc, catalogue, point);
     }
     if status == Status::JOURNAL {
         return format!(in alloc;
             "the journal {journal} was refused, as its line says; name this catalogue's journal, or a new one"
+        );
+    }
+    if status == Status::PLAN {
+        let plan = word_at(words, 7);
+        return format!(in alloc;
+            "the plan {plan} was refused, as its line says; bossctl lint {catalogue} - {plan} names the line, the key and what may stand there"
         );
     }
     if status == Status::FILE_FAULT {
@@ -54,7 +64,8 @@ fn sentence(alloc: Global, status: Status, words: &Vec<String>) -> Result<String
 
 const USAGE: &str =
     "these words ask for nothing that it does; write script CATALOGUE JOURNAL, check CATALOGUE JOURNAL or \
-    serve CATALOGUE JOURNAL ADDRESS WORKERS CONNECTIONS, with - for a journal in memory alone, or load COUNT SEED";
+    serve CATALOGUE JOURNAL ADDRESS WORKERS CONNECTIONS, with - for a journal in memory alone and - PLAN after them where devices have \
+    a plan, or load COUNT SEED";
 
 const FILE_FAULT: &str = "a file failed, as an earlier line says; mend that and start again";
 
@@ -84,8 +95,20 @@ fn of_this_run(status: Status) -> &'static str {
     "it ended with a status that has no sentence"
 }
 
+/// What happened to a catalogue.
+fn of_catalogue(alloc: Global, catalogue: &str, point: Option<&str>) -> Result<String, AllocError> {
+    match point {
+        Some(point) => format!(in alloc;
+            "the catalogue {catalogue} was refused for its point {point}; bossctl lint {catalogue} names the line, the key and what may stand there"
+        ),
+        None => format!(in alloc;
+            "the catalogue {catalogue} was refused, as its line says; bossctl lint {catalogue} names the line, the key and what may stand there"
+        ),
+    }
+}
+
 /// The word at this place, counted from 0, or an empty one.
-fn word_at(words: &Vec<String>, place: usize) -> &str {
+pub fn word_at(words: &Vec<String>, place: usize) -> &str {
     match words.get(place) {
         Some(word) => word.as_str(),
         None => "",

@@ -1,15 +1,18 @@
-//! The program on this machine: its words, its files, its standard input and output, devices that take every command behind each of
-//! the sixteen drivers, and for a server the system's clock, its network and threads. Where not all was done, the last line on the
-//! standard error says what happened and what to do; why the system refused something was said there when it did.
+//! The program on this machine: its words, its files, its standard input and output, the devices of each of the sixteen
+//! drivers, which are simulated until they are assigned their points, and for a server the system's clock, its network
+//! and threads. Where not all was done, the last line on the standard error says what happened and what to do; why the
+//! system refused something was said there when it did.
 #![tactic(auto)]
 
 mod advice;
+mod refused;
 
-use crate::advice::advice;
+use crate::advice::{advice, word_at};
+use crate::refused::refused_point;
 use boss_adapters::{
-    RealClock, RealFiles, RealHost, RealSpawner, RealWaiter, StdSink, StdSource, idle_devices,
-    say_aside,
+    RealClock, RealFiles, RealHost, RealSpawner, RealWaiter, StdSink, StdSource, say_aside,
 };
+use boss_field::field_devices;
 use boss_manager::{Status, boss};
 use boss_model::{MOST_DRIVERS, NoMemory};
 use std::alloc::AllocError;
@@ -19,11 +22,13 @@ use std::net::{Net, TcpListener, TcpStream};
 use std::process::ExitCode;
 use std::sync::Wait;
 use std::thread::Threads;
+use std::time::Clock;
 
-/// Does what the program's words ask for, and tells how it ended. By the second handle a server listens, starts threads and waits.
+/// Does what the program's words ask for, and tells how it ended. By the second handle a server listens, starts threads
+/// and waits, and devices are reached.
 pub fn start<R>(rt: HostRuntime, server: &R) -> ExitCode
 where
-    R: Net<Listener = TcpListener, Stream = TcpStream> + Threads + Wait + Eprint + Sync,
+    R: Net<Listener = TcpListener, Stream = TcpStream> + Threads + Wait + Clock + Eprint + Sync,
 {
     let status = run(rt, server).unwrap_or(Status::NO_MEMORY);
     ExitCode::from(status.0)
@@ -31,10 +36,10 @@ where
 
 fn run<R>(rt: HostRuntime, server: &R) -> Result<Status, NoMemory>
 where
-    R: Net<Listener = TcpListener, Stream = TcpStream> + Threads + Wait + Eprint + Sync,
+    R: Net<Listener = TcpListener, Stream = TcpStream> + Threads + Wait + Clock + Eprint + Sync,
 {
     let words = words_of(&rt)?;
-    let mut devices = idle_devices(rt.alloc(), MOST_DRIVERS)?;
+    let mut devices = field_devices(rt.alloc(), server, MOST_DRIVERS)?;
     let mut waiter = RealWaiter::new(rt.alloc(), &rt)?;
     let mut source = StdSource::new(rt.stdin());
     let mut sink = StdSink::new(rt.stdout());
@@ -55,8 +60,19 @@ where
         &mut waiter,
         &mut spawner,
     );
+    let point = if status == Status::CATALOGUE {
+        refused_point(rt.alloc(), &mut files, word_at(&words, 1))
+    } else {
+        None
+    };
     // Where there is no memory for a sentence, or the standard error can't be written, the status alone tells.
-    if let Ok(Some(sentence)) = advice(rt.alloc(), status, &words, files.has_disk()) {
+    if let Ok(Some(sentence)) = advice(
+        rt.alloc(),
+        status,
+        &words,
+        point.as_deref(),
+        files.has_disk(),
+    ) {
         say_aside(&rt, sentence);
     }
     Ok(status)

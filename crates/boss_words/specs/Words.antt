@@ -38,15 +38,27 @@ script_of (catalogue ∷ journal ∷ []) = do
   Some (Script catalogue journal)
 script_of _ = None
 
--- serve CATALOGUE JOURNAL ADDRESS WORKERS CONNECTIONS
+-- a plan's file, or `-` for none
+abbrev pub plan_of : List ℕ → Option (Option (List ℕ))
+plan_of text = if bytes_eq text (codes "-") then Some None else option_and_then (λ word. Some (Some word)) (word_of text)
+
+-- RULES PLAN, of which the last or both may be left out. There are no rules yet: `-` alone stands for none.
+abbrev pub optional_of : List (List ℕ) → Option (Option (List ℕ))
+optional_of [] = Some None
+optional_of (rules ∷ []) = if bytes_eq rules (codes "-") then Some None else None
+optional_of (rules ∷ plan ∷ []) = if bytes_eq rules (codes "-") then plan_of plan else None
+optional_of _ = None
+
+-- serve CATALOGUE JOURNAL ADDRESS WORKERS CONNECTIONS, and then RULES PLAN
 abbrev pub serve_of : List (List ℕ) → Option Job
-serve_of (catalogue ∷ journal ∷ address ∷ workers ∷ connections ∷ []) = do
+serve_of (catalogue ∷ journal ∷ address ∷ workers ∷ connections ∷ optional) = do
   workers ← number_of 1 32 workers
   connections ← number_of 1 4294967295 connections
   catalogue ← word_of catalogue
   journal ← word_of journal
   address ← word_of address
-  Some (Serve catalogue journal address workers connections)
+  plan ← optional_of optional
+  Some (Serve catalogue journal address workers connections plan)
 serve_of _ = None
 
 -- check CATALOGUE JOURNAL

@@ -1,4 +1,4 @@
-ghost use Rattle.boss_words.specs.Words.{texts, job_of, script_of, serve_of, check_of, load_of};
+ghost use Rattle.boss_words.specs.Words.{texts, job_of, script_of, serve_of, check_of, load_of, optional_of, plan_of};
 ghost use Rattle.boss_words.specs.Given.{Gives};
 ghost use Rattle.boss_words.specs.declared.read.WordsRefusal.TheVariants.{NoMemory};
 ghost use Rattle.std.specs.Prelude.{◌≡◌};
@@ -65,11 +65,19 @@ fn script(alloc: Global, arguments: &[String]) -> Result<Job, WordsRefusal>
     Ok(Job::Script { catalogue, journal })
 }
 
-/// `serve CATALOGUE JOURNAL ADDRESS WORKERS CONNECTIONS`
+/// `serve CATALOGUE JOURNAL ADDRESS WORKERS CONNECTIONS`, and then RULES and PLAN, the last or both of which may be left out.
 fn serve(alloc: Global, arguments: &[String]) -> Result<Job, WordsRefusal>
     ensures { Gives result (serve_of (texts arguments.now)) }
 {
-    let [catalogue, journal, address, workers, connections] = arguments else {
+    let [
+        catalogue,
+        journal,
+        address,
+        workers,
+        connections,
+        optional @ ..,
+    ] = arguments
+    else {
         return Err(WordsRefusal::Usage);
     };
     let workers = number(workers.as_str(), 1, 32).ok_or(WordsRefusal::Usage)?;
@@ -77,13 +85,38 @@ fn serve(alloc: Global, arguments: &[String]) -> Result<Job, WordsRefusal>
     let catalogue = Word::new(alloc, catalogue.as_str())?;
     let journal = Word::new(alloc, journal.as_str())?;
     let address = Word::new(alloc, address.as_str())?;
+    let plan = optional_plan(alloc, optional)?;
     Ok(Job::Serve {
         catalogue,
         journal,
         address,
         workers,
         connections,
+        plan,
     })
+}
+
+/// The plan's file, of the words after those that a server has to have: RULES and PLAN. There are no rules yet, so the first can only be `-`.
+fn optional_plan(alloc: Global, optional: &[String]) -> Result<Option<Word>, WordsRefusal>
+    ensures { Gives result (optional_of (texts optional.now)) }
+{
+    match optional {
+        [] => Ok(None),
+        [rules] if rules.as_str() == "-" => Ok(None),
+        [rules, plan] if rules.as_str() == "-" => plan_word(alloc, plan.as_str()),
+        _ => Err(WordsRefusal::Usage),
+    }
+}
+
+/// A plan's file, or `-` for none.
+fn plan_word(alloc: Global, text: &str) -> Result<Option<Word>, WordsRefusal>
+    ensures { Gives result (plan_of text.now) }
+{
+    if text == "-" {
+        return Ok(None);
+    }
+    let word = Word::new(alloc, text)?;
+    Ok(Some(word))
 }
 
 /// `check CATALOGUE JOURNAL`

@@ -1,9 +1,6 @@
-//! Trials of the engine: that it answers as a machine of plain lists does, that its events do the same again, that a run goes on
-//! from what was kept of it, which kept states are sound, and how many comparisons a timer takes.
+//! Trials of the engine: that its events do the same again, that a run goes on from what was kept of it, which kept states are sound, and how many comparisons a timer takes.
 #![tactic(auto)]
 
-#[cfg(test)]
-mod both;
 #[cfg(test)]
 mod calls;
 #[cfg(test)]

@@ -11,7 +11,19 @@ const ROWS: &[(&str, &str)] = &[
     ),
     (
         "serve|k.toml|j|[::1]:80|0000000032|4294967295",
-        r#"Ok(Serve { catalogue: Word { text: "k.toml" }, journal: Word { text: "j" }, address: Word { text: "[::1]:80" }, workers: 32, connections: 4294967295 })"#,
+        r#"Ok(Serve { catalogue: Word { text: "k.toml" }, journal: Word { text: "j" }, address: Word { text: "[::1]:80" }, workers: 32, connections: 4294967295, plan: None })"#,
+    ),
+    (
+        "serve|k|j|a|1|2|-",
+        r#"Ok(Serve { catalogue: Word { text: "k" }, journal: Word { text: "j" }, address: Word { text: "a" }, workers: 1, connections: 2, plan: None })"#,
+    ),
+    (
+        "serve|k|-|a|1|2|-|-",
+        r#"Ok(Serve { catalogue: Word { text: "k" }, journal: Word { text: "-" }, address: Word { text: "a" }, workers: 1, connections: 2, plan: None })"#,
+    ),
+    (
+        "serve|k|-|a|1|2|-|plan.toml",
+        r#"Ok(Serve { catalogue: Word { text: "k" }, journal: Word { text: "-" }, address: Word { text: "a" }, workers: 1, connections: 2, plan: Some(Word { text: "plan.toml" }) })"#,
     ),
     (
         "check|k.toml|j",
@@ -33,6 +45,9 @@ const ROWS: &[(&str, &str)] = &[
     ("check|k|", USAGE),
     ("serve|k|j|a|1", USAGE),
     ("serve|k|j|a|1|1|x", USAGE),
+    ("serve|k|j|a|1|1|x|-", USAGE),
+    ("serve|k|j|a|1|1|-|", USAGE),
+    ("serve|k|j|a|1|1|-|-|-", USAGE),
     ("serve|k|j||1|1", USAGE),
     ("serve|k|j|a|0|1", USAGE),
     ("serve|k|j|a|33|1", USAGE),

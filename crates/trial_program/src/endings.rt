@@ -300,6 +300,7 @@ fn expect_each<R: Abort + Threads + Wait + Sync>(rt: &R, alloc: Global, endings:
         let given = Given {
             words: ending.words,
             file: ending.file,
+            plan: "",
             input: ending.input,
             fails: ending.fails,
         };

@@ -1,4 +1,4 @@
-//! Trials of the whole transaction manager: worked scripts, byte for byte, the statuses of runs that end early, generated loads, and the
+//! Trials of the whole transaction manager: worked scripts, byte for byte, the statuses of runs that end early, plans that are refused, generated loads, and the
 //! bounds of what is kept.
 #![tactic(auto)]
 
@@ -8,5 +8,7 @@ mod endings;
 mod limits;
 #[cfg(test)]
 mod outside;
+#[cfg(test)]
+mod plans;
 #[cfg(test)]
 mod scripts;

@@ -38,6 +38,7 @@ impl Made {
         let given = Given {
             words: SCRIPT_WORDS,
             file: THREE_POINTS,
+            plan: "",
             input: self.asked.as_str(),
             fails: NONE_FAILS,
         };

@@ -1,6 +1,6 @@
 //! What is outside of the program in a trial, and what a run of it tells.
 
-ghost use Rattle.std.specs.Prelude.{IsTrue};
+ghost use Rattle.std.specs.Prelude.{◌≡◌, IsTrue};
 ghost use Rattle.boss_files.specs.Shelf.{have_distinct_names};
 
 use boss_files::MemoryFiles;
@@ -23,6 +23,7 @@ pub struct Fails {
     pub source: u64,
     pub sink: u64,
     pub device: u64,
+    pub host: u64,
 }
 
 pub const NONE_FAILS: Fails = Fails {
@@ -30,6 +31,7 @@ pub const NONE_FAILS: Fails = Fails {
     source: 0,
     sink: 0,
     device: 0,
+    host: 0,
 };
 
 /// What a run of the program is given.
@@ -38,6 +40,8 @@ pub struct Given<'a> {
     pub words: &'a str,
     /// What the file `site.toml` holds.
     pub file: &'a str,
+    /// What the file `plan.toml` holds.
+    pub plan: &'a str,
     pub input: &'a str,
     pub fails: Fails,
 }
@@ -65,8 +69,8 @@ pub fn expect<R: Abort + Threads + Wait + Sync>(
     assert_eq!(rt; run(rt, alloc, given).as_str(), wanted.as_str(), "{shows}");
 }
 
-/// Runs the program on these words with one file, `site.toml`, with this input, and with sixteen devices, of which the first
-/// may fail, and gives all that it tells as one text.
+/// Runs the program on these words with two files, `site.toml` and `plan.toml`, with this input, and with sixteen devices, of which
+/// the first may fail, and gives all that it tells as one text.
 fn run<R: Abort + Threads + Wait + Sync>(rt: &R, alloc: Global, given: &Given) -> String {
     let words = words_of(rt, alloc, given.words);
     let Fails {
@@ -74,8 +78,10 @@ fn run<R: Abort + Threads + Wait + Sync>(rt: &R, alloc: Global, given: &Given) -
         source,
         sink,
         device,
+        host,
     } = given.fails;
-    let mut files = one_file(rt, alloc, given.file, files);
+    let shelf = shelf(rt, alloc, given.file, given.plan);
+    let mut files = MemoryFiles::new(alloc, shelf, call(rt, alloc, files)).expect(rt, "memory");
     let mut source = source_of(rt, alloc, given.input, source);
     let mut sink = BytesSink::new(alloc, call(rt, alloc, sink)).expect(rt, "memory");
     let mut devices = sixteen_devices(rt, alloc, device);
@@ -87,11 +93,12 @@ fn run<R: Abort + Threads + Wait + Sync>(rt: &R, alloc: Global, given: &Given) -
         &mut source,
         &mut sink,
         &mut devices,
+        host,
     );
     tell(rt, alloc, &sink, &devices, status)
 }
 
-/// Runs the program with a host that has no connection, a clock that tells 0, a waiter that closes at once, and a spawner that starts
+/// Runs the program with a host that has no connection and may not be able to listen, a clock that tells 0, a waiter that closes at once, and a spawner that starts
 /// every task.
 fn alone<R: Abort + Threads + Wait + Sync>(
     rt: &R,
@@ -101,6 +108,7 @@ fn alone<R: Abort + Threads + Wait + Sync>(
     source: &mut BytesSource,
     sink: &mut BytesSink,
     devices: &mut Vec<SimActuators>,
+    host_fails: u64,
 ) -> Status {
     let mut clock = ListClock::new(alloc, Items::new(alloc), Items::new(alloc)).expect(
         rt, "memory",
@@ -108,7 +116,7 @@ fn alone<R: Abort + Threads + Wait + Sync>(
     let mut host: ListHost<BytesSource, BytesSink> = ListHost::new(
         alloc,
         Items::new(alloc),
-        Items::new(alloc),
+        call(rt, alloc, host_fails),
     ).expect(rt, "memory");
     let mut waiter = TurnWaiter::new(alloc, 0).expect(rt, "memory");
     let mut spawner: ListSpawner<R> = ListSpawner::new(alloc, Items::new(alloc)).expect(
@@ -141,19 +149,15 @@ fn words_of(rt: &impl Abort, alloc: Global, text: &str) -> Vec<String> {
     words
 }
 
-/// The file `site.toml` alone, with this text.
-fn one_file(rt: &impl Abort, alloc: Global, text: &str, fails: u64) -> MemoryFiles {
-    let files = shelf(rt, alloc, text);
-    MemoryFiles::new(alloc, files, call(rt, alloc, fails)).expect(rt, "memory")
-}
-
-fn shelf(rt: &impl Abort, alloc: Global, text: &str) -> Items<(Items<u8>, Items<u8>)>
+/// The files `site.toml` and `plan.toml`, with these texts.
+fn shelf(rt: &impl Abort, alloc: Global, site: &str, plan: &str) -> Items<(Items<u8>, Items<u8>)>
     ensures { IsTrue (have_distinct_names result) }
 {
-    let name = bytes(rt, alloc, "site.toml");
-    let text = bytes(rt, alloc, text);
     let mut files = Vec::new(alloc);
-    files.push((name, text)).expect(rt, "memory");
+    let site = (bytes(rt, alloc, "site.toml"), bytes(rt, alloc, site));
+    files.push(site).expect(rt, "memory");
+    let plan = (bytes(rt, alloc, "plan.toml"), bytes(rt, alloc, plan));
+    files.push(plan).expect(rt, "memory");
     Items::from_vec(files)
 }
 
@@ -172,7 +176,9 @@ fn sixteen_devices(rt: &impl Abort, alloc: Global, fails: u64) -> Vec<SimActuato
     devices
 }
 
-fn bytes(rt: &impl Abort, alloc: Global, text: &str) -> Items<u8> {
+fn bytes(rt: &impl Abort, alloc: Global, text: &str) -> Items<u8>
+    ensures { result ≡ text.now }
+{
     Items::from_vec(text.as_bytes().to_vec(alloc).expect(rt, "memory"))
 }
 

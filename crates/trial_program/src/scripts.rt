@@ -66,6 +66,7 @@ fn expect_script<R: Abort + Threads + Wait + Sync>(
     let given = Given {
         words: SCRIPT_WORDS,
         file: batch.file,
+        plan: "",
         input: parts.asked.as_str(),
         fails: Fails {
             device: batch.fails,

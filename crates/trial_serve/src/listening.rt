@@ -5,7 +5,7 @@ ghost use Rattle.std.specs.Prelude.{[]};
 use boss_adapters::{RealHost, RealSink, RealSource};
 use boss_model::{NoMemory, SessionId};
 use boss_outside::Failed;
-use boss_outside_server::{Accepted, Host};
+use boss_outside_server::{Accepted, Announcement, Host};
 use std::alloc::Global;
 use std::io::Eprint;
 use std::net::{Net, TcpListener, TcpStream};
@@ -38,6 +38,10 @@ impl<R: Net<Listener = TcpListener, Stream = TcpStream> + Eprint + Copy + Drop> 
 
     fn bind(&mut self, _address: &str) -> Result<(), Failed> {
         Ok(())
+    }
+
+    fn announce(&mut self, announcement: Announcement) {
+        self.host.announce(announcement);
     }
 
     fn split(&mut self, alloc: Global, connections: u32) -> Result<Self, NoMemory> {

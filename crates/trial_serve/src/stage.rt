@@ -100,10 +100,12 @@ fn serve<R: Threads + Wait + Sync>(
 ) -> Status
     requires { ⟦<ListHost<BytesSource, BytesSink> as Host>⟧.sound host.old }
 {
+    let plan = None;
     let service = Service {
         address: "here",
         workers: workers(setting),
         connections: count(setting.workers),
+        plan: &plan,
     };
     let surroundings = Surroundings {
         sink: &mut stage.sink,

@@ -74,10 +74,12 @@ where
 {
     let mut sink = BytesSink::new(alloc, Items::new(alloc))?;
     let mut clock = list_clock(alloc, &[1_000], 0)?;
+    let plan = None;
     let service = Service {
         address: "here",
         workers,
         connections,
+        plan: &plan,
     };
     let status = serve(rt, alloc, catalogue, service, host, &mut sink, &mut clock)?;
     tell_end(text, sink.taken(), status.0)

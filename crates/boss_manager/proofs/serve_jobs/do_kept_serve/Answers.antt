@@ -1,47 +1,51 @@
-use Rattle.std.proofs.Common.{◌≡◌, [], Some, Ok, List, ℕ, inl, inr, refl, sym, subst, ◌∙◌, append-nil, vec_len, rules}
+use Rattle.std.proofs.Common.{[], ◌∷◌, inl, inr, refl, ◌∙◌, vec_len}
+use Rattle.boss_files.specs.Names.{second_name}
 use Rattle.boss_manager.specs.Journals.{in_files}
-use Rattle.boss_manager.specs.Programs.{usable}
+use Rattle.boss_manager.specs.Preparing.{listed}
 use Rattle.boss_manager.specs.ServeJobs.{all_at_start}
-use Rattle.boss_manager.proofs.KeptLemmas.{more-asked, one-asked}
 use Rattle.boss_manager.proofs.Lifting.{later-follow}
+use Rattle.boss_manager.proofs.PreparingLemmas.{all-then-front, front-of-more}
 use Rattle.boss_manager.proofs.ServeLemmas.{does-serve}
-use Rattle.boss_manager.proofs.ServeLifting.{serves-so}
+use Rattle.boss_manager.proofs.ServeLifting.{over-first-sink, serves-so}
 use Rattle.boss_manager.proofs.serve_jobs.do_kept_serve.Goals as goal
-
-pub returns-in-Ok-clause-serves : goal.returns-in-Ok-clause-serves
-returns-in-Ok-clause-serves g c =
-    let f = g.F.Files in
-    let journal = c.args.journal.now in
-    let count : c.len.result ≡ vec_len c.args.world.devices.now = search rules in
-    let loads : f.tells → (file : List ℕ) × (f.holds c.args.world.files.now c.args.name.now ≡ Some file) × (usable (vec_len c.args.world.devices.now) file ≡ Ok c.in-Ok.catalogue) =
-    subst (λ n. f.tells → (file : List ℕ) × (f.holds c.args.world.files.now c.args.name.now ≡ Some file) × (usable n file ≡ Ok c.in-Ok.catalogue)) count c.in-Ok.ensures.loads in
-    does-serve f g.S.Source g.K.Sink g.A.Actuators g.H.Host g.H.In.Source g.H.Out.Sink g.C.Clock g.W.Waiter g.P.Spawner
-    c.args.name.now (vec_len c.args.world.devices.now) c.args.service.workers c.args.service.connections
-    (all_at_start c.args.world)
-    _ c.serve_in_files.result.0 journal
-    (inr (record {
-      catalogue = c.in-Ok.catalogue;
-      spells = loads;
-      serves = serves-so g.K.Sink g.A.Actuators g.H.Host g.H.In.Source g.H.Out.Sink g.C.Clock g.W.Waiter g.P.Spawner c.in-Ok.catalogue c.args.service.workers c.args.service.connections _ _ _
-          (in_files f journal c.args.world.files.now) (in_files f journal c.serve_in_files.new.files) (in_files f journal c.load.new.files) (in_files f journal c.serve_in_files.new.files)
-          (later-follow f journal c.args.world.files.now c.load.new.files c.serve_in_files.new.files c.in-Ok.ensures.stays c.in-Ok.ensures.cause) c.serve_in_files.ensures.serves;
-    }))
-    refl
-    (λ tells. more-asked c.args.name.now _ (f.asked c.args.world.files.now) (f.asked c.load.new.files) (f.asked c.serve_in_files.new.files) (c.in-Ok.ensures.asks tells) (c.serve_in_files.ensures.asks tells))
-    (λ tells file first second. c.serve_in_files.ensures.others tells file first second ∙ c.in-Ok.ensures.stays tells file)
 
 pub returns-clause-serves : goal.returns-clause-serves
 returns-clause-serves g c =
     let f = g.F.Files in
-    let ends = rw c.in-Err-NoMemory.field-0-is at c.in-Err-NoMemory.ensures in
+    let given = c.args.world in
+    let journal = c.args.journal.now in
+    let ready = c.in-Ok.ensures.prepares in
     does-serve f g.S.Source g.K.Sink g.A.Actuators g.H.Host g.H.In.Source g.H.Out.Sink g.C.Clock g.W.Waiter g.P.Spawner
-    c.args.name.now (vec_len c.args.world.devices.now) c.args.service.workers c.args.service.connections
-    (all_at_start c.args.world)
-    _ 8 c.args.journal.now
-    (inl (inl (record { why = inr (refl, ends.cause); source = refl; sink = refl; devices = refl }), record { clock = refl; host = refl; waiter = refl; spawner = refl }))
+    c.args.name.now c.args.service.plan.now (vec_len given.devices.now) c.args.service.workers c.args.service.connections
+    (all_at_start given)
+    _ c.serve_in_files.result.0 journal
+    (inr (record {
+      catalogue = c.in-Ok.catalogue;
+      comes = ready.comes;
+      devices = c.prepare.new.devices.items;
+      set = ready.set;
+      serves = serves-so g.K.Sink g.A.Actuators g.H.Host g.H.In.Source g.H.Out.Sink g.C.Clock g.W.Waiter g.P.Spawner c.in-Ok.catalogue c.args.service.workers c.args.service.connections _ _ _
+          (in_files f journal given.files.now) (in_files f journal c.serve_in_files.new.files) (in_files f journal c.prepare.new.files) (in_files f journal c.serve_in_files.new.files)
+          (later-follow f journal given.files.now c.prepare.new.files c.serve_in_files.new.files c.in-Ok.ensures.stays ready.files)
+          (over-first-sink g.K.Sink g.A.Actuators g.H.Host g.H.In.Source g.H.Out.Sink g.C.Clock g.W.Waiter g.P.Spawner c.in-Ok.catalogue c.args.service.workers c.args.service.connections
+          c.prepare.new.devices.items given.clock.now given.host.now given.waiter.now given.spawner.now given.sink.now c.prepare.new.sink ready.sink _ c.serve_in_files.result.0 _ _
+          c.serve_in_files.ensures.serves);
+    }))
     refl
-    (λ tells. elim (ends.asks tells) [
-      | inl none ↦ ([], (_, refl), none ∙ sym (append-nil (f.asked c.args.world.files.now)))
-      | inr noted ↦ one-asked c.args.name.now _ _ _ noted
-    ])
-    (λ tells file first second. ends.stays tells file)
+    (λ tells. all-then-front (c.args.name.now ∷ listed c.args.service.plan.now) (journal ∷ second_name journal ∷ []) (f.asked given.files.now) (f.asked c.prepare.new.files)
+    (f.asked c.serve_in_files.new.files) (c.in-Ok.ensures.asks tells) (c.serve_in_files.ensures.asks tells))
+    (λ tells file first second. c.serve_in_files.ensures.others tells file first second ∙ c.in-Ok.ensures.stays tells file)
+
+pub returns-in-Err-clause-serves : goal.returns-in-Err-clause-serves
+returns-in-Err-clause-serves g c =
+    let f = g.F.Files in
+    let given = c.args.world in
+    let journal = c.args.journal.now in
+    does-serve f g.S.Source g.K.Sink g.A.Actuators g.H.Host g.H.In.Source g.H.Out.Sink g.C.Clock g.W.Waiter g.P.Spawner
+    c.args.name.now c.args.service.plan.now (vec_len given.devices.now) c.args.service.workers c.args.service.connections
+    (all_at_start given)
+    _ c.in-Err.status.0 journal
+    (inl (c.in-Err.ensures.prepares, record { clock = refl; host = refl; waiter = refl; spawner = refl }))
+    refl
+    (λ tells. front-of-more (c.args.name.now ∷ listed c.args.service.plan.now) (journal ∷ second_name journal ∷ []) _ _ (c.in-Err.ensures.asks tells))
+    (λ tells file first second. c.in-Err.ensures.stays tells file)

@@ -1,4 +1,4 @@
-use Rattle.std.proofs.Common.{◌≡◌, inl, inr, Err, ap, [], ◌∷◌, refl, sym, subst, ◌∙◌, append-nil}
+use Rattle.std.proofs.Common.{◌≡◌, inl, inr, Err, ap, [], ◌∷◌, refl, subst, ◌∙◌}
 use Rattle.boss_files.specs.Names.{second_name}
 use Rattle.boss_manager.specs.Journals.{AsksFront, in_files, on_disks}
 use Rattle.boss_manager.proofs.KeptLemmas.{front-asked, none-asked}

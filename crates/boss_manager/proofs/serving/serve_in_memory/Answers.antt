@@ -1,4 +1,4 @@
-use Rattle.std.proofs.Common.{◌≡◌, ◌⊎◌, inr, ℕ, List, [], length, min}
+use Rattle.std.proofs.Common.{◌≡◌, inr, List, [], length, min}
 use Rattle.boss_model.specs.declared.event.Event.{Event}
 use Rattle.boss_model.specs.Limits.{last_number}
 use Rattle.boss_manager.proofs.ServedLemmas.{served-memory}

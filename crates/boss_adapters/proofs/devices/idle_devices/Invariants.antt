@@ -1,6 +1,0 @@
-use Rattle.std.proofs.Common.{◌≡◌, vec_len}
-use Rattle.boss_adapters.proofs.devices.idle_devices.Given as goal
-
--- so many devices so far
-abbrev pub invariant-loop : goal.invariant-loop
-invariant-loop l = vec_len l.devices ≡ l.counter

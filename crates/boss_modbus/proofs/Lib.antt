@@ -1,0 +1,5 @@
+pub mod Fronts
+pub mod Judging
+pub mod Words
+pub mod Carrying
+mod Rows

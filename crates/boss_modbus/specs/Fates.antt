@@ -1,0 +1,77 @@
+-- How a write fares, by the bytes that were received in it.
+use Rattle.std.specs.Prelude.{◌≡◌, ◌≢◌, ℕ, ◌+◌, ◌<◌, ◌≤◌, Bool, true, false, if◌then◌else◌, List, [], length, take, bytes_eq, slice_get, unwrap_or, Result, Ok, Err}
+use Rattle.boss_outside.specs.Counts.{Rose}
+use Rattle.boss_outside.specs.declared.source.Got.{Got}
+use Rattle.boss_outside.specs.declared.source.Got.TheVariants as got
+use Rattle.boss_modbus.specs.declared.asked.Asked.{Asked}
+use Rattle.boss_modbus.specs.declared.fate.Fate.{Fate}
+use Rattle.boss_modbus.specs.declared.fate.Fate.TheVariants.{None, Echo, Exception, Wrong, Ended, LinkFault, NoPlace}
+use Rattle.boss_modbus.specs.declared.response.Filled.{Filled}
+use Rattle.boss_modbus.specs.declared.response.Filled.TheVariants.{Whole, Finished, Failed}
+use Rattle.boss_modbus.specs.Frames.{frame, exception, response_length}
+
+-- what each end says of the bytes that were received, and of those that are left. No two ends fit the same bytes, but for Ended and LinkFault, which the count of the link parts.
+abbrev pub Fared : ℕ → Asked → List ℕ → List ℕ → Fate → Type 0
+Fared number asked response left Echo = response ≡ frame number asked
+Fared number asked response left (Exception code) = response ≡ exception number asked code
+Fared number asked response left Wrong =
+    (length response ≡ response_length number (take 6 response))
+    × (response ≢ frame number asked)
+    × ((code : ℕ) → response ≢ exception number asked code)
+Fared number asked response left Ended = (length response < response_length number (take 6 response)) × (left ≡ [])
+Fared number asked response left LinkFault = length response < response_length number (take 6 response)
+Fared number asked response left None = ⊥
+Fared number asked response left NoPlace = ⊥
+
+-- a response of nine bytes, by its last one
+abbrev pub refused : ℕ → Asked → List ℕ → ℕ → Fate
+refused number asked response code = if bytes_eq response (exception number asked code) then Exception code else Wrong
+
+-- a response that came whole
+abbrev pub judged : ℕ → Asked → List ℕ → Fate
+judged number asked response =
+    if bytes_eq response (frame number asked) then Echo else refused number asked response (unwrap_or (slice_get response 8) 0)
+
+-- how far a response came: whole, or its source came to an end or failed before
+abbrev pub Came : ℕ → List ℕ → Filled → Type 0
+Came number response Whole = length response ≡ response_length number (take 6 response)
+Came number response Finished = length response < response_length number (take 6 response)
+Came number response Failed = length response < response_length number (take 6 response)
+
+-- how many of the bytes that are wanted are there
+abbrev pub Fills : ℕ → ℕ → Filled → Type 0
+Fills wanted count Whole = count ≡ wanted
+Fills wanted count Finished = count < wanted
+Fills wanted count Failed = count < wanted
+
+-- a receive adds its bytes, one at least, or none
+abbrev pub Grows : ℕ → ℕ → Got → Type 0
+Grows before now (got.Bytes count) = (1 ≤ count) × (now ≡ before + count)
+Grows before now got.Finish = now ≡ before
+Grows before now got.Failed = now ≡ before
+
+-- the count of a link rose exactly where it failed
+abbrev pub FillCause : ℕ → ℕ → Filled → Type 0
+FillCause before now Whole = now ≡ before
+FillCause before now Finished = now ≡ before
+FillCause before now Failed = Rose before now
+
+-- the count of a link rose exactly where the write came to a fault of it
+pub record FateCause (before now : ℕ) (end : Fate) : Type 0 where
+  pub failed : end ≡ LinkFault → Rose before now
+  pub fine : end ≢ LinkFault → now ≡ before
+
+-- whether the connection is kept for the next write
+abbrev pub goes_on : Fate → Bool
+goes_on Echo = true
+goes_on (Exception _) = true
+goes_on Wrong = false
+goes_on Ended = false
+goes_on LinkFault = false
+goes_on None = false
+goes_on NoPlace = false
+
+-- a write is answered Ok exactly where its echo came
+abbrev pub Answers : {T E : Type 0} → Fate → Result T E → Type 0
+Answers end (Ok _) = end ≡ Echo
+Answers end (Err _) = end ≢ Echo

@@ -1,0 +1,31 @@
+ghost use Rattle.std.specs.Prelude.{◌≡◌};
+ghost use Rattle.boss_modbus.specs.Fates.{goes_on};
+
+/// What came of a device's last write.
+#[derive(Clone, Copy, Debug, PartialEq, Eq)]
+pub enum Fate {
+    /// There was no write yet.
+    None,
+    /// The device answered with the frame itself: it took the value.
+    Echo,
+    /// The device refused, with this code (MODBUS Application Protocol 1.1b3, section 7).
+    Exception { code: u8 },
+    /// What was received is no response to this write.
+    Wrong,
+    /// The connection ended before a whole response.
+    Ended,
+    /// The host could not be reached, or the link failed before a whole response.
+    LinkFault,
+    /// The point has no place in the device, or the value no word there. Nothing was sent.
+    NoPlace,
+}
+
+/// Whether the connection is kept for the next write.
+pub(crate) fn goes_on(fate: Fate) -> bool
+    ensures { result ≡ goes_on fate }
+{
+    match fate {
+        Fate::Echo | Fate::Exception { .. } => true,
+        Fate::None | Fate::Wrong | Fate::Ended | Fate::LinkFault | Fate::NoPlace => false,
+    }
+}

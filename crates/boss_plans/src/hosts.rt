@@ -1,0 +1,81 @@
+ghost use Rattle.std.specs.Prelude.{◌≡◌, ◌<◌, [], length, IfErr};
+ghost use Rattle.std.specs.List.{position_from};
+ghost use Rattle.std.specs.Str.{bytes_eq};
+ghost use Rattle.toml.specs.View.{view};
+ghost use Rattle.boss_points.specs.Seen.{views};
+ghost use Rattle.boss_plans.specs.Places.{is_named, planned_in, is_planned};
+ghost use Rattle.boss_plans.specs.Plans.{Gives, IsKnown, hosts_from};
+
+use crate::PlanRefusal;
+use crate::keys::{host_of, text_at};
+use boss_model::{DriverId, Items};
+use boss_points::Catalogue;
+use std::alloc::Global;
+use toml::Value;
+
+/// A driver of the plan, and the host that it is reached at.
+#[derive(Debug, Drop)]
+pub struct Host {
+    pub driver: DriverId,
+    pub host: Items<u8>,
+}
+
+/// The drivers of these tables, which are all different.
+pub(crate) fn hosts_of(
+    alloc: Global,
+    catalogue: &Catalogue,
+    tables: &[Value],
+) -> Result<Vec<Host>, PlanRefusal>
+    ensures hosts { Gives (λ hosts. hosts.items) result (hosts_from catalogue.now 0 [] (views tables.now)) }
+    ensures known { IfErr result (IsKnown catalogue.now) }
+{
+    let mut hosts = Vec::with_capacity(alloc, tables.len())?;
+    for (at, table) in tables.iter().enumerate() {
+        let place = at as u64;
+        let refusal = PlanRefusal::BadDriver { place };
+        let driver = planned_in(catalogue, &hosts, table).ok_or(refusal)?;
+        let host = host_of(table).ok_or(refusal)?;
+        let host = Items::from_vec(host.as_bytes().to_vec(alloc)?);
+        hosts.push(Host { driver, host })?;
+    }
+    Ok(hosts)
+}
+
+/// The driver that a table names, where no earlier one named it.
+fn planned_in(catalogue: &Catalogue, earlier: &[Host], table: &Value) -> Option<DriverId>
+    ensures { result ≡ planned_in catalogue.now earlier.now (view table.now) }
+{
+    let name = text_at(table, "name")?;
+    let driver = driver_named(catalogue, name.as_bytes())?;
+    if is_planned(earlier, driver) {
+        return None;
+    }
+    Some(driver)
+}
+
+/// The driver of this name.
+fn driver_named(catalogue: &Catalogue, name: &[u8]) -> Option<DriverId>
+    ensures { result ≡ position_from (λ other. bytes_eq other name.now) 0 catalogue.now.drivers }
+{
+    for place in 0..catalogue.drivers() {
+        if is_named(catalogue, DriverId(place), name) {
+            return Some(DriverId(place));
+        }
+    }
+    None
+}
+
+/// Whether the driver has this name.
+fn is_named(catalogue: &Catalogue, driver: DriverId, name: &[u8]) -> bool
+    requires { driver < length catalogue.now.drivers }
+    ensures { result ≡ is_named catalogue.now driver name.now }
+{
+    catalogue.driver_name(driver).bytes() == name
+}
+
+/// Whether the driver has a host among these.
+pub(crate) fn is_planned(hosts: &[Host], driver: DriverId) -> bool
+    ensures { result ≡ is_planned hosts.now driver }
+{
+    hosts.iter().any(|host| host.driver == driver)
+}

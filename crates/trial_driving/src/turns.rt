@@ -1,0 +1,213 @@
+//! A driver's turns over a Modbus device. The frames were worked out by hand from MODBUS Messaging on TCP/IP 1.0b, section 3.1.3, and
+//! MODBUS Application Protocol 1.1b3, sections 6.5 to 7.
+
+ghost use Rattle.std.specs.Prelude.{◌≡◌, ◌≤◌, IfOk, IsTrue};
+ghost use Rattle.std.specs.List.{AllByRecursion};
+ghost use Rattle.boss_drive.specs.Driving.{Driven};
+ghost use Rattle.boss_lock.specs.Places.{entries_at};
+ghost use Rattle.boss_model.specs.Limits.{last_moment};
+
+use boss_drive::drive;
+use boss_expiry::WorkEnd;
+use boss_modbus::ModbusDevice;
+use boss_model::{DriverId, DriverPlan, Items, NoMemory, Place, PointId, Where};
+use boss_outside::{Actuators, DeviceCall, Link, ListLink, Noted};
+use boss_outside_server::{Clock, ListClock, TurnWaiter, Waiter};
+use boss_points::Catalogue;
+use boss_shared::Desk;
+use std::alloc::Global;
+use std::process::Abort;
+use std::sync::Wait;
+use std::test::Fail;
+use trial_keeper::{Trial, run_trial};
+use trial_parts::THREE_POINTS;
+
+const DAMPER: PointId = PointId(0);
+
+const LAMP: PointId = PointId(1);
+
+const FAN: PointId = PointId(2);
+
+/// The damper in register 2, which counts units and not thousandths of them, the lamp in coil 19 and the fan in register 3, all of unit 1.
+const PLACES: [Place; 3] = [
+    Place {
+        point: DAMPER,
+        unit: 1,
+        at: Where::Register {
+            address: 2,
+            per: 1_000,
+        },
+    },
+    Place {
+        point: LAMP,
+        unit: 1,
+        at: Where::Coil { address: 19 },
+    },
+    Place {
+        point: FAN,
+        unit: 1,
+        at: Where::Register { address: 3, per: 1 },
+    },
+];
+
+/// What the host is sent at the opening: the damper at 20, the lamp off, the fan at 1.
+const SENT: [u8; 36] = [
+    0, 1, 0, 0, 0, 6, 1, 6, 0, 2, 0, 20, 0, 2, 0, 0, 0, 6, 1, 5, 0, 19, 0, 0, 0, 3, 0, 0, 0, 6, 1,
+    6, 0, 3, 0, 1,
+];
+
+/// The host answers the first two with their echoes, and refuses the third: it has no such address.
+const REFUSED: [u8; 33] = [
+    0, 1, 0, 0, 0, 6, 1, 6, 0, 2, 0, 20, 0, 2, 0, 0, 0, 6, 1, 5, 0, 19, 0, 0, 0, 3, 0, 0, 0, 3, 1,
+    0x86, 2,
+];
+
+/// A worker over a Modbus device, whose calls are noted.
+#[derive(Drop)]
+struct Worker {
+    devices: Noted<ModbusDevice<ListLink>>,
+    clock: ListClock,
+    waiter: TurnWaiter,
+}
+
+/// Takes turns. All that is promised of a driver's turns holds of the calls that were made of the Modbus device, whatever its link is.
+fn take<G: Desk, L: Link>(
+    desk: &G,
+    pass: &mut G::Pass,
+    devices: &mut Noted<ModbusDevice<L>>,
+    clock: &mut ListClock,
+    waiter: &mut TurnWaiter,
+    turns: u64,
+) -> WorkEnd
+    requires own { G.owns desk.now pass.old }
+    ensures own { G.owns desk.now pass.new }
+    ensures parts { G.parts pass.new ≡ G.parts pass.old }
+    ensures driven { Driven 0 (Unit {0}) (Unit {0})
+        (record {
+          own = entries_at (G.seen pass.old) (G.mine pass.old);
+          given = ⟦<ListClock as Clock>⟧.given clock.old;
+          whole = IsTrue devices.old.whole;
+          calls = devices.old.calls.items;
+        })
+        (record {
+          own = entries_at (G.seen pass.new) (G.mine pass.new);
+          given = ⟦<ListClock as Clock>⟧.given clock.new;
+          whole = IsTrue devices.new.whole;
+          calls = devices.new.calls.items;
+        })
+        ⟦<TurnWaiter as Waiter>⟧.tells (⟦<TurnWaiter as Waiter>⟧.pauses waiter.old) (⟦<TurnWaiter as Waiter>⟧.pauses waiter.new) turns result }
+{
+    drive(desk, pass, DriverId(0), devices, clock, waiter, turns)
+}
+
+impl Trial for Worker {
+    type Told = WorkEnd;
+
+    /// A turn for each of the three points, and one without a want.
+    fn run<G: Desk>(&mut self, _catalogue: &Catalogue, desk: &G, pass: &mut G::Pass) -> WorkEnd {
+        take(
+            desk,
+            pass,
+            &mut self.devices,
+            &mut self.clock,
+            &mut self.waiter,
+            4,
+        )
+    }
+}
+
+fn moments(alloc: Global) -> Result<Items<u64>, NoMemory>
+    ensures { IfOk result (λ moments. AllByRecursion (λ moment. moment ≤ last_moment) moments) }
+{
+    let mut moments = Items::new(alloc);
+    moments.try_push(0)?;
+    Ok(moments)
+}
+
+fn clock(alloc: Global) -> Result<ListClock, NoMemory> {
+    let moments = moments(alloc)?;
+    ListClock::new(alloc, moments, Items::new(alloc))
+}
+
+/// A device whose host answers with these bytes.
+fn devices(alloc: Global, responses: &[u8]) -> Result<Noted<ModbusDevice<ListLink>>, NoMemory> {
+    let mut contents = Items::new(alloc);
+    contents.try_push(Items::from_vec(responses.to_vec(alloc)?))?;
+    let link = ListLink::new(alloc, contents, 12, Items::new(alloc))?;
+    let mut device = ModbusDevice::new(link);
+    device.assign(part(alloc)?);
+    Ok(Noted::new(alloc, device))
+}
+
+fn part(alloc: Global) -> Result<DriverPlan, NoMemory> {
+    Ok(DriverPlan {
+        host: Items::from_vec(b"127.0.0.1:1502".to_vec(alloc)?),
+        places: Items::from_vec(PLACES.to_vec(alloc)?),
+    })
+}
+
+fn make(alloc: Global, responses: &[u8]) -> Result<Worker, NoMemory> {
+    let clock = clock(alloc)?;
+    let waiter = TurnWaiter::new(alloc, 8)?;
+    match devices(alloc, responses) {
+        Ok(devices) => Ok(Worker {
+            devices,
+            clock,
+            waiter,
+        }),
+        Err(none) => Err(none),
+    }
+}
+
+/// Drives over a machine of its own.
+fn drive_all<R: Wait + Sync>(
+    rt: &R,
+    alloc: Global,
+    catalogue: &Catalogue,
+    driving: &mut Worker,
+) -> Result<WorkEnd, NoMemory> {
+    match run_trial(rt, alloc, catalogue, u64::MAX, u64::MAX, driving) {
+        Ok((end, _)) => Ok(end),
+        Err(none) => Err(none),
+    }
+}
+
+/// Drives the three points at the opening, of which the fan may be refused.
+fn check<R: Abort + Wait + Sync>(
+    rt: &R,
+    alloc: Global,
+    catalogue: &Catalogue,
+    responses: &[u8],
+    is_fan_taken: bool,
+) {
+    let mut driving = make(alloc, responses).expect(rt, "memory");
+    let end = drive_all(rt, alloc, catalogue, &mut driving).expect(rt, "memory");
+    let expected = [
+        DeviceCall {
+            point: DAMPER,
+            value: 20_000,
+            ok: true,
+        },
+        DeviceCall {
+            point: LAMP,
+            value: 0,
+            ok: true,
+        },
+        DeviceCall {
+            point: FAN,
+            value: 1,
+            ok: is_fan_taken,
+        },
+    ];
+    assert!(rt; end == WorkEnd::Finished);
+    assert_eq!(rt; driving.devices.calls(), expected.as_slice());
+    assert_eq!(rt; driving.devices.devices().link().sent(), SENT.as_slice());
+}
+
+#[test]
+fn a_modbus_device_is_driven(rt: HostRuntime) -> Result<(), Fail> {
+    let catalogue = Catalogue::read(rt.alloc(), THREE_POINTS.as_bytes())?;
+    check(&rt, rt.alloc(), &catalogue, &SENT, true);
+    check(&rt, rt.alloc(), &catalogue, &REFUSED, false);
+    Ok(())
+}

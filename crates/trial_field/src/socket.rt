@@ -1,0 +1,66 @@
+//! Devices over a socket of this machine. Their host is a stub in a second thread.
+
+use crate::plant::{LAMP, part};
+use boss_field::{FieldDevices, RealLink};
+use boss_modbus::{Fate, ModbusDevice};
+use boss_outside::Actuators;
+use std::alloc::Global;
+use std::io::{self, Read, Write};
+use std::net::{Net, TcpListener, TcpStream};
+use std::test::Fail;
+use std::thread::{self, Threads};
+
+/// Takes a connection, sends back the frame that it reads, and ends the connection.
+fn echo_once(listener: &TcpListener) -> io::Result<()> {
+    let (mut stream, _) = listener.accept()?;
+    let mut frame = [0; 12];
+    stream.read_exact(&mut frame)?;
+    stream.write_all(&frame)
+}
+
+/// Whether the lamp was turned on while the stub echoed one frame.
+fn turn_on<R: Threads, A: Actuators>(rt: &R, listener: &TcpListener, devices: &mut A) -> bool {
+    let (echoed, answer) = thread::join(
+        rt,
+        move || echo_once(listener),
+        move || devices.write(LAMP, 1),
+    );
+    echoed.is_ok() && answer.is_ok()
+}
+
+/// Assigns the devices their points at this listener.
+fn assign_to<A: Actuators>(
+    alloc: Global,
+    listener: &TcpListener,
+    devices: &mut A,
+) -> Result<(), Fail> {
+    let host = format!(in alloc; "{}", listener.local_addr()?)?;
+    devices.assign(part(alloc, host.as_bytes())?);
+    Ok(())
+}
+
+#[test]
+fn a_device_on_a_socket_takes_writes(rt: HostRuntime) -> Result<(), Fail> {
+    let listener = TcpListener::bind(&rt, "127.0.0.1:0")?;
+    let mut device = ModbusDevice::new(RealLink::new(&rt));
+    assign_to(rt.alloc(), &listener, &mut device)?;
+    assert!(&rt; turn_on(&rt, &listener, &mut device));
+    assert_eq!(rt; device.fate(), Fate::Echo);
+    // The stub has ended that connection by now. The second write is made by a new one.
+    assert!(&rt; turn_on(&rt, &listener, &mut device));
+    assert_eq!(rt; device.fate(), Fate::Echo);
+    Ok(())
+}
+
+#[test]
+fn devices_are_simulated_until_they_are_assigned(rt: HostRuntime) -> Result<(), Fail> {
+    let listener = TcpListener::bind(&rt, "127.0.0.1:0")?;
+    let mut devices = FieldDevices::new(rt.alloc(), &rt);
+    assert!(&rt; devices.write(LAMP, 1).is_ok());
+    assign_to(rt.alloc(), &listener, &mut devices)?;
+    assert!(&rt; turn_on(&rt, &listener, &mut devices));
+    // Nothing listens there any more.
+    drop(listener);
+    assert!(&rt; devices.write(LAMP, 1).is_err());
+    Ok(())
+}
