@@ -21,12 +21,12 @@ made_of entries moments calls = record { entries = entries; moments = moments; c
 same_made : (e e' : List Entry) (m m' : List ℕ) (c c' : List DeviceCall) → e ≡ e' → m ≡ m' → c ≡ c' → made_of e m c ≡ made_of e' m' c'
 same_made e e' m m' c c' es ms cs = ap (λ x. made_of x m c) es ∙ ap (λ x. made_of e' x c) ms ∙ ap (λ x. made_of e' m' x) cs
 
-both_assoc : (a b c : Made) → both (both a b) c ≡ both a (both b c)
+pub both_assoc : (a b c : Made) → both (both a b) c ≡ both a (both b c)
 both_assoc a b c = same_made ((a.entries ++ b.entries) ++ c.entries) (a.entries ++ (b.entries ++ c.entries)) ((a.moments ++ b.moments) ++ c.moments)
     (a.moments ++ (b.moments ++ c.moments)) ((a.calls ++ b.calls) ++ c.calls) (a.calls ++ (b.calls ++ c.calls))
     (append_assoc a.entries b.entries c.entries) (append_assoc a.moments b.moments c.moments) (append_assoc a.calls b.calls c.calls)
 
-both_none : (a : Made) → both a none_made ≡ a
+pub both_none : (a : Made) → both a none_made ≡ a
 both_none a = same_made (a.entries ++ []) a.entries (a.moments ++ []) a.moments (a.calls ++ []) a.calls (append-nil a.entries) (append-nil a.moments) (append-nil a.calls)
 
 made_more : (driver : ℕ) (turns : List Turn) (turn : Turn) → made_by driver (turns ++ turn ∷ []) none_made ≡ both (made_by driver turns none_made) (made_in driver turn)

@@ -27,10 +27,10 @@ use Rattle.boss_drive.specs.Driving.{Write, Turn, idle, served, Cut, nothing, at
 
 -- ---- the entries of a pass were legal where they were made
 
-WasLegal : List Actuator → Entry → Type 0
+unfoldable pub WasLegal : List Actuator → Entry → Type 0
 WasLegal plant entry = (at : State) × IsEntryAt plant at entry
 
-all-legal : (plant : List Actuator) (entries : List Entry) (s : State) → IsLegal plant entries s → AllByRecursion (WasLegal plant) entries
+pub all-legal : (plant : List Actuator) (entries : List Entry) (s : State) → IsLegal plant entries s → AllByRecursion (WasLegal plant) entries
 unfolding WasLegal
 all-legal plant [] s legal = tt
 all-legal plant (entry ∷ entries) s legal = ((s, legal.0), all-legal plant entries (after_entry plant entry s) legal.2)
@@ -40,7 +40,7 @@ at-place P [] place all = tt
 at-place P (entry ∷ entries) zero all = (all.0, tt)
 at-place P (entry ∷ entries) (suc place) all = at-place P entries place all.1
 
-at-places : (P : Entry → Type 0) (entries : List Entry) (places : List ℕ) → AllByRecursion P entries → AllByRecursion P (entries_at entries places)
+pub at-places : (P : Entry → Type 0) (entries : List Entry) (places : List ℕ) → AllByRecursion P entries → AllByRecursion P (entries_at entries places)
 at-places P entries [] all = tt
 at-places P entries (place ∷ places) all = each-append P (entry_at entries place) (entries_at entries places) (at-place P entries place all) (at-places P entries places all)
 

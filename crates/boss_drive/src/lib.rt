@@ -9,3 +9,4 @@ mod want;
 
 pub use adding::a_drive_adds_to_its_lane;
 pub use driving::drive;
+pub use want::{Want, next};

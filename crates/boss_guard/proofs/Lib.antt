@@ -1,0 +1,9 @@
+pub mod Holding
+pub mod LaneOfGuards
+pub mod Places
+pub mod Sweeps
+pub mod Timing
+pub mod Trials
+pub mod Turned
+pub mod Turning
+pub mod Verdicts

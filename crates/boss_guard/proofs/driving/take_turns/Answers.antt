@@ -1,0 +1,84 @@
+use Rattle.std.proofs.Common.{◌+◌, refl, ap, subst, arith, ◌∙◌}
+use Rattle.boss_lock.specs.Places.{entries_at}
+use Rattle.boss_expiry.specs.declared.end.WorkEnd.TheVariants.{Closed}
+use Rattle.boss_drive.specs.Driving.{Stand}
+use Rattle.boss_drive.proofs.Gains.{less_at_cut, not_closed}
+use Rattle.boss_guard.specs.Trying.{TookTurn}
+use Rattle.boss_guard.proofs.Trials.{watch}
+use Rattle.boss_guard.proofs.Turned.{took_none, took_idle, took_written, ends_cut, ends_whole}
+use Rattle.boss_guard.proofs.driving.take_turns.Goals as goal
+use Rattle.boss_guard.proofs.driving.take_turns.Goals.{then-not-written+in-Close+else-number-turns, then-not-written+in_default, else-not-written}
+
+-- no turn yet
+pub loop-number-init : goal.loop-number-init
+loop-number-init g c = record {
+  own = c.requires.own;
+  parts = refl;
+  took = took_none c.args.driver c.args.guards.now g.C.Clock.tells g.A.Actuators.tells
+      (record { own = entries_at (g.G.Desk.seen c.args.pass.now) (g.G.Desk.mine c.args.pass.now); given = g.C.Clock.given c.args.clock.now; whole = g.A.Actuators.whole c.args.devices.now; calls = g.A.Actuators.calls c.args.devices.now })
+      g.W.Waiter.tells (g.W.Waiter.pauses c.args.waiter.now);
+  long = refl;
+  soon = omega arith;
+  clock = refl;
+  closes = λ _. refl;
+}
+
+-- the clock or the disk ended the work in this turn
+pub returns-in-Err-clause-turned : goal.returns-in-Err-clause-turned
+returns-in-Err-clause-turned g c =
+    let old : Stand = record { own = entries_at (g.G.Desk.seen c.args.pass.now) (g.G.Desk.mine c.args.pass.now); given = g.C.Clock.given c.args.clock.now; whole = g.A.Actuators.whole c.args.devices.now; calls = g.A.Actuators.calls c.args.devices.now } in
+    let mid : Stand = record { own = entries_at (g.G.Desk.seen c.loop-number.pass) (g.G.Desk.mine c.loop-number.pass); given = g.C.Clock.given c.loop-number.clock; whole = g.A.Actuators.whole c.loop-number.devices; calls = g.A.Actuators.calls c.loop-number.devices } in
+    let new : Stand = record { own = entries_at (g.G.Desk.seen c.turn.new.pass) (g.G.Desk.mine c.turn.new.pass); given = g.C.Clock.given c.turn.new.clock; whole = g.A.Actuators.whole c.turn.new.devices; calls = g.A.Actuators.calls c.turn.new.devices } in
+    let pauses = g.W.Waiter.pauses c.args.waiter.now in
+    let pauses' = g.W.Waiter.pauses c.loop-number.waiter in
+    let before = watch c.loop-number.now c.loop-number.guards in
+    ends_cut c.args.driver c.args.guards.now g.C.Clock.tells g.A.Actuators.tells old mid new g.W.Waiter.tells pauses pauses' pauses' c.loop-number.number before c.loop-number.invariant.took c.args.turns c.in-Err.end c.in-Err.ensures.cut
+    (less_at_cut (g.G.Desk.seen c.turn.new.pass) c.loop-number.number c.args.turns c.in-Err.end c.in-Err.ensures.disk_cause c.loop-number-test.true)
+
+-- the turns up to this pause were whole
+pub returns-then-number-turns-clause-turned : goal.returns-then-number-turns-clause-turned
+returns-then-number-turns-clause-turned g c =
+    let old : Stand = record { own = entries_at (g.G.Desk.seen c.args.pass.now) (g.G.Desk.mine c.args.pass.now); given = g.C.Clock.given c.args.clock.now; whole = g.A.Actuators.whole c.args.devices.now; calls = g.A.Actuators.calls c.args.devices.now } in
+    let mid : Stand = record { own = entries_at (g.G.Desk.seen c.loop-number.pass) (g.G.Desk.mine c.loop-number.pass); given = g.C.Clock.given c.loop-number.clock; whole = g.A.Actuators.whole c.loop-number.devices; calls = g.A.Actuators.calls c.loop-number.devices } in
+    let new : Stand = record { own = entries_at (g.G.Desk.seen c.turn.new.pass) (g.G.Desk.mine c.turn.new.pass); given = g.C.Clock.given c.turn.new.clock; whole = g.A.Actuators.whole c.turn.new.devices; calls = g.A.Actuators.calls c.turn.new.devices } in
+    let pauses = g.W.Waiter.pauses c.args.waiter.now in
+    let pauses' = g.W.Waiter.pauses c.loop-number.waiter in
+    let before = watch c.loop-number.now c.loop-number.guards in
+    let later = watch c.turn.new.now c.turn.new.guards in
+    let pauses'' = g.W.Waiter.pauses c.pause.new.self in
+    let turn = subst (λ written. TookTurn g.C.Clock.tells g.A.Actuators.tells mid new c.args.driver before later written) c.if-not-written.true c.in-Ok.ensures.taken in
+    let took = took_idle c.args.driver c.args.guards.now g.C.Clock.tells g.A.Actuators.tells old mid new g.W.Waiter.tells pauses pauses' pauses'' c.loop-number.number before c.loop-number.invariant.took later turn (λ tells. (c.pause.ensures.counted tells).0) in
+    ends_whole c.args.driver c.args.guards.now g.C.Clock.tells g.A.Actuators.tells old new g.W.Waiter.tells pauses pauses'' (c.loop-number.number + 1) c.args.turns later Closed took tt
+    (omega (arith, c.if-number-turns.true))
+
+-- one turn more was whole
+pub loop-number-preserved : goal.loop-number-preserved
+loop-number-preserved g c =
+    let old : Stand = record { own = entries_at (g.G.Desk.seen c.args.pass.now) (g.G.Desk.mine c.args.pass.now); given = g.C.Clock.given c.args.clock.now; whole = g.A.Actuators.whole c.args.devices.now; calls = g.A.Actuators.calls c.args.devices.now } in
+    let mid : Stand = record { own = entries_at (g.G.Desk.seen c.loop-number.pass) (g.G.Desk.mine c.loop-number.pass); given = g.C.Clock.given c.loop-number.clock; whole = g.A.Actuators.whole c.loop-number.devices; calls = g.A.Actuators.calls c.loop-number.devices } in
+    let new : Stand = record { own = entries_at (g.G.Desk.seen c.turn.new.pass) (g.G.Desk.mine c.turn.new.pass); given = g.C.Clock.given c.turn.new.clock; whole = g.A.Actuators.whole c.turn.new.devices; calls = g.A.Actuators.calls c.turn.new.devices } in
+    let pauses = g.W.Waiter.pauses c.args.waiter.now in
+    let pauses' = g.W.Waiter.pauses c.loop-number.waiter in
+    let before = watch c.loop-number.now c.loop-number.guards in
+    let later = watch c.turn.new.now c.turn.new.guards in
+    record {
+      own = c.turn.ensures.own;
+      parts = c.turn.ensures.parts ∙ c.loop-number.invariant.parts;
+      took = elim c.if-not-written.branch [
+        | then-not-written+in-Close+else-number-turns w ↦ took_idle c.args.driver c.args.guards.now g.C.Clock.tells g.A.Actuators.tells old mid new g.W.Waiter.tells pauses pauses' (g.W.Waiter.pauses c.if-not-written.waiter) c.loop-number.number before c.loop-number.invariant.took later (subst (λ written. TookTurn g.C.Clock.tells g.A.Actuators.tells mid new c.args.driver before later written) w.if-not-written.true c.in-Ok.ensures.taken)
+            (λ tells. ap g.W.Waiter.pauses w.waiter-is ∙ (w.pause.ensures.counted tells).0)
+        | then-not-written+in_default w ↦ took_idle c.args.driver c.args.guards.now g.C.Clock.tells g.A.Actuators.tells old mid new g.W.Waiter.tells pauses pauses' (g.W.Waiter.pauses c.if-not-written.waiter) c.loop-number.number before c.loop-number.invariant.took later (subst (λ written. TookTurn g.C.Clock.tells g.A.Actuators.tells mid new c.args.driver before later written) w.if-not-written.true c.in-Ok.ensures.taken)
+            (λ tells. ap g.W.Waiter.pauses w.waiter-is ∙ (w.pause.ensures.counted tells).0)
+        | else-not-written w ↦ took_written c.args.driver c.args.guards.now g.C.Clock.tells g.A.Actuators.tells old mid new g.W.Waiter.tells pauses pauses' (g.W.Waiter.pauses c.if-not-written.waiter) c.loop-number.number before c.loop-number.invariant.took later (subst (λ written. TookTurn g.C.Clock.tells g.A.Actuators.tells mid new c.args.driver before later written) w.if-not-written.false c.in-Ok.ensures.taken)
+            (λ tells. ap g.W.Waiter.pauses w.waiter-is)
+      ];
+      long = c.turn.ensures.long ∙ c.loop-number.invariant.long;
+      soon = c.in-Ok.ensures.soon;
+      clock = c.in-Ok.ensures.clock ∙ c.loop-number.invariant.clock;
+      closes = λ less. elim c.if-not-written.branch [
+        | then-not-written+in-Close+else-number-turns w ↦ absurd (omega (arith, less, w.if-number-turns.false))
+        | then-not-written+in_default w ↦ ap g.W.Waiter.closes w.waiter-is ∙ not_closed w.pause.result (g.W.Waiter.closes c.loop-number.waiter)
+            (g.W.Waiter.closes w.pause.new.self) (λ is. w.in_default.not-Close is) w.pause.ensures.cause ∙ c.loop-number.invariant.closes (omega (arith, less))
+        | else-not-written w ↦ ap g.W.Waiter.closes w.waiter-is ∙ c.loop-number.invariant.closes (omega (arith, less))
+      ];
+    }

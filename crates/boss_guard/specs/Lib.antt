@@ -1,0 +1,4 @@
+pub mod Guarding
+pub mod GuardDrives
+pub mod Making
+pub mod Trying

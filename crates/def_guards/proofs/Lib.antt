@@ -1,0 +1,4 @@
+pub mod Given
+mod GuardRows
+pub mod Spaced
+pub mod Stretches

@@ -1,0 +1,4 @@
+pub mod Acts
+pub mod Guards
+pub mod Spacing
+pub mod Turns

@@ -1,0 +1,16 @@
+pub mod Catalogues
+pub mod AdoptionRows
+pub mod NoticeRows
+pub mod RefusalRows
+pub mod Points
+pub mod LongestSuffix
+pub mod MovedSlots
+pub mod MovedSteps
+pub mod MovedRecords
+pub mod MovedProcesses
+pub mod FromNames
+pub mod NothingRefused
+pub mod MovedSound
+pub mod Alike
+pub mod MovedTargets
+pub mod MovedStatus

@@ -1,0 +1,4 @@
+pub mod Renumber
+pub mod Adopted
+pub mod MayMove
+pub mod Kept
