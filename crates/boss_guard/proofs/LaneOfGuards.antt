@@ -21,7 +21,7 @@ use Rattle.def_guards.specs.declared.guard.Due.{Due}
 use Rattle.def_guards.specs.Guards.{guard_of, guards_of}
 use Rattle.def_guards.specs.Acts.{Watch, Decision, Reason, passed, shown, Act, wrote, kept, guard_at}
 use Rattle.def_guards.specs.Turns.{Turn, AreTurns, after_turn, after_turns, idles, WriteCut, at_clock, at_report, TryCut, at_read, at_write, Cut, nothing, at_next, in_turn, FitsCut}
-use Rattle.def_guards.proofs.Given.{OfWant, OfDecision, OfAct, OfTurn, OfCut, AreGiven, GivenCut, Holds, turns_all, cut_all}
+use Rattle.def_guards.proofs.Wants.{OfWant, OfDecision, OfAct, OfTurn, OfCut, AreGiven, GivenCut, Holds, turns_all, cut_all}
 use Rattle.boss_lock.specs.Places.{entries_at}
 use Rattle.boss_expiry.specs.declared.end.WorkEnd.{WorkEnd}
 use Rattle.boss_expiry.specs.declared.end.WorkEnd.TheVariants.{Finished, Closed, ClockFault, Stopped, DiskFault}

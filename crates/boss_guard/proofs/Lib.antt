@@ -7,3 +7,4 @@ pub mod Trials
 pub mod Turned
 pub mod Turning
 pub mod Verdicts
+pub mod Writes

@@ -1,5 +1,5 @@
 -- What a guarded worker has done, as the lane of its driver has it.
-use Rattle.std.specs.Prelude.{◌≡◌, ℕ, List}
+use Rattle.std.specs.Prelude.{◌≡◌, ℕ, ℤ, ◌==◌, if◌then◌else◌, List, [], ◌∷◌}
 use Rattle.boss_model.specs.Catalogue.{Catalogue}
 use Rattle.boss_model.specs.DeviceCall.{DeviceCall}
 use Rattle.def_history.specs.declared.entry.Entry.{Entry}
@@ -24,3 +24,8 @@ pub record IsGuardOf (catalogue : Catalogue) (driver : ℕ) (calls : List Device
   pub entries_are : entries ≡ deeds (made_by driver end (start (guards_of catalogue)) turns last).entries
   pub calls_are : calls ≡ (made_by driver end (start (guards_of catalogue)) turns last).calls
   pub waited : pausing → pauses ≡ paused (idles turns) 0
+
+-- the values that the device of a point was to take, in order
+abbrev pub values_at : ℕ → List DeviceCall → List ℤ
+values_at point [] = []
+values_at point (call ∷ calls) = if call.point == point then call.value ∷ values_at point calls else values_at point calls

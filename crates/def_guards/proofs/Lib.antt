@@ -1,4 +1,5 @@
-pub mod Given
+pub mod Earlier
 mod GuardRows
 pub mod Spaced
 pub mod Stretches
+pub mod Wants

@@ -40,6 +40,10 @@ pub data Act : Type 0 where
   wrote : Decision → Reason → Bool → ℕ → Answer → Act
   kept : Decision → Answer → Act
 
+abbrev pub want_of : Act → Due
+want_of (wrote d reason ok told answer) = record { point = d.point; version = d.version; value = d.value }
+want_of (kept d answer) = record { point = d.point; version = d.version; value = d.value }
+
 abbrev pub IsReason : Guard → Decision → Reason → Type 0
 IsReason guard d passed = is_free guard d.value d.now ≡ true
 IsReason guard d (shown answer) = (is_free guard d.value d.now ≡ false) × (shown_by answer d.value ≡ true)

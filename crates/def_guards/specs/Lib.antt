@@ -1,4 +1,5 @@
 pub mod Acts
+pub mod Given
 pub mod Guards
 pub mod Spacing
 pub mod Turns

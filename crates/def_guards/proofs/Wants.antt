@@ -7,7 +7,7 @@ use Rattle.def_guards.specs.declared.guard.Guard.{Guard}
 use Rattle.def_guards.specs.declared.guard.Held.{Held}
 use Rattle.def_guards.specs.Guards.{guard_for, holding, written}
 use Rattle.def_guards.specs.declared.guard.Due.{Due}
-use Rattle.def_guards.specs.Acts.{Watch, Decision, Act, wrote, kept, IsAct, Tried, after_act, after_acts, after_reading, decided, due_from, due_of, guard_at, held_at, held_by, is_skipped}
+use Rattle.def_guards.specs.Acts.{Watch, Decision, Act, wrote, kept, IsAct, Tried, after_act, after_acts, after_reading, decided, due_from, due_of, guard_at, held_at, held_by, is_skipped, want_of}
 use Rattle.def_guards.specs.Turns.{Turn, AreTurns, IsTurn, after_turn, after_turns, Cut, nothing, at_next, in_turn, FitsCut}
 
 module _ (P : Due → Type 0) where
@@ -19,8 +19,7 @@ module _ (P : Due → Type 0) where
   OfDecision d = P (record { point = d.point; version = d.version; value = d.value })
 
   abbrev pub OfAct : Act → Type 0
-  OfAct (wrote d reason ok told answer) = OfDecision d
-  OfAct (kept d answer) = OfDecision d
+  OfAct act = P (want_of act)
 
   -- of the want of each turn
   abbrev pub AreGiven : List Turn → Type 0
@@ -122,7 +121,7 @@ module _ (P : Due → Type 0) where
       let more = tried_all acts (after_act act watch) due left tried.1 all.1 (act_holds watch act one holds) in
       ((one, more.0), more.1, more.2)
 
-  turn_all : (turn : Turn) (watch : Watch) (left : List Due) → IsTurn watch turn left → OfWant turn.want → Holds watch.guards →
+  pub turn_all : (turn : Turn) (watch : Watch) (left : List Due) → IsTurn watch turn left → OfWant turn.want → Holds watch.guards →
       OfTurn turn × Holds (after_turn turn watch).guards × AllByRecursion P left
   turn_all turn watch left is given holds =
       tried_all turn.acts (after_reading turn.reading watch) (due_of turn.want watch.guards) left is (due_of_all turn.want watch.guards given holds) holds
