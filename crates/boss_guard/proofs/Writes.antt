@@ -76,12 +76,12 @@ guard_is (first ∷ points) zero told is = let same : first ≡ told = cc in (om
 guard_is (first ∷ points) (suc point) told is = let more = guard_is points point told is in (omega (arith, more.0), more.1)
 
 pub device_keeps : (catalogue : Catalogue) (driver : ℕ) (calls : List DeviceCall) (pausing : Type 0) (pauses : ℕ) (entries : List Entry) (point : ℕ) (told : Point) →
-    IsGuardOf catalogue driver calls pausing pauses entries → slice_get catalogue.points point ≡ Some told →
-    (writes : List Call) × (map (λ write. write.value) writes ≡ values_at point calls) × KeepsTimes (times_for (nat_abs told.min_on) (nat_abs told.min_off)) writes
+    (made : IsGuardOf catalogue driver calls pausing pauses entries) → slice_get catalogue.points point ≡ Some told →
+    (map (λ write. write.value) (calls_in point made.turns ++ calls_cut point made.last) ≡ values_at point calls)
+    × KeepsTimes (times_for (nat_abs told.min_on) (nat_abs told.min_off)) (calls_in point made.turns ++ calls_cut point made.last)
 device_keeps catalogue driver calls pausing pauses entries point told is found =
     let at = guard_is catalogue.points point told found in
     let fresh : (guard_at (guards_of catalogue) point).last ≡ None = ap (λ (guard : Guard). guard.last) at.1 in (
-      calls_in point is.turns ++ calls_cut point is.last,
       all_are point driver is.end (start (guards_of catalogue)) is.turns is.last ∙ ap (values_at point) (sym is.calls_are),
       subst (λ guard. KeepsTimes (minimum guard) (calls_in point is.turns ++ calls_cut point is.last)) at.1
           (keeps_times point (start (guards_of catalogue)) is.turns is.last at.0 fresh is.are is.fits),
