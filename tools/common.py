@@ -67,11 +67,12 @@ def check(catalogue, journal):
 
 
 class Server:
-    """The program, serving a journal of its own; `-` keeps nothing. `in_all` is how many connections it serves before it ends,
-    `more` the words after that."""
+    """The program, serving a journal of its own; `-` keeps nothing. `in_all` is how many connections it serves before it ends, `rules`
+    and `plan` are the files of its last words, `-` for none. What is changed here holds from the next start on."""
 
-    def __init__(self, catalogue, journal="-", workers=4, in_all=4_294_967_295, port=None, more=()):
-        self.catalogue, self.journal, self.workers, self.in_all, self.more = catalogue, journal, workers, in_all, more
+    def __init__(self, catalogue, journal="-", workers=4, in_all=4_294_967_295, port=None, rules="-", plan="-"):
+        self.catalogue, self.journal, self.workers, self.in_all = catalogue, journal, workers, in_all
+        self.rules, self.plan = rules, plan
         self.port = port or free_port()
         self.address = f"127.0.0.1:{self.port}"
         self.process = None
@@ -91,9 +92,13 @@ class Server:
 
     def launch(self, **more):
         """Starts it and no more. What is given goes to the process."""
-        words = ["serve", self.catalogue, self.journal, self.address, str(self.workers), str(self.in_all), *self.more]
         given = {"stdin": subprocess.DEVNULL, "stdout": subprocess.DEVNULL, "env": {**os.environ, **SETTINGS}, **more}
-        self.process = subprocess.Popen([PROGRAM, *words], **given)
+        self.process = subprocess.Popen([PROGRAM, *self.words()], **given)
+
+    def words(self):
+        """The words that it is started with. Those that are `-` at the end are left out."""
+        words = ["serve", self.catalogue, self.journal, self.address, str(self.workers), str(self.in_all)]
+        return [*words, self.rules, self.plan] if self.plan != "-" else [*words, self.rules] if self.rules != "-" else words
 
     def is_ready(self):
         """Whether it listens; AssertionError where it ended instead."""

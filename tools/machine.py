@@ -1,5 +1,5 @@
 """A small model of the lease machine, written apart from the program: what a session is answered, what processes are told, and
-what devices are told. Devices take every command. Moments are milliseconds, values thousandths."""
+what devices are told. Devices take every command. Moments are milliseconds, values thousandths. With access rules it denies writes."""
 
 import json
 from dataclasses import dataclass, field
@@ -31,6 +31,33 @@ class Point:
         }[self.kind]
         return (f'[[point]]\nname = "{self.name}"\ndriver = "{self.driver}"\nkind = "{self.kind}"\n'
                 f"{bounds}default = {self.default}\n")
+
+
+@dataclass(frozen=True)
+class Rule:
+    process: str
+    point: str
+    highest: int = 1
+    allow: bool = True
+
+    def matches(self, process, point):
+        return fits(self.process, process) and fits(self.point, point)
+
+    def table(self):
+        highest = f"highest = {self.highest}\n" if self.highest != 1 else ""
+        return f'[[rule]]\nprocess = "{self.process}"\npoint = "{self.point}"\n{highest}' + ("" if self.allow else "allow = false\n")
+
+
+def fits(pattern, name):
+    return name.startswith(pattern[:-1]) if pattern.endswith("*") else name == pattern
+
+
+def denying_rule(rules, process, write):
+    """The number of the rule that denies a process this write, 0 where no rule is for it; None where it is allowed."""
+    for number, rule in enumerate(rules, 1):
+        if rule.matches(process, write["point"]):
+            return None if rule.allow and write.get("priority", 16) >= rule.highest else number
+    return 0
 
 
 @dataclass
@@ -120,9 +147,11 @@ def error(what, **keys):
 
 
 class Machine:
-    def __init__(self, drivers, points):
+    def __init__(self, drivers, points, rules=None):
         self.drivers = drivers
         self.points = points
+        # None denies nothing.
+        self.rules = rules
         self.names = [point.name for point in points]
         self.now = 0
         self.next = 1
@@ -160,7 +189,12 @@ class Machine:
         self.drain()
 
     def act(self, session, request, n):
-        """What a request is answered. Of a process that numbers its requests each is made once."""
+        """What a request is answered. Of a process that numbers its requests each is made once, as long as the rules allow it."""
+        if request["op"] == "submit" and session in self.attached and self.rules is not None:
+            for place, write in enumerate(request["writes"]):
+                rule = denying_rule(self.rules, self.processes[self.attached[session]], write)
+                if rule is not None:
+                    return error("denied", index=place, rule=rule)
         make = getattr(self, request["op"])
         if "seq" not in request or request["op"] not in NUMBERED or session not in self.attached:
             return make(session, request, n)

@@ -8,7 +8,7 @@ import unittest
 
 import bossd
 import bossd.aio
-from test_bossd import CATALOGUE, MINUTE, Relay, common, damper
+from test_bossd import CATALOGUE, MINUTE, Answering, Relay, common, damper, denying
 
 
 class Case(unittest.IsolatedAsyncioTestCase):
@@ -168,6 +168,25 @@ class Watching(Case):
         self.server.kill()
         with self.assertRaises(bossd.Unanswered):
             await bossd.aio.watch(self.server.address, "a", patience=0.5).__anext__()
+
+
+class Denying(unittest.IsolatedAsyncioTestCase):
+    """A server with access rules, for which another one stands."""
+
+    async def test_which_write_and_which_rule(self):
+        server = Answering(denying(2, 1))
+        self.addCleanup(server.listener.close)
+        async with bossd.aio.connect(server.address, "a") as client:
+            self.assertEqual(client.process, "a")
+            with self.assertRaises(bossd.Denied) as caught:
+                await client.submit([damper(), bossd.write("lamp", 1, lease=MINUTE)])
+            self.assertEqual((caught.exception.index, caught.exception.rule), (1, 2))
+            with self.assertRaises(bossd.Denied):
+                await client.hold([damper()])
+            read, denied = await client.ask_all([{"op": "read", "point": "lamp"}, {"op": "submit", "writes": [damper()]}])
+            self.assertEqual((read["ok"], type(denied)), ("read", bossd.Denied))
+        submits = [asked.get("seq") for asked in server.asked if asked["op"] == "submit"]
+        self.assertEqual(submits, [1, 2, None])
 
 
 if __name__ == "__main__":

@@ -3,6 +3,7 @@
 BOSSD in the environment may name another program to start."""
 
 import copy
+import json
 import os
 import pickle
 import socket
@@ -54,6 +55,46 @@ class Relay:
                 self.during()
                 return
             near.write(answer)
+
+
+class Answering:
+    """Stands for a server, without the program: what each request is answered is what the function gives of it. `asked` has them all."""
+
+    def __init__(self, answer):
+        self.answer, self.asked = answer, []
+        self.listener = socket.create_server(("127.0.0.1", 0))
+        self.address = f"127.0.0.1:{self.listener.getsockname()[1]}"
+        threading.Thread(target=self.run, daemon=True).start()
+
+    def run(self):
+        while True:
+            try:
+                near, _ = self.listener.accept()
+            except OSError:
+                return
+            threading.Thread(target=self.serve, args=(near,), daemon=True).start()
+
+    def serve(self, near):
+        with near, near.makefile("rwb", buffering=0) as lines:
+            for line in lines:
+                self.asked.append(json.loads(line))
+                answer = self.answer(self.asked[-1])
+                if answer is None:
+                    return
+                lines.write(json.dumps(answer).encode() + b"\n")
+
+
+def denying(rule, index=0):
+    """What a server answers whose rules deny each submit."""
+    def answer(asked):
+        return {
+            "attach": {"ok": "attached", "process": asked.get("process"), "next": 1},
+            "submit": {"error": "denied", "index": index, "rule": rule},
+            "cancel": {"error": "unknown-txn"},
+            "read": {"ok": "read", "point": asked.get("point"), "value": 0, "from": "default", "mark": "settled"},
+            "array": {"ok": "array", "point": asked.get("point"), "default": 0, "slots": [None] * 16},
+        }[asked["op"]]
+    return answer
 
 
 class Case(unittest.TestCase):
@@ -347,6 +388,54 @@ class Addresses(unittest.TestCase):
                 make("no-such-host.invalid:7000")
 
 
+class Denying(unittest.TestCase):
+    """A server with access rules, for which another one stands."""
+
+    def answering(self, answer):
+        made = Answering(answer)
+        self.addCleanup(made.listener.close)
+        return made
+
+    def test_which_write_and_which_rule(self):
+        server = self.answering(denying(2, 1))
+        with bossd.Client(server.address, "a") as client:
+            self.assertEqual(client.process, "a")
+            with self.assertRaises(bossd.Denied) as caught:
+                client.submit([damper(), bossd.write("lamp", 1, lease=MINUTE)])
+            self.assertEqual((caught.exception.index, caught.exception.rule, caught.exception.error), (1, 2, "denied"))
+            self.assertEqual(str(caught.exception), "denied index=1 rule=2")
+            with self.assertRaises(bossd.Denied):
+                client.hold([damper()])
+        # It is not asked again.
+        self.assertEqual([asked["op"] for asked in server.asked], ["attach", "cancel", "submit", "submit"])
+
+    def test_no_rule_is_rule_0(self):
+        with bossd.Client(self.answering(denying(0)).address, "a") as client:
+            with self.assertRaises(bossd.Denied) as caught:
+                client.submit([damper()])
+        self.assertEqual(caught.exception.fields, {"error": "denied", "index": 0, "rule": 0})
+
+    def test_one_of_many(self):
+        with bossd.Client(self.answering(denying(3)).address, "a") as client:
+            read, denied = client.ask_all([{"op": "read", "point": "lamp"}, {"op": "submit", "writes": [damper()]}])
+        self.assertEqual((read["ok"], type(denied), denied.rule), ("read", bossd.Denied, 3))
+
+    def test_its_number_is_not_used_again(self):
+        """What was accepted, and not answered, may be denied by a server that came back under other rules, which keeps its number."""
+        submits = []
+
+        def answer(asked):
+            if asked["op"] == "submit":
+                submits.append(asked["seq"])
+                return [None, {"error": "denied", "index": 0, "rule": 0}, {"ok": "accepted", "txn": 2, "until": 1}][len(submits) - 1]
+            return denying(0)(asked)
+        with bossd.Client(self.answering(answer).address, "a") as client:
+            with self.assertRaises(bossd.Denied):
+                client.submit([damper()])
+            self.assertEqual(client.submit([bossd.write("lamp", 1, lease=MINUTE)]).txn, 2)
+        self.assertEqual(submits, [1, 1, 2])
+
+
 class Kept(unittest.TestCase):
     """Errors are copied and pickled, as a pool of processes does it."""
 
@@ -355,7 +444,10 @@ class Kept(unittest.TestCase):
             error = kind({"error": word, "index": 3, "kept": 7, "cause": "died", "at": 5})
             for twin in (copy.copy(error), copy.deepcopy(error), pickle.loads(pickle.dumps(error))):
                 self.assertEqual((type(twin), str(twin), twin.fields), (type(error), str(error), error.fields))
-        other = bossd.Refused({"error": "denied", "index": 0, "rule": 2})
+        denied = pickle.loads(pickle.dumps(bossd.Denied({"error": "denied", "index": 0, "rule": 2})))
+        self.assertEqual((type(denied), denied.index, denied.rule), (bossd.Denied, 0, 2))
+        # A word of a later server.
+        other = bossd.Refused({"error": "tired", "index": 0, "rule": 2})
         self.assertEqual(pickle.loads(pickle.dumps(other)).rule, 2)
 
     def test_no_answer(self):

@@ -1,6 +1,7 @@
 """Tests of bossctl, against the built program where it asks one: python3 -m unittest, in this folder."""
 
 import contextlib
+import glob
 import io
 import json
 import os
@@ -15,7 +16,7 @@ import unittest
 import bossd
 from bossd.ctl import _journal, _lint, _show, main
 from bossd.ctl._toml import Failure, Lines
-from test_bossd import MINUTE, common, eventually
+from test_bossd import MINUTE, Answering, common, denying, eventually
 
 HERE = os.path.dirname(os.path.abspath(__file__))
 PLANT = """
@@ -68,6 +69,22 @@ register = 3
 """
 
 
+# Rules for it. A rule begins at lines 1, 5 and 9.
+RULES = """[[rule]]
+process = "operator"
+point = "*"
+highest = 8
+[[rule]]
+process = "night-*"
+point = "ahu1.*"
+highest = 13
+[[rule]]
+process = "*"
+point = "*"
+allow = false
+"""
+
+
 class Folder(unittest.TestCase):
     def setUp(self):
         folder = tempfile.TemporaryDirectory()
@@ -98,8 +115,10 @@ class Linting(Folder):
 
     def test_what_is_right(self):
         self.assertEqual(self.found(PLANT), [])
-        for name in ("plant.toml", "floor.toml"):
+        for name in ("plant.toml", "floor.toml", "pump.toml"):
             self.assertEqual(_lint.lint(os.path.join(common.EXAMPLES, name)), [])
+        for rules in glob.glob(os.path.join(common.EXAMPLES, "*.rules.toml")):
+            self.assertEqual(_lint.lint(rules.replace(".rules", ""), rules), [])
 
     def test_every_mistake_by_its_line_and_key(self):
         self.assertEqual(self.found("""\
@@ -162,7 +181,15 @@ class Linting(Folder):
             ]
             """), [(4, "point[1]", "default", True)])
 
+    def of_rules(self, rules, catalogue=PLANT):
+        """What is found of rules: line, table, key, what was found, and whether it is a mistake."""
+        return [(it.line, it.table, it.key, it.found, it.is_mistake) for it in self.linted(rules, catalogue)]
+
+    def linted(self, rules, catalogue=PLANT):
+        return _lint.lint(self.file("plant.toml", catalogue), self.file("rules.toml", rules))
+
     def test_rules(self):
+        self.assertEqual(self.of_rules(RULES), [])
         self.assertEqual(self.found(PLANT, """\
             [[rule]]
             process = "night-*"
@@ -179,8 +206,77 @@ class Linting(Folder):
             process = "a"
             piont = "lamp"
             """), [
-            (4, "rule[0]", "highest", True), (6, "rule[1]", "process", True), (7, "rule[1]", "point", False), (8, "rule[1]", "allow", True),
-            (12, "rule[3]", "point", True), (12, "rule[3]", "", False), (14, "rule[3]", "piont", False)])
+            (4, "rule 1", "highest", True), (6, "rule 2", "process", True), (8, "rule 2", "allow", True),
+            (12, "rule 4", "point", True), (14, "rule 4", "piont", False)])
+
+    def test_rules_that_are_no_file_of_tables(self):
+        for text, line, key, found in [
+            ("", None, "rule", "nothing"),
+            ("rule = 3\n", 1, "rule", "3"),
+            ('[rule]\nprocess = "a"\npoint = "lamp"\n', 1, "rule", "a table"),
+            (RULES + "#" * 1_048_576, None, "", f"{len(RULES) + 1_048_576} bytes"),
+        ]:
+            with self.subTest(found):
+                self.assertEqual(self.of_rules(text)[0], (line, "", key, found, True))
+        [(line, _, _, _, is_mistake)] = self.of_rules(RULES.replace("highest = 8", "highest = eight"))
+        self.assertEqual((line, is_mistake), (4, True))
+        [(line, _, _, _, is_mistake)] = self.of_rules(RULES.replace("highest = 8", "highest = 8\nhighest = 9"))
+        self.assertEqual((line, is_mistake), (5, True))
+        many = RULES + '[[rule]]\nprocess = "a"\npoint = "lamp"\nhighest = 3\n' * 254
+        self.assertEqual([it for it in self.of_rules(many) if it[4]], [(1, "", "rule", "257 of them", True)])
+        self.assertEqual(self.of_rules("rule = [7]\n"), [(1, "rule 1", "", "7", True)])
+
+    def test_each_key_of_a_rule(self):
+        """Each fault of a rule, in the second one, which begins at line 5."""
+        longest = "n" * 63
+        for old, new, line, key, found in [
+            ('process = "night-*"', "", 5, "process", "nothing"),
+            ('process = "night-*"', 'process = ""', 6, "process", '""'),
+            ('process = "night-*"', 'process = "night-*-purge"', 6, "process", '"night-*-purge"'),
+            ('process = "night-*"', 'process = "Night-*"', 6, "process", '"Night-*"'),
+            ('process = "night-*"', f'process = "{longest}n*"', 6, "process", '"' + longest[:56] + "..."),
+            ('process = "night-*"', "process = 3", 6, "process", "3"),
+            ('point = "ahu1.*"', "", 5, "point", "nothing"),
+            ('point = "ahu1.*"', 'point = "**"', 7, "point", '"**"'),
+            ('point = "ahu1.*"', 'point = ["lamp"]', 7, "point", "an array of 1"),
+            ("highest = 13", "highest = 0", 8, "highest", "0"),
+            ("highest = 13", "highest = 17", 8, "highest", "17"),
+            ("highest = 13", "highest = 13.0", 8, "highest", "13.0"),
+            ("highest = 13", "highest = true", 8, "highest", "true"),
+            ("highest = 13", 'allow = "yes"', 8, "allow", '"yes"'),
+            ("highest = 13", "allow = 1", 8, "allow", "1"),
+        ]:
+            with self.subTest(new):
+                self.assertEqual(self.of_rules(RULES.replace(old, new)), [(line, "rule 2", key, found, True)])
+        for new in ("*", longest + "*", longest + "n", "night-purge"):
+            self.assertEqual(self.of_rules(RULES.replace("night-*", new)), [])
+
+    def test_what_rules_can_hardly_mean(self):
+        for text, line, table, key, found in [
+            (RULES.replace("ahu1.*", "roof.*"), 7, "rule 2", "point", '"roof.*", which fits no point'),
+            (RULES.replace("ahu1.*", "ahu1.dampre"), 7, "rule 2", "point", '"ahu1.dampre", which fits no point'),
+            (RULES + "highest = 8\n", 13, "rule 3", "highest", "highest beside allow = false"),
+            (RULES.replace("highest = 13", "highset = 13"), 8, "rule 2", "highset", "a key that nothing reads"),
+            (RULES + '[[rule]]\nprocess = "comfort"\npoint = "lamp"\n', 13, "rule 4", "", "a rule that no write comes to"),
+            (RULES[:RULES.index("[[rule]]", 1)].replace('"*"', '"ahu1.*"'), None, "", "", 'no rule for "lamp", "fan"'),
+            ("rule = []\n", None, "", "", 'no rule for "ahu1.damper", "lamp", "fan"'),
+        ]:
+            with self.subTest(found):
+                self.assertEqual(self.of_rules(text), [(line, table, key, found, False)])
+
+    def test_rules_that_no_write_comes_to(self):
+        def rules(*patterns):
+            return "".join(f'[[rule]]\nprocess = "{process}"\npoint = "{point}"\n' for process, point in patterns) + '[[rule]]\nprocess="*"\npoint="*"\n'
+
+        def idle(*patterns):
+            return [(it.table, it.wanted) for it in self.linted(rules(*patterns)) if "no write comes" in it.found]
+        self.assertEqual(idle(("a*", "ahu1.*"), ("ab", "ahu1.damper")), [("rule 2", "rule 1 decides before it: put the narrower rule first")])
+        self.assertEqual(idle(("a*", "lamp"), ("*", "f*"), ("ab*", "*")), [])
+        self.assertEqual(idle(("a*", "lamp"), ("*", "f*"), ("a*", "ahu*"), ("ab*", "*")),
+                         [("rule 4", "rules 1, 2, 3 decide before it: put the narrower rule first")])
+        self.assertEqual(idle(("ab", "lamp"), ("a*", "lamp"), ("ac", "lam*")), [("rule 3", "rule 2 decides before it: put the narrower rule first")])
+        # Names with 64 characters fit the longest pattern too, so a name of 63 does not cover it.
+        self.assertEqual(idle(("n" * 63, "*"), ("n" * 63 + "*", "*")), [])
 
     def of_plan(self, plan, catalogue=PLANT):
         """What is found of a plan: line, table, key, what was found, and whether it is a mistake."""
@@ -192,8 +288,9 @@ class Linting(Folder):
         self.assertEqual(self.of_plan("driver = []\nplace = []\n"), [])
         self.assertEqual(self.of_plan("place = []\n" + DRIVER + DRIVER, "drivers = []\npoint = []\n"), [
             (3, "driver[0]", "name", '"field"', True), (6, "driver[1]", "name", '"field"', True)])
-        path = os.path.join(common.EXAMPLES, "plant.plan.toml")
-        self.assertEqual(_lint.lint(os.path.join(common.EXAMPLES, "plant.toml"), None, path), [])
+        for name in ("plant", "pump"):
+            catalogue, plan = (os.path.join(common.EXAMPLES, f"{name}.{kind}") for kind in ("toml", "plan.toml"))
+            self.assertEqual(_lint.lint(catalogue, None, plan), [])
 
     def test_a_plan_that_is_no_file_of_tables(self):
         self.assertEqual(self.of_plan(PLAN + "#" * 1_048_576), [(None, "", "", f"{len(PLAN) + 1_048_576} bytes", True)])
@@ -272,6 +369,10 @@ class Linting(Folder):
         self.assertEqual([it["line"] for it in json.loads(out)], [6])
         self.assertEqual(self.run_here("lint", os.path.join(common.EXAMPLES, "plant.toml"))[0], 0)
         self.assertEqual(self.run_here("lint", "/nowhere")[0], 1)
+        files = [self.file(name, text) for name, text in (("plant.toml", PLANT), ("rules.toml", RULES.replace("= 13", "= 17")), ("plan.toml", PLAN))]
+        status, out, _ = self.run_here("lint", *files)
+        self.assertEqual((status, out.splitlines()), (1, [f"{files[1]}:8: rule 2: highest: found 17; the least priority number that it allows, 1 to 16",
+                                                          f"{', '.join(files)}: 1 mistake"]))
 
 
 class Finding(unittest.TestCase):
@@ -367,6 +468,88 @@ class Journals(Folder):
         with self.assertRaises(Failure):
             _journal.find(os.path.join(self.folder, "nowhere"))
         self.assertIsNone(_journal.find(self.file("new", b"\0")))
+
+
+class Denied(Folder):
+    """A server with access rules, for which another one stands."""
+
+    def asked_of(self, answer, *words):
+        server = Answering(answer)
+        self.addCleanup(server.listener.close)
+        return self.run_here(*words, "--server", server.address, "--catalogue", self.file("plant.toml", PLANT))
+
+    def test_which_write_and_which_rule(self):
+        status, out, aside = self.asked_of(denying(2), "set", "ahu1.damper", "80", "--for", "1m")
+        self.assertEqual((status, out, aside), (
+            1, "", "bossctl: refused: write 0 (ahu1.damper) is denied by rule 2 of the rules file, for bossctl at priority 8\n"))
+        status, _, aside = self.asked_of(denying(0), "hold", "lamp", "1", "--as", "me", "--priority", "3")
+        self.assertEqual((status, aside), (
+            1, "bossctl: refused: write 0 (lamp) is denied for me at priority 3: no rule of the rules file is for it\n"))
+
+    def test_a_slot_that_it_may_not_release(self):
+        def answer(asked):
+            if asked["op"] == "array":
+                return {"ok": "array", "point": "lamp", "default": 0, "slots": [None] * 7 + [{"value": 1, "txn": 1, "until": 1 << 60}] + [None] * 8}
+            if asked["op"] == "status":
+                return {"ok": "status", "txn": 1, "owner": "comfort", "stage": "run", "live": 1, "pending": 0}
+            return denying(1)(asked)
+        status, _, aside = self.asked_of(answer, "release", "lamp")
+        self.assertEqual((status, "write 0 (lamp) is denied by rule 1" in aside), (1, True), aside)
+
+
+class Guarded(Folder):
+    """A point with minimum times, of a server for which another one stands."""
+
+    CATALOGUE = PLANT.replace('kind = "binary"\n', 'kind = "binary"\nmin_on = 300000\nmin_off = 90000\n')
+
+    def shown(self, mark):
+        def answer(asked):
+            return {**denying(0)(asked), "mark": mark} if asked["op"] == "read" else denying(0)(asked)
+        server = Answering(answer)
+        self.addCleanup(server.listener.close)
+        status, out, aside = self.run_here("point", "lamp", "--server", server.address, "--catalogue", self.file("plant.toml", self.CATALOGUE))
+        self.assertEqual(status, 0, aside)
+        return out.splitlines()[:2]
+
+    def test_what_is_shown(self):
+        self.assertEqual(self.shown("pending"), ["lamp: 0, its default: nobody holds it; its device: pending, perhaps held by its minimum times",
+                                                 "  binary, 0 or 1, default 0, driver field, on for 5m at least, off for 1m30s at least"])
+        self.assertEqual(self.shown("settled")[0], "lamp: 0, its default: nobody holds it; its device: settled")
+
+    def test_who_sets_it_is_told_to_wait(self):
+        looks = []
+
+        def answer(asked):
+            if asked["op"] == "submit":
+                return {"ok": "accepted", "txn": 1, "until": 1 << 50}
+            if asked["op"] == "notices":
+                ended = {"n": 1, "at": 1, "txn": 1, "kind": "ended", "point": "lamp", "cause": "expired"}
+                return {"ok": "notices", "first": 1, "next": 1, "list": [ended] if len(looks) > 4 else []}
+            if asked["op"] == "read":
+                looks.append(asked)
+                return {"ok": "read", "point": "lamp", "value": 1, "from": "lease", "priority": 8, "txn": 1, "mark": "settled" if len(looks) > 4 else "pending"}
+            if asked["op"] == "status":
+                return {"ok": "status", "txn": 1, "owner": "bossctl", "stage": "run", "live": 1, "pending": 0}
+            if asked["op"] == "array" and len(looks) > 1:
+                return {"ok": "array", "point": "lamp", "default": 0, "slots": [None] * 7 + [{"value": 1, "txn": 1, "until": 1 << 50}] + [None] * 8}
+            return denying(0)(asked)
+        server = Answering(answer)
+        self.addCleanup(server.listener.close)
+        status, out, aside = self.run_here("set", "lamp", "1", "--for", "1h", "--server", server.address,
+                                           "--catalogue", self.file("plant.toml", self.CATALOGUE))
+        self.assertEqual((status, aside), (0, ""))
+        told = [line.partition("  ")[2] for line in out.splitlines()]
+        self.assertEqual(told[1:4], ["in force: 1, by a lease of bossctl at priority 8",
+                                     "its device is not written yet: on for 5m at least, off for 1m30s at least", "its device took the value"])
+
+    def test_the_digest_has_the_times(self):
+        digests = {_show.read_catalogue(self.file("plant.toml", text)).digest for text in
+                   (PLANT, self.CATALOGUE, self.CATALOGUE.replace("90000", "0"))}
+        self.assertEqual(len(digests), 3)
+        nothing = PLANT.replace('kind = "binary"\n', 'kind = "binary"\nmin_on = 0\nmin_off = 0\n')
+        self.assertEqual(_show.read_catalogue(self.file("a.toml", nothing)).digest, _show.read_catalogue(self.file("b.toml", PLANT)).digest)
+        with self.assertRaises(Failure):
+            _show.read_catalogue(self.file("plant.toml", self.CATALOGUE.replace("90000", "1.5")))
 
 
 class Serving(Folder):

@@ -292,7 +292,7 @@ class Driven(Begun):
     def setUp(self):
         super().setUp()
         plan = os.path.join(self.folder, "floor.plan.toml")
-        server = common.Server(CATALOGUE, more=("-", plan))
+        server = common.Server(CATALOGUE, plan=plan)
         server.start(stderr=subprocess.DEVNULL)
         self.addCleanup(server.stop)
         self.client = bossd.Client(server.address, "comfort")

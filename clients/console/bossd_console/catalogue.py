@@ -12,7 +12,8 @@ __all__ = ["Catalogue", "Failure", "Point", "described", "is_name", "journals", 
 
 def described(point: Point) -> Dict[str, Any]:
     """What the catalogue says of a point, as JSON has it."""
+    times = {"min_on": point.min_on, "min_off": point.min_off} if point.times() else {}
     return {
         "name": point.name, "driver": point.driver, "kind": point.kind, "min": point.least, "max": point.most, "default": point.default,
-        "unit": point.unit, "note": point.note,
+        "unit": point.unit, "note": point.note, **times,
     }

@@ -40,6 +40,9 @@ class Open(Exception):
 
 def sentence_of(refused: bossd.Refused, name: str) -> str:
     """What to say of a refusal."""
+    if isinstance(refused, bossd.Denied):
+        why = f"by rule {refused.rule} of the server's rules file" if refused.rule else "since no rule of the server's rules file is for it"
+        return f"{name} may not write this point at this priority, {why}"
     sentences = {
         "taken": f"another connection speaks for the process {name}; it may be an earlier one of this console, so try again in a moment",
         "not-yours": "the transaction is another process's; take the point at the same priority instead",

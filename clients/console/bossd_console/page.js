@@ -325,17 +325,27 @@ function range(point) {
   return point.kind === "binary" ? "0 or 1" : `1 to ${point.max}`;
 }
 
+function times(point) {
+  return [["on", point.min_on], ["off", point.min_off]].filter(([, least]) => least).map(([word, least]) => `${word} for ${length(least)} at least`).join(", ");
+}
+
+// How far the device has come, in words.
+function deviceSentence(point) {
+  const {now} = point, [sign, word] = MARKS[now.mark] || ["", "not known"];
+  if (now.mark === "failed") return `${sign} device ${word}: it refused the value, and is tried again`;
+  if (!now.waiting) return `${sign} device ${word}`;
+  return `${sign} device ${word}, ${times(point) ? "perhaps held by its minimum times" : "no answer"} since ${clock(now.waiting)}`;
+}
+
 function drawPoint() {
   const point = points.get(opened.name), {now} = point;
   const slots = (detail && detail.slots) || [], coming = (detail && detail.next) || [];
   const own = slots.filter((slot) => slot.kind === "lease" && slot.owner === about.operator && about.operator);
-  const [sign, word] = MARKS[now.mark] || ["", "not known"];
   fill(
-    paneTop(point.name, [point.note, point.kind, range(point), `default ${shown(point, point.default)}`, `driver ${point.driver}`].filter(Boolean).join(", ")),
+    paneTop(point.name, [point.note, point.kind, range(point), `default ${shown(point, point.default)}`, `driver ${point.driver}`, times(point)].filter(Boolean).join(", ")),
     make("p", {className: "big", textContent: shown(point, now.value)}),
     make("p", {id: "whose"}, whose(now), " ", now.until !== undefined ? make("span", {id: "rest", className: "value"}) : null),
-    make("p", {className: now.mark === "pending" ? "waiting" : now.mark || "", textContent: `${sign} device ${word}` +
-      (now.waiting ? `, no answer since ${clock(now.waiting)}` : now.mark === "failed" ? ": it refused the value, and is tried again" : "")}),
+    make("p", {className: now.mark === "pending" ? "waiting" : now.mark || "", textContent: deviceSentence(point)}),
     about.operator ? make("div", {className: "buttons"},
       make("button", {type: "button", id: "take", className: "first", textContent: "Take…", onclick: () => askTake(point)}),
       ...own.flatMap((slot) => [
@@ -561,9 +571,10 @@ async function preview() {
   } catch { if (asked === mine) sayAsked("The console does not answer."); }
 }
 
-function sayAsked(text, busy) {
+// `kind` is "busy" or "denied", or empty for what went wrong.
+function sayAsked(text, kind = "") {
   const said = find("ask-said");
-  said.className = busy ? "busy" : "";
+  said.className = kind;
   say(said, text);
 }
 
@@ -575,7 +586,7 @@ async function ask() {
   mine.busy = true; yes.disabled = true;
   const body = {id: mine.id, point: mine.point.name, ...mine.body()};
   for (let times = 1; asked === mine; times += 1) {
-    sayAsked(times === 1 ? "Asked…" : `No answer came. Asked again, under the same number, so that it is made once (${times})…`, true);
+    sayAsked(times === 1 ? "Asked…" : `No answer came. Asked again, under the same number, so that it is made once (${times})…`, "busy");
     let answer = null, told = {};
     try {
       answer = await post(`api/${mine.do}`, body, {Authorization: `Bearer ${token()}`});
@@ -594,7 +605,8 @@ function refuse(mine, answer, told) {
   mine.id = newId();
   if (answer.status === 401) { keepToken(""); find("ask-token").hidden = false; }
   find("ask").querySelector("[value=yes]").disabled = false;
-  sayAsked(`Not made: ${told.sentence}`);
+  const denied = told.error === "denied";
+  sayAsked(`${denied ? "Denied" : "Not made"}: ${told.sentence}`, denied ? "denied" : "");
 }
 
 // ---- keys, buttons and the clock

@@ -1,4 +1,4 @@
-"""Speaks the protocol as far as the console asks, with a device that refuses: the devices of the real program take every command."""
+"""Speaks the protocol as far as the console asks, with a device that refuses, and with access rules that deny every submit."""
 
 import json
 import socketserver
@@ -11,10 +11,11 @@ UNTIL = round(time.time() * 1000) + 3_600_000
 
 
 class Stub:
-    """A server whose point ahu1.damper is held by `comfort` and refused by its device; `failed` may be cleared."""
+    """A server whose point ahu1.damper is held by `comfort` and refused by its device; `failed` may be cleared. `rule` is by which rule it
+    denies a submit."""
 
     def __init__(self):
-        self.failed, self.listed = True, []
+        self.failed, self.listed, self.rule = True, [], 2
         stub = self
 
         class Handler(socketserver.StreamRequestHandler):
@@ -57,3 +58,12 @@ class Stub:
     def notices(self, asked):
         fresh = [one for one in self.listed if one["n"] >= asked["from"]]
         return {"ok": "notices", "first": 1, "next": len(self.listed) + 1, "list": fresh}
+
+    def attach(self, asked):
+        return {"ok": "attached", "process": asked["process"], "next": 1}
+
+    def cancel(self, asked):
+        return {"error": "unknown-txn"}
+
+    def submit(self, asked):
+        return {"error": "denied", "index": 0, "rule": self.rule}

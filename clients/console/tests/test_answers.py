@@ -10,7 +10,8 @@ import time
 import unittest
 
 from tests import journals
-from tests.common import CATALOGUE, CONSOLE, MINUTE, PATIENCE, TOP, Case, bossd
+from tests.common import CATALOGUE, CONSOLE, MINUTE, PATIENCE, TOP, Case, Console, bossd
+from tests.stub import Stub
 
 from bossd_console.catalogue import read_catalogue
 
@@ -322,6 +323,20 @@ class Changing(Case):
         self.assertEqual(console.change("release", id="c-2", point=DAMPER, txn=77)[1]["error"], "unknown-txn")
         txn = self.client("comfort").submit([bossd.write(DAMPER, 1, lease=MINUTE)]).txn
         self.assertEqual(console.change("release", id="c-3", point=DAMPER, txn=txn)[1]["error"], "not-yours")
+
+
+class Denied(unittest.TestCase):
+    """A server with access rules, for which another one stands."""
+
+    def test_a_take_that_the_rules_deny(self):
+        stub = Stub()
+        self.addCleanup(stub.stop)
+        console = Console(stub.address, "--operator", "operator")
+        self.addCleanup(console.stop)
+        status, answer = console.change("take", id="c-1", point=DAMPER, value=90_000, length=MINUTE)
+        self.assertEqual((status, answer["error"]), (409, "denied"))
+        self.assertIn("by rule 2 of the server's rules file", answer["sentence"])
+        self.assertEqual(console.metrics()["bossd_faults_total"], 0)
 
 
 class ComingAndGoing(Case):

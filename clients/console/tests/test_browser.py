@@ -357,6 +357,18 @@ class WhatIsChanged(Page):
         self.click("#ask [value=yes]")
         self.see(lambda: self.row(DAMPER)["value"] == "35.0 %" and self.row(DAMPER)["owner"] == "comfort")
 
+    def test_a_take_that_the_rules_deny(self):
+        stub = Stub()
+        self.addCleanup(stub.stop)
+        console = Console(stub.address, "--operator", "operator")
+        self.addCleanup(console.stop)
+        self.open(console, f"#token={console.token}")
+        browser.get(console.address + "#point/ahu1.fan")
+        self.click("#take")
+        self.click("#ask [value=yes]")
+        self.see(lambda: self.text("#ask-said").startswith("Denied: operator may not write this point"))
+        self.assertEqual(self.find("#ask-said").get_attribute("class"), "denied")
+
     def test_looking_only(self):
         self.open(self.console(), "#point/" + DAMPER)
         self.see(lambda: "Slots" in self.text("#pane"))

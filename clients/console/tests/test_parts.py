@@ -9,7 +9,10 @@ from tests import common  # noqa: F401, which finds the modules
 
 import bossd
 from bossd_console import answering, asked, coming, guard
-from bossd_console.catalogue import read_catalogue
+from bossd_console.catalogue import described, read_catalogue
+from bossd_console.operating import Operator, Unmade
+from bossd_console.picture import Picture
+from tests.stub import Stub
 
 BOTH = bossd.Slots("p", 20, {8: bossd.Slot(80, 1, until=100), 12: bossd.Slot(35, 2, until=300)})
 
@@ -176,6 +179,32 @@ class WhatIsAsked(unittest.TestCase):
             self.change("prolong")
         with self.assertRaises(asked.Faulty):
             asked.change_of("take", [], self.points)
+
+
+class WhatIsDenied(unittest.IsolatedAsyncioTestCase):
+    async def test_a_take_that_the_rules_deny(self):
+        stub = Stub()
+        self.addCleanup(stub.stop)
+        catalogue = read_catalogue(common.CATALOGUE)
+        operator = Operator(stub.address, "operator", Picture(catalogue), lambda: None)
+        for place, (rule, why) in enumerate([(2, "by rule 2 of the server's rules file"), (0, "since no rule of the server's rules file is for it")]):
+            stub.rule = rule
+            with self.assertRaises(Unmade) as caught:
+                await operator.take(f"c-{place}", "ahu1.damper", 90_000, 8, 60_000, [])
+            self.assertEqual((caught.exception.error, str(caught.exception)), ("denied", f"operator may not write this point at this priority, {why}"))
+        await operator._client.close()
+
+
+class MinimumTimes(unittest.TestCase):
+    def test_they_are_told_where_there_are_any(self):
+        with tempfile.TemporaryDirectory() as folder:
+            path = os.path.join(folder, "pump.toml")
+            with open(path, "w") as file:
+                file.write('drivers = ["heat"]\n' + "".join(
+                    f'[[point]]\nname = "{name}"\ndriver = "heat"\nkind = "binary"\ndefault = 0\n{more}' for name, more in (("pump", "min_on = 300000\n"), ("lamp", ""))))
+            points = read_catalogue(path).points
+        self.assertEqual((described(points["pump"])["min_on"], described(points["pump"])["min_off"]), (300_000, 0))
+        self.assertNotIn("min_on", described(points["lamp"]))
 
 
 if __name__ == "__main__":

@@ -17,24 +17,25 @@ Errors. A request that is refused raises a `Refused`: one class for each refusal
 at all is not sent, and raises a `Malformed` that names the key. A request for which no answer came raises `Unanswered`, after
 `patience` seconds of connecting anew and asking again. `submit`, `renew` and `cancel` carry numbers, so asking again makes them once.
 A process that the server has lost its connection to has lost its live leases; the answer to a request that was asked again tells what
-was done at first, and `status` tells what still stands. An address that is none raises ValueError, and one whose host does not exist
-`UnknownHost`.
+was done at first, and `status` tells what still stands. A write that the server's access rules do not let the process make raises
+`Denied`, and is not asked again. An address that is none raises ValueError, and one whose host does not exist `UnknownHost`.
 """
 
 from ._client import Client, Held, Watch, connect, connected, watch
 from ._protocol import (
-    LONGEST_LINE, PARTING, PAUSE, PULSE, REFUSALS, SILENCE, Accepted, Already, Answer, BadLease, BadPriority, BadReversion, Ended,
-    Malformed, NoMemory, NotAttached, Notice, Notices, NotInTransaction, NotYours, OutOfRange, Over, Reading, Refused, Request, SamePoint,
-    Slot, Slots, Spent, Stale, Status, Stopped, Taken, TooLong, TooManyProcesses, Unanswered, UnknownHost, UnknownOp, UnknownPoint,
-    UnknownTransaction, answer_of, check, line_of, milliseconds, renewal, thousandths, units, write,
+    LONGEST_LINE, PARTING, PAUSE, PULSE, REFUSALS, SILENCE, Accepted, Already, Answer, BadLease, BadPriority, BadReversion, Denied,
+    Ended, Malformed, NoMemory, NotAttached, Notice, Notices, NotInTransaction, NotYours, OutOfRange, Over, Reading, Refused, Request,
+    SamePoint, Slot, Slots, Spent, Stale, Status, Stopped, Taken, TooLong, TooManyProcesses, Unanswered, UnknownHost, UnknownOp,
+    UnknownPoint, UnknownTransaction, answer_of, check, line_of, milliseconds, renewal, thousandths, units, write,
 )
 
 __version__ = "0.3.0"
 
 __all__ = [
-    "Accepted", "Already", "Answer", "BadLease", "BadPriority", "BadReversion", "Client", "Ended", "Held", "LONGEST_LINE", "Malformed",
-    "NoMemory", "NotAttached", "NotInTransaction", "NotYours", "Notice", "Notices", "OutOfRange", "Over", "PARTING", "PAUSE", "PULSE",
-    "REFUSALS", "Reading", "Refused", "Request", "SILENCE", "SamePoint", "Slot", "Slots", "Spent", "Stale", "Status", "Stopped", "Taken",
-    "TooLong", "TooManyProcesses", "Unanswered", "UnknownHost", "UnknownOp", "UnknownPoint", "UnknownTransaction", "Watch", "answer_of",
-    "check", "connect", "connected", "line_of", "milliseconds", "renewal", "thousandths", "units", "watch", "write",
+    "Accepted", "Already", "Answer", "BadLease", "BadPriority", "BadReversion", "Client", "Denied", "Ended", "Held", "LONGEST_LINE",
+    "Malformed", "NoMemory", "NotAttached", "NotInTransaction", "NotYours", "Notice", "Notices", "OutOfRange", "Over", "PARTING",
+    "PAUSE", "PULSE", "REFUSALS", "Reading", "Refused", "Request", "SILENCE", "SamePoint", "Slot", "Slots", "Spent", "Stale", "Status",
+    "Stopped", "Taken", "TooLong", "TooManyProcesses", "Unanswered", "UnknownHost", "UnknownOp", "UnknownPoint", "UnknownTransaction",
+    "Watch", "answer_of", "check", "connect", "connected", "line_of", "milliseconds", "renewal", "thousandths", "units", "watch",
+    "write",
 ]

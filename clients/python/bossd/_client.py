@@ -9,10 +9,9 @@ from types import TracebackType
 from typing import Any, BinaryIO, Callable, Iterable, Iterator, List, Mapping, Optional, Type, TypeVar, Union
 
 from ._protocol import (
-    PARTING, PAUSE, PULSE, SILENCE, Accepted, Answer, NoMemory, Notice, Notices, Over, Reading, Refused, Request, Slots, Stale,
+    PARTING, PAUSE, PULSE, SILENCE, Accepted, Answer, Denied, NoMemory, Notice, Notices, Over, Reading, Refused, Request, Slots, Stale,
     Status, Stopped, Taken, Unanswered, UnknownHost, UnknownTransaction, answer_of, host_and_port, line_of, no_such_host, notices_from,
-    notices_of, prepare, reading_of, refusal_of, renewal, slots_of, status_of, submission,
-    windows,
+    notices_of, prepare, reading_of, refusal_of, renewal, slots_of, status_of, submission, windows,
 )
 
 T = TypeVar("T")
@@ -88,6 +87,11 @@ class Client:
             self._drop()
 
     @property
+    def process(self) -> Optional[str]:
+        """The control process that it speaks for, if it was attached as one."""
+        return self._process
+
+    @property
     def is_connected(self) -> bool:
         """Whether a connection stands at the moment. It may wait for a worker of the server."""
         return self._link is not None
@@ -105,7 +109,7 @@ class Client:
     def submit(self, writes: Iterable[Mapping[str, Any]], policy: str = "abort") -> Accepted:
         """Sets several points, all of them or none, and gives what was Accepted. There are 1 to 32 writes, made by `write`. Under the
         policy "abort" a device that refuses a value ends all leases of the transaction, under "keep" it brings a notice alone.
-        Malformed, UnknownPoint, NotAttached, SamePoint, BadPriority, OutOfRange, BadLease, BadReversion, Spent, NoMemory, Stale,
+        Malformed, UnknownPoint, NotAttached, Denied, SamePoint, BadPriority, OutOfRange, BadLease, BadReversion, Spent, NoMemory, Stale,
         Unanswered."""
         answer = self._make(submission(writes, policy))
         return Accepted(answer["txn"], answer["until"])
@@ -160,7 +164,8 @@ class Client:
             return self._patiently({"op": "several"}, lambda deadline: self._exchange_all(lines, deadline)) if lines else []
 
     def _make(self, request: Request) -> Answer:
-        """Asks a request under the next number. A number that was refused is used again; one that was not answered is not."""
+        """Asks a request under the next number. A number that was refused is used again; one that was not answered is not, and neither
+        is one that was denied: a server that came back under other rules denies what it accepted before, and keeps its number."""
         with self._lock:
             number = self._number
             self._number += 1
@@ -168,6 +173,8 @@ class Client:
                 return self.ask({**request, "seq": number})
             except Stale as stale:
                 self._number = stale.kept + 1
+                raise
+            except Denied:
                 raise
             except (Refused, ValueError):
                 self._number = number

@@ -80,6 +80,15 @@ class NotAttached(Refused):
     """The client speaks for no process."""
 
 
+class Denied(Refused):
+    """The server's access rules do not let the process make this write, so nothing of the request was made. `index`: the write, counted
+    from 0. `rule`: the rule that decided, counted from 1 in the server's file; 0 where no rule is for it. Asking again brings the same
+    answer: show it to whoever wrote the program, or keeps the rules."""
+
+    index: int
+    rule: int
+
+
 class Stale(Refused):
     """`kept`: a request of the process with this greater number was accepted: somebody else numbers its requests too."""
 
@@ -179,8 +188,8 @@ class Stopped(Refused):
 
 
 REFUSALS: Dict[str, Type[Refused]] = {
-    "malformed": Malformed, "unknown-op": UnknownOp, "unknown-point": UnknownPoint, "not-attached": NotAttached, "stale": Stale,
-    "same-point": SamePoint, "bad-priority": BadPriority, "out-of-range": OutOfRange, "bad-lease": BadLease,
+    "malformed": Malformed, "unknown-op": UnknownOp, "unknown-point": UnknownPoint, "not-attached": NotAttached, "denied": Denied,
+    "stale": Stale, "same-point": SamePoint, "bad-priority": BadPriority, "out-of-range": OutOfRange, "bad-lease": BadLease,
     "bad-reversion": BadReversion, "unknown-txn": UnknownTransaction, "not-yours": NotYours, "not-in-txn": NotInTransaction,
     "ended": Ended, "over": Over, "already": Already, "taken": Taken, "too-many-processes": TooManyProcesses, "spent": Spent,
     "too-long": TooLong, "memory": NoMemory, "stopped": Stopped,

@@ -26,7 +26,7 @@ from typing import (
 )
 
 from ._protocol import (
-    LONGEST_LINE, PARTING, PAUSE, PULSE, SILENCE, Accepted, Answer, NoMemory, Notice, Notices, Over, Reading, Refused, Request,
+    LONGEST_LINE, PARTING, PAUSE, PULSE, SILENCE, Accepted, Answer, Denied, NoMemory, Notice, Notices, Over, Reading, Refused, Request,
     Slots, Stale, Status, Stopped, Taken, Unanswered, UnknownHost, UnknownTransaction, acknowledge, answer_of, host_and_port, line_of,
     no_such_host, notices_from, notices_of, prepare, reading_of, refusal_of, renewal, slots_of, status_of, submission, windows,
 )
@@ -126,6 +126,11 @@ class Client(Closable):
                     stream[1].write_eof()
                 await asyncio.wait_for(self._await_end(stream[0]), PARTING)
         self._drop()
+
+    @property
+    def process(self) -> Optional[str]:
+        """The control process that it speaks for, if it was attached as one."""
+        return self._process
 
     @property
     def is_connected(self) -> bool:
@@ -238,13 +243,16 @@ class Client(Closable):
         return await self._alone(lambda: self._ask_numbered(request))
 
     async def _ask_numbered(self, request: Request) -> Answer:
-        """Asks a request under the next number. A number that was refused is used again; one that was not answered is not."""
+        """Asks a request under the next number. A number that was refused is used again; one that was not answered is not, and neither
+        is one that was denied, as in `bossd.Client`."""
         number = self._number
         self._number += 1
         try:
             return await self._ask({**request, "seq": number})
         except Stale as stale:
             self._number = stale.kept + 1
+            raise
+        except Denied:
             raise
         except Refused:
             self._number = number

@@ -88,7 +88,7 @@ impl Files for RealFiles {
     fn read(&mut self, alloc: Global, name: &str, limit: u64) -> Result<FileBytes, FileFault> {
         let (bytes, told) = match self.read_front(alloc, name, limit) {
             Ok(front) => front,
-            Err(reason) => return self.fail("catalogue", name, "read", reason),
+            Err(reason) => return self.fail("file", name, "read", reason),
         };
         let length = bytes.len() as u64;
         if length > limit {

@@ -5,6 +5,7 @@
 mod answer;
 mod catalogue;
 mod device;
+mod lines;
 mod notice;
 mod parts;
 mod refusal;
@@ -14,6 +15,7 @@ mod telling;
 pub use answer::write_answer;
 pub use catalogue::refusal_line;
 pub use device::write_device;
+pub use lines::{put_answer_line, put_denied_line, put_memory_line, put_stopped_line};
 pub use notice::write_notice;
 pub use telling::{
     tell_answer, tell_memory, tell_refusal, tell_stopped, tell_too_long, tell_usage, tell_write,

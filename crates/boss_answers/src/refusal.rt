@@ -1,5 +1,5 @@
 ghost use Rattle.std.specs.Prelude.{◌+◌, ◌≤◌, ◌++◌, length, codes, decimal};
-ghost use Rattle.def_wire.specs.Texts.{cause_text, placed, quoted, refusal_text};
+ghost use Rattle.def_wire.specs.Texts.{cause_text, denied_text, placed, quoted, refusal_text};
 ghost use Rattle.boss_answers.specs.Room.{HasRoom, PutsAtMost};
 
 use crate::parts::{write_cause, write_last, write_number, write_quoted};
@@ -33,6 +33,16 @@ pub(crate) fn write_refusal(into: &mut Buffer, refusal: &Refusal)
         Refusal::TooManyProcesses => into.extend(b"{\"error\":\"too-many-processes\"}"),
         Refusal::Spent => into.extend(b"{\"error\":\"spent\"}"),
     }
+}
+
+/// A write of a submit that is denied, from 0, and the rule, from 1, or 0 where no rule is for it.
+pub(crate) fn write_denied(into: &mut Buffer, index: u32, rule: u32)
+    requires { HasRoom 96 into.old }
+    ensures { PutsAtMost 96 into.old into.new (denied_text index rule) }
+{
+    write_number(into, b"{\"error\":\"denied\",\"index\":", u64::from(index));
+    write_number(into, b",\"rule\":", u64::from(rule));
+    into.push(b'}');
 }
 
 /// A refusal with a place in the line or the command that was refused, counted from 0.

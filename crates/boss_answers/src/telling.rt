@@ -7,8 +7,9 @@ ghost use Rattle.boss_outside.specs.Counts.{HasCause};
 ghost use Rattle.boss_outside.specs.Streams.{Writes};
 ghost use Rattle.boss_answers.specs.Refused.{usage_line};
 
+use crate::lines::{memory_line, put_answer_line, stopped_line};
 use crate::refusal::write_refusal;
-use crate::{write_answer, write_device};
+use crate::write_device;
 use boss_model::{Answer, Buffer, PointId, Refusal};
 use boss_outside::{Failed, Sink};
 use boss_points::Catalogue;
@@ -27,8 +28,8 @@ pub fn tell_answer<K: Sink>(
     ensures cause { HasCause (K.faults sink.old) (K.faults sink.new) result }
 {
     text.clear();
-    write_answer(text, catalogue, answer);
-    tell_line(text, sink)
+    put_answer_line(text, catalogue, answer);
+    sink.write(text.bytes())
 }
 
 /// Tells what was refused, as a line.
@@ -80,7 +81,7 @@ pub fn tell_memory<K: Sink>(sink: &mut K) -> Result<(), Failed>
     ensures bytes { K.tells → Writes (K.taken sink.old) (K.taken sink.new) (line_of memory_text) result }
     ensures cause { HasCause (K.faults sink.old) (K.faults sink.new) result }
 {
-    sink.write(b"{\"error\":\"memory\"}\n")
+    sink.write(memory_line())
 }
 
 /// Tells that the disk has failed.
@@ -88,7 +89,7 @@ pub fn tell_stopped<K: Sink>(sink: &mut K) -> Result<(), Failed>
     ensures bytes { K.tells → Writes (K.taken sink.old) (K.taken sink.new) (line_of stopped_text) result }
     ensures cause { HasCause (K.faults sink.old) (K.faults sink.new) result }
 {
-    sink.write(b"{\"error\":\"stopped\"}\n")
+    sink.write(stopped_line())
 }
 
 /// Tells how the program is used.

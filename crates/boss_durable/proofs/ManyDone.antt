@@ -4,7 +4,7 @@ use Rattle.std.specs.List.{AllByRecursion}
 use Rattle.boss_disk.specs.declared.disk.Disk as disk
 use Rattle.def_history.specs.declared.entry.Entry.TheVariants.{Did, Broke}
 use Rattle.def_history.specs.declared.outcome.Outcome.{Outcome}
-use Rattle.def_history.specs.declared.outcome.Outcome.TheVariants.{Done, Stopped, DiskFault, NoMemory}
+use Rattle.def_history.specs.declared.outcome.Outcome.TheVariants.{Done, Stopped, DiskFault, NoMemory, Denied}
 use Rattle.def_history.specs.History.{events, run, stepped, MayCall}
 use Rattle.def_history.specs.Made.{done_by, mark_by, made_by_all}
 use Rattle.boss_model.specs.declared.answer.Answer.{Answer}
@@ -108,6 +108,7 @@ stays_within s calls done many before after limit (Some (Done answer)) together 
 stays_within s calls done many before after limit (Some Stopped) together short less room = wants_nothing s calls done after limit together
 stays_within s calls done many before after limit (Some DiskFault) together short less room = wants_nothing s calls done after limit together
 stays_within s calls done many before after limit (Some NoMemory) together short less room = grown s calls done many before after limit (short refl) less room
+stays_within s calls done many before after limit (Some (Denied index rule)) together short less room = grown s calls done many before after limit (short refl) less room
 
 -- ---- the entries
 
@@ -117,6 +118,7 @@ mark_none session calls (Some (Done answer)) fine = refl
 mark_none session calls (Some Stopped) fine = refl
 mark_none session calls (Some DiskFault) fine = absurd cc
 mark_none session calls (Some NoMemory) fine = refl
+mark_none session calls (Some (Denied index rule)) fine = refl
 
 pub made_fine : (session : ℕ) (calls : List (Command × ℕ)) (answers : List Answer) (rest : Option Outcome) → has_failed_rest rest ≡ false →
     made_by_all session calls answers rest ≡ done_by session calls answers

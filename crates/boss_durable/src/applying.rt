@@ -1,4 +1,4 @@
-ghost use Rattle.std.specs.Prelude.{◌≡◌, ◌≢◌, ◌+◌, ◌≤◌, true, false, List};
+ghost use Rattle.std.specs.Prelude.{◌≡◌, ◌≢◌, ◌+◌, ◌≤◌, true, false, List, None};
 ghost use Rattle.boss_model.specs.Limits.{record_room};
 ghost use Rattle.boss_durable.specs.Begun.{BegunCause, is_fault, may_want};
 ghost use Rattle.boss_durable.specs.Words.{Does, RunsThrough, keeps, lasting, leaves, log, passes};
@@ -7,6 +7,7 @@ ghost use Rattle.def_history.specs.Made.{is_growing, made_by};
 ghost use Rattle.boss_model.specs.declared.answer.Answer.{Answer};
 ghost use Rattle.boss_model.specs.declared.event.Event.{Event};
 ghost use Rattle.boss_shared.specs.Calls.{is_stopped, MayWant};
+ghost use Rattle.boss_shared.specs.Gates.{denial_of};
 ghost use Rattle.boss_disk_pair.specs.Causes.{counts_of};
 
 use crate::Durable;
@@ -32,6 +33,7 @@ impl<D: Disk> Durable<D> {
         ensures stops { is_stopped result ≡ self.old.disks.stopped }
         ensures still { result ≡ Outcome.Stopped → self.new ≡ self.old }
         ensures memory { MayWant command.now result }
+        ensures undenied { denial_of result ≡ None }
         ensures wants { result ≡ Outcome.NoMemory → may_want self.old.engine.state command.now ≡ true }
         ensures log { (answer : Answer) → result ≡ Outcome.Done answer → may_want self.old.engine.state command.now ≡ true → log self.new ≤ self.new.log_limit }
         ensures limit { self.new.log_limit ≡ self.old.log_limit }
@@ -84,6 +86,7 @@ impl<D: Disk> Durable<D> {
         ensures images { RunsThrough self.old self.new (made_by session command.now moment result) }
         ensures going { is_stopped result ≡ false }
         ensures memory { MayWant command.now result }
+        ensures undenied { denial_of result ≡ None }
         ensures wants { result ≡ Outcome.NoMemory → may_want self.old.engine.state command.now ≡ true }
         ensures log { (answer : Answer) → result ≡ Outcome.Done answer → log self.new ≤ log self.old + record_room }
         ensures limit { self.new.log_limit ≡ self.old.log_limit }

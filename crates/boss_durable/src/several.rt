@@ -8,6 +8,7 @@ ghost use Rattle.def_history.specs.History.{MayCall};
 ghost use Rattle.def_history.specs.Made.{made_by_all};
 ghost use Rattle.boss_model.specs.declared.event.Event.{Event};
 ghost use Rattle.boss_shared.specs.Calls.{has_failed_rest, is_growing_at, is_stopped_rest, NoneDone, RestFits};
+ghost use Rattle.boss_shared.specs.Gates.{denial_of_rest};
 ghost use Rattle.boss_disk_pair.specs.Causes.{CallCause, counts_of};
 
 use crate::Durable;
@@ -44,6 +45,7 @@ impl<D: Disk> Durable<D> {
         ensures done { length answers.new.items ≡ result.done }
         ensures rest { RestFits commands.now result.done result.rest }
         ensures together { NoneDone result.done result.rest }
+        ensures undenied { denial_of_rest result.rest ≡ None }
         ensures log { (log self.new ≤ self.new.log_limit) ⊎ WantNone self.old.engine.state (take result.done commands.now) }
         ensures room { vec_capacity answers.new ≡ vec_capacity answers.old }
         ensures limit { self.new.log_limit ≡ self.old.log_limit }
@@ -112,6 +114,7 @@ impl<D: Disk> Durable<D> {
         ensures done { length answers.new.items ≡ result.done }
         ensures rest { RestFits commands.now result.done result.rest }
         ensures together { NoneDone result.done result.rest }
+        ensures undenied { denial_of_rest result.rest ≡ None }
         ensures many { result.done ≤ many }
         ensures log { has_failed_rest result.rest ≡ false → log self.new ≤ log self.old + record_room }
         ensures room { vec_capacity answers.new ≡ vec_capacity answers.old }
@@ -147,6 +150,7 @@ fn outcomes(done: usize, asked: usize) -> Outcomes
     ensures all { done ≡ asked → result.rest ≡ None }
     ensures rest { done < asked → result.rest ≡ Some NoMemory }
     ensures fine { has_failed_rest result.rest ≡ false }
+    ensures undenied { denial_of_rest result.rest ≡ None }
 {
     let rest = if done < asked {
         Some(Outcome::NoMemory)

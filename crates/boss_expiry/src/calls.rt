@@ -42,5 +42,6 @@ pub fn work<G: Desk>(
         Outcome::Stopped => Err(WorkEnd::Stopped),
         Outcome::DiskFault => Err(WorkEnd::DiskFault),
         Outcome::NoMemory => unreachable!(),
+        Outcome::Denied { .. } => unreachable!(),
     }
 }

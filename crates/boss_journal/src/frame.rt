@@ -8,11 +8,18 @@ ghost use Rattle.def_log.specs.Log.{framed};
 use boss_disk::{Disk, write_through};
 use boss_outside::Failed;
 
-/// Records up to this length are framed in a small room.
-const USUAL: usize = 4_096;
+/// What a frame has beside its record: four bytes of length before it, and a gate after it.
+const AROUND: usize = 5;
 
-/// The most that a record is framed in: its length, at most 65,535 bytes, and a gate.
-const MOST: usize = 65_540;
+/// The room for usual records. A room is cleared before it is filled, so it is to be of about the record's own size. The event
+/// of a write to one point has 31 bytes, and a record has at most sixteen events: 501 bytes with what is around them.
+const USUAL: usize = 512;
+
+/// The room for one event of any length: one has at most 3,669 bytes.
+const LONG: usize = 4_096;
+
+/// The room for all others: the longest record has 65,535 bytes.
+const LONGEST: usize = 65_540;
 
 /// Writes the length, the record and a shut gate at this place, and syncs the disk.
 pub fn put_frame<D: Disk>(disk: &mut D, at: u64, bytes: &[u8]) -> Result<(), Failed>
@@ -23,12 +30,13 @@ pub fn put_frame<D: Disk>(disk: &mut D, at: u64, bytes: &[u8]) -> Result<(), Fai
     ensures windows { D.tells → WritesThrough at (framed bytes.now ++ 0 ∷ []) (D.reads disk.old) (D.story disk.old) (D.story disk.new) result }
     ensures cause { HasCause (D.faults disk.old) (D.faults disk.new) result }
 {
-    if bytes.len() <= USUAL {
-        let mut room = [0u8; USUAL + 5];
-        put_in(disk, at, bytes, &mut room)
+    let needed = bytes.len() + AROUND;
+    if needed <= USUAL {
+        put_in_room::<D, USUAL>(disk, at, bytes)
+    } else if needed <= LONG {
+        put_in_room::<D, LONG>(disk, at, bytes)
     } else {
-        let mut room = [0u8; MOST];
-        put_in(disk, at, bytes, &mut room)
+        put_in_room::<D, LONGEST>(disk, at, bytes)
     }
 }
 
@@ -42,17 +50,25 @@ pub fn open_gate<D: Disk>(disk: &mut D, place: u64) -> Result<(), Failed>
     write_through(disk, place, &[1])
 }
 
-/// The same as `put_frame`, with a room for the bytes.
-fn put_in<D: Disk>(disk: &mut D, at: u64, bytes: &[u8], room: &mut [u8]) -> Result<(), Failed>
+/// The same as `put_frame`, in a room of this many bytes. It is a function of its own for each size, since a function pays for the
+/// pages of its largest room as it begins, whichever it takes.
+#[inline(never)]
+fn put_in_room<D: Disk, const ROOM: usize>(
+    disk: &mut D,
+    at: u64,
+    bytes: &[u8],
+) -> Result<(), Failed>
     requires there { D.tells → at ≤ length (D.reads disk.old) }
     requires within { length bytes.now ≤ longest_record }
-    requires room { length bytes.now + 5 ≤ length room.old }
+    requires room { length bytes.now + 5 ≤ ROOM }
+    requires small { ROOM < 2 ^ 63 }
     ensures limit { 2 ^ 62 < at + (length bytes.now + 5) → IsErr result }
     ensures reads { D.tells → OnOk result (D.reads disk.new ≡ overwritten at (framed bytes.now ++ 0 ∷ []) (D.reads disk.old)) }
     ensures windows { D.tells → WritesThrough at (framed bytes.now ++ 0 ∷ []) (D.reads disk.old) (D.story disk.old) (D.story disk.new) result }
     ensures cause { HasCause (D.faults disk.old) (D.faults disk.new) result }
 {
-    let framed = &mut room[..bytes.len() + 5];
+    let mut room = [0u8; ROOM];
+    let framed = &mut room[..bytes.len() + AROUND];
     frame(bytes, framed);
     write_through(disk, at, framed)
 }

@@ -1,17 +1,1 @@
-pub mod JobLemmas
-pub mod KeptLemmas
-pub mod Lifting
-pub mod OpenedLemmas
-pub mod Places
-pub mod PreparingLemmas
-pub mod Refusals
-pub mod Reopening
-pub mod RunLemmas
-pub mod StandingLemmas
-pub mod StatusLemmas
-pub mod UnkeptLemmas
-pub mod LoadLemmas
-pub mod ServeLemmas
-pub mod ServeLifting
 pub mod WordLemmas
-pub mod ServedLemmas

@@ -11,7 +11,7 @@ use Rattle.boss_words.specs.Words.{check_of, is_number, job_of, load_of, number_
 
 -- the workers of a server are 1 to 32; of other jobs nothing is said
 abbrev Fits : Option Job → Type 0
-Fits (Some (Serve catalogue journal address workers connections plan)) = (1 ≤ workers) × (workers ≤ 32)
+Fits (Some (Serve catalogue journal address workers connections rules plan)) = (1 ≤ workers) × (workers ≤ 32)
 Fits (Some (Script catalogue journal)) = Unit {0}
 Fits (Some (Check catalogue journal)) = Unit {0}
 Fits (Some (Load count seed)) = Unit {0}
@@ -84,5 +84,5 @@ fits-job (job ∷ arguments) =
     (fits-if (bytes_eq job (codes "load")) _ _ (fits-load arguments) tt)))
 
 -- a server that the words ask for has 1 to 32 workers
-pub workers-fit : (words : List (List ℕ)) (name journal address : List ℕ) (workers connections : ℕ) (plan : Option (List ℕ)) → job_of words ≡ Some (Serve name journal address workers connections plan) → (1 ≤ workers) × (workers ≤ 32)
-workers-fit words name journal address workers connections plan is = subst Fits is (fits-job words)
+pub workers-fit : (words : List (List ℕ)) (name journal address : List ℕ) (workers connections : ℕ) (rules plan : Option (List ℕ)) → job_of words ≡ Some (Serve name journal address workers connections rules plan) → (1 ≤ workers) × (workers ≤ 32)
+workers-fit words name journal address workers connections rules plan is = subst Fits is (fits-job words)

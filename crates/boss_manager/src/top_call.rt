@@ -1,23 +1,18 @@
 ghost use Rattle.std.specs.Prelude.{◌≡◌, ◌≢◌, List, ℕ, Option, None, Some, codes, false, vec_len};
 ghost use Rattle.boss_words.specs.declared.job.Job.TheVariants as job;
 ghost use Rattle.boss_words.specs.Words.{job_of, texts};
-ghost use Rattle.boss_manager.specs.Checks.{ChecksJournal, ChecksMemory};
-ghost use Rattle.boss_manager.specs.Jobs.{DoesScript, SaysUsage, world};
-ghost use Rattle.boss_manager.specs.KeptScripts.{DoesKeptScript};
-ghost use Rattle.boss_manager.specs.LoadJobs.{DoesLoad};
-ghost use Rattle.boss_manager.specs.Programs.{is_served, script_of_words};
-ghost use Rattle.boss_manager.specs.ServeJobs.{DoesServe, is_serve, server_world, ServesInMemory};
+ghost use Rattle.boss_jobs.specs.Checks.{ChecksJournal, ChecksMemory};
+ghost use Rattle.boss_jobs.specs.Jobs.{DoesScript, SaysUsage, world};
+ghost use Rattle.boss_jobs.specs.KeptScripts.{DoesKeptScript};
+ghost use Rattle.boss_jobs.specs.LoadJobs.{DoesLoad};
+ghost use Rattle.boss_jobs.specs.Programs.{is_served, script_of_words};
+ghost use Rattle.boss_serve_jobs.specs.ServeJobs.{DoesServe, is_serve, server_world, ServesInMemory};
 
-use crate::Status;
-use crate::kept_jobs::{check_kept, do_kept_script};
-use crate::load_job::do_load;
-use crate::memory_jobs::{check_memory, do_script};
-use crate::saying::say_usage;
-use crate::serve_jobs::{do_kept_serve, do_memory_serve};
-use crate::world::{Service, World};
 use boss_files::Files;
+use boss_jobs::{Status, check_kept, check_memory, do_kept_script, do_load, do_script, say_usage};
 use boss_outside::{Actuators, Sink, Source};
 use boss_outside_server::{Clock, Host, Spawner, Waiter};
+use boss_serve_jobs::{Service, World, do_kept_serve, do_memory_serve};
 use boss_words::{Job, WordsRefusal, read_words};
 use std::alloc::Global;
 use std::sync::Wait;
@@ -72,16 +67,16 @@ where
     ensures check_memory { (name : List ℕ) → job_of (texts words.now.items) ≡ Some (job.Check name (codes "-"))
         → ChecksMemory ⟦<F as Files>⟧ ⟦<S as Source>⟧ ⟦<K as Sink>⟧ ⟦<A as Actuators>⟧ name (vec_len devices.old)
         (world files.old source.old sink.old devices.old.items) (world files.new source.new sink.new devices.new.items) result.0 }
-    ensures serve { (name journal address : List ℕ) (workers connections : ℕ) (plan : Option (List ℕ))
-        → job_of (texts words.now.items) ≡ Some (job.Serve name journal address workers connections plan) → journal ≢ codes "-"
+    ensures serve { (name journal address : List ℕ) (workers connections : ℕ) (rules plan : Option (List ℕ))
+        → job_of (texts words.now.items) ≡ Some (job.Serve name journal address workers connections rules plan) → journal ≢ codes "-"
         → DoesServe F.Files S.Source K.Sink A.Actuators H.Host H.In.Source H.Out.Sink
-        C.Clock W.Waiter P.Spawner name journal plan (vec_len devices.old) workers connections
+        C.Clock W.Waiter P.Spawner name journal rules plan (vec_len devices.old) workers connections
         (server_world (world files.old source.old sink.old devices.old.items) clock.old host.old waiter.old spawner.old)
         (server_world (world files.new source.new sink.new devices.new.items) clock.new host.new waiter.new spawner.new) result.0 }
-    ensures serve_memory { (name address : List ℕ) (workers connections : ℕ) (plan : Option (List ℕ))
-        → job_of (texts words.now.items) ≡ Some (job.Serve name (codes "-") address workers connections plan)
+    ensures serve_memory { (name address : List ℕ) (workers connections : ℕ) (rules plan : Option (List ℕ))
+        → job_of (texts words.now.items) ≡ Some (job.Serve name (codes "-") address workers connections rules plan)
         → ServesInMemory F.Files S.Source K.Sink A.Actuators H.Host H.In.Source H.Out.Sink
-        C.Clock W.Waiter P.Spawner name plan (vec_len devices.old) workers connections
+        C.Clock W.Waiter P.Spawner name rules plan (vec_len devices.old) workers connections
         (server_world (world files.old source.old sink.old devices.old.items) clock.old host.old waiter.old spawner.old)
         (server_world (world files.new source.new sink.new devices.new.items) clock.new host.new waiter.new spawner.new) result.0 }
     ensures load { (count seed : ℕ) → job_of (texts words.now.items) ≡ Some (job.Load count seed)
@@ -137,6 +132,7 @@ where
                 address,
                 workers,
                 connections,
+                rules,
                 plan,
             },
         ) => {
@@ -144,6 +140,7 @@ where
                 address: address.text(),
                 workers,
                 connections,
+                rules: &rules,
                 plan: &plan,
             };
             let world = World {

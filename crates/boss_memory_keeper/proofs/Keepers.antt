@@ -7,7 +7,7 @@ use Rattle.boss_model.specs.declared.state.Actuator.{Actuator}
 use Rattle.boss_model.specs.State.{Persistent, State}
 use Rattle.def_history.specs.declared.entry.Entry.{Entry}
 use Rattle.def_history.specs.declared.outcome.Outcome.{Outcome}
-use Rattle.def_history.specs.declared.outcome.Outcome.TheVariants.{Done, Stopped, DiskFault, NoMemory}
+use Rattle.def_history.specs.declared.outcome.Outcome.TheVariants.{Done, Stopped, DiskFault, NoMemory, Denied}
 use Rattle.def_history.specs.History.{events, is_broken, run, run_tried, IsLegal}
 use Rattle.def_history.specs.Made.{done_by, mark_by, made_by_all}
 use Rattle.def_history.proofs.Going.{tried_whole}
@@ -51,6 +51,7 @@ mark_none session calls (Some (Done answer)) fine = refl
 mark_none session calls (Some Stopped) fine = refl
 mark_none session calls (Some DiskFault) fine = absurd cc
 mark_none session calls (Some NoMemory) fine = refl
+mark_none session calls (Some (Denied index rule)) fine = refl
 
 pub made_fine : (session : ℕ) (calls : List (Command × ℕ)) (answers : List Answer) (rest : Option Outcome) → has_failed_rest rest ≡ false →
     made_by_all session calls answers rest ≡ done_by session calls answers

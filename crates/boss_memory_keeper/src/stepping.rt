@@ -1,4 +1,4 @@
-ghost use Rattle.std.specs.Prelude.{◌≡◌, ◌+◌, ◌≤◌, false, true, [], length, min, vec_capacity, IfOk, OnErr};
+ghost use Rattle.std.specs.Prelude.{◌≡◌, ◌+◌, ◌≤◌, false, true, [], length, min, vec_capacity, None, IfOk, OnErr};
 ghost use Rattle.std.specs.List.{AllByRecursion};
 ghost use Rattle.def_history.specs.History.{events, if_event, IsLegal, MayCall, run};
 ghost use Rattle.def_history.specs.Made.{done_by, is_growing};
@@ -7,6 +7,7 @@ ghost use Rattle.boss_model.specs.Limits.{last_number};
 ghost use Rattle.boss_model.specs.Machine.{step};
 ghost use Rattle.boss_model.specs.declared.command.Command.{Command};
 ghost use Rattle.boss_shared.specs.Calls.{has_failed_rest, RestFits};
+ghost use Rattle.boss_shared.specs.Gates.{denial_of_rest};
 
 use boss_engine::Engine;
 use boss_model::{Answer, Command, Effect, LAST_NUMBER, NoMemory, SessionId};
@@ -74,6 +75,7 @@ pub fn step_all(
     ensures done { length answers.new.items ≡ result.done }
     ensures rest { RestFits commands.now result.done result.rest }
     ensures no_fault { has_failed_rest result.rest ≡ false }
+    ensures undenied { denial_of_rest result.rest ≡ None }
     ensures room { vec_capacity answers.new ≡ vec_capacity answers.old }
 {
     let mut done = 0;

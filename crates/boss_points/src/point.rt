@@ -12,7 +12,7 @@ pub struct Point {
     /// The driver of its device.
     pub driver: DriverId,
     /// How long its device is to stay on once it is on, in milliseconds: 0, for no such time, to 86,400,000. It is 0 where
-    /// the point is not binary. Nothing heeds it yet.
+    /// the point is not binary. The worker of a server that drives the point keeps it.
     pub min_on: i64,
     /// How long its device is to stay off once it is off, as `min_on`.
     pub min_off: i64,

@@ -14,13 +14,14 @@ use Rattle.def_wire.specs.Script.{answered}
 use Rattle.def_wire.specs.Texts.{answer_text, device_text, line_of, stopped_text}
 use Rattle.def_history.specs.declared.entry.Entry.TheVariants as entry
 use Rattle.def_history.specs.declared.outcome.Outcome.{Outcome}
-use Rattle.def_history.specs.declared.outcome.Outcome.TheVariants.{Done, Stopped, DiskFault, NoMemory}
+use Rattle.def_history.specs.declared.outcome.Outcome.TheVariants.{Done, Stopped, DiskFault, NoMemory, Denied}
 use Rattle.def_history.specs.History.{IsLegal}
 use Rattle.def_history.specs.Made.{is_growing, made_by}
 use Rattle.law_machine.proofs.Weighing.{report-lighter}
 use Rattle.law_machine.specs.Draining.{weight}
 use Rattle.boss_outside.specs.Streams.{TakesFront}
 use Rattle.boss_shared.specs.Calls.{is_stopped, MayWant}
+use Rattle.boss_shared.specs.Gates.{denial_of}
 use Rattle.boss_shared.specs.declared.keeper.Keeper as keeper
 use Rattle.boss_scripts.specs.Keepers.{BrokeOff, IsAt, Kept, Went}
 use Rattle.boss_scripts.specs.Outside.{Answered, Trace}
@@ -88,14 +89,15 @@ module _ {V : Type 0} (v : keeper.Ghosts V) (catalogue : Catalogue) (moment : �
 
   -- the report, at which the disk may fail
   pub went-report : (point version : ℕ) (ok : Bool) (old : Trace) {k' : V} {tells : Type 0} (outcome : Outcome) → is_stopped outcome ≡ v.stopped k →
-      MayWant (command.Report point version ok) outcome → Kept v k k' (made_by 0 (command.Report point version ok) moment outcome) →
+      MayWant (command.Report point version ok) outcome → denial_of outcome ≡ None → Kept v k k' (made_by 0 (command.Report point version ok) moment outcome) →
       Went v (actuators catalogue) (reporting catalogue moment point version ok) (served catalogue moment) k k' tells old old
-  went-report point version ok old (Done noted) stops memory kept =
+  went-report point version ok old (Done noted) stops memory undenied kept =
       went-running v off kept (λ _. did-tell [] old old.taken (reported-leads catalogue moment point version ok (v.state k) noted) (sym (append-nil old.taken)))
-  went-report point version ok old DiskFault stops memory kept =
+  went-report point version ok old DiskFault stops memory undenied kept =
       went-running v off kept (λ _. did-tell [] old old.taken (unreported-leads catalogue moment point version ok (v.state k)) (sym (append-nil old.taken)))
-  went-report point version ok old Stopped stops memory kept = let clash : true ≡ false = stops ∙ off in absurd cc
-  went-report point version ok old NoMemory stops memory kept = absurd cc
+  went-report point version ok old Stopped stops memory undenied kept = let clash : true ≡ false = stops ∙ off in absurd cc
+  went-report point version ok old NoMemory stops memory undenied kept = absurd cc
+  went-report point version ok old (Denied index rule) stops memory undenied kept = absurd cc
 
 -- the disk did not fail in a command that was done
 pub still-running : {V : Type 0} (v : keeper.Ghosts V) (session : ℕ) (asked : Command) (moment : ℕ) (given : Answer) {k k' : V} → v.stopped k ≡ false →
@@ -104,26 +106,27 @@ still-running v session asked moment given off kept = kept.marked ∙ ap (λ b. 
 
 -- what a report leaves as long as the disk has not failed
 reported-state : {V : Type 0} (v : keeper.Ghosts V) (moment : ℕ) (asked : Command) (k k' : V) (outcome : Outcome) → v.stopped k ≡ false → is_stopped outcome ≡ v.stopped k →
-    is_growing asked ≡ false → MayWant asked outcome → Kept v k k' (made_by 0 asked moment outcome) → v.stopped k' ≡ false → v.state k' ≡ (step (v.plant k) 0 asked moment (v.state k)).state
-reported-state v moment asked k k' (Done noted) off stops grows memory kept running = kept.state_is running
-reported-state v moment asked k k' DiskFault off stops grows memory kept running =
+    is_growing asked ≡ false → MayWant asked outcome → denial_of outcome ≡ None → Kept v k k' (made_by 0 asked moment outcome) → v.stopped k' ≡ false → v.state k' ≡ (step (v.plant k) 0 asked moment (v.state k)).state
+reported-state v moment asked k k' (Done noted) off stops grows memory undenied kept running = kept.state_is running
+reported-state v moment asked k k' DiskFault off stops grows memory undenied kept running =
     let clash : false ≡ true = sym running ∙ kept.marked ∙ ap (λ b. b || true) off in absurd cc
-reported-state v moment asked k k' Stopped off stops grows memory kept running = let clash : true ≡ false = stops ∙ off in absurd cc
-reported-state v moment asked k k' NoMemory off stops grows memory kept running = let clash : true ≡ false = sym memory ∙ grows in absurd cc
+reported-state v moment asked k k' Stopped off stops grows memory undenied kept running = let clash : true ≡ false = stops ∙ off in absurd cc
+reported-state v moment asked k k' NoMemory off stops grows memory undenied kept running = let clash : true ≡ false = sym memory ∙ grows in absurd cc
+reported-state v moment asked k k' (Denied index rule) off stops grows memory undenied kept running = absurd cc
 
 module _ {V : Type 0} (v : keeper.Ghosts V) (moment driver point version : ℕ) (value : ℤ) (ok : Bool) {k k' k'' : V} (off : v.stopped k ≡ false) (small : moment ≤ 2 ^ 60)
     (sound : IsSound (v.plant k) (v.state k)) (wants : wanting (v.plant k) (v.state k) ≡ Some driver) {given : Answer} (one : Kept v k k' (entry.Did 0 (command.Next driver) moment given ∷ []))
     (is : given ≡ answer.Want point version value) where
   -- a want that was served leaves less to do
-  pub want-lighter : (outcome : Outcome) → is_stopped outcome ≡ v.stopped k' → MayWant (command.Report point version ok) outcome →
+  pub want-lighter : (outcome : Outcome) → is_stopped outcome ≡ v.stopped k' → MayWant (command.Report point version ok) outcome → denial_of outcome ≡ None →
       Kept v k' k'' (made_by 0 (command.Report point version ok) moment outcome) → v.stopped k'' ≡ false →
       weight (v.plant k'') moment (v.state k'') < weight (v.plant k) moment (v.state k)
-  want-lighter outcome stops memory two running =
+  want-lighter outcome stops memory undenied two running =
       let goes : v.stopped k' ≡ false = still-running v 0 (command.Next driver) moment given off one in
       let d : v.state k' ≡ (step (v.plant k) 0 (command.Next driver) moment (v.state k)).state = one.state_is goes in
       let p : v.plant k' ≡ v.plant k = one.same_plant in
       let after : v.state k'' ≡ (step (v.plant k) 0 (command.Report point version ok) moment (step (v.plant k) 0 (command.Next driver) moment (v.state k)).state).state =
-      reported-state v moment (command.Report point version ok) k' k'' outcome goes stops refl memory two running
+      reported-state v moment (command.Report point version ok) k' k'' outcome goes stops refl memory undenied two running
       ∙ (λ i. (step (p i) 0 (command.Report point version ok) moment (d i)).state) in
       subst (λ pl. weight pl moment (v.state k'') < weight (v.plant k) moment (v.state k)) (sym (two.same_plant ∙ p))
       (subst (λ t. weight (v.plant k) moment t < weight (v.plant k) moment (v.state k)) (sym after)

@@ -103,7 +103,7 @@ fn serve<V: Keeper, K: Sink, A: Actuators>(
     let answer = match keeper.apply(OWN, &Command::Next { driver }, moment) {
         Outcome::Done { answer } => answer,
         Outcome::DiskFault => return Ok(()),
-        Outcome::Stopped | Outcome::NoMemory => unreachable!(),
+        Outcome::Stopped | Outcome::NoMemory | Outcome::Denied { .. } => unreachable!(),
     };
     let Answer::Want {
         point,
@@ -119,6 +119,6 @@ fn serve<V: Keeper, K: Sink, A: Actuators>(
     let report = Command::Report { point, version, ok };
     match keeper.apply(OWN, &report, moment) {
         Outcome::Done { .. } | Outcome::DiskFault => Ok(()),
-        Outcome::Stopped | Outcome::NoMemory => unreachable!(),
+        Outcome::Stopped | Outcome::NoMemory | Outcome::Denied { .. } => unreachable!(),
     }
 }

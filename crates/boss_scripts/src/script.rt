@@ -221,7 +221,7 @@ fn answer<V: Keeper, K: Sink, A: Actuators>(
             tell_stopped(sink)?;
             Ok(())
         }
-        Outcome::Stopped => unreachable!(),
+        Outcome::Stopped | Outcome::Denied { .. } => unreachable!(),
         Outcome::NoMemory => Err(Broken::NoMemory),
     }
 }

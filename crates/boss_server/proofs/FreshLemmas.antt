@@ -3,6 +3,7 @@ use Rattle.std.proofs.Common.{◌≡◌, ℕ, ◌≤◌, List, [], ◌∷◌, re
 use Rattle.boss_model.specs.Catalogue.{actuators as points_of, Catalogue}
 use Rattle.boss_lock.specs.Places.{entries_at}
 use Rattle.boss_outside.specs.declared.actuators.Actuators as actuators
+use Rattle.boss_shared.specs.Gates.{AreFree}
 use Rattle.boss_shared.specs.declared.desk.Desk as desk
 use Rattle.boss_outside_server.specs.declared.clock.Clock as clock
 use Rattle.boss_outside_server.specs.declared.host.Host as host
@@ -37,13 +38,14 @@ module _ {H In Out A : Type 0} (h : host.Ghosts H In Out) (workers number : ℕ)
 
 module _ {G Pass H In Out C W A : Type 0} (g : desk.Ghosts G Pass) (h : host.Ghosts H In Out) (k : clock.Ghosts C) (w : waiter.Ghosts W) (a : actuators.Ghosts A) where
   -- a worker made of fresh parts is ready
-  pub fresh-worker : (catalogue : Catalogue) (it : G) (workers number : ℕ) (pass : Pass) (duty : Duty H A) (tick : C) (wait : W) (flags : Flags) → g.owns it pass → g.parts pass ≡ 1 → g.mine pass ≡ [] →
+  pub fresh-worker : (catalogue : Catalogue) (it : G) (workers number : ℕ) (pass : Pass) (duty : Duty H A) (tick : C) (wait : W) (flags : Flags) → g.owns it pass → g.parts pass ≡ 1 → g.mine pass ≡ [] → AreFree (g.denies it) (g.held pass) →
       points_of catalogue ≡ g.plant it → IsFreshClock k tick → IsFreshWaiter w wait → workers ≤ 32 → IsFreshDuty h workers number duty → flags ≡ no_flags →
       IsReady g h k w a catalogue it workers number pass duty tick wait flags
-  fresh-worker catalogue it workers number pass duty tick wait flags own one none plant fresh_clock fresh_waiter few fresh unmarked = record {
+  fresh-worker catalogue it workers number pass duty tick wait flags own one none free plant fresh_clock fresh_waiter few fresh unmarked = record {
     own = own;
     one = one;
     empty = ap (entries_at (g.seen pass)) none;
+    free = free;
     plant = plant;
     given = fresh_clock.given;
     clock_faults = fresh_clock.faults;

@@ -4,5 +4,6 @@ pub mod Making
 pub mod Places
 pub mod References
 pub mod Shares
+pub mod Sites
 pub mod Together
 pub mod Turns

@@ -7,10 +7,11 @@ ghost use Rattle.boss_worker.specs.Saying.{terms_of};
 ghost use Rattle.boss_server.specs.Kept.{Ran, drives_of};
 ghost use Rattle.boss_server.specs.Making.{GainsNoPause, StaysClock, StaysHost};
 ghost use Rattle.boss_server.specs.References.{KeepsReferences};
+ghost use Rattle.boss_server.specs.Sites.{gates_of};
 ghost use Rattle.boss_server.specs.Together.{RoseWhere};
 
-use crate::Outside;
-use crate::serving::serve;
+use crate::gating::serve_behind;
+use crate::{Outside, Site};
 use boss_model::NoMemory;
 use boss_outside::Actuators;
 use boss_outside_server::{Clock, Host, Spawner, Waiter};
@@ -38,7 +39,8 @@ fn drives_for<A>(catalogue: &Catalogue, devices: &Vec<A>) -> u16
 }
 
 /// Serves so many connections over a keeper whose disk never failed, by so many workers, 1 to 32 of them, lets time pass, and drives
-/// the devices, of which each is that of the driver with its place as number; then gives the keeper back. It then stands for one
+/// the devices, of which each is that of the driver with its place as number; then gives the keeper back. Where there are rules they
+/// judge each submit. It then stands for one
 /// history from the keeper as it was handed over, which is all that the workers did.
 ///
 /// NoMemory: none of the workers has run, and the keeper stands for an empty history. All devices are in their places, as they were.
@@ -54,7 +56,7 @@ pub fn serve_keeper<
     rt: R,
     alloc: Global,
     keeper: K,
-    catalogue: &Catalogue,
+    site: Site<'_>,
     outside: &mut Outside<'_, H, C, W, A, P>,
     workers: u32,
     connections: u32,
@@ -66,7 +68,7 @@ where
     requires kept { IsSound (K.plant keeper) (K.state keeper) }
     requires images { K.leaves keeper (K.state keeper).persistent (K.state keeper).persistent }
     requires events { (before : List Event) × K.keeps keeper before }
-    requires plant { actuators catalogue.now ≡ K.plant keeper }
+    requires plant { actuators site.catalogue.now ≡ K.plant keeper }
     requires sound { H.sound outside.old.host.now }
     requires some { 1 ≤ workers }
     requires few { workers ≤ 32 }
@@ -74,13 +76,13 @@ where
     ensures sound { H.sound outside.new.host.now }
     ensures under { K.under result.0 ≡ K.under keeper }
     ensures ran { IfOk result.1 (λ ended. Ran K.Keeper A.calls (λ device. A.tells × A.whole device)
-        (terms_of catalogue.now workers H.In.tells H.Out.tells H.tells C.tells W.tells) W.tells
-        (workers + 1 + drives_of catalogue.now outside.old.devices.now.items) connections keeper result.0
+        (terms_of site.entry.catalogue.now (gates_of site.entry.catalogue.now site.entry.rules) workers H.In.tells H.Out.tells H.tells C.tells W.tells) W.tells
+        (workers + 1 + drives_of site.entry.catalogue.now outside.old.devices.now.items) connections keeper result.0
         (H.served outside.old.host.now) (H.served outside.new.host.now) (C.given outside.old.clock.now) (C.given outside.new.clock.now)
         (H.faults outside.old.host.now) (H.faults outside.new.host.now) (C.faults outside.old.clock.now) (C.faults outside.new.clock.now)
         (W.waits outside.old.waiter.now) (W.waits outside.new.waiter.now)
-        (take (drives_of catalogue.now outside.old.devices.now.items) outside.old.devices.now.items)
-        (drop (drives_of catalogue.now outside.old.devices.now.items) outside.old.devices.now.items)
+        (take (drives_of site.entry.catalogue.now outside.old.devices.now.items) outside.old.devices.now.items)
+        (drop (drives_of site.entry.catalogue.now outside.old.devices.now.items) outside.old.devices.now.items)
         outside.new.devices.now.items ended.flags ended.unstarted) }
     ensures started { IfOk result.1 (λ ended. RoseWhere ended.unstarted (P.faults outside.old.spawner.now) (P.faults outside.new.spawner.now)) }
     ensures nothing { OnErr result.1 (IsHeld K.plant K.state K.stopped K.faults K.leaves K.keeps keeper result.0 []) }
@@ -90,18 +92,18 @@ where
     ensures devices { OnErr result.1 (outside.new.devices.now.items ≡ outside.old.devices.now.items) }
     ensures spawner { OnErr result.1 (outside.new.spawner.now ≡ outside.old.spawner.now) }
 {
+    let Site { catalogue, rules } = site;
     let drives = drives_for(catalogue, outside.devices);
-    let (desk, mut pass) = match Manager::new(rt, alloc, keeper, workers + 2 + u32::from(drives)) {
+    let (desk, pass) = match Manager::new(rt, alloc, keeper, workers + 2 + u32::from(drives)) {
         Ok(made) => made,
         Err((keeper, none)) => return (keeper, Err(none)),
     };
     let server = Server {
-        desk,
+        desk: &desk,
         catalogue,
         workers,
     };
-    let told = serve(alloc, &server, &mut pass, outside, connections, drives);
-    let Server { desk, .. } = server;
+    let (pass, told) = serve_behind(alloc, server, rules, pass, outside, connections, drives);
     let keeper = desk.close(pass);
     match told {
         Ok((flags, unstarted)) => {

@@ -2,6 +2,7 @@
 //! and takes every part back, so that what it then has stands for the one history that all of them made.
 #![tactic(auto)]
 
+mod gating;
 mod joining;
 mod keeping;
 mod making;
@@ -11,7 +12,9 @@ mod returning;
 mod running;
 mod serving;
 mod shares;
+mod site;
 
 pub use keeping::{Ended, serve_keeper};
 pub use outside::Outside;
 pub use serving::serve;
+pub use site::Site;

@@ -48,7 +48,7 @@ where
     ensures sound { H.sound outside.new.host.now }
     ensures parts { IfOk result (λ told. G.parts pass.new ≡ G.parts pass.old + length workers.entry.items) }
     ensures account { IfOk result (λ told. Account A.calls (λ device. A.tells × A.whole device)
-        (terms_of server.now.catalogue.now server.now.workers H.In.tells H.Out.tells H.tells C.tells W.tells) W.tells
+        (terms_of server.now.catalogue.now (G.denies server.now.desk) server.now.workers H.In.tells H.Out.tells H.tells C.tells W.tells) W.tells
         (length workers.entry.items) (shares_of workers.entry.items (λ worker. share_at H.Host worker.duty)) (own_of G.Desk pass.new) (G.seen pass.new)
         (H.served outside.old.host.now) (H.served outside.new.host.now) (C.given outside.old.clock.now) (C.given outside.new.clock.now)
         (H.faults outside.old.host.now) (H.faults outside.new.host.now) (C.faults outside.old.clock.now) (C.faults outside.new.clock.now)

@@ -53,7 +53,7 @@ where
     ensures parts { G.parts pass.new ≡ G.parts pass.old }
     ensures sound { H.sound outside.new.host.now }
     ensures account { IfOk result (λ told. Account A.calls (λ device. A.tells × A.whole device)
-        (terms_of server.now.catalogue.now server.now.workers H.In.tells H.Out.tells H.tells C.tells W.tells) W.tells
+        (terms_of server.now.catalogue.now (G.denies server.now.desk) server.now.workers H.In.tells H.Out.tells H.tells C.tells W.tells) W.tells
         (server.now.workers + 1 + drives) connections (own_of G.Desk pass.new) (G.seen pass.new)
         (H.served outside.old.host.now) (H.served outside.new.host.now) (C.given outside.old.clock.now) (C.given outside.new.clock.now)
         (H.faults outside.old.host.now) (H.faults outside.new.host.now) (C.faults outside.old.clock.now) (C.faults outside.new.clock.now)

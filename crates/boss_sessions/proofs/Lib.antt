@@ -1,5 +1,7 @@
 pub mod GatheredLemmas
+pub mod HoldingLemmas
 pub mod PlaceLemmas
+pub mod PutLemmas
 pub mod RequestLemmas
 pub mod AnsweredLemmas
 pub mod CauseLemmas

@@ -15,15 +15,15 @@ use Rattle.def_history.proofs.Going.{broken_append}
 use Rattle.boss_sessions.specs.Places.{Place}
 use Rattle.def_lanes.proofs.Choices.{deeds-append}
 use Rattle.boss_shared.specs.Calls.{is_stopped}
-use Rattle.def_connection.specs.Speech.{of_answer, of_memory, of_stop, Speech, Exchange, unread, refused, called, attaches_by, attached_in, deeds_in, parting_of}
+use Rattle.def_connection.specs.Speech.{of_answer, of_memory, of_stop, of_denial, Speech, Exchange, unread, refused, called, attaches_by, attached_in, deeds_in, parting_of}
 use Rattle.def_connection.specs.Talks.{standing}
 use Rattle.boss_sessions.specs.declared.end.SessionEnd.{SessionEnd}
 use Rattle.boss_sessions.specs.declared.end.SessionEnd.TheVariants as end
 use Rattle.boss_sessions.specs.Connected.{Connected}
 use Rattle.boss_sessions.specs.Ends.{is_stop_end, ReadCause, WriteCause, ClockCause, DiskCause}
 use Rattle.boss_sessions.specs.Parting.{LeavesBy, Parts, attached_among, BreaksAtLast, FailsLast}
-use Rattle.boss_sessions.specs.Rounds.{Ended}
-use Rattle.boss_sessions.proofs.ReplyLemmas.{memory-attaches, stop-attaches}
+use Rattle.boss_sessions.specs.Rounds.{named, Ended}
+use Rattle.boss_sessions.proofs.ReplyLemmas.{denial-attaches, memory-attaches, stop-attaches}
 use Rattle.boss_sessions.proofs.SessionLemmas.{connected-of}
 
 -- ---- causes
@@ -33,18 +33,21 @@ parts-read before now (came.Done given) broken e e' leaves cause = subst (λ x. 
 parts-read before now came.Stopped broken e e' leaves cause = subst (λ x. ReadCause before now (Some x)) (sym leaves.0) tt
 parts-read before now came.DiskFault broken e e' leaves cause = subst (λ x. ReadCause before now (Some x)) (sym leaves.0) tt
 parts-read before now came.NoMemory broken e e' leaves cause = absurd leaves
+parts-read before now (came.Denied index rule) broken e e' leaves cause = absurd leaves
 
 pub parts-write : (before now : ℕ) (outcome : Outcome) (broken : Bool) (e e' : SessionEnd) → LeavesBy outcome broken e e' → WriteCause before now (Some e) → WriteCause before now (Some e')
 parts-write before now (came.Done given) broken e e' leaves cause = subst (λ x. WriteCause before now (Some x)) (sym leaves.0) cause
 parts-write before now came.Stopped broken e e' leaves cause = subst (λ x. WriteCause before now (Some x)) (sym leaves.0) tt
 parts-write before now came.DiskFault broken e e' leaves cause = subst (λ x. WriteCause before now (Some x)) (sym leaves.0) tt
 parts-write before now came.NoMemory broken e e' leaves cause = absurd leaves
+parts-write before now (came.Denied index rule) broken e e' leaves cause = absurd leaves
 
 pub parts-clock : (before now : ℕ) (outcome : Outcome) (broken : Bool) (e e' : SessionEnd) → LeavesBy outcome broken e e' → ClockCause before now (Some e) → ClockCause before now (Some e')
 parts-clock before now (came.Done given) broken e e' leaves cause = subst (λ x. ClockCause before now (Some x)) (sym leaves.0) cause
 parts-clock before now came.Stopped broken e e' leaves cause = subst (λ x. ClockCause before now (Some x)) (sym leaves.0) tt
 parts-clock before now came.DiskFault broken e e' leaves cause = subst (λ x. ClockCause before now (Some x)) (sym leaves.0) tt
 parts-clock before now came.NoMemory broken e e' leaves cause = absurd leaves
+parts-clock before now (came.Denied index rule) broken e e' leaves cause = absurd leaves
 
 whole-disk : (before : Bool) (now : Bool) (e : SessionEnd) → now ≡ false → is_stop_end e ≡ false → DiskCause before now (Some e)
 whole-disk before now end.Stopped is calm = absurd (let other : true ≡ false = calm in cc)
@@ -83,6 +86,7 @@ parts-disk before was broken (came.Done given) e e' stood leaves cause =
 parts-disk before was broken came.Stopped e e' stood leaves cause = subst (λ x. DiskCause before broken (Some x)) (sym leaves.0) leaves.1
 parts-disk before was broken came.DiskFault e e' stood leaves cause = subst (λ x. DiskCause before broken (Some x)) (sym leaves.0) leaves.1
 parts-disk before was broken came.NoMemory e e' stood leaves cause = absurd leaves
+parts-disk before was broken (came.Denied index rule) e e' stood leaves cause = absurd leaves
 
 -- ---- the talk
 
@@ -91,6 +95,7 @@ answer_in (came.Done given) = Some given
 answer_in came.Stopped = None
 answer_in came.DiskFault = None
 answer_in came.NoMemory = None
+answer_in (came.Denied index rule) = None
 
 parting-deeds : (session moment : ℕ) (own own' : List Entry) (outcome : Outcome) → own' ≡ own ++ made_by session command.Gone moment outcome →
     deeds own' ≡ deeds own ++ parting_of session moment (answer_in outcome)
@@ -98,18 +103,21 @@ parting-deeds session moment own own' (came.Done given) is = ap deeds is ∙ dee
 parting-deeds session moment own own' came.Stopped is = ap deeds is ∙ deeds-append own []
 parting-deeds session moment own own' came.DiskFault is = ap deeds is ∙ deeds-append own (Broke session ((command.Gone, moment) ∷ []) ∷ [])
 parting-deeds session moment own own' came.NoMemory is = ap deeds is ∙ deeds-append own []
+parting-deeds session moment own own' (came.Denied index rule) is = ap deeds is ∙ deeds-append own []
 
 parts-same : (outcome : Outcome) (broken : Bool) (e e' : SessionEnd) → LeavesBy outcome broken e e' → (e' ≡ e) ⊎ (is_stop_end e' ≡ true)
 parts-same (came.Done given) broken e e' leaves = inl leaves.0
 parts-same came.Stopped broken e e' leaves = inr (ap is_stop_end leaves.0)
 parts-same came.DiskFault broken e e' leaves = inr (ap is_stop_end leaves.0)
 parts-same came.NoMemory broken e e' leaves = absurd leaves
+parts-same (came.Denied index rule) broken e e' leaves = absurd leaves
 
 parts-stop : (outcome : Outcome) (broken : Bool) (e e' : SessionEnd) → LeavesBy outcome broken e e' → answer_in outcome ≡ None → is_stop_end e' ≡ true
 parts-stop (came.Done given) broken e e' leaves none = cc
 parts-stop came.Stopped broken e e' leaves none = ap is_stop_end leaves.0
 parts-stop came.DiskFault broken e e' leaves none = ap is_stop_end leaves.0
 parts-stop came.NoMemory broken e e' leaves none = absurd leaves
+parts-stop (came.Denied index rule) broken e e' leaves none = absurd leaves
 
 -- ---- the end where an attach was accepted
 
@@ -120,6 +128,7 @@ attached-deeds session (refused line why ∷ talk) = attached-deeds session talk
 attached-deeds session (called line asked moment (of_answer given) ∷ talk) = ap (λ rest. attaches_by asked (of_answer given) || rest) (attached-deeds session talk)
 attached-deeds session (called line asked moment of_memory ∷ talk) = attached-deeds session talk ∙ ap (λ b. b || attached_in talk) (sym (memory-attaches asked))
 attached-deeds session (called line asked moment of_stop ∷ talk) = attached-deeds session talk ∙ ap (λ b. b || attached_in talk) (sym (stop-attaches asked))
+attached-deeds session (called line asked moment (of_denial index rule) ∷ talk) = attached-deeds session talk ∙ ap (λ b. b || attached_in talk) (sym (denial-attaches index rule asked))
 
 fails-where : (session : ℕ) (own own' : List Entry) (e : SessionEnd) →
     (e ≡ end.DiskFault → (more : List Entry) → deeds own' ≡ deeds own ++ more → attached_among more ≡ true → BreaksAtLast session own') → FailsLast session own own' e
@@ -145,22 +154,23 @@ parts-fails session moment first own own' before was broken came.Stopped e e' gr
 parts-fails session moment first own own' before was broken came.DiskFault e e' grew stood leaves cause =
     subst (λ x. FailsLast session first own' x) (sym leaves.0) (λ more deed attached. (own, moment, grew))
 parts-fails session moment first own own' before was broken came.NoMemory e e' grew stood leaves cause = absurd leaves
+parts-fails session moment first own own' before was broken (came.Denied index rule) e e' grew stood leaves cause = absurd leaves
 
 -- ---- a session that ended
 
 module _ (speech : Speech) (number : ℕ) (heeds tells ticks : Type 0) (place place' : Place) (own : List Entry) (taken : List ℕ) (faults : ℕ) (given : List ℕ) (attached : Bool) (last : ℕ)
-    (own' : List Entry) (taken' : List ℕ) (faults' : ℕ) (given' : List ℕ) (attached' : Bool) (last' : ℕ) (e : SessionEnd)
+    (own' : List Entry) (taken' : List ℕ) (faults' : ℕ) (given' : List ℕ) (attached' : Bool) (last' : ℕ) (name' : Option (List ℕ)) (e : SessionEnd)
     (empty : place.ahead ≡ []) (count : place.lines ≡ most_lines) (fresh : attached ≡ false) (first : last ≡ 0)
-    (ended : Ended speech number heeds tells ticks false place place' (standing own taken faults given attached last) (standing own' taken' faults' given' attached' last') e) where
-  anew : Ended speech number heeds tells ticks false place place' (standing own taken faults given false 0) (standing own' taken' faults' given' attached' last') e
-  anew = subst (λ t. Ended speech number heeds tells ticks false place place' (standing own taken faults given false t) (standing own' taken' faults' given' attached' last') e) first
-      (subst (λ t. Ended speech number heeds tells ticks false place place' (standing own taken faults given t last) (standing own' taken' faults' given' attached' last') e) fresh ended)
+    (ended : Ended speech number heeds tells ticks false place place' (standing own taken faults given attached last) (named (standing own' taken' faults' given' attached' last') name') e) where
+  anew : Ended speech number heeds tells ticks false place place' (standing own taken faults given false 0) (named (standing own' taken' faults' given' attached' last') name') e
+  anew = subst (λ t. Ended speech number heeds tells ticks false place place' (standing own taken faults given false t) (named (standing own' taken' faults' given' attached' last') name') e) first
+      (subst (λ t. Ended speech number heeds tells ticks false place place' (standing own taken faults given t last) (named (standing own' taken' faults' given' attached' last') name') e) fresh ended)
 
   -- without a last call
   pub connected-whole : attached' ≡ false →
       Connected speech number heeds tells ticks place.left place'.left (standing own taken faults given false 0) (standing own' taken' faults' given' false 0) e
-  connected-whole apart = connected-of speech number heeds tells ticks place place' (standing own taken faults given false 0) (standing own' taken' faults' given' attached' last')
-      (standing own' taken' faults' given' false 0) None e e empty count refl refl anew (sym (append-nil (deeds own'))) refl refl refl (λ is. refl)
+  connected-whole apart = connected-of speech number heeds tells ticks place place' (standing own taken faults given false 0) (named (standing own' taken' faults' given' attached' last') name')
+      (standing own' taken' faults' given' false 0) None e e empty count refl refl refl anew (sym (append-nil (deeds own'))) refl refl refl (λ is. refl)
       (λ is none. absurd (let other : true ≡ false = sym is ∙ apart in cc)) (inl refl)
 
   pub fails-whole : attached' ≡ false → FailsLast number own own' e
@@ -172,8 +182,8 @@ module _ (speech : Speech) (number : ℕ) (heeds tells ticks : Type 0) (place pl
   -- with it
   pub connected-parted : (own'' : List Entry) (was broken : Bool) (e' : SessionEnd) → attached' ≡ true → Parts number last' own' own'' was broken e e' →
       Connected speech number heeds tells ticks place.left place'.left (standing own taken faults given false 0) (standing own'' taken' faults' given' false 0) e'
-  connected-parted own'' was broken e' is parts = connected-of speech number heeds tells ticks place place' (standing own taken faults given false 0) (standing own' taken' faults' given' attached' last')
-      (standing own'' taken' faults' given' false 0) (answer_in parts.outcome) e e' empty count refl refl anew (parting-deeds number last' own' own'' parts.outcome parts.grew) refl refl refl
+  connected-parted own'' was broken e' is parts = connected-of speech number heeds tells ticks place place' (standing own taken faults given false 0) (named (standing own' taken' faults' given' attached' last') name')
+      (standing own'' taken' faults' given' false 0) (answer_in parts.outcome) e e' empty count refl refl refl anew (parting-deeds number last' own' own'' parts.outcome parts.grew) refl refl refl
       (λ no. absurd (let other : true ≡ false = sym is ∙ no in cc)) (λ yes none. parts-stop parts.outcome broken e e' parts.leaves none) (parts-same parts.outcome broken e e' parts.leaves)
 
 -- ---- the call that tells it
@@ -187,6 +197,7 @@ stopped-behind seen before (came.Done given) prefix is broken = absurd (let othe
 stopped-behind seen before came.Stopped prefix is broken = refl
 stopped-behind seen before came.DiskFault prefix is broken = absurd (let other : false ≡ true = is ∙ broken-longer seen before prefix broken in cc)
 stopped-behind seen before came.NoMemory prefix is broken = absurd (let other : false ≡ true = is ∙ broken-longer seen before prefix broken in cc)
+stopped-behind seen before (came.Denied index rule) prefix is broken = absurd (let other : false ≡ true = is ∙ broken-longer seen before prefix broken in cc)
 
 pub parts-of : (session moment : ℕ) (own own' seen before : List Entry) (broken : Bool) (outcome : Outcome) (e e' : SessionEnd) → IsPrefix seen before →
     own' ≡ own ++ made_by session command.Gone moment outcome → is_stopped outcome ≡ is_broken before → LeavesBy outcome broken e e' → Parts session moment own own' (is_broken seen) broken e e'

@@ -10,7 +10,7 @@ use Rattle.boss_lines.specs.Window.{IsTooLong}
 use Rattle.boss_lines.proofs.LinesLemmas.{BeginsTooLong-lines}
 use Rattle.boss_lines.specs.declared.reader.Next.{Next}
 use Rattle.boss_lines.specs.declared.reader.Next.TheVariants as next
-use Rattle.boss_lines.specs.Lines.{Answers, EndsLine, StopsAt}
+use Rattle.boss_lines.specs.Lines.{EndsLine, StopsAt}
 use Rattle.boss_lines.proofs.TakenLemmas.{Taken, taken-nothing, taken-line}
 use Rattle.boss_sessions.specs.Gathered.{spoken_of}
 use Rattle.boss_sessions.specs.Places.{Place, to_come, Takes, Advances, IsOpen}

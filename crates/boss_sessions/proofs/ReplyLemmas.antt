@@ -1,21 +1,23 @@
 -- Replies one behind another: their texts and entries, and the attach among them.
-use Rattle.std.proofs.Common.{◌≡◌, ℕ, zero, suc, ◌+◌, ◌<◌, ◌≤◌, Bool, true, false, ◌||◌, List, [], ◌∷◌, ◌++◌, length, map, drop, get_or, take, Option, Some, None, refl, ap, sym, ◌∙◌, append_assoc, append-nil, arith}
+use Rattle.std.proofs.Common.{◌≡◌, ℕ, zero, suc, ◌+◌, ◌<◌, ◌≤◌, Bool, true, false, ◌||◌, List, [], ◌∷◌, ◌++◌, length, map, drop, get_or, take, Option, Some, None, refl, ap, sym, ◌∙◌, append_assoc, append-nil, subst, arith}
 use Rattle.std.specs.List.{flat_map}
 use Rattle.std.proofs.lemmas.List.{drop_all}
 use Rattle.boss_model.specs.declared.answer.Answer.{Answer}
 use Rattle.boss_model.specs.declared.command.Command.{Command}
 use Rattle.boss_model.specs.declared.command.Command.TheVariants as command
 use Rattle.boss_model.specs.Catalogue.{Catalogue}
-use Rattle.def_wire.specs.Texts.{answer_text, line_of, memory_text, stopped_text}
+use Rattle.def_wire.specs.Texts.{answer_text, denied_text, line_of, memory_text, stopped_text}
 use Rattle.def_history.specs.declared.entry.Entry.TheVariants.{Did}
 use Rattle.def_history.specs.declared.outcome.Outcome.{Outcome}
-use Rattle.def_history.specs.declared.outcome.Outcome.TheVariants.{Done, Stopped, DiskFault, NoMemory}
+use Rattle.def_history.specs.declared.outcome.Outcome.TheVariants.{Done, Stopped, DiskFault, NoMemory, Denied}
 use Rattle.def_history.specs.Made.{done_by}
 use Rattle.boss_outside.specs.Streams.{TakesFront}
+use Rattle.boss_sessions.specs.Replies.{Puts}
 use Rattle.boss_sessions.specs.Speaking.{speech_of}
 use Rattle.def_connection.specs.Batches.{deeds_by, texts_by}
-use Rattle.def_connection.specs.Speech.{Reply, of_answer, of_memory, of_stop, Speech, attaches_by, entry_of}
+use Rattle.def_connection.specs.Speech.{Reply, of_answer, of_memory, of_stop, of_denial, Gate, Speech, attaches_by, entry_of}
 use Rattle.boss_sessions.specs.Turns.{last_reply, replies_of, rest_of, attached_by, AreGoing, StopsOnce}
+use Rattle.boss_sessions.proofs.PutLemmas.{front-more, puts-front}
 
 -- ---- texts
 
@@ -23,22 +25,23 @@ pub texts-append : (speech : Speech) (xs ys : List Reply) → texts_by speech (x
 texts-append speech [] ys = refl
 texts-append speech (x ∷ xs) ys = ap (λ rest. speech.reply_text x ++ rest) (texts-append speech xs ys) ∙ sym (append_assoc (speech.reply_text x) (texts_by speech xs) (texts_by speech ys))
 
-pub texts-answers : (catalogue : Catalogue) (answers : List Answer) →
-    texts_by (speech_of catalogue) (map of_answer answers) ≡ flat_map (λ answer. line_of (answer_text catalogue answer)) answers
-texts-answers catalogue [] = refl
-texts-answers catalogue (answer ∷ answers) = ap (λ rest. line_of (answer_text catalogue answer) ++ rest) (texts-answers catalogue answers)
+pub texts-answers : (catalogue : Catalogue) (gates : List Gate) (answers : List Answer) →
+    texts_by (speech_of catalogue gates) (map of_answer answers) ≡ flat_map (λ answer. line_of (answer_text catalogue answer)) answers
+texts-answers catalogue gates [] = refl
+texts-answers catalogue gates (answer ∷ answers) = ap (λ rest. line_of (answer_text catalogue answer) ++ rest) (texts-answers catalogue gates answers)
 
-pub texts-rest : (catalogue : Catalogue) (rest : Option Outcome) → texts_by (speech_of catalogue) (last_reply rest) ≡ rest_of rest
-texts-rest catalogue None = refl
-texts-rest catalogue (Some (Done answer)) = refl
-texts-rest catalogue (Some Stopped) = append-nil (line_of stopped_text)
-texts-rest catalogue (Some DiskFault) = append-nil (line_of stopped_text)
-texts-rest catalogue (Some NoMemory) = append-nil (line_of memory_text)
+pub texts-rest : (catalogue : Catalogue) (gates : List Gate) (rest : Option Outcome) → texts_by (speech_of catalogue gates) (last_reply rest) ≡ rest_of rest
+texts-rest catalogue gates None = refl
+texts-rest catalogue gates (Some (Done answer)) = refl
+texts-rest catalogue gates (Some Stopped) = append-nil (line_of stopped_text)
+texts-rest catalogue gates (Some DiskFault) = append-nil (line_of stopped_text)
+texts-rest catalogue gates (Some NoMemory) = append-nil (line_of memory_text)
+texts-rest catalogue gates (Some (Denied index rule)) = append-nil (line_of (denied_text index rule))
 
-pub texts-replies : (catalogue : Catalogue) (answers : List Answer) (rest : Option Outcome) →
-    texts_by (speech_of catalogue) (replies_of answers rest) ≡ flat_map (λ answer. line_of (answer_text catalogue answer)) answers ++ rest_of rest
-texts-replies catalogue answers rest = texts-append (speech_of catalogue) (map of_answer answers) (last_reply rest)
-    ∙ (λ i. texts-answers catalogue answers i ++ texts-rest catalogue rest i)
+pub texts-replies : (catalogue : Catalogue) (gates : List Gate) (answers : List Answer) (rest : Option Outcome) →
+    texts_by (speech_of catalogue gates) (replies_of answers rest) ≡ flat_map (λ answer. line_of (answer_text catalogue answer)) answers ++ rest_of rest
+texts-replies catalogue gates answers rest = texts-append (speech_of catalogue gates) (map of_answer answers) (last_reply rest)
+    ∙ (λ i. texts-answers catalogue gates answers i ++ texts-rest catalogue gates rest i)
 
 -- ---- entries
 
@@ -63,6 +66,7 @@ deeds-replies session calls answers (Some (Done answer)) = answered-alone sessio
 deeds-replies session calls answers (Some Stopped) = behind-none session calls answers of_stop (λ asked moment. refl)
 deeds-replies session calls answers (Some DiskFault) = behind-none session calls answers of_stop (λ asked moment. refl)
 deeds-replies session calls answers (Some NoMemory) = behind-none session calls answers of_memory (λ asked moment. refl)
+deeds-replies session calls answers (Some (Denied index rule)) = behind-none session calls answers (of_denial index rule) (λ asked moment. refl)
 
 pub none-done : (session : ℕ) (calls : List (Command × ℕ)) → deeds_by session calls [] ≡ []
 none-done session [] = refl
@@ -106,6 +110,20 @@ stop-attaches (command.Array point) = refl
 stop-attaches (command.Status txn) = refl
 stop-attaches (command.Notices name from most) = refl
 
+pub denial-attaches : (index rule : ℕ) (asked : Command) → attaches_by asked (of_denial index rule) ≡ false
+denial-attaches index rule (command.Attach name) = refl
+denial-attaches index rule (command.Submit writes policy seq) = refl
+denial-attaches index rule (command.Renew txn length points seq) = refl
+denial-attaches index rule (command.Cancel txn seq) = refl
+denial-attaches index rule command.Gone = refl
+denial-attaches index rule command.Tick = refl
+denial-attaches index rule (command.Next driver) = refl
+denial-attaches index rule (command.Report point version ok) = refl
+denial-attaches index rule (command.Read point) = refl
+denial-attaches index rule (command.Array point) = refl
+denial-attaches index rule (command.Status txn) = refl
+denial-attaches index rule (command.Notices name from most) = refl
+
 or-false : (b : Bool) → (b || false) ≡ b
 or-false true = refl
 or-false false = refl
@@ -128,6 +146,7 @@ attached-replies calls answers (Some (Done answer)) = ap (attached_by calls) (ap
 attached-replies calls answers (Some Stopped) = attached-behind calls answers of_stop stop-attaches
 attached-replies calls answers (Some DiskFault) = attached-behind calls answers of_stop stop-attaches
 attached-replies calls answers (Some NoMemory) = attached-behind calls answers of_memory memory-attaches
+attached-replies calls answers (Some (Denied index rule)) = attached-behind calls answers (of_denial index rule) (denial-attaches index rule)
 
 pub attached-append : (calls : List (Command × ℕ)) (xs ys : List Reply) → attached_by calls (xs ++ ys) ≡ (attached_by calls xs || attached_by (drop (length xs) calls) ys)
 attached-append [] [] ys = refl
@@ -169,6 +188,7 @@ once-last (Some (Done answer)) = tt
 once-last (Some Stopped) = ((λ is. refl), tt)
 once-last (Some DiskFault) = ((λ is. refl), tt)
 once-last (Some NoMemory) = ((λ is. refl), tt)
+once-last (Some (Denied index rule)) = ((λ is. refl), tt)
 
 pub replies-once : (answers : List Answer) (rest : Option Outcome) → StopsOnce (replies_of answers rest)
 replies-once answers rest = once-append (map of_answer answers) (last_reply rest) (answers-go answers) (once-last rest)
@@ -177,7 +197,17 @@ pub length-answers : (answers : List Answer) (last : List Reply) → length (map
 length-answers [] last = omega arith
 length-answers (answer ∷ answers) last = omega (arith, length-answers answers last)
 
--- ---- answers that are told one after another
+-- ---- answers that are put one behind another
+
+flat-suc : {X : Type 0} (f : X → List ℕ) (xs : List X) (place : ℕ) (x : X) → place < length xs → x ≡ get_or xs place x →
+    flat_map f (take (suc place) xs) ≡ flat_map f (take place xs) ++ f x
+flat-suc f [] place x low is = absurd (omega arith)
+flat-suc f (y ∷ ys) zero x low is = append-nil (f y) ∙ ap f (sym is)
+flat-suc f (y ∷ ys) (suc place) x low is = ap (λ rest. f y ++ rest) (flat-suc f ys place x (omega arith) is) ∙ sym (append_assoc (f y) (flat_map f (take place ys)) (f x))
+
+pub flat-next : {X : Type 0} (f : X → List ℕ) (xs : List X) (place next : ℕ) (x : X) → next ≡ suc place → place < length xs → x ≡ get_or xs place x →
+    flat_map f (take next xs) ≡ flat_map f (take place xs) ++ f x
+flat-next f xs place next x is low at = ap (λ n. flat_map f (take n xs)) is ∙ flat-suc f xs place x low at
 
 flat-split : {X : Type 0} (f : X → List ℕ) (xs : List X) (place : ℕ) (x : X) → place < length xs → x ≡ get_or xs place x →
     flat_map f xs ≡ flat_map f (take place xs) ++ (f x ++ flat_map f (drop (suc place) xs))
@@ -187,16 +217,11 @@ flat-split f (y ∷ ys) (suc place) x low is = ap (λ rest. f y ++ rest) (flat-s
     ∙ sym (append_assoc (f y) (flat_map f (take place ys)) (f x ++ flat_map f (drop (suc place) ys)))
 
 -- where a write fails, a front of all was taken
-pub told-part : {X : Type 0} (f : X → List ℕ) (xs : List X) (place : ℕ) (x : X) (old mid new : List ℕ) → place < length xs → x ≡ get_or xs place x →
-    mid ≡ old ++ flat_map f (take place xs) → TakesFront mid new (f x) → TakesFront old new (flat_map f xs)
-told-part f xs place x old mid new low is first front = (
-  flat_map f (take place xs) ++ front.0,
-  front.1 ++ flat_map f (drop (suc place) xs),
-  flat-split f xs place x low is ∙ ap (λ rest. flat_map f (take place xs) ++ rest)
-      (ap (λ piece. piece ++ flat_map f (drop (suc place) xs)) front.2 ∙ append_assoc front.0 front.1 (flat_map f (drop (suc place) xs)))
-      ∙ sym (append_assoc (flat_map f (take place xs)) front.0 (front.1 ++ flat_map f (drop (suc place) xs))),
-  front.3 ∙ ap (λ list. list ++ front.0) first ∙ append_assoc old (flat_map f (take place xs)) front.0,
-)
+pub front-part : {X : Type 0} (f : X → List ℕ) (xs : List X) (place : ℕ) (x : X) (a h b h' c : List ℕ) → place < length xs → x ≡ get_or xs place x →
+    Puts a h b h' (flat_map f (take place xs)) → TakesFront b c (h' ++ f x) → TakesFront a c (h ++ flat_map f xs)
+front-part f xs place x a h b h' c low is one front =
+    subst (λ all. TakesFront a c (h ++ all)) (append_assoc (flat_map f (take place xs)) (f x) (flat_map f (drop (suc place) xs)) ∙ sym (flat-split f xs place x low is))
+    (front-more a c h (flat_map f (take place xs) ++ f x) (flat_map f (drop (suc place) xs)) (puts-front a h b h' c (flat_map f (take place xs)) (f x) one front))
 
 -- ---- attaches of two parts
 

@@ -1,5 +1,5 @@
 -- A line that is a request.
-use Rattle.std.proofs.Common.{◌≡◌, ℕ, Bool, List, [], ◌∷◌, ◌++◌, refl, ap, sym, ◌∙◌, subst}
+use Rattle.std.proofs.Common.{◌≡◌, ℕ, Bool, List, [], ◌∷◌, ◌++◌, ap, sym, ◌∙◌, subst}
 use Rattle.std.specs.List.{AllByRecursion}
 use Rattle.boss_model.specs.declared.command.Command.{Command}
 use Rattle.boss_model.specs.declared.state.Actuator.{Actuator}
@@ -7,7 +7,7 @@ use Rattle.boss_model.specs.Catalogue.{Catalogue}
 use Rattle.boss_model.specs.Sound.{IsAllowed}
 use Rattle.def_wire.specs.declared.request.Ask.{Ask}
 use Rattle.def_wire.specs.declared.request.Request.{Request}
-use Rattle.def_wire.specs.Requests.{Parsed, parsed, asks as asks_that}
+use Rattle.def_wire.specs.Requests.{parsed, asks as asks_that}
 use Rattle.def_history.specs.History.{MayCall}
 use Rattle.def_connection.specs.Speech.{Reading, asks}
 use Rattle.boss_sessions.specs.declared.heard.Heard.{Heard}

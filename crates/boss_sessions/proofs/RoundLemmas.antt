@@ -11,6 +11,8 @@ use Rattle.boss_sessions.specs.declared.heard.Heard.TheVariants as heard
 use Rattle.boss_sessions.specs.Gathered.{spoken_of, IsBehind, Gathered, HeardEnd}
 use Rattle.boss_sessions.specs.Places.{Place, Advances}
 use Rattle.def_connection.specs.Batches.{AreAsked, batch}
+use Rattle.boss_shared.specs.Gates.{Holding}
+use Rattle.def_connection.specs.Judging.{AreJudged, name_in}
 use Rattle.def_connection.specs.Speech.{Reading, refuses, Reply, of_memory, Speech, unread, refused, is_later, last_or, attaches_by, attached_in, EndsOnce}
 use Rattle.def_connection.specs.Talks.{Told, Standing, Goes, Stops, end_text}
 use Rattle.def_connection.proofs.TalkLemmas.{goes-then, stops-then, stops-here, goes-batch, stops-batch}
@@ -74,6 +76,8 @@ module _ (speech : Speech) (number : ℕ) (tells ticks : Type 0) where
     gave = λ given. sym (append-nil m.given);
     attached = or-false m.attached;
     last = refl;
+    judged = tt;
+    name = refl;
   }
 
   goes-refused : (later : Bool) (line : List ℕ) (why : Refusal) (m : Standing) (taken : List ℕ) (faults : ℕ) → speech.reading later line ≡ refuses why →
@@ -89,6 +93,8 @@ module _ (speech : Speech) (number : ℕ) (tells ticks : Type 0) where
     gave = λ given. sym (append-nil m.given);
     attached = or-false m.attached;
     last = refl;
+    judged = (tt, tt);
+    name = refl;
   }
 
   goes-unread : (later : Bool) (line : List ℕ) (m : Standing) (taken : List ℕ) (faults : ℕ) → (tells → taken ≡ m.taken ++ speech.reply_text of_memory) → faults ≡ m.faults →
@@ -104,6 +110,8 @@ module _ (speech : Speech) (number : ℕ) (tells ticks : Type 0) where
     gave = λ given. sym (append-nil m.given);
     attached = or-false m.attached;
     last = refl;
+    judged = (tt, tt);
+    name = refl;
   }
 
   text-alone : (text : List ℕ) → text ≡ (text ++ []) ++ []
@@ -122,6 +130,7 @@ module _ (speech : Speech) (number : ℕ) (tells ticks : Type 0) where
     gave = λ given. sym (append-nil m.given);
     attached = or-false m.attached;
     last = refl;
+    judged = (tt, tt);
   }
 
   stops-unread : (later : Bool) (line : List ℕ) (m : Standing) (taken : List ℕ) (faults : ℕ) → (tells → Told m.taken taken m.faults faults (speech.reply_text of_memory)) →
@@ -137,6 +146,7 @@ module _ (speech : Speech) (number : ℕ) (tells ticks : Type 0) where
     gave = λ given. sym (append-nil m.given);
     attached = or-false m.attached;
     last = refl;
+    judged = (tt, tt);
   }
 
   -- more lines come behind, and have no reply
@@ -153,6 +163,7 @@ module _ (speech : Speech) (number : ℕ) (tells ticks : Type 0) where
     gave = one.gave;
     attached = one.attached;
     last = one.last;
+    judged = one.judged;
   }
 
 module _ (speech : Speech) (number : ℕ) (heeds tells ticks : Type 0) where
@@ -170,11 +181,12 @@ module _ (speech : Speech) (number : ℕ) (heeds tells ticks : Type 0) where
   halted-ends place later lines rest halt.WriteFault heard.ReadFault = tt
 
   -- the session ends in the batch
-  pub round-halted : (later later' : Bool) (place place' : Place) (h : Heard) (why : Halt) (calls : List (Command × ℕ)) (a b : Standing) (seen seen' : List Entry) →
-      Gathered speech.reading heeds ticks later later' [] calls a.given b.given place place' h → b.last ≡ last_or a.last (map (λ call. call.1) calls) →
-      Replied speech number tells calls (voice a.own a.taken a.faults a.attached seen) (voice b.own b.taken b.faults b.attached seen') (Err why) →
+  pub round-halted : (later later' : Bool) (place place' : Place) (h : Heard) (why : Halt) (calls : List (Command × ℕ)) (a b : Standing) (seen seen' : List Entry) (held held' : List Holding) →
+      (g : Gathered speech.reading heeds ticks later later' [] calls a.given b.given place place' h) → b.last ≡ last_or a.last (map (λ call. call.1) calls) →
+      (r : Replied speech number tells calls (voice a.own a.taken a.faults a.attached seen held) (voice b.own b.taken b.faults b.attached seen' held') (Err why)) →
+      AreJudged speech.denies a.name (batch g.waiting calls r.replies) →
       Ended speech number heeds tells ticks later place place' a b (end_at why h)
-  round-halted later later' place place' h why calls a b seen seen' g last r =
+  round-halted later later' place place' h why calls a b seen seen' held-before held-then g last r judged =
       let held : calls ≡ g.more = g.held in
       let asked : AreAsked speech.reading later g.waiting calls = subst (λ cs. AreAsked speech.reading later g.waiting cs) (sym held) g.asked in
       record {
@@ -186,22 +198,23 @@ module _ (speech : Speech) (number : ℕ) (heeds tells ticks : Type 0) where
         long = false;
         stops = stops-batch speech number tells ticks later g.waiting g.behind calls r.replies a b asked r.few (once-batch g.waiting calls r.replies r.comes.0) r.grew r.told
             (λ given. g.gave given ∙ ap (λ cs. a.given ++ map (λ call. call.1) cs) (sym held))
-            (r.attached_is ∙ ap (λ t. a.attached || t) (sym (attached-batch speech.reading later g.waiting calls r.replies asked))) last;
+            (r.attached_is ∙ ap (λ t. a.attached || t) (sym (attached-batch speech.reading later g.waiting calls r.replies asked))) last judged;
         long_line = λ is. absurd (let no : false ≡ true = is in cc);
         ends = halted-ends place' later (g.waiting ++ g.behind) (drop (length r.replies) g.waiting ++ g.behind) why h;
       }
 
   -- the batch was answered
-  pub batch-goes : (later later' : Bool) (place place' : Place) (h : Heard) (calls : List (Command × ℕ)) (a m : Standing) (seen seen' : List Entry) →
+  pub batch-goes : (later later' : Bool) (place place' : Place) (h : Heard) (calls : List (Command × ℕ)) (a m : Standing) (seen seen' : List Entry) (held held' : List Holding) →
       (g : Gathered speech.reading heeds ticks later later' [] calls a.given m.given place place' h) → m.last ≡ last_or a.last (map (λ call. call.1) calls) →
-      Replied speech number tells calls (voice a.own a.taken a.faults a.attached seen) (voice m.own m.taken m.faults m.attached seen') (Ok (length calls)) →
+      (r : Replied speech number tells calls (voice a.own a.taken a.faults a.attached seen held) (voice m.own m.taken m.faults m.attached seen' held') (Ok (length calls))) →
+      AreJudged speech.denies a.name (batch g.waiting calls r.replies) → m.name ≡ name_in a.name (batch g.waiting calls r.replies) →
       Goes speech number tells ticks later g.waiting a m
-  batch-goes later later' place place' h calls a m seen seen' g last r =
+  batch-goes later later' place place' h calls a m seen seen' held-before held-then g last r judged name =
       let held : calls ≡ g.more = g.held in
       let asked : AreAsked speech.reading later g.waiting calls = subst (λ cs. AreAsked speech.reading later g.waiting cs) (sym held) g.asked in
       goes-batch speech number tells ticks later g.waiting calls r.replies a m asked (sym r.comes.counts) r.comes.going r.grew r.comes.all_told r.comes.calm
       (λ given. g.gave given ∙ ap (λ cs. a.given ++ map (λ call. call.1) cs) (sym held))
-      (r.attached_is ∙ ap (λ t. a.attached || t) (sym (attached-batch speech.reading later g.waiting calls r.replies asked))) last
+      (r.attached_is ∙ ap (λ t. a.attached || t) (sym (attached-batch speech.reading later g.waiting calls r.replies asked))) last judged name
 
   module _ (later later' : Bool) (place place' : Place) (waiting behind all : List (List ℕ)) (a m : Standing) (taken : List ℕ) (faults : ℕ)
       (spoken : waiting ++ behind ≡ spoken_of all) (advances : Advances heeds all place place') (later_is : later' ≡ is_later later (waiting ++ behind))

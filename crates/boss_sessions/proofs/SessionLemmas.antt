@@ -152,14 +152,14 @@ module _ (speech : Speech) (number : ℕ) (heeds tells ticks : Type 0) where
 
   -- a session that ended, and whose process was told to be lost, if it was; the end is then the same, or a disk that failed
   pub connected-of : (place place' : Place) (a b c : Standing) (parting : Option Answer) (e e' : SessionEnd) → place.ahead ≡ [] → place.lines ≡ most_lines →
-      a.attached ≡ false → a.last ≡ 0 → Ended speech number heeds tells ticks false place place' a b e → deeds c.own ≡ deeds b.own ++ parting_of number b.last parting →
+      a.attached ≡ false → a.last ≡ 0 → a.name ≡ None → Ended speech number heeds tells ticks false place place' a b e → deeds c.own ≡ deeds b.own ++ parting_of number b.last parting →
       c.taken ≡ b.taken → c.faults ≡ b.faults → c.given ≡ b.given → (b.attached ≡ false → parting ≡ None) → (b.attached ≡ true → parting ≡ None → is_stop_end e' ≡ true) →
       (e' ≡ e) ⊎ (is_stop_end e' ≡ true) → Connected speech number heeds tells ticks place.left place'.left a c e'
-  connected-of place place' a b c parting e e' empty count fresh first ended parts taken faults given unattached parted same =
+  connected-of place place' a b c parting e e' empty count fresh first anonymous ended parts taken faults given unattached parted same =
       let more : List (List ℕ) = spoken place'.ahead in
       let talked : Talked speech number tells ticks (ended.heard ++ more) (ended.rest ++ more) ended.long (is_stop_end e') a (record b { own = c.own }) =
       talked-of speech number tells ticks (ended.heard ++ more) (ended.rest ++ more) ended.long (is_stop_end e') a b c.own parting
-      (stops-more speech number tells ticks false ended.heard ended.rest more (end_text speech ended.long) a b ended.stops) fresh first parts unattached parted in
+      (stops-more speech number tells ticks false ended.heard ended.rest more (end_text speech ended.long) a b ended.stops) fresh first anonymous parts unattached parted in
       record {
         heard = ended.heard ++ more;
         rest = ended.rest ++ more;
@@ -181,6 +181,7 @@ module _ (speech : Speech) (number : ℕ) (heeds tells ticks : Type 0) where
             unattached = talked.exchanged.unattached;
             parted = talked.exchanged.parted;
             told = λ told. rw (taken, faults) (talked.exchanged.told told);
+            judged = talked.exchanged.judged;
           };
         };
         asked = elim same [
@@ -205,12 +206,12 @@ module _ (speech : Speech) (number : ℕ) (heeds tells ticks : Type 0) where
       }
 
   -- no memory was to be had to begin
-  pub connected-none : (left : List ℕ) (s : Standing) → s.attached ≡ false → s.last ≡ 0 → Connected speech number heeds tells ticks left left s s end.NoMemory
-  connected-none left s fresh first =
+  pub connected-none : (left : List ℕ) (s : Standing) → s.attached ≡ false → s.last ≡ 0 → s.name ≡ None → Connected speech number heeds tells ticks left left s s end.NoMemory
+  connected-none left s fresh first anonymous =
       let talked : Talked speech number tells ticks [] [] false false s (record s { own = s.own }) =
       talked-of speech number tells ticks [] [] false false s s s.own None
       (stops-here speech number tells ticks false [] [] [] s s refl (λ told. told-whole s.taken s.taken s.faults s.faults [] (sym (append-nil s.taken))) (λ told. sym (append-nil s.given)) refl refl)
-      fresh first (sym (append-nil (deeds s.own))) (λ is. refl) (λ is none. absurd (let no : false ≡ true = sym fresh ∙ is in cc)) in
+      fresh first anonymous (sym (append-nil (deeds s.own))) (λ is. refl) (λ is none. absurd (let no : false ≡ true = sym fresh ∙ is in cc)) in
       record {
         heard = [];
         rest = [];

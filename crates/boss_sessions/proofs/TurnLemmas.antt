@@ -1,33 +1,29 @@
 -- Commands that were called together, and several such calls.
-use Rattle.std.proofs.Common.{◌≡◌, ℕ, ◌+◌, ◌≤◌, Bool, true, false, ◌||◌, List, [], ◌∷◌, ◌++◌, length, map, drop, Option, Some, None, Result, Ok, Err, refl, ap, sym, ◌∙◌, subst, append_assoc, append-nil, arith}
+use Rattle.std.proofs.Common.{◌≡◌, ℕ, ◌+◌, ◌≤◌, Bool, true, false, ◌||◌, List, [], ◌∷◌, ◌++◌, length, map, drop, Option, Some, None, Result, Ok, Err, refl, ap, sym, ◌∙◌, subst, append-nil, arith}
 use Rattle.std.proofs.lemmas.List.{length-append, length-drop}
 use Rattle.boss_model.specs.declared.answer.Answer.{Answer}
 use Rattle.boss_model.specs.declared.command.Command.{Command}
 use Rattle.def_history.specs.declared.outcome.Outcome.{Outcome}
-use Rattle.def_history.specs.declared.outcome.Outcome.TheVariants.{Done, Stopped, DiskFault, NoMemory}
+use Rattle.def_history.specs.declared.outcome.Outcome.TheVariants.{Done, Stopped, DiskFault, NoMemory, Denied}
 use Rattle.def_history.specs.History.{deeds, is_broken}
 use Rattle.def_history.specs.Made.{done_by}
 use Rattle.boss_outside.specs.Counts.{Rose, HasCause}
-use Rattle.boss_outside.specs.Streams.{TakesFront, Writes}
-use Rattle.boss_shared.specs.Calls.{has_failed_rest, RestFits}
+use Rattle.boss_outside.specs.Streams.{Writes}
+use Rattle.boss_shared.specs.Calls.{RestFits}
+use Rattle.boss_shared.specs.Gates.{AllowedAll, NextJudged}
+use Rattle.boss_shared.specs.Passes.{FailsBy}
 use Rattle.def_connection.specs.Batches.{deeds_by, texts_by}
-use Rattle.def_connection.specs.Speech.{Reply, of_answer, of_memory, of_stop, Speech}
+use Rattle.def_connection.specs.Speech.{Reply, of_answer, of_memory, of_stop, of_denial, Speech}
 use Rattle.def_connection.specs.Talks.{Told}
 use Rattle.def_connection.proofs.Telling.{went-on, told-whole, told-behind}
 use Rattle.boss_sessions.specs.declared.halt.Halt.{Halt}
 use Rattle.boss_sessions.specs.declared.halt.Halt.TheVariants as halt
+use Rattle.boss_sessions.specs.Holding.{JudgedBy}
 use Rattle.boss_sessions.specs.Turns.{IsRest, replies_of, turned, attached_by, Voice, Goes, Comes, Replied}
+use Rattle.boss_sessions.proofs.HoldingLemmas.{judged-replies, judged-nothing, judged-then}
 use Rattle.boss_sessions.proofs.ReplyLemmas.{texts-append, deeds-replies, deeds-append, attached-replies, attached-then, answers-go, going-append, once-append, replies-once, length-answers, none-done, none-attached}
 
 -- ---- writes
-
-pub writes-then : {T E : Type 0} (a b c s t : List ℕ) (r : Result T E) → b ≡ a ++ s → Writes b c t r → Writes a c (s ++ t) r
-writes-then a b c s t (Ok done) first then = went-on a b c s t first then
-writes-then a b c s t (Err failed) first then =
-    (s ++ then.0, then.1, ap (λ rest. s ++ rest) then.2 ∙ sym (append_assoc s then.0 then.1), went-on a b c s then.0 first then.3)
-
-pub writes-short : (a b s t : List ℕ) → TakesFront a b s → TakesFront a b (s ++ t)
-writes-short a b s t front = (front.0, front.1 ++ t, ap (λ rest. rest ++ t) front.2 ∙ append_assoc front.0 front.1 t, front.3)
 
 pub told-writes : {T E : Type 0} (a b text : List ℕ) (before now : ℕ) (r : Result T E) → Writes a b text r → HasCause before now r → Told a b before now text
 told-writes a b text before now (Ok done) writes cause = told-whole a b before now text writes
@@ -42,6 +38,7 @@ few-replies calls answers done (Some (Done answer)) many fits = absurd fits
 few-replies calls answers done (Some Stopped) many fits = omega (arith, length-answers answers (of_stop ∷ []), many, fits)
 few-replies calls answers done (Some DiskFault) many fits = omega (arith, length-answers answers (of_stop ∷ []), many, fits)
 few-replies calls answers done (Some NoMemory) many fits = omega (arith, length-answers answers (of_memory ∷ []), many, fits.0)
+few-replies calls answers done (Some (Denied index rule)) many fits = omega (arith, length-answers answers (of_denial index rule ∷ []), many, fits)
 
 pub few-done : (calls : List (Command × ℕ)) (done : ℕ) (rest : Option Outcome) → RestFits calls done rest → done ≤ length calls
 few-done calls done None fits = omega arith
@@ -49,6 +46,7 @@ few-done calls done (Some (Done answer)) fits = absurd fits
 few-done calls done (Some Stopped) fits = omega arith
 few-done calls done (Some DiskFault) fits = omega arith
 few-done calls done (Some NoMemory) fits = let less = fits.0 in omega arith
+few-done calls done (Some (Denied index rule)) fits = omega arith
 
 pub is-rest : (calls : List (Command × ℕ)) (done : ℕ) (rest : Option Outcome) → RestFits calls done rest → IsRest rest
 is-rest calls done None fits = tt
@@ -56,6 +54,7 @@ is-rest calls done (Some (Done answer)) fits = absurd fits
 is-rest calls done (Some Stopped) fits = tt
 is-rest calls done (Some DiskFault) fits = tt
 is-rest calls done (Some NoMemory) fits = tt
+is-rest calls done (Some (Denied index rule)) fits = tt
 
 -- where the turn goes on, some were replied to
 pub some-replied : {T E : Type 0} (calls : List (Command × ℕ)) (done count : ℕ) (rest : Option Outcome) (told : Result T E) → 1 ≤ length calls → RestFits calls done rest →
@@ -67,10 +66,12 @@ some-replied calls done count (Some Stopped) told some fits is = cc
 some-replied calls done count (Some DiskFault) told some fits is = cc
 some-replied calls done count (Some NoMemory) (Ok fine) some fits is = let same : done + 1 ≡ count = cc in let less = fits.0 in (omega arith, omega arith)
 some-replied calls done count (Some NoMemory) (Err failed) some fits is = cc
+some-replied calls done count (Some (Denied index rule)) (Ok fine) some fits is = let same : done + 1 ≡ count = cc in (omega arith, omega arith)
+some-replied calls done count (Some (Denied index rule)) (Err failed) some fits is = cc
 
 module _ (speech : Speech) (session : ℕ) (tells : Type 0) (calls : List (Command × ℕ)) where
   comes-of : {T E : Type 0} (answers : List Answer) (rest : Option Outcome) (told : Result T E) (done : ℕ) (old new : Voice) → IsRest rest → length answers ≡ done →
-      is_broken new.seen ≡ has_failed_rest rest → (tells → Writes old.taken new.taken (texts_by speech (replies_of answers rest)) told) → HasCause old.faults new.faults told →
+      FailsBy (is_broken old.seen) (is_broken new.seen) rest → (tells → Writes old.taken new.taken (texts_by speech (replies_of answers rest)) told) → HasCause old.faults new.faults told →
       Comes speech session tells calls (replies_of answers rest) old new (turned rest done told)
   comes-of answers None (Ok fine) done old new is many failed writes cause = record {
     counts = omega (arith, many, length-answers answers []);
@@ -93,17 +94,27 @@ module _ (speech : Speech) (session : ℕ) (tells : Type 0) (calls : List (Comma
   }
   comes-of answers (Some NoMemory) (Err why) done old new is many failed writes cause =
       (replies-once answers (Some NoMemory), (cause.failed, λ broken. absurd (let no : true ≡ false = sym broken ∙ failed in cc)))
+  comes-of answers (Some (Denied index rule)) (Ok fine) done old new is many failed writes cause = record {
+    counts = omega (arith, many, length-answers answers (of_denial index rule ∷ []));
+    all_told = writes;
+    calm = cause.fine;
+    going = going-append (map of_answer answers) (of_denial index rule ∷ []) (answers-go answers) (refl, tt);
+    whole = failed;
+  }
+  comes-of answers (Some (Denied index rule)) (Err why) done old new is many failed writes cause = (replies-once answers (Some (Denied index rule)), (cause.failed, failed))
 
   pub turn-replied : {T E : Type 0} (answers : List Answer) (rest : Option Outcome) (told : Result T E) (done : ℕ) (old new : Voice) → IsRest rest → RestFits calls done rest →
-      length answers ≡ done → deeds new.own ≡ deeds old.own ++ done_by session calls answers → is_broken new.seen ≡ has_failed_rest rest →
+      length answers ≡ done → deeds new.own ≡ deeds old.own ++ done_by session calls answers → FailsBy (is_broken old.seen) (is_broken new.seen) rest →
       (tells → Writes old.taken new.taken (texts_by speech (replies_of answers rest)) told) → HasCause old.faults new.faults told →
-      new.attached ≡ (old.attached || attached_by calls (map of_answer answers)) → Replied speech session tells calls old new (turned rest done told)
-  turn-replied answers rest told done old new is fits many grew failed writes cause attached = record {
+      new.attached ≡ (old.attached || attached_by calls (map of_answer answers)) → AllowedAll speech.denies session calls answers old.held new.held →
+      NextJudged speech.denies new.held session calls done rest → Replied speech session tells calls old new (turned rest done told)
+  turn-replied answers rest told done old new is fits many grew failed writes cause attached allowed next = record {
     replies = replies_of answers rest;
     few = few-replies calls answers done rest many fits;
     grew = grew ∙ ap (λ list. deeds old.own ++ list) (sym (deeds-replies session calls answers rest));
     told = λ told-now. told-writes old.taken new.taken (texts_by speech (replies_of answers rest)) old.faults new.faults told (writes told-now) cause;
     attached_is = attached ∙ ap (λ b. old.attached || b) (sym (attached-replies calls answers rest));
+    judged = judged-replies speech.denies session calls answers rest old.held new.held is allowed (subst (λ n. NextJudged speech.denies new.held session calls n rest) (sym many) next);
     comes = comes-of answers rest told done old new is many failed writes cause;
   }
 
@@ -125,6 +136,7 @@ module _ (speech : Speech) (session : ℕ) (tells : Type 0) where
     grew = sym (append-nil (deeds v.own)) ∙ ap (λ list. deeds v.own ++ list) (sym (none-done session calls));
     told = λ told-now. told-whole v.taken v.taken v.faults v.faults [] (sym (append-nil v.taken));
     attached_is = or-false v.attached ∙ ap (λ b. v.attached || b) (sym (none-attached calls));
+    judged = judged-nothing speech.denies session calls v.held;
     comes = record { counts = refl; all_told = λ told-now. sym (append-nil v.taken); calm = refl; going = tt; whole = λ broken. broken };
   }
 
@@ -158,5 +170,7 @@ module _ (speech : Speech) (session : ℕ) (tells : Type 0) where
             (told-behind a.taken b.taken c.taken a.faults b.faults c.faults (texts_by speech one.replies) (texts_by speech other.replies) (one.comes.all_told told-now) one.comes.calm (other.told told-now));
         attached_is = other.attached_is ∙ ap (λ b. b || attached_by (drop n calls) other.replies) one.attached_is
             ∙ ap (λ rest. (a.attached || attached_by calls one.replies) || attached_by rest other.replies) here ∙ attached-then a.attached calls one.replies other.replies;
+        judged = judged-then speech.denies session calls one.replies other.replies a.held b.held c.held one.judged
+            (subst (λ cs. JudgedBy speech.denies session cs other.replies b.held c.held) here other.judged);
         comes = comes-then calls a b c one.replies other.replies n r one.comes other.comes;
       }

@@ -5,7 +5,7 @@ use Rattle.boss_model.specs.Lines.{is_blank}
 use Rattle.def_connection.specs.Batches.{AreAsked}
 use Rattle.def_connection.specs.Speech.{Reading, watches, refuses, is_later}
 use Rattle.boss_sessions.specs.declared.heard.Heard.{Heard}
-use Rattle.boss_sessions.specs.declared.heard.Heard.TheVariants.{Requests, Refused, Unread, Watch, Untimed, Limit, Finish, TooLong, ReadFault}
+use Rattle.boss_sessions.specs.declared.heard.Heard.TheVariants.{Requests, Refused, Unread, Watch, Untimed}
 use Rattle.boss_sessions.specs.Places.{Place, Advances, IsOpen, IsAtStop}
 
 -- the lines that are not passed over

@@ -1,5 +1,7 @@
 pub mod Gathered
+pub mod Holding
 pub mod Places
+pub mod Replies
 pub mod Requests
 pub mod Speaking
 pub mod Connected

@@ -17,6 +17,7 @@ LeavesBy (came.Done answer) broken before after = (after ≡ before) × (broken 
 LeavesBy came.Stopped broken before after = (after ≡ Stopped) × (broken ≡ true)
 LeavesBy came.DiskFault broken before after = (after ≡ DiskFault) × (broken ≡ true)
 LeavesBy came.NoMemory broken before after = ⊥
+LeavesBy (came.Denied index rule) broken before after = ⊥
 
 -- whether the pass had seen the mark of a disk that failed, and whether it has then
 pub record Parts (session moment : ℕ) (own own' : List Entry) (was broken : Bool) (end end' : SessionEnd) : Type 0 where

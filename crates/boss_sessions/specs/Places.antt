@@ -8,7 +8,7 @@ use Rattle.boss_lines.specs.Lines.{StopsAt}
 use Rattle.boss_lines.specs.Window.{IsTooLong}
 use Rattle.boss_sessions.specs.declared.hearing.Hearing.{Hearing}
 use Rattle.boss_sessions.specs.declared.heard.Heard.{Heard}
-use Rattle.boss_sessions.specs.declared.heard.Heard.TheVariants.{Requests, Refused, Unread, Watch, Untimed, Limit, Finish, TooLong, ReadFault}
+use Rattle.boss_sessions.specs.declared.heard.Heard.TheVariants.{Limit, Finish, TooLong, ReadFault}
 
 -- the bytes that were read ahead, the answer that the reader stopped at, the bytes that are left of the source, and how many
 -- lines may still be taken

@@ -5,7 +5,7 @@ use Rattle.boss_model.specs.Limits.{last_moment}
 use Rattle.boss_outside.specs.Counts.{Rose}
 use Rattle.def_connection.specs.Speech.{Reading, asks, watches, refuses}
 use Rattle.boss_sessions.specs.declared.heard.Heard.{Heard}
-use Rattle.boss_sessions.specs.declared.heard.Heard.TheVariants.{Requests, Refused, Unread, Watch, Untimed, Limit, Finish, TooLong, ReadFault}
+use Rattle.boss_sessions.specs.declared.heard.Heard.TheVariants.{Requests, Refused, Unread, Watch, Untimed}
 
 -- nothing is held that was not, and the clock gave no moment
 abbrev pub HoldsNone : Type 0 → List (Command × ℕ) → List (Command × ℕ) → List ℕ → List ℕ → Type 0

@@ -4,6 +4,7 @@ use Rattle.boss_model.specs.Limits.{last_moment}
 use Rattle.boss_lines.specs.Window.{IsTooLong}
 use Rattle.boss_sessions.specs.Gathered.{spoken_of}
 use Rattle.boss_sessions.specs.Places.{Place, Advances, IsOpen}
+use Rattle.boss_sessions.specs.Replies.{reply_room}
 use Rattle.def_connection.specs.Speech.{Speech, watches, is_later}
 use Rattle.def_connection.specs.Talks.{Standing, Goes, Stops, end_text}
 use Rattle.boss_sessions.specs.declared.end.SessionEnd.{SessionEnd}
@@ -13,8 +14,12 @@ use Rattle.boss_sessions.specs.declared.session.Session.{Session}
 -- a session's room, and its last moment
 pub record HasRoom (session : Session) : Type 0 where
   pub answers : 16 ≤ vec_capacity session.answers
-  pub text : 32768 ≤ session.text.capacity
+  pub text : reply_room ≤ session.text.capacity
   pub soon : session.last ≤ last_moment
+
+-- the session's process has this name, or it has none
+abbrev pub named : Standing → Option (List ℕ) → Standing
+named standing name = record standing { name = name }
 
 module _ (speech : Speech) (number : ℕ) (heeds tells ticks : Type 0) where
   -- the first line asks to watch, and it has no reply

@@ -3,15 +3,17 @@ use Rattle.std.specs.Prelude.{◌≡◌, ℕ, ◌+◌, ◌≤◌, Bool, true, fa
 use Rattle.std.specs.List.{AllByRecursion}
 use Rattle.boss_model.specs.declared.answer.Answer.{Answer}
 use Rattle.boss_model.specs.declared.command.Command.{Command}
-use Rattle.def_wire.specs.Texts.{line_of, memory_text, stopped_text}
+use Rattle.def_wire.specs.Texts.{line_of, denied_text, memory_text, stopped_text}
 use Rattle.def_history.specs.declared.entry.Entry.{Entry}
 use Rattle.def_history.specs.declared.outcome.Outcome.{Outcome}
-use Rattle.def_history.specs.declared.outcome.Outcome.TheVariants.{Done, Stopped, DiskFault, NoMemory}
+use Rattle.def_history.specs.declared.outcome.Outcome.TheVariants.{Done, Stopped, DiskFault, NoMemory, Denied}
 use Rattle.def_history.specs.History.{deeds, is_broken}
 use Rattle.boss_outside.specs.Counts.{Rose}
 use Rattle.def_connection.specs.Batches.{deeds_by, texts_by}
-use Rattle.def_connection.specs.Speech.{Reply, of_answer, of_memory, of_stop, Speech, attaches_by, is_stop}
+use Rattle.def_connection.specs.Speech.{Reply, of_answer, of_memory, of_stop, of_denial, Speech, attaches_by, is_stop}
 use Rattle.def_connection.specs.Talks.{Told}
+use Rattle.boss_shared.specs.Gates.{Holding}
+use Rattle.boss_sessions.specs.Holding.{JudgedBy}
 use Rattle.boss_sessions.specs.declared.halt.Halt.{Halt}
 use Rattle.boss_sessions.specs.declared.halt.Halt.TheVariants as halt
 
@@ -29,6 +31,7 @@ last_reply (Some (Done answer)) = []
 last_reply (Some Stopped) = of_stop ∷ []
 last_reply (Some DiskFault) = of_stop ∷ []
 last_reply (Some NoMemory) = of_memory ∷ []
+last_reply (Some (Denied index rule)) = of_denial index rule ∷ []
 
 abbrev pub replies_of : List Answer → Option Outcome → List Reply
 replies_of answers rest = map of_answer answers ++ last_reply rest
@@ -40,6 +43,7 @@ rest_of (Some (Done answer)) = []
 rest_of (Some Stopped) = line_of stopped_text
 rest_of (Some DiskFault) = line_of stopped_text
 rest_of (Some NoMemory) = line_of memory_text
+rest_of (Some (Denied index rule)) = line_of (denied_text index rule)
 
 -- how many were replied to, or why no more are done: a disk that failed goes before a write that did
 abbrev pub replied_to : {T E : Type 0} → ℕ → Result T E → Result ℕ Halt
@@ -52,6 +56,7 @@ turned (Some Stopped) answered told = Err halt.Stopped
 turned (Some DiskFault) answered told = Err halt.DiskFault
 turned (Some (Done answer)) answered told = replied_to (answered + 1) told
 turned (Some NoMemory) answered told = replied_to (answered + 1) told
+turned (Some (Denied index rule)) answered told = replied_to (answered + 1) told
 
 -- ---- one call or several
 
@@ -68,17 +73,18 @@ abbrev pub StopsOnce : List Reply → Type 0
 StopsOnce [] = Unit {0}
 StopsOnce (reply ∷ replies) = (is_stop reply ≡ true → replies ≡ []) × StopsOnce replies
 
--- the pass's own entries, the bytes that the sink took and the count of its faults, whether an attach was accepted, and what the
--- pass has seen
+-- the pass's own entries, the bytes that the sink took and the count of its faults, whether an attach was accepted, what the
+-- pass has seen, and what it holds at the gates
 pub record Voice : Type 0 where
   pub own : List Entry
   pub taken : List ℕ
   pub faults : ℕ
   pub attached : Bool
   pub seen : List Entry
+  pub held : List Holding
 
-abbrev pub voice : List Entry → List ℕ → ℕ → Bool → List Entry → Voice
-voice own taken faults attached seen = record { own = own; taken = taken; faults = faults; attached = attached; seen = seen }
+abbrev pub voice : List Entry → List ℕ → ℕ → Bool → List Entry → List Holding → Voice
+voice own taken faults attached seen held = record { own = own; taken = taken; faults = faults; attached = attached; seen = seen; held = held }
 
 -- no command was done: the number that were is the number of all
 abbrev pub counted : {T : Type 0} → ℕ → Result T Halt → Result ℕ Halt
@@ -110,4 +116,5 @@ module _ (speech : Speech) (session : ℕ) (tells : Type 0) (calls : List (Comma
     pub grew : deeds new.own ≡ deeds old.own ++ deeds_by session calls replies
     pub told : tells → Told old.taken new.taken old.faults new.faults (texts_by speech replies)
     pub attached_is : new.attached ≡ (old.attached || attached_by calls replies)
+    pub judged : JudgedBy speech.denies session calls replies old.held new.held
     pub comes : Comes replies old new result

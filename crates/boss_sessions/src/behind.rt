@@ -1,8 +1,9 @@
-ghost use Rattle.std.specs.Prelude.{◌≡◌, ◌≤◌};
+ghost use Rattle.std.specs.Prelude.{◌≡◌, ◌≤◌, List};
 ghost use Rattle.boss_model.specs.Limits.{answer_room};
 ghost use Rattle.boss_outside.specs.Counts.{HasCause};
 ghost use Rattle.boss_outside.specs.Streams.{Writes};
 ghost use Rattle.boss_model.specs.Catalogue.{Catalogue};
+ghost use Rattle.def_connection.specs.Speech.{Gate};
 ghost use Rattle.boss_sessions.specs.Speaking.{speech_of};
 ghost use Rattle.boss_sessions.specs.Ends.{end_at, end_behind, end_of, text_behind};
 
@@ -21,7 +22,8 @@ pub(crate) fn tell_behind<K: Sink>(
 ) -> Result<(), Failed>
     requires room { answer_room ≤ text.old.capacity }
     ensures room { text.new.capacity ≡ text.old.capacity }
-    ensures bytes { (catalogue : Catalogue) → K.tells → Writes (K.taken sink.old) (K.taken sink.new) (text_behind (speech_of catalogue) heard.now) result }
+    ensures bytes { (catalogue : Catalogue) (gates : List Gate) → K.tells →
+        Writes (K.taken sink.old) (K.taken sink.new) (text_behind (speech_of catalogue gates) heard.now) result }
     ensures cause { HasCause (K.faults sink.old) (K.faults sink.new) result }
 {
     match heard {

@@ -2,6 +2,7 @@ ghost use Rattle.std.specs.Prelude.{◌≡◌, ◌≤◌};
 ghost use Rattle.boss_model.specs.Limits.{last_moment};
 ghost use Rattle.def_history.specs.History.{is_broken};
 ghost use Rattle.boss_lock.specs.Places.{entries_at};
+ghost use Rattle.boss_sessions.specs.Holding.{LeavesOthers};
 ghost use Rattle.boss_sessions.specs.Parting.{Parts};
 
 use crate::SessionEnd;
@@ -22,6 +23,7 @@ pub(crate) fn part<G: Desk>(
     requires soon { moment ≤ last_moment }
     ensures own { G.owns desk.now pass.new }
     ensures parts { G.parts pass.new ≡ G.parts pass.old }
+    ensures others { LeavesOthers (G.denies desk.now) session (G.held pass.old) (G.held pass.new) }
     ensures parted { Parts session moment (entries_at (G.seen pass.old) (G.mine pass.old)) (entries_at (G.seen pass.new) (G.mine pass.new))
         (is_broken (G.seen pass.old)) (is_broken (G.seen pass.new)) end result }
 {
@@ -30,5 +32,6 @@ pub(crate) fn part<G: Desk>(
         Outcome::Stopped => SessionEnd::Stopped,
         Outcome::DiskFault => SessionEnd::DiskFault,
         Outcome::NoMemory => unreachable!(),
+        Outcome::Denied { .. } => unreachable!(),
     }
 }

@@ -7,7 +7,8 @@ ghost use Rattle.boss_lock.specs.Places.{entries_at};
 ghost use Rattle.def_connection.specs.Speech.{last_or};
 ghost use Rattle.def_connection.specs.Talks.{standing};
 ghost use Rattle.boss_sessions.specs.Ends.{ReadCause, WriteCause, ClockCause, DiskCause};
-ghost use Rattle.boss_sessions.specs.Rounds.{HasRoom, Rounded};
+ghost use Rattle.boss_sessions.specs.Holding.{ByName, LeavesOthers};
+ghost use Rattle.boss_sessions.specs.Rounds.{named, HasRoom, Rounded};
 
 use crate::SessionEnd;
 use crate::behind::{end_at, end_behind, tell_behind};
@@ -41,11 +42,13 @@ pub(crate) fn round<G: Desk, S: Source, K: Sink, C: Clock>(
     ensures own { G.owns desk.now pass.new }
     ensures parts { G.parts pass.new ≡ G.parts pass.old }
     ensures room { HasRoom session.new }
-    ensures rounded { Rounded (speech_of catalogue.now) number S.tells K.tells C.tells session.old.hearing.later session.new.hearing.later
+    ensures rounded { ByName (G.denies desk.now) number (G.held pass.old) (G.held pass.new) (λ name name'.
+        Rounded (speech_of catalogue.now (G.denies desk.now)) number S.tells K.tells C.tells session.old.hearing.later session.new.hearing.later
         (place_of session.old.hearing (S.left source.old)) (place_of session.new.hearing (S.left source.new))
-        (standing (entries_at (G.seen pass.old) (G.mine pass.old)) (K.taken sink.old) (K.faults sink.old) (C.given clock.old) session.old.attached session.old.last)
-        (standing (entries_at (G.seen pass.new) (G.mine pass.new)) (K.taken sink.new) (K.faults sink.new) (C.given clock.new) session.new.attached session.new.last)
-        result }
+        (named (standing (entries_at (G.seen pass.old) (G.mine pass.old)) (K.taken sink.old) (K.faults sink.old) (C.given clock.old) session.old.attached session.old.last) name)
+        (named (standing (entries_at (G.seen pass.new) (G.mine pass.new)) (K.taken sink.new) (K.faults sink.new) (C.given clock.new) session.new.attached session.new.last) name')
+        result) }
+    ensures others { LeavesOthers (G.denies desk.now) number (G.held pass.old) (G.held pass.new) }
     ensures goes_on { IfNone result (session.new.hearing.lines < session.old.hearing.lines) }
     ensures held { S.tells → S.held source.new ≡ S.held source.old }
     ensures read { ReadCause (S.faults source.old) (S.faults source.new) result }

@@ -1,4 +1,4 @@
-ghost use Rattle.std.specs.Prelude.{◌≡◌, false, Some};
+ghost use Rattle.std.specs.Prelude.{◌≡◌, false, None, Some};
 ghost use Rattle.boss_model.specs.Catalogue.{actuators};
 ghost use Rattle.def_history.specs.History.{is_broken};
 ghost use Rattle.boss_sessions.specs.Places.{place_of, IsOpen};
@@ -8,7 +8,8 @@ ghost use Rattle.def_connection.specs.Talks.{standing};
 ghost use Rattle.boss_sessions.specs.Connected.{Connected};
 ghost use Rattle.boss_sessions.specs.Ends.{ReadCause, WriteCause, ClockCause, DiskCause};
 ghost use Rattle.boss_sessions.specs.Parting.{FailsLast};
-ghost use Rattle.boss_sessions.specs.Rounds.{Ended, HasRoom};
+ghost use Rattle.boss_sessions.specs.Holding.{Holds, LeavesOthers, Named};
+ghost use Rattle.boss_sessions.specs.Rounds.{named, Ended, HasRoom};
 
 use crate::SessionEnd;
 use crate::parting::part;
@@ -24,7 +25,9 @@ use std::alloc::Global;
 /// Serves a connection, up to its end, its first line that asks to watch, or whatever else ends it.
 ///
 /// Each line that is not blank has one reply, in order: a request that of its command, which is done once, at the moment that the
-/// clock gave for it; another line why it is refused; and one for which there was no memory is told so, and changes nothing.
+/// clock gave for it; another line why it is refused; and one for which there was no memory is told so, and changes nothing. Exactly
+/// a submit that a gate of the desk denies to the process that the session then has, by the name of its last accepted attach, is
+/// told so, with its first write that is denied and the rule; it is not done, and the talk goes on.
 /// Requests that have come together are done in one call. Where an attach was accepted, the last call tells that the process is
 /// lost, at the last moment that the clock gave, and where it is not answered, its outcome is the end: Stopped where the disk had
 /// failed before it, also in a call of this session, and DiskFault where it failed in it.
@@ -40,12 +43,14 @@ pub fn serve_connection<G: Desk, S: Source, K: Sink, C: Clock>(
 ) -> SessionEnd
     requires own { G.owns desk.now pass.old }
     requires plant { actuators catalogue.now ≡ G.plant desk.now }
+    requires unheld { Holds (G.denies desk.now) session None (G.held pass.old) }
     ensures own { G.owns desk.now pass.new }
     ensures parts { G.parts pass.new ≡ G.parts pass.old }
-    ensures connected { Connected (speech_of catalogue.now) session S.tells K.tells C.tells (S.left source.old) (S.left source.new)
+    ensures connected { Connected (speech_of catalogue.now (G.denies desk.now)) session S.tells K.tells C.tells (S.left source.old) (S.left source.new)
         (standing (entries_at (G.seen pass.old) (G.mine pass.old)) (K.taken sink.old) (K.faults sink.old) (C.given clock.old) false 0)
         (standing (entries_at (G.seen pass.new) (G.mine pass.new)) (K.taken sink.new) (K.faults sink.new) (C.given clock.new) false 0)
         result }
+    ensures others { LeavesOthers (G.denies desk.now) session (G.held pass.old) (G.held pass.new) }
     ensures held { S.tells → S.held source.new ≡ S.held source.old }
     ensures read { ReadCause (S.faults source.old) (S.faults source.new) (Some result) }
     ensures written { WriteCause (K.faults sink.old) (K.faults sink.new) (Some result) }
@@ -82,14 +87,17 @@ fn talk<G: Desk, S: Source, K: Sink, C: Clock>(
     requires ready { IsOpen S.tells (place_of session.old.hearing (S.left source.old)) }
     requires first { session.old.hearing.later ≡ false }
     requires room { HasRoom session.old }
+    requires unheld { Holds (G.denies desk.now) number None (G.held pass.old) }
     ensures own { G.owns desk.now pass.new }
     ensures parts { G.parts pass.new ≡ G.parts pass.old }
     ensures room { HasRoom session.new }
-    ensures ended { Ended (speech_of catalogue.now) number S.tells K.tells C.tells false
+    ensures ended { Named (G.denies desk.now) number (G.held pass.new) (λ name.
+        Ended (speech_of catalogue.now (G.denies desk.now)) number S.tells K.tells C.tells false
         (place_of session.old.hearing (S.left source.old)) (place_of session.new.hearing (S.left source.new))
         (standing (entries_at (G.seen pass.old) (G.mine pass.old)) (K.taken sink.old) (K.faults sink.old) (C.given clock.old) session.old.attached session.old.last)
-        (standing (entries_at (G.seen pass.new) (G.mine pass.new)) (K.taken sink.new) (K.faults sink.new) (C.given clock.new) session.new.attached session.new.last)
-        result }
+        (named (standing (entries_at (G.seen pass.new) (G.mine pass.new)) (K.taken sink.new) (K.faults sink.new) (C.given clock.new) session.new.attached session.new.last) name)
+        result) }
+    ensures others { LeavesOthers (G.denies desk.now) number (G.held pass.old) (G.held pass.new) }
     ensures held { S.tells → S.held source.new ≡ S.held source.old }
     ensures read { ReadCause (S.faults source.old) (S.faults source.new) (Some result) }
     ensures written { WriteCause (K.faults sink.old) (K.faults sink.new) (Some result) }

@@ -1,8 +1,10 @@
 ghost use Rattle.std.specs.Prelude.{◌≡◌, ◌≤◌, false, [], None, IfOk, vec_capacity};
-ghost use Rattle.boss_model.specs.Limits.{answer_room, most_lines};
+ghost use Rattle.boss_model.specs.Limits.{most_lines};
+ghost use Rattle.boss_sessions.specs.Replies.{reply_room};
 
 use crate::hearing::Hearing;
-use boss_model::{ANSWER_ROOM, Answer, Buffer, MOST_HELD, NoMemory};
+use crate::replies::REPLY_ROOM;
+use boss_model::{Answer, Buffer, MOST_HELD, NoMemory};
 use boss_requests::RequestReader;
 use std::alloc::Global;
 
@@ -18,7 +20,7 @@ pub(crate) struct Session {
     pub(crate) last: u64,
     /// Room for the answers to the requests that are held.
     pub(crate) answers: Vec<Answer>,
-    /// Room for the text of a reply.
+    /// Room for the texts of replies.
     pub(crate) text: Buffer,
 }
 
@@ -32,7 +34,7 @@ impl Session {
         ensures attached { IfOk result (λ session. session.attached ≡ false) }
         ensures last { IfOk result (λ session. session.last ≡ 0) }
         ensures answers { IfOk result (λ session. 16 ≤ vec_capacity session.answers) }
-        ensures text { IfOk result (λ session. answer_room ≤ session.text.capacity) }
+        ensures text { IfOk result (λ session. reply_room ≤ session.text.capacity) }
     {
         Ok(Session {
             hearing: Hearing::new(alloc)?,
@@ -40,7 +42,7 @@ impl Session {
             attached: false,
             last: 0,
             answers: Vec::with_capacity(alloc, MOST_HELD)?,
-            text: Buffer::new(alloc, ANSWER_ROOM)?,
+            text: Buffer::new(alloc, REPLY_ROOM)?,
         })
     }
 }

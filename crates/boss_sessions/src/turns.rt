@@ -1,11 +1,11 @@
 ghost use Rattle.std.specs.Prelude.{◌≡◌, ◌≤◌, length, map, drop, IfOk, vec_capacity};
-ghost use Rattle.boss_model.specs.Limits.{answer_room};
 ghost use Rattle.std.specs.List.{AllByRecursion};
 ghost use Rattle.boss_model.specs.Catalogue.{actuators};
 ghost use Rattle.def_history.specs.History.{is_broken, MayCall};
 ghost use Rattle.boss_sessions.specs.Speaking.{speech_of};
 ghost use Rattle.boss_lock.specs.Places.{entries_at};
 ghost use Rattle.def_connection.specs.Speech.{attaches_by, of_answer};
+ghost use Rattle.boss_sessions.specs.Replies.{reply_room};
 ghost use Rattle.boss_sessions.specs.Turns.{attached_by, counted, Replied, replied_to, turned, voice};
 
 use crate::halt::Halt;
@@ -16,8 +16,8 @@ use boss_points::Catalogue;
 use boss_shared::Desk;
 use def_history::Outcome;
 
-/// Has all commands done in order, each at its moment in milliseconds, and tells a reply to each. One for which there is no memory
-/// is told so, and the ones behind it are done all the same.
+/// Has all commands done in order, each at its moment in milliseconds, and tells a reply to each. One for which there is no memory,
+/// or that is denied, is told so, and the ones behind it are done all the same.
 pub(crate) fn answer_all<G: Desk, K: Sink>(
     catalogue: &Catalogue,
     desk: &G,
@@ -34,14 +34,14 @@ pub(crate) fn answer_all<G: Desk, K: Sink>(
     requires few { length commands.items ≤ 16 }
     requires may { AllByRecursion (MayCall (actuators catalogue.now)) commands.items }
     requires room { 16 ≤ vec_capacity answers.old }
-    requires text { answer_room ≤ text.old.capacity }
+    requires text { reply_room ≤ text.old.capacity }
     ensures own { G.owns desk.now pass.new }
     ensures parts { G.parts pass.new ≡ G.parts pass.old }
     ensures room { vec_capacity answers.new ≡ vec_capacity answers.old }
     ensures text { text.new.capacity ≡ text.old.capacity }
-    ensures replied { Replied (speech_of catalogue.now) session K.tells commands.items
-        (voice (entries_at (G.seen pass.old) (G.mine pass.old)) (K.taken sink.old) (K.faults sink.old) attached.old (G.seen pass.old))
-        (voice (entries_at (G.seen pass.new) (G.mine pass.new)) (K.taken sink.new) (K.faults sink.new) attached.new (G.seen pass.new))
+    ensures replied { Replied (speech_of catalogue.now (G.denies desk.now)) session K.tells commands.items
+        (voice (entries_at (G.seen pass.old) (G.mine pass.old)) (K.taken sink.old) (K.faults sink.old) attached.old (G.seen pass.old) (G.held pass.old))
+        (voice (entries_at (G.seen pass.new) (G.mine pass.new)) (K.taken sink.new) (K.faults sink.new) attached.new (G.seen pass.new) (G.held pass.new))
         (counted (length commands.items) result) }
 {
     let mut held = Items::from_vec(commands);
@@ -57,7 +57,7 @@ pub(crate) fn answer_all<G: Desk, K: Sink>(
     Ok(())
 }
 
-/// Has commands done until there is no memory for one, tells the replies, and gives how many were replied to.
+/// Has commands done until there is no memory for one or one is denied, tells the replies, and gives how many were replied to.
 fn one_turn<G: Desk, K: Sink>(
     catalogue: &Catalogue,
     desk: &G,
@@ -75,15 +75,15 @@ fn one_turn<G: Desk, K: Sink>(
     requires few { length commands.now ≤ 16 }
     requires may { AllByRecursion (MayCall (actuators catalogue.now)) commands.now }
     requires room { 16 ≤ vec_capacity answers.old }
-    requires text { answer_room ≤ text.old.capacity }
+    requires text { reply_room ≤ text.old.capacity }
     ensures own { G.owns desk.now pass.new }
     ensures parts { G.parts pass.new ≡ G.parts pass.old }
     ensures room { vec_capacity answers.new ≡ vec_capacity answers.old }
     ensures text { text.new.capacity ≡ text.old.capacity }
     ensures some { IfOk result (λ count. (1 ≤ count) × (count ≤ length commands.now)) }
-    ensures replied { Replied (speech_of catalogue.now) session K.tells commands.now
-        (voice (entries_at (G.seen pass.old) (G.mine pass.old)) (K.taken sink.old) (K.faults sink.old) attached.old (G.seen pass.old))
-        (voice (entries_at (G.seen pass.new) (G.mine pass.new)) (K.taken sink.new) (K.faults sink.new) attached.new (G.seen pass.new)) result }
+    ensures replied { Replied (speech_of catalogue.now (G.denies desk.now)) session K.tells commands.now
+        (voice (entries_at (G.seen pass.old) (G.mine pass.old)) (K.taken sink.old) (K.faults sink.old) attached.old (G.seen pass.old) (G.held pass.old))
+        (voice (entries_at (G.seen pass.new) (G.mine pass.new)) (K.taken sink.new) (K.faults sink.new) attached.new (G.seen pass.new) (G.held pass.new)) result }
 {
     let outcomes = desk.call_all(pass, session, commands, answers);
     let told = tell_replies(catalogue, answers.as_slice(), &outcomes.rest, text, sink);
@@ -104,7 +104,9 @@ fn turn_end(
     match rest {
         Some(Outcome::Stopped) => Err(Halt::Stopped),
         Some(Outcome::DiskFault) => Err(Halt::DiskFault),
-        Some(Outcome::NoMemory | Outcome::Done { .. }) => replied(answered + 1, told),
+        Some(Outcome::NoMemory | Outcome::Denied { .. } | Outcome::Done { .. }) => {
+            replied(answered + 1, told)
+        }
         None => replied(answered, told),
     }
 }

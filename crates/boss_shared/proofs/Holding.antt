@@ -94,6 +94,11 @@ module _ {V : Type 0} (plant : V → List Actuator) (state : V → State) (stopp
             subst (keeps new) all (k.gained off (before ++ events (plant start) log (state start)) (h.gained s before has));
       }
 
+  -- a value that is found to be the one that is held
+  pub held_as : (start held found : V) (log : List Entry) → found ≡ held → IsHeld plant state stopped faults leaves keeps start held log →
+      IsHeld plant state stopped faults leaves keeps start found log
+  held_as start held found log same h = subst (λ value. IsHeld plant state stopped faults leaves keeps start value log) (sym same) h
+
   pub holds_on : (start old new : V) (log made : List Entry) → IsHeld plant state stopped faults leaves keeps start old log →
       Keeps plant state stopped faults leaves keeps old new made → IsHeld plant state stopped faults leaves keeps start new (log ++ made)
   holds_on start old new log made h k = cases (stopped old) refl

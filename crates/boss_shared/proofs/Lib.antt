@@ -1,4 +1,6 @@
+pub mod HeldLemmas
 pub mod Holding
 pub mod Joins
 pub mod Telling
 pub mod Turns
+pub mod Ungated

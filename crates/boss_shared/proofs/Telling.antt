@@ -14,7 +14,7 @@ use Rattle.law_machine.proofs.Tellable.{tellable}
 use Rattle.def_history.specs.declared.entry.Entry.{Entry}
 use Rattle.def_history.specs.declared.entry.Entry.TheVariants.{Did, Broke}
 use Rattle.def_history.specs.declared.outcome.Outcome.{Outcome}
-use Rattle.def_history.specs.declared.outcome.Outcome.TheVariants.{Done, Stopped, DiskFault, NoMemory}
+use Rattle.def_history.specs.declared.outcome.Outcome.TheVariants.{Done, Stopped, DiskFault, NoMemory, Denied}
 use Rattle.def_history.specs.History.{after_entry, run, IsLegal}
 use Rattle.def_history.specs.Made.{made_by, done_by, made_by_all, mark_by}
 use Rattle.def_history.proofs.Going.{legal_front}
@@ -38,6 +38,7 @@ module _ (catalogue : Catalogue) where
   told session command moment Stopped s sound legal = tt
   told session command moment DiskFault s sound legal = tt
   told session command moment NoMemory s sound legal = tt
+  told session command moment (Denied index rule) s sound legal = tt
 
   done_told : (session : ℕ) (calls : List (Command × ℕ)) (answers : List Answer) (s : State) → IsSound (actuators catalogue) s →
       IsLegal (actuators catalogue) (done_by session calls answers) s → length answers ≤ length calls → AllByRecursion (IsTellable catalogue) answers
@@ -56,6 +57,7 @@ few_done calls done (Some (Done answer)) fits = absurd fits
 few_done calls done (Some Stopped) fits = omega arith
 few_done calls done (Some DiskFault) fits = omega arith
 few_done calls done (Some NoMemory) fits = let less = fits.0 in omega arith
+few_done calls done (Some (Denied index rule)) fits = omega arith
 
 module _ (plant : List Actuator) (opening : State) (before : List Entry) (session : ℕ) where
   pub call_told : (command : Command) (moment : ℕ) (outcome : Outcome) → IsSound plant opening →

@@ -1,5 +1,5 @@
 -- What a pass has after a turn.
-use Rattle.std.proofs.Common.{◌≡◌, Bool, false, ◌||◌, ℕ, List, [], ◌∷◌, ◌++◌, length, Option, Some, None, refl, sym, ap, ◌∙◌, subst, append-nil}
+use Rattle.std.proofs.Common.{◌≡◌, Bool, true, false, ◌||◌, ℕ, List, [], ◌∷◌, ◌++◌, length, Option, Some, None, refl, sym, ap, ◌∙◌, subst, append-nil}
 use mathlib.Core.List.{IsPrefix}
 use Rattle.boss_model.specs.declared.answer.Answer.{Answer}
 use Rattle.boss_model.specs.declared.command.Command.{Command}
@@ -12,12 +12,13 @@ use Rattle.boss_lock.proofs.Histories.{prefix_more}
 use Rattle.def_history.specs.declared.entry.Entry.{Entry}
 use Rattle.def_history.specs.declared.entry.Entry.TheVariants.{Did, Broke}
 use Rattle.def_history.specs.declared.outcome.Outcome.{Outcome}
-use Rattle.def_history.specs.declared.outcome.Outcome.TheVariants.{Done, Stopped, DiskFault, NoMemory}
+use Rattle.def_history.specs.declared.outcome.Outcome.TheVariants.{Done, Stopped, DiskFault, NoMemory, Denied}
 use Rattle.def_history.specs.History.{is_broken, IsLegal, deeds}
 use Rattle.def_history.specs.Made.{made_by, done_by, mark_by, made_by_all}
 use Rattle.def_history.proofs.Going.{broken_append}
 use Rattle.boss_shared.specs.Calls.{is_stopped, has_failed, is_stopped_rest, has_failed_rest}
-use Rattle.boss_shared.specs.Passes.{Batch, IsPassOf, Turn}
+use Rattle.boss_shared.specs.Gates.{denial_of}
+use Rattle.boss_shared.specs.Passes.{Batch, FailsBy, IsPassOf, Turn, TurnsBy}
 
 -- a seat after a turn in which it found a history, and made these entries
 pub record Took {T : Type 0} (seat mid after : Standing T Entry) (made : List Entry) : Type 0 where
@@ -51,12 +52,32 @@ owned_after plant opening lock seat mid after made t own sound legal = (
 
 -- ---- one command
 
+-- a turn is what its caller is told of it, where nothing is denied
+pub turns_by : (plant : List Actuator) (opening : State) (seen : List Entry) (mine : List ℕ) (now : List Entry) (own : List ℕ)
+    (session : ℕ) (command : Command) (moment : ℕ) (outcome : Outcome) → denial_of outcome ≡ None →
+    Turn plant opening seen mine now own (made_by session command moment outcome) (is_stopped outcome) →
+    TurnsBy plant opening seen mine now own session command moment outcome
+turns_by plant opening seen mine now own session command moment (Done answer) undenied t = t
+turns_by plant opening seen mine now own session command moment Stopped undenied t = t
+turns_by plant opening seen mine now own session command moment DiskFault undenied t = t
+turns_by plant opening seen mine now own session command moment NoMemory undenied t = t
+turns_by plant opening seen mine now own session command moment (Denied index rule) undenied t = absurd cc
+
+pub fails_by : (was now : Bool) (rest : Option Outcome) → now ≡ has_failed_rest rest → FailsBy was now rest
+fails_by was now None is = is
+fails_by was now (Some (Done answer)) is = is
+fails_by was now (Some Stopped) is = is
+fails_by was now (Some DiskFault) is = is
+fails_by was now (Some NoMemory) is = is
+fails_by was now (Some (Denied index rule)) is = λ on. let clash : true ≡ false = sym on ∙ is in absurd cc
+
 broken_made : (session : ℕ) (command : Command) (moment : ℕ) (outcome : Outcome) →
     (is_stopped outcome || is_broken (made_by session command moment outcome)) ≡ has_failed outcome
 broken_made session command moment (Done answer) = refl
 broken_made session command moment Stopped = refl
 broken_made session command moment DiskFault = refl
 broken_made session command moment NoMemory = refl
+broken_made session command moment (Denied index rule) = refl
 
 pub failed_of : (session : ℕ) (command : Command) (moment : ℕ) (outcome : Outcome) (before now : List Entry) →
     now ≡ before ++ made_by session command moment outcome → is_stopped outcome ≡ is_broken before → is_broken now ≡ has_failed outcome
@@ -66,7 +87,7 @@ failed_of session command moment outcome before now ends stopped =
 
 -- ---- several commands
 
-deeds_append : (xs ys : List Entry) → deeds (xs ++ ys) ≡ deeds xs ++ deeds ys
+pub deeds_append : (xs ys : List Entry) → deeds (xs ++ ys) ≡ deeds xs ++ deeds ys
 deeds_append [] ys = refl
 deeds_append (Did session command moment answer ∷ xs) ys = ap (λ es. Did session command moment answer ∷ es) (deeds_append xs ys)
 deeds_append (Broke session commands ∷ xs) ys = deeds_append xs ys
@@ -82,6 +103,7 @@ deeds_mark session calls (Some (Done answer)) = refl
 deeds_mark session calls (Some Stopped) = refl
 deeds_mark session calls (Some DiskFault) = refl
 deeds_mark session calls (Some NoMemory) = refl
+deeds_mark session calls (Some (Denied index rule)) = refl
 
 broken_done : (session : ℕ) (calls : List (Command × ℕ)) (answers : List Answer) → is_broken (done_by session calls answers) ≡ false
 broken_done session [] answers = refl
@@ -95,6 +117,7 @@ broken_mark session calls (Some (Done answer)) = refl
 broken_mark session calls (Some Stopped) = refl
 broken_mark session calls (Some DiskFault) = refl
 broken_mark session calls (Some NoMemory) = refl
+broken_mark session calls (Some (Denied index rule)) = refl
 
 deeds_made : (session : ℕ) (calls : List (Command × ℕ)) (answers : List Answer) (rest : Option Outcome) →
     deeds (made_by_all session calls answers rest) ≡ done_by session calls answers
@@ -117,5 +140,5 @@ batch_of_turn plant opening seen mine now own session calls answers rest t =
       goes_on = subst (λ log. IsPrefix seen log) (sym t.ends) (prefix_more seen t.before made t.goes_on);
       deeds_are = ap deeds t.entries ∙ deeds_append (entries_at seen mine) made ∙ ap (λ es. deeds (entries_at seen mine) ++ es) (deeds_made session calls answers rest);
       legal = t.legal;
-      failed = ap is_broken t.ends ∙ broken_append t.before made ∙ (λ i. sym t.stopped_is i || broken_made_all session calls answers rest i) ∙ broken_mark session calls rest;
+      failed = fails_by (is_broken seen) (is_broken now) rest (ap is_broken t.ends ∙ broken_append t.before made ∙ (λ i. sym t.stopped_is i || broken_made_all session calls answers rest i) ∙ broken_mark session calls rest);
     }

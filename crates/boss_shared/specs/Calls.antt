@@ -3,9 +3,9 @@ use Rattle.std.specs.Prelude.{◌≡◌, ℕ, zero, suc, ◌<◌, Bool, true, fa
 use Rattle.boss_model.specs.declared.command.Command.{Command}
 use Rattle.boss_model.specs.Catalogue.{Catalogue}
 use Rattle.boss_model.specs.Tellable.{IsTellable}
-use Rattle.def_history.specs.Made.{is_growing}
+use Rattle.def_history.specs.Made.{is_growing, is_submit}
 use Rattle.def_history.specs.declared.outcome.Outcome.{Outcome}
-use Rattle.def_history.specs.declared.outcome.Outcome.TheVariants.{Done, Stopped, DiskFault, NoMemory}
+use Rattle.def_history.specs.declared.outcome.Outcome.TheVariants.{Done, Stopped, DiskFault, NoMemory, Denied}
 
 -- the disk had failed before
 abbrev pub is_stopped : Outcome → Bool
@@ -13,6 +13,7 @@ is_stopped (Done answer) = false
 is_stopped Stopped = true
 is_stopped DiskFault = false
 is_stopped NoMemory = false
+is_stopped (Denied index rule) = false
 
 -- the disk has failed, before or in this call
 abbrev pub has_failed : Outcome → Bool
@@ -20,6 +21,7 @@ has_failed (Done answer) = false
 has_failed Stopped = true
 has_failed DiskFault = true
 has_failed NoMemory = false
+has_failed (Denied index rule) = false
 
 -- memory is wanted by certain commands alone
 abbrev pub MayWant : Command → Outcome → Type 0
@@ -27,6 +29,15 @@ MayWant command (Done answer) = Unit {0}
 MayWant command Stopped = Unit {0}
 MayWant command DiskFault = Unit {0}
 MayWant command NoMemory = is_growing command ≡ true
+MayWant command (Denied index rule) = Unit {0}
+
+-- a submit alone may be denied
+abbrev pub MayDeny : Command → Outcome → Type 0
+MayDeny command (Done answer) = Unit {0}
+MayDeny command Stopped = Unit {0}
+MayDeny command DiskFault = Unit {0}
+MayDeny command NoMemory = Unit {0}
+MayDeny command (Denied index rule) = is_submit command ≡ true
 
 -- the answer can be told
 abbrev pub IsTold : Catalogue → Outcome → Type 0
@@ -34,6 +45,7 @@ IsTold catalogue (Done answer) = IsTellable catalogue answer
 IsTold catalogue Stopped = Unit {0}
 IsTold catalogue DiskFault = Unit {0}
 IsTold catalogue NoMemory = Unit {0}
+IsTold catalogue (Denied index rule) = Unit {0}
 
 -- ---- several commands, each with its moment
 
@@ -58,6 +70,7 @@ RestFits calls done (Some (Done answer)) = ⊥
 RestFits calls done (Some Stopped) = done < length calls
 RestFits calls done (Some DiskFault) = done < length calls
 RestFits calls done (Some NoMemory) = (done < length calls) × (is_growing_at calls done ≡ true)
+RestFits calls done (Some (Denied index rule)) = done < length calls
 
 -- a disk that fails lets none be done
 abbrev pub NoneDone : ℕ → Option Outcome → Type 0
@@ -66,3 +79,4 @@ NoneDone done (Some (Done answer)) = Unit {0}
 NoneDone done (Some Stopped) = done ≡ 0
 NoneDone done (Some DiskFault) = done ≡ 0
 NoneDone done (Some NoMemory) = Unit {0}
+NoneDone done (Some (Denied index rule)) = Unit {0}

@@ -1,4 +1,4 @@
-ghost use Rattle.std.specs.Prelude.{◌≡◌, ◌≤◌, ℕ, Bool, List, [], length, vec_capacity};
+ghost use Rattle.std.specs.Prelude.{◌≡◌, ◌≤◌, ℕ, Bool, List, [], length, None, vec_capacity};
 ghost use Rattle.std.specs.List.{AllByRecursion};
 ghost use Rattle.boss_model.specs.declared.event.Event.{Event};
 ghost use Rattle.boss_model.specs.declared.state.Actuator.{Actuator};
@@ -7,6 +7,7 @@ ghost use Rattle.boss_model.specs.State.{Persistent, State};
 ghost use Rattle.def_history.specs.History.{MayCall};
 ghost use Rattle.def_history.specs.Made.{made_by, made_by_all};
 ghost use Rattle.boss_shared.specs.Calls.{is_stopped, is_stopped_rest, MayWant, NoneDone, RestFits};
+ghost use Rattle.boss_shared.specs.Gates.{denial_of, denial_of_rest};
 ghost use Rattle.boss_shared.specs.Keeping.{Keeps};
 
 use boss_model::{Answer, Command, DriverId, Items, SessionId};
@@ -46,18 +47,19 @@ pub trait Keeper {
         ensures { result ≡ stopped self.now };
 
     /// Does a command of a session at a moment, in milliseconds. Stopped exactly where the disk failed in an earlier call;
-    /// memory is wanted for a submit, an attach and notices alone.
+    /// memory is wanted for a submit, an attach and notices alone. It has no rules, so it denies nothing.
     fn apply(&mut self, session: SessionId, command: &Command, moment: u64) -> Outcome
         requires may { MayCall (plant self.old) (command.now, moment) }
         ensures kept { Keeps plant state stopped faults leaves keeps self.old self.new (made_by session command.now moment result) }
         ensures under { under self.new ≡ under self.old }
         ensures stops { is_stopped result ≡ stopped self.old }
-        ensures memory { MayWant command.now result };
+        ensures memory { MayWant command.now result }
+        ensures undenied { denial_of result ≡ None };
 
     /// Does 1 to 16 commands of a session in order, each at its moment in milliseconds, and keeps them together. `answers` is
     /// emptied, and then has an answer for each command that was done. Stopped exactly where the disk failed in an earlier call,
     /// and where it fails in this one none is done. Where memory is wanted for a submit, an attach or notices, that command
-    /// and those behind it are not done.
+    /// and those behind it are not done. It denies nothing.
     fn apply_all(
         &mut self,
         session: SessionId,
@@ -75,5 +77,6 @@ pub trait Keeper {
         ensures done { length answers.new.items ≡ result.done }
         ensures rest { RestFits commands.now result.done result.rest }
         ensures together { NoneDone result.done result.rest }
+        ensures undenied { denial_of_rest result.rest ≡ None }
         ensures room { vec_capacity answers.new ≡ vec_capacity answers.old };
 }

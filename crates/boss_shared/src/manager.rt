@@ -9,6 +9,7 @@ ghost use Rattle.boss_lock.specs.Seats.{first_seat, IsSeatOf};
 ghost use Rattle.def_history.specs.History.{MayCall};
 ghost use Rattle.def_history.specs.Made.{made_by, made_by_all};
 ghost use Rattle.boss_shared.specs.Calls.{has_failed_rest, is_stopped_rest, NoneDone, RestFits};
+ghost use Rattle.boss_shared.specs.Gates.{denial_of_rest, AllowedAll, NextJudged};
 ghost use Rattle.boss_shared.specs.Keeping.{IsHeld};
 ghost use Rattle.boss_shared.specs.Passes.{Batch, IsPassOf, Turn};
 
@@ -16,7 +17,7 @@ use crate::{Desk, Held, Keeper, Pass};
 use boss_lock::{Made, Ruled};
 use boss_model::{Answer, Command, Items, NoMemory, SessionId};
 use def_history::{Entry, Outcome, Outcomes};
-use std::alloc::Global;
+use std::alloc::{AllocFailed, Global};
 use std::sync::Wait;
 
 /// A keeper behind a lock, for many callers at once.
@@ -72,11 +73,15 @@ impl<K: Keeper, R: Wait + Sync + Drop> Manager<K, R> {
         ensures own { IfOk result (λ made. ⟦<Manager<K, R> as Desk>⟧.owns made.0 made.1) }
         ensures err { IfErr result (λ refused. refused.0 ≡ keeper) }
     {
+        let keeper = match Box::new(alloc, keeper) {
+            Ok(keeper) => keeper,
+            Err(AllocFailed { value }) => return Err((value, NoMemory)),
+        };
         match Ruled::new(alloc, Held { keeper }, seats) {
             Ok((lock, pass)) => Ok((Manager { lock, rt }, pass)),
             Err((held, _)) => {
                 let Held { keeper } = held;
-                Err((keeper, NoMemory))
+                Err((Box::into_inner(keeper), NoMemory))
             }
         }
     }
@@ -93,7 +98,7 @@ impl<K: Keeper, R: Wait + Sync + Drop> Manager<K, R> {
         let Manager { lock, rt } = self;
         let Held { keeper } = lock.close(pass);
         drop(rt);
-        keeper
+        Box::into_inner(keeper)
     }
 }
 
@@ -112,6 +117,10 @@ impl<K: Keeper, R: Wait + Sync + Drop> Desk for Manager<K, R> {
     ghost mine = { λ pass. pass.places };
 
     ghost parts = { λ pass. pass.parts };
+
+    ghost denies = { λ _. [] };
+
+    ghost held = { λ _. [] };
 
     fn call(
         &self,
@@ -148,15 +157,18 @@ impl<K: Keeper, R: Wait + Sync + Drop> Desk for Manager<K, R> {
         ensures parts { pass.new.parts ≡ pass.old.parts }
         ensures batch { Batch (K.plant self.now.lock.start) (K.state self.now.lock.start) pass.old.seen pass.old.places pass.new.seen pass.new.places
             session commands.now answers.new.items result.rest }
+        ensures allowed { AllowedAll [] session commands.now answers.new.items [] [] }
+        ensures gate { NextJudged [] [] session commands.now result.done result.rest }
         ensures done { length answers.new.items ≡ result.done }
         ensures rest { RestFits commands.now result.done result.rest }
         ensures told { (catalogue : Catalogue) → actuators catalogue ≡ K.plant self.now.lock.start →
             AllByRecursion (IsTellable catalogue) answers.new.items }
         ensures room { vec_capacity answers.new ≡ vec_capacity answers.old }
-        // Beyond what every desk does: the entries stand next to each other, and none is done where the disk fails.
+        // Beyond what every desk does: the entries stand next to each other, none is done where the disk fails, and none is denied.
         ensures turn { Turn (K.plant self.now.lock.start) (K.state self.now.lock.start) pass.old.seen pass.old.places pass.new.seen pass.new.places
             (made_by_all session commands.now answers.new.items result.rest) (is_stopped_rest result.rest) }
         ensures together { NoneDone result.done result.rest }
+        ensures undenied { denial_of_rest result.rest ≡ None }
     {
         let mut held = self.lock.enter(&self.rt, pass);
         let outcomes = held.keeper.apply_all(session, commands, answers);

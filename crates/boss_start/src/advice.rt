@@ -44,6 +44,12 @@ fn sentence(
             "the journal {journal} was refused, as its line says; name this catalogue's journal, or a new one"
         );
     }
+    if status == Status::RULES {
+        let rules = word_at(words, 6);
+        return format!(in alloc;
+            "the rules {rules} were refused, as their line says; bossctl lint {catalogue} {rules} names the line, the key and what may stand there"
+        );
+    }
     if status == Status::PLAN {
         let plan = word_at(words, 7);
         return format!(in alloc;
@@ -64,8 +70,8 @@ fn sentence(
 
 const USAGE: &str =
     "these words ask for nothing that it does; write script CATALOGUE JOURNAL, check CATALOGUE JOURNAL or \
-    serve CATALOGUE JOURNAL ADDRESS WORKERS CONNECTIONS, with - for a journal in memory alone and - PLAN after them where devices have \
-    a plan, or load COUNT SEED";
+    serve CATALOGUE JOURNAL ADDRESS WORKERS CONNECTIONS, with - for a journal in memory alone, RULES after them where names have access \
+    rules and PLAN after these, or - for none, where devices have a plan, or load COUNT SEED";
 
 const FILE_FAULT: &str = "a file failed, as an earlier line says; mend that and start again";
 

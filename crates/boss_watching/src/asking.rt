@@ -25,6 +25,7 @@ pub struct Page {
 }
 
 /// At most 64 notices of a process, from a number on, as they are at a moment, in milliseconds.
+#[tactic(auto, using(boss_shared::proofs::HeldLemmas::notices_hold))]
 pub fn ask<G: Desk>(
     desk: &G,
     pass: &mut G::Pass,
@@ -40,6 +41,7 @@ pub fn ask<G: Desk>(
     requires soon { moment ≤ last_moment }
     ensures own { G.owns desk.now pass.new }
     ensures parts { G.parts pass.new ≡ G.parts pass.old }
+    ensures held { G.held pass.new ≡ G.held pass.old }
     ensures done { IfOk result (λ page. (first : ℕ) × (deeds (entries_at (G.seen pass.new) (G.mine pass.new))
         ≡ deeds (entries_at (G.seen pass.old) (G.mine pass.old))
         ++ Did session (Notices (Some name.now) from 64) moment (NoticesAnswer first page.next page.list) ∷ [])) }
@@ -65,5 +67,6 @@ pub fn ask<G: Desk>(
         Outcome::Stopped => Err(WatchEnd::Stopped),
         Outcome::DiskFault => Err(WatchEnd::DiskFault),
         Outcome::NoMemory => Err(WatchEnd::NoMemory),
+        Outcome::Denied { .. } => unreachable!(),
     }
 }

@@ -45,6 +45,7 @@ pub fn take_turn<G: Desk, K: Sink, C: Clock>(
     requires room { answer_room ≤ text.old.capacity }
     ensures own { G.owns desk.now pass.new }
     ensures parts { G.parts pass.new ≡ G.parts pass.old }
+    ensures held { G.held pass.new ≡ G.held pass.old }
     ensures room { text.new.capacity ≡ text.old.capacity }
     ensures watches { IfOk result (λ turn. Watches (notes catalogue.now) session name.now K.tells C.tells from turn.next
         (standing (entries_at (G.seen pass.old) (G.mine pass.old)) (K.taken sink.old) (K.faults sink.old) (C.given clock.old) false 0)

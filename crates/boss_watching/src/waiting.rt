@@ -38,6 +38,7 @@ pub fn await_notices<G: Desk, K: Sink, C: Clock, W: Waiter>(
     requires room { answer_room ≤ text.old.capacity }
     ensures own { G.owns desk.now pass.new }
     ensures parts { G.parts pass.new ≡ G.parts pass.old }
+    ensures held { G.held pass.new ≡ G.held pass.old }
     ensures room { text.new.capacity ≡ text.old.capacity }
     ensures watches { IfOk result (λ next. Watches (notes catalogue.now) session name.now K.tells C.tells from next
         (standing (entries_at (G.seen pass.old) (G.mine pass.old)) (K.taken sink.old) (K.faults sink.old) (C.given clock.old) false 0)

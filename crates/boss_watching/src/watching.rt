@@ -37,6 +37,7 @@ pub fn watch_connection<G: Desk, K: Sink, C: Clock, W: Waiter>(
     requires from { 1 ≤ from }
     ensures own { G.owns desk.now pass.new }
     ensures parts { G.parts pass.new ≡ G.parts pass.old }
+    ensures held { G.held pass.new ≡ G.held pass.old }
     ensures watched { Watched (notes catalogue.now) session name.now K.tells C.tells from
         (standing (entries_at (G.seen pass.old) (G.mine pass.old)) (K.taken sink.old) (K.faults sink.old) (C.given clock.old) false 0)
         (standing (entries_at (G.seen pass.new) (G.mine pass.new)) (K.taken sink.new) (K.faults sink.new) (C.given clock.new) false 0) }

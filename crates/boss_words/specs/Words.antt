@@ -38,15 +38,20 @@ script_of (catalogue ∷ journal ∷ []) = do
   Some (Script catalogue journal)
 script_of _ = None
 
--- a plan's file, or `-` for none
-abbrev pub plan_of : List ℕ → Option (Option (List ℕ))
-plan_of text = if bytes_eq text (codes "-") then Some None else option_and_then (λ word. Some (Some word)) (word_of text)
+-- a file that may be left out: its name, or `-` for none
+abbrev pub file_of : List ℕ → Option (Option (List ℕ))
+file_of text = if bytes_eq text (codes "-") then Some None else option_and_then (λ word. Some (Some word)) (word_of text)
 
--- RULES PLAN, of which the last or both may be left out. There are no rules yet: `-` alone stands for none.
-abbrev pub optional_of : List (List ℕ) → Option (Option (List ℕ))
-optional_of [] = Some None
-optional_of (rules ∷ []) = if bytes_eq rules (codes "-") then Some None else None
-optional_of (rules ∷ plan ∷ []) = if bytes_eq rules (codes "-") then plan_of plan else None
+-- RULES PLAN, of which the last or both may be left out
+abbrev pub optional_of : List (List ℕ) → Option (Option (List ℕ) × Option (List ℕ))
+optional_of [] = Some (None, None)
+optional_of (rules ∷ []) = do
+  rules ← file_of rules
+  Some (rules, None)
+optional_of (rules ∷ plan ∷ []) = do
+  rules ← file_of rules
+  plan ← file_of plan
+  Some (rules, plan)
 optional_of _ = None
 
 -- serve CATALOGUE JOURNAL ADDRESS WORKERS CONNECTIONS, and then RULES PLAN
@@ -57,8 +62,8 @@ serve_of (catalogue ∷ journal ∷ address ∷ workers ∷ connections ∷ opti
   catalogue ← word_of catalogue
   journal ← word_of journal
   address ← word_of address
-  plan ← optional_of optional
-  Some (Serve catalogue journal address workers connections plan)
+  files ← optional_of optional
+  Some (Serve catalogue journal address workers connections files.0 files.1)
 serve_of _ = None
 
 -- check CATALOGUE JOURNAL

@@ -22,6 +22,8 @@ pub enum Job {
         workers: u32,
         /// How many connections are taken in all, at least 1.
         connections: u32,
+        /// The file that says which processes may write which points. Without one each may write all.
+        rules: Option<Word>,
         /// The file that says where the points of the drivers are in the field. Without one no device is told of any.
         plan: Option<Word>,
     },

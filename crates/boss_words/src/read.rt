@@ -1,4 +1,4 @@
-ghost use Rattle.boss_words.specs.Words.{texts, job_of, script_of, serve_of, check_of, load_of, optional_of, plan_of};
+ghost use Rattle.boss_words.specs.Words.{texts, job_of, script_of, serve_of, check_of, load_of, optional_of, file_of};
 ghost use Rattle.boss_words.specs.Given.{Gives};
 ghost use Rattle.boss_words.specs.declared.read.WordsRefusal.TheVariants.{NoMemory};
 ghost use Rattle.std.specs.Prelude.{◌≡◌};
@@ -85,32 +85,43 @@ fn serve(alloc: Global, arguments: &[String]) -> Result<Job, WordsRefusal>
     let catalogue = Word::new(alloc, catalogue.as_str())?;
     let journal = Word::new(alloc, journal.as_str())?;
     let address = Word::new(alloc, address.as_str())?;
-    let plan = optional_plan(alloc, optional)?;
+    let (rules, plan) = rules_and_plan(alloc, optional)?;
     Ok(Job::Serve {
         catalogue,
         journal,
         address,
         workers,
         connections,
+        rules,
         plan,
     })
 }
 
-/// The plan's file, of the words after those that a server has to have: RULES and PLAN. There are no rules yet, so the first can only be `-`.
-fn optional_plan(alloc: Global, optional: &[String]) -> Result<Option<Word>, WordsRefusal>
+/// The files of the words after those that a server has to have: RULES and PLAN.
+fn rules_and_plan(
+    alloc: Global,
+    optional: &[String],
+) -> Result<(Option<Word>, Option<Word>), WordsRefusal>
     ensures { Gives result (optional_of (texts optional.now)) }
 {
     match optional {
-        [] => Ok(None),
-        [rules] if rules.as_str() == "-" => Ok(None),
-        [rules, plan] if rules.as_str() == "-" => plan_word(alloc, plan.as_str()),
+        [] => Ok((None, None)),
+        [rules] => {
+            let rules = file_word(alloc, rules.as_str())?;
+            Ok((rules, None))
+        }
+        [rules, plan] => {
+            let rules = file_word(alloc, rules.as_str())?;
+            let plan = file_word(alloc, plan.as_str())?;
+            Ok((rules, plan))
+        }
         _ => Err(WordsRefusal::Usage),
     }
 }
 
-/// A plan's file, or `-` for none.
-fn plan_word(alloc: Global, text: &str) -> Result<Option<Word>, WordsRefusal>
-    ensures { Gives result (plan_of text.now) }
+/// A file that may be left out: its name, or `-` for none.
+fn file_word(alloc: Global, text: &str) -> Result<Option<Word>, WordsRefusal>
+    ensures { Gives result (file_of text.now) }
 {
     if text == "-" {
         return Ok(None);

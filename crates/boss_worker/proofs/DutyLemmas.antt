@@ -1,34 +1,35 @@
 -- What a worker left that let time pass, or drove devices.
-use Rattle.std.proofs.Common.{◌≡◌, ℕ, suc, ◌+◌, ◌<◌, ◌≤◌, Bool, true, List, [], ◌∷◌, ◌++◌, length, refl, ap, sym, ◌∙◌, arith}
+use Rattle.std.proofs.Common.{◌≡◌, ℕ, suc, ◌+◌, ◌<◌, ◌≤◌, Bool, true, List, [], ◌∷◌, ◌++◌, length, refl, ap, sym, ◌∙◌, subst, arith}
 use Rattle.std.specs.List.{AllByRecursion}
 use Rattle.boss_model.specs.Catalogue.{actuators, Catalogue}
 use Rattle.boss_model.specs.declared.command.Command.TheVariants.{Tick}
 use Rattle.boss_model.specs.declared.state.Actuator.{Actuator}
 use Rattle.boss_model.specs.DeviceCall.{DeviceCall}
 use Rattle.boss_model.specs.Limits.{last_number}
-use Rattle.boss_model.specs.State.{State}
 use Rattle.def_history.specs.declared.entry.Entry.{Entry}
-use Rattle.def_history.specs.History.{deeds, IsLegal}
+use Rattle.def_history.specs.History.{deeds, is_broken}
 use Rattle.def_lanes.specs.Lanes.{of_driver, of_time, done_in}
 use Rattle.def_lanes.specs.Waits.{IsPairOf}
 use Rattle.def_lanes.specs.Works.{Work, visit, beat, drive, owner, AreOf, calls_in}
 use Rattle.def_lanes.proofs.DeviceLemmas.{calls-one}
 use Rattle.def_lanes.proofs.Lists.{each-map}
-use Rattle.boss_lock.specs.Places.{entries_at}
+use Rattle.boss_shared.specs.Gates.{Gate}
 use Rattle.boss_expiry.specs.declared.end.WorkEnd.{WorkEnd}
 use Rattle.boss_expiry.specs.Beats.{IsBeatOf}
 use Rattle.boss_expiry.specs.Ends.{mark, ClockCause, EndCause}
 use Rattle.boss_expiry.specs.Ticking.{ticks, Expired}
 use Rattle.boss_expiry.proofs.Beating.{expired-added}
-use Rattle.boss_drive.specs.Drives.{IsDriveOf}
-use Rattle.boss_drive.specs.Driving.{Driven, made_by, left_by}
-use Rattle.boss_drive.proofs.Laning.{driven-added}
+use Rattle.boss_drive.specs.Driving.{Stand}
+use Rattle.def_guards.specs.Guards.{is_guarded}
 use Rattle.boss_worker.specs.declared.flags.Flags.{Flags}
-use Rattle.boss_worker.specs.Saying.{terms_of}
-use Rattle.boss_worker.specs.Troubles.{no_flags, flags_after, trouble_of_work, IsQuiet}
+use Rattle.boss_worker.specs.declared.trouble.Trouble.{Trouble}
+use Rattle.boss_worker.specs.declared.trouble.Trouble.TheVariants.{Disk}
+use Rattle.boss_worker.specs.Drove.{Drove, WasTold}
+use Rattle.boss_worker.specs.Saying.{terms_of, IsDriven}
+use Rattle.boss_worker.specs.Troubles.{no_flags, flags_after, trouble_of_work, ClockTrouble, IsQuiet}
 use Rattle.boss_worker.specs.Visits.{Left}
 use Rattle.boss_worker.proofs.CauseLemmas.{broken-worked, clock-worked}
-use Rattle.boss_worker.proofs.EndedLemmas.{lane-whole, ticks-long, told-to-end, turns-long}
+use Rattle.boss_worker.proofs.EndedLemmas.{lane-whole, ticks-long, told-to-end}
 use Rattle.boss_worker.proofs.LeftLemmas.{left-one}
 
 -- a worker for connections has no pauses to be told
@@ -45,24 +46,29 @@ pub calls-driven : (driver pauses : ℕ) (closed : Bool) (was old new more : Lis
 calls-driven driver pauses closed was old new more same grew =
     grew ∙ ap (λ front. front ++ more) (sym same) ∙ ap (λ behind. was ++ behind) (sym (calls-one driver pauses more closed [] [] (tt, tt)))
 
-module _ (catalogue : Catalogue) (workers number : ℕ) (heeds tells hosting clocking pausing : Type 0) (own own' seen : List Entry) (given given' : List ℕ) (misses misses' pauses pauses' most before now : ℕ)
+module _ (catalogue : Catalogue) (gates : List Gate) (workers number : ℕ) (heeds tells hosting clocking pausing : Type 0) (own own' seen : List Entry) (given given' : List ℕ) (misses misses' pauses pauses' most before now : ℕ)
     (closed : Bool) (end : WorkEnd) (flags : Flags) (empty : own ≡ []) (no_moment : clocking → given ≡ []) (no_pause : pausing → pauses ≡ 0) (no_miss : misses ≡ 0) (unmarked : flags ≡ no_flags)
     (clock : ClockCause misses misses' end) (cause : EndCause seen pausing closed before now end) where
   pub left-time : number ≡ workers → Expired own own' clocking given given' pausing pauses pauses' most end →
-      Left true (terms_of catalogue workers heeds tells hosting clocking pausing) number 0 (beat pauses' closed ∷ []) own' seen [] [] [] given' 0 0 misses' (flags_after (trouble_of_work end) flags)
-  left-time owned expired = left-one (terms_of catalogue workers heeds tells hosting clocking pausing) number (beat pauses' closed) own own' seen given given' misses misses' flags (trouble_of_work end)
+      Left true (terms_of catalogue gates workers heeds tells hosting clocking pausing) number 0 (beat pauses' closed ∷ []) own' seen [] [] [] given' 0 0 misses' (flags_after (trouble_of_work end) flags)
+  left-time owned expired = left-one (terms_of catalogue gates workers heeds tells hosting clocking pausing) number (beat pauses' closed) own own' seen given given' misses misses' flags (trouble_of_work end)
       (expired-added (actuators catalogue) clocking pausing own own' given given' pauses pauses' most end expired no_pause) (ap deeds empty) no_moment no_miss unmarked refl tt owned
       (clock-worked end misses misses' clock) (λ is. broken-worked end seen pausing closed before now cause is)
 
-  module _ (opening : State) (mine : List ℕ) (driver : ℕ) (recording whole whole' : Type 0) (calls calls' : List DeviceCall) (legal : IsLegal (actuators catalogue) seen opening) (is_own : own' ≡ entries_at seen mine)
-      (driven : Driven driver clocking recording (record { own = own; given = given; whole = whole; calls = calls }) (record { own = own'; given = given'; whole = whole'; calls = calls' }) pausing pauses pauses' most end) where
-    pub left-driven : number ≡ workers + 1 + driver →
-        Left true (terms_of catalogue workers heeds tells hosting clocking pausing) number 0 (drive driver (made_by driver driven.turns (left_by driver end driven.last)).calls pauses' closed ∷ []) own' seen [] [] [] given' 0 0 misses' (flags_after (trouble_of_work end) flags)
-    left-driven owned = left-one (terms_of catalogue workers heeds tells hosting clocking pausing) number (drive driver (made_by driver driven.turns (left_by driver end driven.last)).calls pauses' closed) own own' seen given given' misses misses' flags
-        (trouble_of_work end)
-        (driven-added (actuators catalogue) opening seen mine driver clocking recording pausing (record { own = own; given = given; whole = whole; calls = calls })
-        (record { own = own'; given = given'; whole = whole'; calls = calls' }) pauses pauses' most end legal is_own driven no_pause)
-        (ap deeds empty) no_moment no_miss unmarked refl tt owned (clock-worked end misses misses' clock) (λ is. broken-worked end seen pausing closed before now cause is)
+module _ (catalogue : Catalogue) (gates : List Gate) (workers number : ℕ) (heeds tells hosting clocking recording pausing : Type 0) (old new : Stand) (seen : List Entry) (misses misses' pauses : ℕ)
+    (closed : Bool) (trouble : Trouble) (flags : Flags) (empty : old.own ≡ []) (no_moment : clocking → old.given ≡ []) (no_miss : misses ≡ 0) (unmarked : flags ≡ no_flags)
+    (clock : ClockTrouble misses misses' trouble) (broken : trouble ≡ Disk → is_broken seen ≡ true) (driver : ℕ) (drove : Drove catalogue driver clocking recording old new pausing pauses) where
+  pub left-driven : number ≡ workers + 1 + driver →
+      Left true (terms_of catalogue gates workers heeds tells hosting clocking pausing) number 0 (drive driver drove.calls pauses closed ∷ []) new.own seen [] [] [] new.given 0 0 misses' (flags_after trouble flags)
+  left-driven owned = left-one (terms_of catalogue gates workers heeds tells hosting clocking pausing) number (drive driver drove.calls pauses closed) old.own new.own seen old.given new.given misses misses' flags trouble
+      drove.added (ap deeds empty) no_moment no_miss unmarked refl tt owned clock broken
+
+  pub driven-ended : (most : ℕ) → last_number ≤ most → WasTold old.own new.own pausing closed most trouble → IsQuiet (flags_after trouble flags) → pausing →
+      length (done_in (actuators catalogue) (of_driver driver) new.own) < last_number → closed ≡ true
+  driven-ended most enough was_told quiet told few =
+      let in_lane = lane-whole (actuators catalogue) (of_driver driver) (IsDriven (is_guarded catalogue driver) catalogue driver drove.calls pausing pauses) clocking old.own new.own old.given new.given
+      drove.added (ap deeds empty) in
+      was_told (ap deeds empty) enough (subst (λ f. IsQuiet (flags_after trouble f)) unmarked quiet) told (let same = ap length in_lane in omega (arith, same))
 
 -- a worker of which nothing went wrong was told to end
 module _ (plant : List Actuator) (clocking pausing : Type 0) (own own' seen : List Entry) (given given' : List ℕ) (pauses pauses' most before now : ℕ) (closed : Bool) (end : WorkEnd) (flags : Flags)
@@ -73,15 +79,3 @@ module _ (plant : List Actuator) (clocking pausing : Type 0) (own own' seen : Li
       let all : own' ≡ ticks expired.turns ++ mark Tick expired.last end = expired.entries ∙ ap (λ front. front ++ (ticks expired.turns ++ mark Tick expired.last end)) empty in
       let long : length expired.turns ≤ length (deeds own') = rw all (ticks-long expired.turns (mark Tick expired.last end)) in
       told-to-end end (length expired.turns) most (length (deeds own')) seen pausing closed before now flags enough expired.taken cause long quiet told (let same = ap length whole in omega (arith, same))
-
-  pub driven-ended : (opening : State) (mine : List ℕ) (driver : ℕ) (recording whole whole' : Type 0) (calls calls' : List DeviceCall) → IsLegal plant seen opening → own' ≡ entries_at seen mine →
-      Driven driver clocking recording (record { own = own; given = given; whole = whole; calls = calls }) (record { own = own'; given = given'; whole = whole'; calls = calls' }) pausing pauses pauses' most end →
-      length (done_in plant (of_driver driver) own') < last_number → closed ≡ true
-  driven-ended opening mine driver recording whole whole' calls calls' legal is_own driven few =
-      let made = made_by driver driven.turns (left_by driver end driven.last) in
-      let in_lane = lane-whole plant (of_driver driver) (IsDriveOf driver made.calls pausing pauses') clocking own own' given given'
-      (driven-added plant opening seen mine driver clocking recording pausing (record { own = own; given = given; whole = whole; calls = calls })
-      (record { own = own'; given = given'; whole = whole'; calls = calls' }) pauses pauses' most end legal is_own driven no_pause) (ap deeds empty) in
-      let all : own' ≡ made.entries = driven.made.entries ∙ ap (λ front. front ++ made.entries) empty in
-      let long : length driven.turns ≤ length (deeds own') = rw all (turns-long driver driven.turns (left_by driver end driven.last)) in
-      told-to-end end (length driven.turns) most (length (deeds own')) seen pausing closed before now flags enough driven.taken cause long quiet told (let same = ap length in_lane in omega (arith, same))

@@ -1,7 +1,9 @@
 pub mod CauseLemmas
+pub mod DroveLemmas
 pub mod DutyLemmas
 pub mod EndedLemmas
 pub mod FlagLemmas
 pub mod LeftLemmas
 pub mod VisitLemmas
 pub mod WorkerLemmas
+pub mod HeldLemmas

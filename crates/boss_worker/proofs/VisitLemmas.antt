@@ -13,6 +13,7 @@ use Rattle.def_connection.specs.Speech.{Speech}
 use Rattle.def_connection.specs.Talks.{Told, standing, Exchanged, Talked, IsEnded, IsTalkOf, spoken}
 use Rattle.def_connection.specs.Watching.{notes_in, Watched, Noticed, IsWatchOf}
 use Rattle.def_connection.proofs.OfSession.{talk-added, talk-silent, watch-added}
+use Rattle.boss_shared.specs.Gates.{Gate}
 use Rattle.boss_sessions.specs.Speaking.{speech_of}
 use Rattle.boss_sessions.specs.declared.end.SessionEnd.{SessionEnd}
 use Rattle.boss_sessions.specs.declared.end.SessionEnd.TheVariants as session
@@ -71,24 +72,24 @@ called-longer idle old new watch.NoMemory some called whole = absurd (let no : t
 longer-some : (old new more : List Entry) → new ≡ old ++ more → length old < length new → ¬ (more ≡ [])
 longer-some old new more grew longer none = let same : length new ≡ length old = ap length (grew ∙ ap (λ rest. old ++ rest) none ∙ append-nil old) in omega (arith, same)
 
-module _ (catalogue : Catalogue) (heeds tells ticks : Type 0) (served : Served) (some : 0 < served.session) (bytes : List ℕ) (held : heeds → served.held ≡ bytes)
+module _ (catalogue : Catalogue) (gates : List Gate) (heeds tells ticks : Type 0) (served : Served) (some : 0 < served.session) (bytes : List ℕ) (held : heeds → served.held ≡ bytes)
     (own own' : List Entry) (before : List ℕ) (count : ℕ) (empty : before ≡ []) (quiet : count ≡ 0) (given given' : List ℕ) where
   -- a connection that was served up to its end
   pub talk-visit : (reads : ℕ) (end : SessionEnd) →
-      Connected (speech_of catalogue) served.session heeds tells ticks bytes served.left (standing own before count given false 0) (standing own' served.taken served.write_faults given' false 0) end →
+      Connected (speech_of catalogue gates) served.session heeds tells ticks bytes served.left (standing own before count given false 0) (standing own' served.taken served.write_faults given' false 0) end →
       reads ≡ 0 → ReadCause reads served.read_faults (Some end) → WriteCause count served.write_faults (Some end) → is_watch end ≡ false →
-      Added (actuators catalogue) (of_session served.session) (λ entries. heeds → IsVisit catalogue tells served (is_trouble (trouble_of end)) entries) ticks own own' given given'
+      Added (actuators catalogue) (of_session served.session) (λ entries. heeds → IsVisit catalogue gates tells served (is_trouble (trouble_of end)) entries) ticks own own' given given'
   talk-visit reads end connected unread read write watched =
       added-says (actuators catalogue) (of_session served.session) ticks
-      (λ more. (moments : List ℕ) × Exchanged (speech_of catalogue) served.session tells connected.heard connected.rest connected.long (is_stop_end end) before served.taken count served.write_faults more moments)
-      (λ entries. heeds → IsVisit catalogue tells served (is_trouble (trouble_of end)) entries)
+      (λ more. (moments : List ℕ) × Exchanged (speech_of catalogue gates) served.session tells connected.heard connected.rest connected.long (is_stop_end end) before served.taken count served.write_faults more moments)
+      (λ entries. heeds → IsVisit catalogue gates tells served (is_trouble (trouble_of end)) entries)
       (λ more said told. inl (talk-of more said.0 said.1 told)) own own' given given'
-      (talk-added (actuators catalogue) (speech_of catalogue) served.session tells ticks some connected.heard connected.rest connected.long (is_stop_end end)
+      (talk-added (actuators catalogue) (speech_of catalogue gates) served.session tells ticks some connected.heard connected.rest connected.long (is_stop_end end)
       (standing own before count given false 0) (standing own' served.taken served.write_faults given' false 0) connected.talked)
     where
       talk-of : (more : List Entry) (moments : List ℕ) →
-          Exchanged (speech_of catalogue) served.session tells connected.heard connected.rest connected.long (is_stop_end end) before served.taken count served.write_faults more moments →
-          heeds → IsTalkOf (speech_of catalogue) tells served (is_trouble (trouble_of end)) more
+          Exchanged (speech_of catalogue gates) served.session tells connected.heard connected.rest connected.long (is_stop_end end) before served.taken count served.write_faults more moments →
+          heeds → IsTalkOf (speech_of catalogue gates) tells served (is_trouble (trouble_of end)) more
       talk-of more moments said told =
           let lost : Lost served.held served.left connected.heard connected.rest connected.long end =
           subst (λ b. Lost b served.left connected.heard connected.rest connected.long end) (sym (held told)) (connected.lost told) in
@@ -102,32 +103,32 @@ module _ (catalogue : Catalogue) (heeds tells ticks : Type 0) (served : Served) 
                 (has-ended served connected.heard connected.rest connected.long end lost
                 (subst (λ n. ReadCause n served.read_faults (Some end)) unread read)
                 (subst (λ n. WriteCause n served.write_faults (Some end)) quiet write) watched);
-            exchanged = exchanged-fresh (speech_of catalogue) served.session tells connected.heard (spoken lost.lost) connected.rest connected.long (is_stop_end end) before served.taken count served.write_faults
+            exchanged = exchanged-fresh (speech_of catalogue gates) served.session tells connected.heard (spoken lost.lost) connected.rest connected.long (is_stop_end end) before served.taken count served.write_faults
                 more moments lost.heard_are empty quiet said;
           }
 
   -- a connection whose first line asked to watch, and which then did
   pub watch-visit : (mid : List Entry) (between : List ℕ) (counted : ℕ) (gave : List ℕ) (name : List ℕ) (from idle : ℕ) (end : WatchEnd) →
-      (connected : Connected (speech_of catalogue) served.session heeds tells ticks bytes served.left (standing own before count given false 0) (standing mid between counted gave false 0) (session.Watch name from)) →
+      (connected : Connected (speech_of catalogue gates) served.session heeds tells ticks bytes served.left (standing own before count given false 0) (standing mid between counted gave false 0) (session.Watch name from)) →
       counted ≡ count → Watched (notes catalogue) served.session name tells ticks from (standing mid between counted gave false 0) (standing own' served.taken served.write_faults given' false 0) →
       0 < idle → HasCalled idle mid own' end →
-      Added (actuators catalogue) (of_session served.session) (λ entries. heeds → IsVisit catalogue tells served (is_trouble (trouble_of_watch end)) entries) ticks own own' given given'
+      Added (actuators catalogue) (of_session served.session) (λ entries. heeds → IsVisit catalogue gates tells served (is_trouble (trouble_of_watch end)) entries) ticks own own' given given'
   watch-visit mid between counted gave name from idle end connected calm watched some_turns called =
-      let silent = talk-silent (speech_of catalogue) served.session tells ticks connected.heard false (standing own before count given false 0) (standing mid between counted gave false 0)
-      (subst (λ rest. Talked (speech_of catalogue) served.session tells ticks connected.heard rest false false (standing own before count given false 0) (standing mid between counted gave false 0)) connected.asked.unanswered
-      (subst (λ long. Talked (speech_of catalogue) served.session tells ticks connected.heard connected.rest long false (standing own before count given false 0) (standing mid between counted gave false 0)) connected.asked.short connected.talked)) in
+      let silent = talk-silent (speech_of catalogue gates) served.session tells ticks connected.heard false (standing own before count given false 0) (standing mid between counted gave false 0)
+      (subst (λ rest. Talked (speech_of catalogue gates) served.session tells ticks connected.heard rest false false (standing own before count given false 0) (standing mid between counted gave false 0)) connected.asked.unanswered
+      (subst (λ long. Talked (speech_of catalogue gates) served.session tells ticks connected.heard connected.rest long false (standing own before count given false 0) (standing mid between counted gave false 0)) connected.asked.short connected.talked)) in
       added-then (actuators catalogue) (of_session served.session) ticks (λ entries. entries ≡ [])
       (λ more. (deeds own' ≡ deeds mid ++ more) × ((moments : List ℕ) × Noticed (notes catalogue) served.session name tells from between served.taken counted served.write_faults more moments))
-      (λ entries. heeds → IsVisit catalogue tells served (is_trouble (trouble_of_watch end)) entries)
+      (λ entries. heeds → IsVisit catalogue gates tells served (is_trouble (trouble_of_watch end)) entries)
       (λ none more nothing said told. inr (watch-of silent.1 (none ++ more) more (ap (λ front. front ++ more) nothing) said.0 said.1.0 said.1.1 told))
       own mid own' given gave given'
       (added-nothing (actuators catalogue) (of_session served.session) ticks (λ entries. entries ≡ []) own mid given gave connected.talked.moments silent.0 refl connected.talked.gave)
-      (grown (watch-added (actuators catalogue) (speech_of catalogue) served.session tells ticks some (notes catalogue) name from (standing mid between counted gave false 0)
+      (grown (watch-added (actuators catalogue) (speech_of catalogue gates) served.session tells ticks some (notes catalogue) name from (standing mid between counted gave false 0)
       (standing own' served.taken served.write_faults given' false 0) watched))
     where
       watch-of : (tells → between ≡ before) → (all more : List Entry) → all ≡ more → deeds own' ≡ deeds mid ++ more → (moments : List ℕ) →
           Noticed (notes catalogue) served.session name tells from between served.taken counted served.write_faults more moments → heeds →
-          IsWatchOf (speech_of catalogue) (notes catalogue) tells served (is_trouble (trouble_of_watch end)) all
+          IsWatchOf (speech_of catalogue gates) (notes catalogue) tells served (is_trouble (trouble_of_watch end)) all
       watch-of same all more is grew moments noticed told =
           let lost = connected.lost told in
           record {

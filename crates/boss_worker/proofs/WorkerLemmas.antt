@@ -3,8 +3,7 @@ use Rattle.std.proofs.Common.{◌≡◌, ℕ, ◌≤◌, true, false, [], ◌∷
 use Rattle.std.specs.declared.snapshot.Snapshot.{Snapshot}
 use Rattle.boss_model.specs.Catalogue.{actuators as points_of, Catalogue}
 use Rattle.boss_model.specs.Limits.{last_number}
-use Rattle.boss_model.specs.State.{State}
-use Rattle.def_history.specs.History.{deeds, IsLegal}
+use Rattle.def_history.specs.History.{deeds, is_broken}
 use Rattle.def_lanes.specs.Works.{beat, drive}
 use Rattle.boss_outside.specs.declared.actuators.Actuators as actuators
 use Rattle.boss_shared.specs.declared.desk.Desk as desk
@@ -14,13 +13,16 @@ use Rattle.boss_outside_server.specs.declared.waiter.Waiter as waiter
 use Rattle.boss_expiry.specs.declared.end.WorkEnd.{WorkEnd}
 use Rattle.boss_expiry.specs.Ends.{ClockCause, EndCause}
 use Rattle.boss_expiry.specs.Ticking.{Expired}
-use Rattle.boss_drive.specs.Driving.{Driven, made_by, left_by}
+use Rattle.boss_drive.specs.Driving.{Stand}
 use Rattle.boss_worker.specs.declared.duty.Duty.{Duty}
 use Rattle.boss_worker.specs.declared.duty.Duty.TheVariants.{Connections, Time, Devices}
 use Rattle.boss_worker.specs.declared.flags.Flags.{Flags}
 use Rattle.boss_worker.specs.Desks.{own_of}
+use Rattle.boss_worker.specs.declared.trouble.Trouble.{Trouble}
+use Rattle.boss_worker.specs.declared.trouble.Trouble.TheVariants.{Disk}
+use Rattle.boss_worker.specs.Drove.{Drove, WasTold}
 use Rattle.boss_worker.specs.Saying.{terms_of}
-use Rattle.boss_worker.specs.Troubles.{flags_after, trouble_of_work}
+use Rattle.boss_worker.specs.Troubles.{flags_after, trouble_of_work, ClockTrouble}
 use Rattle.boss_worker.specs.Workers.{served_at, share_at, handed_at, faults_at, IsFreshDuty, IsPlaced, HasCalls, IsReady, HasLeft}
 use Rattle.boss_worker.proofs.DutyLemmas.{calls-driven, driven-ended, left-driven, left-time, time-ended}
 use Rattle.boss_worker.proofs.EndedLemmas.{worked-one}
@@ -54,12 +56,12 @@ module _ {H In Out A : Type 0} (h : host.Ghosts H In Out) (workers number : ℕ)
 
 module _ {G Pass H In Out C W A : Type 0} (g : desk.Ghosts G Pass) (h : host.Ghosts H In Out) (k : clock.Ghosts C) (w : waiter.Ghosts W) (a : actuators.Ghosts A) (catalogue : Catalogue) (heeds tells : Type 0)
     (it : G) (workers number : ℕ) (pass : Pass) (duty : Duty H A) (tick : C) (wait : W) (flags : Flags) (ready : IsReady g h k w a catalogue it workers number pass duty tick wait flags) where
-  pub has-left-nothing : (wait' : W) → HasLeft g h k w a false (terms_of catalogue workers heeds tells h.tells k.tells w.tells) it number pass duty tick wait' flags
+  pub has-left-nothing : (wait' : W) → HasLeft g h k w a false (terms_of catalogue (g.denies it) workers heeds tells h.tells k.tells w.tells) it number pass duty tick wait' flags
   has-left-nothing wait' = record {
     own = ready.own;
     one = ready.one;
     works = [];
-    left = left-nothing (terms_of catalogue workers heeds tells h.tells k.tells w.tells) number (share_at h duty) (own_of g pass) (g.seen pass) (served_at h duty) (k.given tick)
+    left = left-nothing (terms_of catalogue (g.denies it) workers heeds tells h.tells k.tells w.tells) number (share_at h duty) (own_of g pass) (g.seen pass) (served_at h duty) (k.given tick)
         (handed_at h duty) (faults_at h duty) (k.faults tick) flags (ap deeds ready.empty) (fresh-served h workers number duty ready.fresh) ready.given
         (fresh-handed h workers number duty ready.fresh) (fresh-faults h workers number duty ready.fresh) ready.clock_faults ready.unmarked;
     called = fresh-calls h workers number a duty ready.fresh;
@@ -72,13 +74,13 @@ module _ {G Pass H In Out C W A : Type 0} (g : desk.Ghosts G Pass) (h : host.Gho
   module _ (pass' : Pass) (tick' : C) (wait' : W) (most : ℕ) (enough : last_number ≤ most) (end : WorkEnd) (own : g.owns it pass') (parts : g.parts pass' ≡ g.parts pass) (clock : ClockCause (k.faults tick) (k.faults tick') end)
       (cause : EndCause (g.seen pass') w.tells (w.closed wait') (w.closes wait) (w.closes wait') end) where
     pub has-left-time : duty ≡ Time → Expired (own_of g pass) (own_of g pass') k.tells (k.given tick) (k.given tick') w.tells (w.pauses wait) (w.pauses wait') most end →
-        HasLeft g h k w a true (terms_of catalogue workers heeds tells h.tells k.tells w.tells) it number pass' duty tick' wait' (flags_after (trouble_of_work end) flags)
-    has-left-time is expired = subst (λ d. HasLeft g h k w a true (terms_of catalogue workers heeds tells h.tells k.tells w.tells) it number pass' d tick' wait' (flags_after (trouble_of_work end) flags)) (sym is)
+        HasLeft g h k w a true (terms_of catalogue (g.denies it) workers heeds tells h.tells k.tells w.tells) it number pass' duty tick' wait' (flags_after (trouble_of_work end) flags)
+    has-left-time is expired = subst (λ d. HasLeft g h k w a true (terms_of catalogue (g.denies it) workers heeds tells h.tells k.tells w.tells) it number pass' d tick' wait' (flags_after (trouble_of_work end) flags)) (sym is)
         (record {
           own = own;
           one = parts ∙ ready.one;
           works = beat (w.pauses wait') (w.closed wait') ∷ [];
-          left = left-time catalogue workers number heeds tells h.tells k.tells w.tells (own_of g pass) (own_of g pass') (g.seen pass') (k.given tick) (k.given tick') (k.faults tick) (k.faults tick')
+          left = left-time catalogue (g.denies it) workers number heeds tells h.tells k.tells w.tells (own_of g pass) (own_of g pass') (g.seen pass') (k.given tick) (k.given tick') (k.faults tick) (k.faults tick')
               (w.pauses wait) (w.pauses wait') most (w.closes wait) (w.closes wait') (w.closed wait') end flags ready.empty ready.given ready.paused ready.clock_faults ready.unmarked clock cause
               (subst (IsFreshDuty h workers number) is ready.fresh) expired;
           called = tt;
@@ -92,28 +94,30 @@ module _ {G Pass H In Out C W A : Type 0} (g : desk.Ghosts G Pass) (h : host.Gho
           );
         })
 
-    pub has-left-devices : (driver : ℕ) (devices devices' : A) (was : Snapshot A) → duty ≡ Devices driver devices was → (opening : State) → IsLegal (points_of catalogue) (g.seen pass') opening →
-        Driven driver k.tells a.tells (record { own = own_of g pass; given = k.given tick; whole = a.whole devices; calls = a.calls devices })
-        (record { own = own_of g pass'; given = k.given tick'; whole = a.whole devices'; calls = a.calls devices' }) w.tells (w.pauses wait) (w.pauses wait') most end →
-        HasLeft g h k w a true (terms_of catalogue workers heeds tells h.tells k.tells w.tells) it number pass' (Devices driver devices' was) tick' wait' (flags_after (trouble_of_work end) flags)
-    has-left-devices driver devices devices' was is opening legal driven =
+  module _ (pass' : Pass) (tick' : C) (wait' : W) (most : ℕ) (enough : last_number ≤ most) (trouble : Trouble) (own : g.owns it pass') (parts : g.parts pass' ≡ g.parts pass)
+      (clock : ClockTrouble (k.faults tick) (k.faults tick') trouble) (broken : trouble ≡ Disk → is_broken (g.seen pass') ≡ true)
+      (was_told : WasTold (own_of g pass) (own_of g pass') w.tells (w.closed wait') most trouble) where
+    pub has-left-devices : (driver : ℕ) (devices devices' : A) (was : Snapshot A) → duty ≡ Devices driver devices was →
+        Drove catalogue driver k.tells a.tells (record { own = own_of g pass; given = k.given tick; whole = a.whole devices; calls = a.calls devices })
+        (record { own = own_of g pass'; given = k.given tick'; whole = a.whole devices'; calls = a.calls devices' }) w.tells (w.pauses wait') →
+        HasLeft g h k w a true (terms_of catalogue (g.denies it) workers heeds tells h.tells k.tells w.tells) it number pass' (Devices driver devices' was) tick' wait' (flags_after trouble flags)
+    has-left-devices driver devices devices' was is drove =
         let fresh = subst (IsFreshDuty h workers number) is ready.fresh in
+        let old : Stand = record { own = own_of g pass; given = k.given tick; whole = a.whole devices; calls = a.calls devices } in
+        let new : Stand = record { own = own_of g pass'; given = k.given tick'; whole = a.whole devices'; calls = a.calls devices' } in
         record {
           own = own;
           one = parts ∙ ready.one;
-          works = drive driver (made_by driver driven.turns (left_by driver end driven.last)).calls (w.pauses wait') (w.closed wait') ∷ [];
-          left = left-driven catalogue workers number heeds tells h.tells k.tells w.tells (own_of g pass) (own_of g pass') (g.seen pass') (k.given tick) (k.given tick') (k.faults tick) (k.faults tick')
-              (w.pauses wait) (w.pauses wait') most (w.closes wait) (w.closes wait') (w.closed wait') end flags ready.empty ready.given ready.paused ready.clock_faults ready.unmarked clock cause
-              opening (g.mine pass') driver a.tells (a.whole devices) (a.whole devices') (a.calls devices) (a.calls devices') legal refl driven fresh.0;
-          called = λ told whole. calls-driven driver (w.pauses wait') (w.closed wait') (a.calls was.value) (a.calls devices) (a.calls devices')
-              (made_by driver driven.turns (left_by driver end driven.last)).calls (ap a.calls fresh.1) (driven.made.wrote told whole).1;
+          works = drive driver drove.calls (w.pauses wait') (w.closed wait') ∷ [];
+          left = left-driven catalogue (g.denies it) workers number heeds tells h.tells k.tells a.tells w.tells old new (g.seen pass') (k.faults tick) (k.faults tick') (w.pauses wait') (w.closed wait') trouble flags
+              ready.empty ready.given ready.clock_faults ready.unmarked clock broken driver drove fresh.0;
+          called = λ told whole. calls-driven driver (w.pauses wait') (w.closed wait') (a.calls was.value) (a.calls devices) (a.calls devices') drove.calls (ap a.calls fresh.1) (drove.wrote told whole).1;
           paired = (refl, tt);
           placed = fresh.0;
-          worked = λ ran low. worked-one workers number (drive driver (made_by driver driven.turns (left_by driver end driven.last)).calls (w.pauses wait') (w.closed wait')) fresh.0;
+          worked = λ ran low. worked-one workers number (drive driver drove.calls (w.pauses wait') (w.closed wait')) fresh.0;
           ended = λ quiet. (
-            (λ told few. driven-ended (points_of catalogue) k.tells w.tells (own_of g pass) (own_of g pass') (g.seen pass') (k.given tick) (k.given tick')
-                (w.pauses wait) (w.pauses wait') most (w.closes wait) (w.closes wait') (w.closed wait') end flags ready.empty ready.paused cause enough quiet told
-                opening (g.mine pass') driver a.tells (a.whole devices) (a.whole devices') (a.calls devices) (a.calls devices') legal refl driven few),
+            driven-ended catalogue (g.denies it) workers number heeds tells h.tells k.tells a.tells w.tells old new (g.seen pass') (k.faults tick) (k.faults tick') (w.pauses wait') (w.closed wait') trouble flags
+                ready.empty ready.given ready.clock_faults ready.unmarked clock broken driver drove most enough was_told quiet,
             tt,
           );
         }

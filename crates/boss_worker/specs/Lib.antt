@@ -1,4 +1,5 @@
 pub mod Desks
+pub mod Drove
 pub mod Ended
 pub mod Saying
 pub mod Troubles

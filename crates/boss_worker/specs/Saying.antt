@@ -1,35 +1,45 @@
 -- What the works of a server say of the entries of their lanes.
-use Rattle.std.specs.Prelude.{◌⊎◌, ℕ, Bool, List}
+use Rattle.std.specs.Prelude.{◌⊎◌, ℕ, Bool, true, false, List}
 use Rattle.boss_model.specs.Catalogue.{actuators, Catalogue}
+use Rattle.boss_model.specs.DeviceCall.{DeviceCall}
 use Rattle.def_history.specs.declared.entry.Entry.{Entry}
 use Rattle.boss_outside_server.specs.Hosts.{Served}
 use Rattle.def_lanes.specs.Parts.{Terms}
 use Rattle.def_lanes.specs.Works.{Work, visit, beat, drive}
 use Rattle.def_connection.specs.Talks.{IsTalkOf}
 use Rattle.def_connection.specs.Watching.{IsWatchOf}
+use Rattle.boss_shared.specs.Gates.{Gate}
 use Rattle.boss_sessions.specs.Speaking.{speech_of}
 use Rattle.boss_watching.specs.Notes.{notes}
 use Rattle.boss_expiry.specs.Beats.{IsBeatOf}
 use Rattle.boss_drive.specs.Drives.{IsDriveOf}
+use Rattle.def_guards.specs.Guards.{is_guarded}
+use Rattle.boss_guard.specs.GuardDrives.{IsGuardOf}
 
 -- a connection agrees with these entries: they are a talk, or what was watched
-abbrev pub IsVisit : Catalogue → Type 0 → Served → Bool → List Entry → Type 0
-IsVisit catalogue tells served cut entries =
-    IsTalkOf (speech_of catalogue) tells served cut entries ⊎ IsWatchOf (speech_of catalogue) (notes catalogue) tells served cut entries
+abbrev pub IsVisit : Catalogue → List Gate → Type 0 → Served → Bool → List Entry → Type 0
+IsVisit catalogue gates tells served cut entries =
+    IsTalkOf (speech_of catalogue gates) tells served cut entries ⊎ IsWatchOf (speech_of catalogue gates) (notes catalogue) tells served cut entries
+
+-- the worker of a driver kept minimum times, or the driver has no point with any
+abbrev pub IsDriven : Bool → Catalogue → ℕ → List DeviceCall → Type 0 → ℕ → List Entry → Type 0
+IsDriven true catalogue driver calls pausing pauses entries = IsGuardOf catalogue driver calls pausing pauses entries
+IsDriven false catalogue driver calls pausing pauses entries = IsDriveOf driver calls pausing pauses entries
 
 -- a connection agrees where its input tells the bytes that it lost; the pauses of a worker are those of its turns
-abbrev pub says : Catalogue → Type 0 → Type 0 → Type 0 → Work → List Entry → Type 0
-says catalogue heeds tells pausing (visit served cut) entries = heeds → IsVisit catalogue tells served cut entries
-says catalogue heeds tells pausing (beat pauses closed) entries = IsBeatOf pausing pauses entries
-says catalogue heeds tells pausing (drive driver calls pauses closed) entries = IsDriveOf driver calls pausing pauses entries
+abbrev pub says : Catalogue → List Gate → Type 0 → Type 0 → Type 0 → Work → List Entry → Type 0
+says catalogue gates heeds tells pausing (visit served cut) entries = heeds → IsVisit catalogue gates tells served cut entries
+says catalogue gates heeds tells pausing (beat pauses closed) entries = IsBeatOf pausing pauses entries
+says catalogue gates heeds tells pausing (drive driver calls pauses closed) entries =
+    IsDriven (is_guarded catalogue driver) catalogue driver calls pausing pauses entries
 
--- a server with so many workers for connections; whether the inputs of its connections tell their bytes, and the outputs theirs;
+-- a server with these gates and so many workers for connections; whether the inputs of its connections tell their bytes, and the outputs theirs;
 -- whether its host tells what it took back, its clock the moments that it gave, and its waiter the pauses
-abbrev pub terms_of : Catalogue → ℕ → Type 0 → Type 0 → Type 0 → Type 0 → Type 0 → Terms
-terms_of catalogue workers heeds tells hosting clocking pausing = record {
+abbrev pub terms_of : Catalogue → List Gate → ℕ → Type 0 → Type 0 → Type 0 → Type 0 → Type 0 → Terms
+terms_of catalogue gates workers heeds tells hosting clocking pausing = record {
   plant = actuators catalogue;
   workers = workers;
-  says = says catalogue heeds tells pausing;
+  says = says catalogue gates heeds tells pausing;
   hosting = hosting;
   clocking = clocking;
 }

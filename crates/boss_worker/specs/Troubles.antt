@@ -7,6 +7,8 @@ use Rattle.boss_expiry.specs.declared.end.WorkEnd.{WorkEnd}
 use Rattle.boss_expiry.specs.declared.end.WorkEnd.TheVariants as work
 use Rattle.boss_watching.specs.declared.end.WatchEnd.{WatchEnd}
 use Rattle.boss_watching.specs.declared.end.WatchEnd.TheVariants as watch
+use Rattle.boss_guard.specs.declared.end.GuardEnd.{GuardEnd}
+use Rattle.boss_guard.specs.declared.end.GuardEnd.TheVariants as guard
 use Rattle.boss_worker.specs.declared.flags.Flags.{Flags}
 use Rattle.boss_worker.specs.declared.trouble.Trouble.{Trouble}
 use Rattle.boss_worker.specs.declared.trouble.Trouble.TheVariants.{Nothing, Disk, Clock, Memory}
@@ -32,6 +34,10 @@ trouble_of_work work.Stopped = Disk
 trouble_of_work work.DiskFault = Disk
 trouble_of_work work.ClockFault = Clock
 trouble_of_work other = Nothing
+
+abbrev pub trouble_of_guard : GuardEnd → Trouble
+trouble_of_guard (guard.Worked end) = trouble_of_work end
+trouble_of_guard guard.NoMemory = Memory
 
 -- the connection was cut off
 abbrev pub is_trouble : Trouble → Bool

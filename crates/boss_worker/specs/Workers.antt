@@ -8,6 +8,7 @@ use Rattle.def_lanes.specs.Works.{Work, calls_in}
 use Rattle.boss_outside.specs.declared.actuators.Actuators as actuators
 use Rattle.boss_outside_server.specs.Hosts.{Served}
 use Rattle.boss_shared.specs.declared.desk.Desk as desk
+use Rattle.boss_shared.specs.Gates.{AreFree}
 use Rattle.boss_outside_server.specs.declared.clock.Clock as clock
 use Rattle.boss_outside_server.specs.declared.host.Host as host
 use Rattle.boss_outside_server.specs.declared.waiter.Waiter as waiter
@@ -79,6 +80,7 @@ module _ {G Pass H In Out C W A : Type 0} (g : desk.Ghosts G Pass) (h : host.Gho
     pub own : g.owns desk pass
     pub one : g.parts pass ≡ 1
     pub empty : own_of g pass ≡ []
+    pub free : AreFree (g.denies desk) (g.held pass)
     pub plant : points_of catalogue ≡ g.plant desk
     pub given : k.tells → k.given clock ≡ []
     pub clock_faults : k.faults clock ≡ 0

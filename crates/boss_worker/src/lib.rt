@@ -2,6 +2,7 @@
 //! the entries of its own lanes, so that whoever joins several workers knows what all of them did.
 #![tactic(auto)]
 
+mod devices;
 mod duty;
 mod flags;
 mod server;

@@ -1,7 +1,8 @@
 ghost use Rattle.std.specs.Prelude.{◌≡◌};
-ghost use Rattle.boss_worker.specs.Troubles.{trouble_of, trouble_of_watch, trouble_of_work};
+ghost use Rattle.boss_worker.specs.Troubles.{trouble_of, trouble_of_guard, trouble_of_watch, trouble_of_work};
 
 use boss_expiry::WorkEnd;
+use boss_guard::GuardEnd;
 use boss_sessions::SessionEnd;
 use boss_watching::WatchEnd;
 
@@ -50,5 +51,15 @@ pub(crate) fn work_trouble(end: WorkEnd) -> Trouble
         WorkEnd::Stopped | WorkEnd::DiskFault => Trouble::Disk,
         WorkEnd::ClockFault => Trouble::Clock,
         WorkEnd::Finished | WorkEnd::Closed => Trouble::Nothing,
+    }
+}
+
+/// What of the end of a guarded worker concerns the server.
+pub(crate) fn guard_trouble(end: GuardEnd) -> Trouble
+    ensures { result ≡ trouble_of_guard end }
+{
+    match end {
+        GuardEnd::Worked(end) => work_trouble(end),
+        GuardEnd::NoMemory => Trouble::Memory,
     }
 }

@@ -1,9 +1,10 @@
-ghost use Rattle.std.specs.Prelude.{◌≡◌, ◌<◌, true};
+ghost use Rattle.std.specs.Prelude.{◌≡◌, ◌<◌, true, None};
 ghost use Rattle.boss_model.specs.Catalogue.{actuators};
 ghost use Rattle.def_history.specs.History.{is_broken};
 ghost use Rattle.def_lanes.specs.Lanes.{of_session};
 ghost use Rattle.def_lanes.specs.Parts.{Added};
 ghost use Rattle.boss_outside_server.specs.Hosts.{IsUntouched, served_of};
+ghost use Rattle.boss_sessions.specs.Holding.{Holds, LeavesOthers};
 ghost use Rattle.boss_worker.specs.declared.trouble.Trouble.TheVariants.{Disk};
 ghost use Rattle.boss_worker.specs.Desks.{own_of};
 ghost use Rattle.boss_worker.specs.Saying.{IsVisit};
@@ -36,12 +37,14 @@ pub(crate) fn attend<G: Desk, S: Source, K: Sink, C: Clock, W: Waiter>(
     requires own { G.owns desk.now pass.old }
     requires plant { actuators catalogue.now ≡ G.plant desk.now }
     requires some { 0 < session }
+    requires unheld { Holds (G.denies desk.now) session None (G.held pass.old) }
     requires fresh { IsUntouched S.Source K.Sink input.old output.old }
     ensures own { G.owns desk.now pass.new }
     ensures parts { G.parts pass.new ≡ G.parts pass.old }
     ensures added { Added (actuators catalogue.now) (of_session session)
-        (λ entries. S.tells → IsVisit catalogue.now K.tells (served_of S.Source K.Sink session input.new output.new) (is_trouble result) entries)
+        (λ entries. S.tells → IsVisit catalogue.now (G.denies desk.now) K.tells (served_of S.Source K.Sink session input.new output.new) (is_trouble result) entries)
         C.tells (own_of G.Desk pass.old) (own_of G.Desk pass.new) (C.given clock.old) (C.given clock.new) }
+    ensures others { LeavesOthers (G.denies desk.now) session (G.held pass.old) (G.held pass.new) }
     ensures clocked { ClockTrouble (C.faults clock.old) (C.faults clock.new) result }
     ensures broken { result ≡ Disk → is_broken (G.seen pass.new) ≡ true }
 {

@@ -2,6 +2,7 @@ ghost use Rattle.std.specs.Prelude.{◌≡◌, ◌<◌, ◌≤◌, [], List, tru
 ghost use Rattle.boss_model.specs.Catalogue.{actuators};
 ghost use Rattle.def_history.specs.History.{deeds};
 ghost use Rattle.def_lanes.specs.Works.{Work};
+ghost use Rattle.boss_shared.specs.Gates.{AreFree};
 ghost use Rattle.boss_worker.specs.Desks.{own_of};
 ghost use Rattle.boss_worker.specs.Saying.{terms_of};
 ghost use Rattle.boss_worker.specs.Visits.{IsFreshHost, Left};
@@ -28,6 +29,7 @@ pub(crate) fn attend_all<G: Desk, H: Host, C: Clock, W: Waiter>(
     requires own { G.owns server.now.desk pass.old }
     requires plant { actuators server.now.catalogue.now ≡ G.plant server.now.desk }
     requires empty { deeds (own_of G.Desk pass.old) ≡ [] }
+    requires free { AreFree (G.denies server.now.desk) (G.held pass.old) }
     requires fresh { IsFreshHost H.Host host.old }
     requires quiet { C.faults clock.old ≡ 0 }
     requires number { number < server.now.workers }
@@ -35,7 +37,7 @@ pub(crate) fn attend_all<G: Desk, H: Host, C: Clock, W: Waiter>(
     ensures own { G.owns server.now.desk pass.new }
     ensures parts { G.parts pass.new ≡ G.parts pass.old }
     ensures share { H.share host.new ≡ H.share host.old }
-    ensures left { (works : List Work) × Left true (terms_of server.now.catalogue.now server.now.workers H.In.tells H.Out.tells H.tells C.tells W.tells) number (H.share host.old) works
+    ensures left { (works : List Work) × Left true (terms_of server.now.catalogue.now (G.denies server.now.desk) server.now.workers H.In.tells H.Out.tells H.tells C.tells W.tells) number (H.share host.old) works
         (own_of G.Desk pass.new) (G.seen pass.new) (H.served host.old) (H.served host.new) (C.given clock.old) (C.given clock.new)
         (H.handed host.new) (H.faults host.new) (C.faults clock.new) result }
 {

@@ -2,10 +2,10 @@ ghost use Rattle.std.specs.Prelude.{◌≡◌, true, false};
 ghost use Rattle.boss_worker.specs.Saying.{terms_of};
 ghost use Rattle.boss_worker.specs.Workers.{HasLeft, IsReady, share_at, was_at};
 
+use crate::devices::drive_devices;
 use crate::trouble::work_trouble;
 use crate::visits::attend_all;
 use crate::{Duty, Flags, Server};
-use boss_drive::drive;
 use boss_expiry::expire;
 use boss_outside::Actuators;
 use boss_outside_server::{Clock, Host, Task, Waiter};
@@ -37,12 +37,12 @@ impl<'a, G: Desk, H: Host, C: Clock, W: Waiter, A: Actuators + Drop> Task
 
     ghost ran = { λ old new. (new.server.now ≡ old.server.now) × (new.number ≡ old.number) × (share_at H.Host new.duty ≡ share_at H.Host old.duty)
         × (was_at new.duty ≡ was_at old.duty)
-        × HasLeft G.Desk H.Host C.Clock W.Waiter A.Actuators true (terms_of new.server.now.catalogue.now new.server.now.workers H.In.tells H.Out.tells H.tells C.tells W.tells)
+        × HasLeft G.Desk H.Host C.Clock W.Waiter A.Actuators true (terms_of new.server.now.catalogue.now (G.denies new.server.now.desk) new.server.now.workers H.In.tells H.Out.tells H.tells C.tells W.tells)
         new.server.now.desk new.number new.pass new.duty new.clock new.waiter new.flags };
 
     ghost abandoned = { λ old new. (new.server.now ≡ old.server.now) × (new.number ≡ old.number) × (share_at H.Host new.duty ≡ share_at H.Host old.duty)
         × (was_at new.duty ≡ was_at old.duty)
-        × HasLeft G.Desk H.Host C.Clock W.Waiter A.Actuators false (terms_of new.server.now.catalogue.now new.server.now.workers H.In.tells H.Out.tells H.tells C.tells W.tells)
+        × HasLeft G.Desk H.Host C.Clock W.Waiter A.Actuators false (terms_of new.server.now.catalogue.now (G.denies new.server.now.desk) new.server.now.workers H.In.tells H.Out.tells H.tells C.tells W.tells)
         new.server.now.desk new.number new.pass new.duty new.clock new.waiter new.flags };
 
     fn run(&mut self) {
@@ -70,16 +70,18 @@ impl<'a, G: Desk, H: Host, C: Clock, W: Waiter, A: Actuators + Drop> Task
                 self.flags = self.flags.after(work_trouble(end));
             }
             Duty::Devices(driver, devices, _) => {
-                let end = drive(
+                let trouble = drive_devices(
+                    self.alloc,
                     &self.server.desk,
                     &mut self.pass,
+                    self.server.catalogue,
                     *driver,
                     devices,
                     &mut self.clock,
                     &mut self.waiter,
                     TURNS,
                 );
-                self.flags = self.flags.after(work_trouble(end));
+                self.flags = self.flags.after(trouble);
             }
         }
     }

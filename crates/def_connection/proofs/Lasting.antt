@@ -1,7 +1,8 @@
 -- Exchanges put behind others.
-use Rattle.std.proofs.Common.{◌≡◌, ℕ, Bool, true, false, ◌||◌, List, [], ◌∷◌, ◌++◌, refl, ap, sym, ◌∙◌, append_assoc}
+use Rattle.std.proofs.Common.{◌≡◌, ℕ, Bool, true, false, ◌||◌, List, [], ◌∷◌, ◌++◌, Option, refl, ap, sym, ◌∙◌, append_assoc}
 use Rattle.std.specs.List.{AllByRecursion}
-use Rattle.def_connection.specs.Speech.{Reading, Speech, Exchange, AreRead, is_later, text_of, text_in, deeds_of, deeds_in, moments_of, moments_in, last_or, attaches, attached_in, is_end, EndsOnce}
+use Rattle.def_connection.specs.Judging.{name_of, name_in, AreJudged}
+use Rattle.def_connection.specs.Speech.{Gate, Reading, Speech, Exchange, AreRead, is_later, text_of, text_in, deeds_of, deeds_in, moments_of, moments_in, last_or, attaches, attached_in, is_end, EndsOnce}
 
 pub reads-append : (reading : Bool → List ℕ → Reading) (later : Bool) (xs ys : List Exchange) → AreRead reading later xs → AreRead reading (is_later later xs) ys →
     AreRead reading later (xs ++ ys)
@@ -43,3 +44,11 @@ ends-append (x ∷ xs) ys first then = ((λ is. absurd (let no : true ≡ false 
 pub goes-ends : (xs : List Exchange) → AllByRecursion (λ exchange. is_end exchange ≡ false) xs → EndsOnce xs
 goes-ends [] goes = tt
 goes-ends (x ∷ xs) goes = ((λ is. absurd (let no : true ≡ false = sym is ∙ goes.0 in cc)), goes-ends xs goes.1)
+
+pub name-append : (name : Option (List ℕ)) (xs ys : List Exchange) → name_in name (xs ++ ys) ≡ name_in (name_in name xs) ys
+name-append name [] ys = refl
+name-append name (x ∷ xs) ys = name-append (name_of name x) xs ys
+
+pub judged-append : (gates : List Gate) (name : Option (List ℕ)) (xs ys : List Exchange) → AreJudged gates name xs → AreJudged gates (name_in name xs) ys → AreJudged gates name (xs ++ ys)
+judged-append gates name [] ys first then = then
+judged-append gates name (x ∷ xs) ys first then = (first.0, judged-append gates (name_of name x) xs ys first.1 then)

@@ -1,3 +1,4 @@
+pub mod Allowing
 pub mod BatchLemmas
 pub mod Lasting
 pub mod OfSession

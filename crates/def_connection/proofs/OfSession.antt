@@ -16,7 +16,7 @@ use Rattle.def_lanes.specs.Parts.{AreTimed, Added}
 use Rattle.def_lanes.proofs.Lists.{each-append}
 use Rattle.def_lanes.proofs.Moments.{both-timed, one-timed, timed-front, timed-behind, timed-next}
 use Rattle.boss_outside_server.specs.Hosts.{Served}
-use Rattle.def_connection.specs.Speech.{Reply, of_answer, of_memory, of_stop, Speech, watches, Exchange, unread, refused, called, line_in, text_in, deeds_of, deeds_in, moments_of, moments_in, last_or, attached_in, parting_of, entry_of}
+use Rattle.def_connection.specs.Speech.{Reply, of_answer, of_memory, of_stop, of_denial, Speech, watches, Exchange, unread, refused, called, line_in, text_in, deeds_of, deeds_in, moments_of, moments_in, last_or, attached_in, parting_of, entry_of}
 use Rattle.def_connection.specs.Talks.{Told, Standing, Talked, Exchanged, IsEnded, IsTalkOf, spoken}
 use Rattle.def_connection.specs.Watching.{Watched, Noticed, watched_in, next_from, most_watched, IsWatchOf}
 
@@ -31,6 +31,7 @@ entry-lane : (plant : List Actuator) (session : ℕ) (asked : Command) (moment :
 entry-lane plant session asked moment (of_answer given) some = (session-lane plant session asked moment given some, tt)
 entry-lane plant session asked moment of_memory some = tt
 entry-lane plant session asked moment of_stop some = tt
+entry-lane plant session asked moment (of_denial index rule) some = tt
 
 exchange-lane : (plant : List Actuator) (session : ℕ) (exchange : Exchange) → 0 < session → AllByRecursion (λ entry. lane_of plant entry ≡ of_session session) (deeds_of session exchange)
 exchange-lane plant session (unread line) some = tt
@@ -60,6 +61,7 @@ exchange-timed session (refused line why) = refl
 exchange-timed session (called line asked moment (of_answer given)) = one-timed (moment ∷ []) session moment asked given (grind (arith, nat_tests))
 exchange-timed session (called line asked moment of_memory) = refl
 exchange-timed session (called line asked moment of_stop) = refl
+exchange-timed session (called line asked moment (of_denial index rule)) = refl
 
 talk-timed : (session : ℕ) (talk : List Exchange) → AreTimed (moments_in talk) (deeds_in session talk)
 talk-timed session [] = refl

@@ -7,10 +7,11 @@ use Rattle.boss_model.specs.declared.command.Command.{Command}
 use Rattle.def_history.specs.declared.entry.Entry.{Entry}
 use Rattle.def_history.specs.History.{deeds}
 use Rattle.def_connection.specs.Batches.{AreAsked, batch, deeds_by, texts_by}
+use Rattle.def_connection.specs.Judging.{AreJudged, name_in}
 use Rattle.def_connection.specs.Speech.{Reply, Speech, Exchange, line_in, AreRead, is_later, text_in, deeds_in, moments_in, last_or, attached_in, parting_of, is_stop, is_end, EndsOnce}
 use Rattle.def_connection.specs.Talks.{Told, Standing, Goes, Stops, Talked, end_text}
 use Rattle.def_connection.proofs.BatchLemmas.{batch-lines, batch-reads, batch-deeds, batch-text, batch-moments}
-use Rattle.def_connection.proofs.Lasting.{reads-append, text-append, deeds_in-append, moments-append, last-append, attached-then, ends-append}
+use Rattle.def_connection.proofs.Lasting.{reads-append, text-append, deeds_in-append, moments-append, last-append, attached-then, ends-append, judged-append, name-append}
 use Rattle.def_connection.proofs.Telling.{went-on, told-behind}
 
 or-false : (b : Bool) → b ≡ (b || false)
@@ -34,6 +35,8 @@ module _ (speech : Speech) (session : ℕ) (tells ticks : Type 0) where
     gave = λ told. sym (append-nil s.given);
     attached = or-false s.attached;
     last = refl;
+    judged = tt;
+    name = refl;
   }
 
   -- the second part's first line is a later one, if there was one before
@@ -41,6 +44,11 @@ module _ (speech : Speech) (session : ℕ) (tells ticks : Type 0) where
       AreRead speech.reading (is_later later heard) more → AreRead speech.reading later (talk ++ more)
   reads-then later heard talk more lines first then =
       reads-append speech.reading later talk more first (subst (λ b. AreRead speech.reading b more) (ap (is_later later) lines ∙ later-lines later talk) then)
+
+  -- the second part is judged by the name that the first one leaves
+  judged-then : (name name' : Option (List ℕ)) (talk more : List Exchange) → name' ≡ name_in name talk → AreJudged speech.denies name talk → AreJudged speech.denies name' more →
+      AreJudged speech.denies name (talk ++ more)
+  judged-then name name' talk more is first then = judged-append speech.denies name talk more first (subst (λ n. AreJudged speech.denies n more) is then)
 
   pub goes-then : (later : Bool) (xs ys : List (List ℕ)) (a b c : Standing) → Goes speech session tells ticks later xs a b →
       Goes speech session tells ticks (is_later later xs) ys b c → Goes speech session tells ticks later (xs ++ ys) a c
@@ -59,6 +67,8 @@ module _ (speech : Speech) (session : ℕ) (tells ticks : Type 0) where
     attached = other.attached ∙ ap (λ before. before || attached_in other.talk) one.attached ∙ attached-then a.attached one.talk other.talk;
     last = other.last ∙ ap (λ moment. last_or moment (moments_in other.talk)) one.last ∙ sym (last-append a.last (moments_in one.talk) (moments_in other.talk))
         ∙ ap (last_or a.last) (sym (moments-append one.talk other.talk));
+    judged = judged-then a.name b.name one.talk other.talk one.name one.judged other.judged;
+    name = other.name ∙ ap (λ name. name_in name other.talk) one.name ∙ sym (name-append a.name one.talk other.talk);
   }
     where
       each-on : (xs ys : List Exchange) → AllByRecursion (λ exchange. is_end exchange ≡ false) xs → AllByRecursion (λ exchange. is_end exchange ≡ false) ys →
@@ -85,6 +95,7 @@ module _ (speech : Speech) (session : ℕ) (tells ticks : Type 0) where
     attached = other.attached ∙ ap (λ before. before || attached_in other.talk) one.attached ∙ attached-then a.attached one.talk other.talk;
     last = other.last ∙ ap (λ moment. last_or moment (moments_in other.talk ++ other.unused)) one.last
         ∙ sym (last-append a.last (moments_in one.talk) (moments_in other.talk ++ other.unused)) ∙ ap (last_or a.last) (moments-then one.talk other.talk other.unused);
+    judged = judged-then a.name b.name one.talk other.talk one.name one.judged other.judged;
   }
     where
       moments-then : (xs ys : List Exchange) (unused : List ℕ) → moments_in xs ++ (moments_in ys ++ unused) ≡ moments_in (xs ++ ys) ++ unused
@@ -105,6 +116,7 @@ module _ (speech : Speech) (session : ℕ) (tells ticks : Type 0) where
     gave = gave;
     attached = attached ∙ or-false b.attached;
     last = last;
+    judged = tt;
   }
 
   -- a batch that was answered whole
@@ -112,8 +124,9 @@ module _ (speech : Speech) (session : ℕ) (tells ticks : Type 0) where
       length replies ≡ length calls → AllByRecursion (λ reply. is_stop reply ≡ false) replies → deeds b.own ≡ deeds a.own ++ deeds_by session calls replies →
       (tells → b.taken ≡ a.taken ++ texts_by speech replies) → b.faults ≡ a.faults → (ticks → b.given ≡ a.given ++ map (λ call. call.1) calls) →
       b.attached ≡ (a.attached || attached_in (batch lines calls replies)) → b.last ≡ last_or a.last (map (λ call. call.1) calls) →
+      AreJudged speech.denies a.name (batch lines calls replies) → b.name ≡ name_in a.name (batch lines calls replies) →
       Goes speech session tells ticks later lines a b
-  goes-batch later lines calls replies a b asked all going grew told calm gave attached last =
+  goes-batch later lines calls replies a b asked all going grew told calm gave attached last judged name =
       let few : length replies ≤ length calls = omega (arith, all) in
       let moments : map (λ call. call.1) calls ≡ moments_in (batch lines calls replies) = all-moments in
       record {
@@ -128,6 +141,8 @@ module _ (speech : Speech) (session : ℕ) (tells ticks : Type 0) where
         gave = λ told-now. gave told-now ∙ ap (λ list. a.given ++ list) moments;
         attached = attached;
         last = last ∙ ap (last_or a.last) moments;
+        judged = judged;
+        name = name;
       }
     where
       none-left : (later : Bool) (lines : List (List ℕ)) (calls : List (Command × ℕ)) (replies : List Reply) → AreAsked speech.reading later lines calls → length replies ≡ length calls →
@@ -161,8 +176,9 @@ module _ (speech : Speech) (session : ℕ) (tells ticks : Type 0) where
       length replies ≤ length calls → EndsOnce (batch lines calls replies) → deeds b.own ≡ deeds a.own ++ deeds_by session calls replies →
       (tells → Told a.taken b.taken a.faults b.faults (texts_by speech replies)) → (ticks → b.given ≡ a.given ++ map (λ call. call.1) calls) →
       b.attached ≡ (a.attached || attached_in (batch lines calls replies)) → b.last ≡ last_or a.last (map (λ call. call.1) calls) →
+      AreJudged speech.denies a.name (batch lines calls replies) →
       Stops speech session tells ticks later (lines ++ more) (drop (length replies) lines ++ more) [] a b
-  stops-batch later lines more calls replies a b asked few ends grew told gave attached last = record {
+  stops-batch later lines more calls replies a b asked few ends grew told gave attached last judged = record {
     talk = batch lines calls replies;
     unused = map (λ call. call.1) (drop (length replies) calls);
     lines = ap (λ front. front ++ more) (batch-lines speech.reading later lines calls replies asked few) ∙ append_assoc (map line_in (batch lines calls replies)) (drop (length replies) lines) more;
@@ -173,13 +189,14 @@ module _ (speech : Speech) (session : ℕ) (tells ticks : Type 0) where
     gave = λ told-now. gave told-now ∙ ap (λ list. a.given ++ list) (batch-moments speech.reading later lines calls replies asked);
     attached = attached;
     last = last ∙ ap (last_or a.last) (batch-moments speech.reading later lines calls replies asked);
+    judged = judged;
   }
 
   -- a whole talk, once the process is told to be lost
   pub talked-of : (heard rest : List (List ℕ)) (long broken : Bool) (a b : Standing) (own : List Entry) (parting : Option Answer) →
-      Stops speech session tells ticks false heard rest (end_text speech long) a b → a.attached ≡ false → a.last ≡ 0 → deeds own ≡ deeds b.own ++ parting_of session b.last parting →
+      Stops speech session tells ticks false heard rest (end_text speech long) a b → a.attached ≡ false → a.last ≡ 0 → a.name ≡ None → deeds own ≡ deeds b.own ++ parting_of session b.last parting →
       (b.attached ≡ false → parting ≡ None) → (b.attached ≡ true → parting ≡ None → broken ≡ true) → Talked speech session tells ticks heard rest long broken a (record b { own = own })
-  talked-of heard rest long broken a b own parting stops fresh first parts unattached parted =
+  talked-of heard rest long broken a b own parting stops fresh first anonymous parts unattached parted =
       let attached : b.attached ≡ attached_in stops.talk = stops.attached ∙ ap (λ before. before || attached_in stops.talk) fresh in
       let last : b.last ≡ last_or 0 (moments_in stops.talk ++ stops.unused) = stops.last ∙ ap (λ moment. last_or moment (moments_in stops.talk ++ stops.unused)) first in
       record {
@@ -199,5 +216,6 @@ module _ (speech : Speech) (session : ℕ) (tells ticks : Type 0) where
           unattached = λ no. unattached (attached ∙ no);
           parted = λ yes none. parted (attached ∙ yes) none;
           told = stops.told;
+          judged = subst (λ name. AreJudged speech.denies name stops.talk) anonymous stops.judged;
         };
       }

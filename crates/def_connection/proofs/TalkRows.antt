@@ -1,13 +1,15 @@
 -- Talks line by line: how they are read, their entries, texts and moments, and how they end.
-use Rattle.std.proofs.Common.{◌≡◌, ℕ, Bool, false, true, List, [], ◌∷◌, Some, refl}
+use Rattle.std.proofs.Common.{◌≡◌, ℕ, Bool, false, true, List, [], ◌∷◌, Some, None, refl}
 use Rattle.boss_model.specs.declared.answer.Answer.{Answer}
 use Rattle.boss_model.specs.declared.answer.Answer.TheVariants as answer
 use Rattle.boss_model.specs.declared.answer.Refusal.TheVariants as refusal
 use Rattle.boss_model.specs.declared.command.Command.{Command}
 use Rattle.boss_model.specs.declared.command.Command.TheVariants as command
+use Rattle.boss_model.specs.declared.command.Policy.TheVariants as policy
 use Rattle.def_history.specs.declared.entry.Entry.TheVariants.{Did}
 use Rattle.def_connection.specs.Batches.{batch, deeds_by}
-use Rattle.def_connection.specs.Speech.{Reading, asks, watches, refuses, Reply, of_answer, of_memory, of_stop, Speech, Exchange, unread, refused, called, AreRead, text_in, deeds_in, moments_in, last_or, attached_in, parting_of, EndsOnce}
+use Rattle.def_connection.specs.Judging.{AreJudged, denied_for, name_in}
+use Rattle.def_connection.specs.Speech.{Reading, asks, watches, refuses, Reply, of_answer, of_memory, of_stop, of_denial, Gate, Speech, Exchange, unread, refused, called, AreRead, text_in, deeds_in, moments_in, last_or, attached_in, parting_of, EndsOnce}
 use Rattle.def_connection.specs.Watching.{watched_in}
 
 abbrev name : List ℕ
@@ -31,9 +33,18 @@ abbrev reply_text : Reply → List ℕ
 reply_text (of_answer given) = 1 ∷ []
 reply_text of_memory = 2 ∷ []
 reply_text of_stop = 3 ∷ []
+reply_text (of_denial index rule) = 6 ∷ index ∷ rule ∷ []
+
+-- every submit is denied at its first write, by rule 2
+abbrev gate : Gate
+gate known writes = Some (0, 2)
+
+-- no submit is denied
+abbrev open_gate : Gate
+open_gate known writes = None
 
 abbrev speech : Speech
-speech = record { reading = reading; reply_text = reply_text; refusal_text = λ why. 4 ∷ []; too_long = 5 ∷ [] }
+speech = record { reading = reading; reply_text = reply_text; refusal_text = λ why. 4 ∷ []; too_long = 5 ∷ []; denies = gate ∷ [] }
 
 abbrev one : List ℕ
 one = 49 ∷ []
@@ -91,3 +102,32 @@ deeds-of-batch-row = refl
 watch-row : watched_in 7 name 1 ((100, answer.Notices 1 4 []) ∷ (200, answer.Notices 4 4 []) ∷ [])
     ≡ Did 7 (command.Notices (Some name) 1 64) 100 (answer.Notices 1 4 []) ∷ Did 7 (command.Notices (Some name) 4 64) 200 (answer.Notices 4 4 []) ∷ []
 watch-row = refl
+
+-- ---- denials
+
+abbrev submit : Command
+submit = command.Submit [] policy.Abort 1
+
+-- a submit before the attach is answered, as its session has no process; one behind it is denied, and leaves no entry
+abbrev denied_talk : List Exchange
+denied_talk = called one submit 10 (of_answer (answer.Refused refusal.NotAttached)) ∷ called one attach 20 (of_answer held) ∷ called two submit 30 (of_denial 0 2) ∷ []
+
+judged-row : AreJudged (gate ∷ []) None denied_talk
+judged-row = (refl, (refl, (refl, tt)))
+
+name-row : name_in None denied_talk ≡ Some name
+name-row = refl
+
+denied-deeds-row : deeds_in 7 denied_talk ≡ Did 7 submit 10 (answer.Refused refusal.NotAttached) ∷ Did 7 attach 20 held ∷ []
+denied-deeds-row = refl
+
+denied-end-row : EndsOnce denied_talk
+denied-end-row = ((λ is. cc), ((λ is. cc), ((λ is. refl), tt)))
+
+-- the first gate that denies is told
+foremost-row : denied_for (open_gate ∷ gate ∷ []) (Some name) submit ≡ Some (0, 2)
+foremost-row = refl
+
+-- a command that is no submit is denied by none
+other-row : denied_for (gate ∷ []) (Some name) status ≡ None
+other-row = refl

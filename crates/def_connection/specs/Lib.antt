@@ -1,4 +1,5 @@
 pub mod Batches
+pub mod Judging
 pub mod Speech
 pub mod Talks
 pub mod Watching

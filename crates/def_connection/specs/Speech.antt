@@ -5,6 +5,7 @@ use Rattle.boss_model.specs.declared.answer.Answer.TheVariants as answer
 use Rattle.boss_model.specs.declared.answer.Refusal.{Refusal}
 use Rattle.boss_model.specs.declared.command.Command.{Command}
 use Rattle.boss_model.specs.declared.command.Command.TheVariants as command
+use Rattle.boss_model.specs.declared.command.Setting.{Setting}
 use Rattle.def_history.specs.declared.entry.Entry.{Entry}
 use Rattle.def_history.specs.declared.entry.Entry.TheVariants.{Did}
 
@@ -14,18 +15,27 @@ pub data Reading : Type 0 where
   watches : List ℕ → ℕ → Reading
   refuses : Refusal → Reading
 
--- the reply to a command: its answer; that there was no memory for it; or that the disk has failed
+-- the reply to a command: its answer; that there was no memory for it; that the disk has failed; or which write of it is denied,
+-- from 0, and by which rule, from 1, or 0 where no rule is for it
 pub data Reply : Type 0 where
   of_answer : Answer → Reply
   of_memory : Reply
   of_stop : Reply
+  of_denial : ℕ → ℕ → Reply
 
--- how lines are read, the first one or a later one, and the texts of replies, each with its line end
+-- of a process's name and the writes of a submit of it: the first write that is denied and its rule, counted as in a reply; none
+-- where all are allowed
+abbrev pub Gate : Type 0
+Gate = List ℕ → List Setting → Option (ℕ × ℕ)
+
+-- how lines are read, the first one or a later one; the texts of replies, each with its line end; and the gates that a submit has to
+-- pass, the foremost first
 pub record Speech : Type 0 where
   pub reading : Bool → List ℕ → Reading
   pub reply_text : Reply → List ℕ
   pub refusal_text : Refusal → List ℕ
   pub too_long : List ℕ
+  pub denies : List Gate
 
 -- a line and its reply: there was no memory to read it; or it asks nothing; or its command was called at a moment
 pub data Exchange : Type 0 where
@@ -70,6 +80,7 @@ abbrev pub entry_of : ℕ → Command → ℕ → Reply → List Entry
 entry_of session command moment (of_answer answer) = Did session command moment answer ∷ []
 entry_of session command moment of_memory = []
 entry_of session command moment of_stop = []
+entry_of session command moment (of_denial index rule) = []
 
 abbrev pub deeds_of : ℕ → Exchange → List Entry
 deeds_of session (unread line) = []
@@ -127,6 +138,7 @@ abbrev pub is_stop : Reply → Bool
 is_stop (of_answer given) = false
 is_stop of_memory = false
 is_stop of_stop = true
+is_stop (of_denial index rule) = false
 
 abbrev pub is_end : Exchange → Bool
 is_end (unread line) = false

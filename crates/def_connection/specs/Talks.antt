@@ -9,6 +9,7 @@ use Rattle.def_history.specs.History.{deeds}
 use Rattle.boss_outside.specs.Counts.{Rose}
 use Rattle.boss_outside.specs.Streams.{TakesFront}
 use Rattle.boss_outside_server.specs.Hosts.{Served}
+use Rattle.def_connection.specs.Judging.{AreJudged, name_in}
 use Rattle.def_connection.specs.Speech.{Speech, Exchange, line_in, AreRead, text_in, deeds_in, moments_in, last_or, attached_in, parting_of, is_end, EndsOnce}
 
 -- a sink took a front of the text, and all of it unless its count of faults rose
@@ -17,7 +18,7 @@ pub record Told (old new : List ℕ) (before now : ℕ) (text : List ℕ) : Type
   pub whole : ¬ Rose before now → new ≡ old ++ text
 
 -- where a talk stands: the pass's own entries; the bytes that the sink took, and the count of its faults; the moments that the
--- clock gave; whether an attach was accepted, and the last moment
+-- clock gave; whether an attach was accepted, and the last moment; and the name of the process that the session has
 pub record Standing : Type 0 where
   pub own : List Entry
   pub taken : List ℕ
@@ -25,9 +26,11 @@ pub record Standing : Type 0 where
   pub given : List ℕ
   pub attached : Bool
   pub last : ℕ
+  pub name : Option (List ℕ)
 
+-- the session has no process
 abbrev pub standing : List Entry → List ℕ → ℕ → List ℕ → Bool → ℕ → Standing
-standing own taken faults given attached last = record { own = own; taken = taken; faults = faults; given = given; attached = attached; last = last }
+standing own taken faults given attached last = record { own = own; taken = taken; faults = faults; given = given; attached = attached; last = last; name = None }
 
 module _ (speech : Speech) (session : ℕ) (tells ticks : Type 0) where
   -- these lines were heard, each has its reply, and the talk goes on
@@ -42,6 +45,8 @@ module _ (speech : Speech) (session : ℕ) (tells ticks : Type 0) where
     pub gave : ticks → new.given ≡ old.given ++ moments_in talk
     pub attached : new.attached ≡ (old.attached || attached_in talk)
     pub last : new.last ≡ last_or old.last (moments_in talk)
+    pub judged : AreJudged speech.denies old.name talk
+    pub name : new.name ≡ name_in old.name talk
 
   -- these lines were heard; the last ones have no reply, nor a call for the last moments; and something is said behind the
   -- replies
@@ -56,13 +61,14 @@ module _ (speech : Speech) (session : ℕ) (tells ticks : Type 0) where
     pub gave : ticks → new.given ≡ old.given ++ (moments_in talk ++ unused)
     pub attached : new.attached ≡ (old.attached || attached_in talk)
     pub last : new.last ≡ last_or old.last (moments_in talk ++ unused)
+    pub judged : AreJudged speech.denies old.name talk
 
 -- a line that is too long ends a talk, and is told so
 abbrev pub end_text : Speech → Bool → List ℕ
 end_text speech long = if long then speech.too_long else []
 
 -- a whole talk, by its entries and moments: one entry for each command that was answered, and at the end, where an attach was
--- accepted, that its process is lost, unless the disk has failed
+-- accepted, that its process is lost, unless the disk has failed. A submit was denied exactly where a gate denies it
 pub record Exchanged (speech : Speech) (session : ℕ) (tells : Type 0) (heard rest : List (List ℕ)) (long broken : Bool) (old new : List ℕ) (before now : ℕ) (entries : List Entry) (moments : List ℕ) : Type 0 where
   pub talk : List Exchange
   pub unused : List ℕ
@@ -75,6 +81,7 @@ pub record Exchanged (speech : Speech) (session : ℕ) (tells : Type 0) (heard r
   pub unattached : attached_in talk ≡ false → parting ≡ None
   pub parted : attached_in talk ≡ true → parting ≡ None → broken ≡ true
   pub told : tells → Told old new before now (text_in speech talk ++ end_text speech long)
+  pub judged : AreJudged speech.denies None talk
 
 -- the same in a pass and of a clock
 pub record Talked (speech : Speech) (session : ℕ) (tells ticks : Type 0) (heard rest : List (List ℕ)) (long broken : Bool) (old new : Standing) : Type 0 where

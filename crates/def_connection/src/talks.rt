@@ -5,6 +5,7 @@ ghost use Rattle.def_history.specs.History.{deeds};
 ghost use Rattle.boss_model.specs.declared.answer.Answer.{Answer};
 ghost use Rattle.boss_model.specs.declared.command.Command.{Command};
 ghost use Rattle.def_connection.specs.Batches.{AreAsked, batch, deeds_by, texts_by};
+ghost use Rattle.def_connection.specs.Judging.{AreJudged, name_in};
 ghost use Rattle.def_connection.specs.Speech.{Reply, Speech, is_later, last_or, attached_in, parting_of, is_stop, EndsOnce};
 ghost use Rattle.def_connection.specs.Talks.{Told, Standing, Goes, Stops, Talked, end_text};
 
@@ -34,12 +35,14 @@ pub fn a_batch_is_a_part_of_a_talk<K: Sink, C: Clock>()
         deeds new.own ≡ deeds old.own ++ deeds_by session calls replies → (K.tells → new.taken ≡ old.taken ++ texts_by speech replies) →
         new.faults ≡ old.faults → (C.tells → new.given ≡ old.given ++ map (λ call. call.1) calls) →
         new.attached ≡ (old.attached || attached_in (batch lines calls replies)) → new.last ≡ last_or old.last (map (λ call. call.1) calls) →
+        AreJudged speech.denies old.name (batch lines calls replies) → new.name ≡ name_in old.name (batch lines calls replies) →
         Goes speech session K.tells C.tells later lines old new }
     ensures cut { (speech : Speech) (session : ℕ) (later : Bool) (lines more : List (List ℕ)) (calls : List (Command × ℕ)) (replies : List Reply) (old new : Standing) →
         AreAsked speech.reading later lines calls → length replies ≤ length calls → EndsOnce (batch lines calls replies) →
         deeds new.own ≡ deeds old.own ++ deeds_by session calls replies → (K.tells → Told old.taken new.taken old.faults new.faults (texts_by speech replies)) →
         (C.tells → new.given ≡ old.given ++ map (λ call. call.1) calls) →
         new.attached ≡ (old.attached || attached_in (batch lines calls replies)) → new.last ≡ last_or old.last (map (λ call. call.1) calls) →
+        AreJudged speech.denies old.name (batch lines calls replies) →
         Stops speech session K.tells C.tells later (lines ++ more) (drop (length replies) lines ++ more) [] old new }
 {}
 
@@ -47,7 +50,7 @@ pub fn a_batch_is_a_part_of_a_talk<K: Sink, C: Clock>()
 /// the disk has failed.
 pub fn a_talk_is_whole<K: Sink, C: Clock>()
     ensures { (speech : Speech) (session : ℕ) (heard rest : List (List ℕ)) (long broken : Bool) (old new : Standing) (own : List Entry) (parting : Option Answer) →
-        Stops speech session K.tells C.tells false heard rest (end_text speech long) old new → old.attached ≡ false → old.last ≡ 0 →
+        Stops speech session K.tells C.tells false heard rest (end_text speech long) old new → old.attached ≡ false → old.last ≡ 0 → old.name ≡ None →
         deeds own ≡ deeds new.own ++ parting_of session new.last parting → (new.attached ≡ false → parting ≡ None) →
         (new.attached ≡ true → parting ≡ None → broken ≡ true) →
         Talked speech session K.tells C.tells heard rest long broken old (record new { own = own }) }

@@ -6,7 +6,7 @@ use Rattle.boss_model.specs.declared.command.Command.TheVariants as command
 use Rattle.def_history.specs.declared.entry.Entry.{Entry}
 use Rattle.def_history.specs.declared.entry.Entry.TheVariants.{Did, Broke}
 use Rattle.def_history.specs.declared.outcome.Outcome.{Outcome}
-use Rattle.def_history.specs.declared.outcome.Outcome.TheVariants.{Done, Stopped, DiskFault, NoMemory}
+use Rattle.def_history.specs.declared.outcome.Outcome.TheVariants.{Done, Stopped, DiskFault, NoMemory, Denied}
 
 -- a command that was done is an entry, a disk that failed leaves the mark, and nothing else adds anything
 abbrev pub made_by : ℕ → Command → ℕ → Outcome → List Entry
@@ -14,6 +14,7 @@ made_by session command moment (Done answer) = Did session command moment answer
 made_by session command moment Stopped = []
 made_by session command moment DiskFault = Broke session ((command, moment) ∷ []) ∷ []
 made_by session command moment NoMemory = []
+made_by session command moment (Denied index rule) = []
 
 -- several commands: an entry for each that was answered
 abbrev pub done_by : ℕ → List (Command × ℕ) → List Answer → List Entry
@@ -27,6 +28,7 @@ mark_by session calls (Some (Done answer)) = []
 mark_by session calls (Some Stopped) = []
 mark_by session calls (Some DiskFault) = Broke session calls ∷ []
 mark_by session calls (Some NoMemory) = []
+mark_by session calls (Some (Denied index rule)) = []
 
 abbrev pub made_by_all : ℕ → List (Command × ℕ) → List Answer → Option Outcome → List Entry
 made_by_all session calls answers rest = done_by session calls answers ++ mark_by session calls rest
@@ -37,3 +39,8 @@ is_growing (command.Attach name) = true
 is_growing (command.Submit writes policy seq) = true
 is_growing (command.Notices name from most) = true
 is_growing other = false
+
+-- commands that rules may deny
+abbrev pub is_submit : Command → Bool
+is_submit (command.Submit writes policy seq) = true
+is_submit other = false

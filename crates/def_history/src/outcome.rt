@@ -11,6 +11,9 @@ pub enum Outcome {
     DiskFault,
     /// No memory was to be had; nothing was done.
     NoMemory,
+    /// The rules do not allow this write of a submit, from 0: this rule, from 1, decided it, or 0 where no rule is for it. Nothing
+    /// was looked at and nothing was done.
+    Denied { index: u32, rule: u32 },
 }
 
 /// What became of several commands that were to be kept together.

@@ -159,6 +159,10 @@ memory_text = codes "{\"error\":\"memory\"}"
 abbrev pub stopped_text : List ℕ
 stopped_text = codes "{\"error\":\"stopped\"}"
 
+-- which write of a submit is denied, from 0, and by which rule, from 1, or 0 where no rule is for it
+abbrev pub denied_text : ℕ → ℕ → List ℕ
+denied_text index rule = codes "{\"error\":\"denied\",\"index\":" ++ decimal index ++ codes ",\"rule\":" ++ decimal rule ++ codes "}"
+
 abbrev pub too_long_text : List ℕ
 too_long_text = codes "{\"error\":\"too-long\"}"
 

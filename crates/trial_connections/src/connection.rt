@@ -1,8 +1,9 @@
 //! A connection of a trial.
 
-ghost use Rattle.std.specs.Prelude.{◌≡◌};
+ghost use Rattle.std.specs.Prelude.{◌≡◌, []};
 ghost use Rattle.boss_model.specs.Catalogue.{actuators};
 
+use crate::counting::CountingSink;
 use crate::outside::{call, list_clock};
 use crate::pieces::{Piece, Pieces};
 use boss_model::{NoMemory, SessionId};
@@ -31,7 +32,7 @@ pub const NONE_FAILS: Fails = Fails {
 #[derive(Drop)]
 pub struct Connection<'a> {
     pub source: Pieces<'a>,
-    pub sink: BytesSink,
+    pub sink: CountingSink,
     pub clock: ListClock,
 }
 
@@ -49,7 +50,7 @@ impl<'a> Connection<'a> {
         match bytes_sink(alloc, fails.write) {
             Ok(sink) => Ok(Connection {
                 source,
-                sink,
+                sink: CountingSink::new(sink),
                 clock,
             }),
             Err(none) => Err(none),
@@ -67,6 +68,7 @@ impl<'a> Connection<'a> {
     ) -> SessionEnd
         requires own { G.owns desk.now pass.old }
         requires plant { actuators catalogue.now ≡ G.plant desk.now }
+        requires ungated { G.denies desk.now ≡ [] }
         ensures own { G.owns desk.now pass.new }
         ensures parts { G.parts pass.new ≡ G.parts pass.old }
     {

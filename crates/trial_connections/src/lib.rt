@@ -7,6 +7,8 @@ mod asking;
 #[cfg(test)]
 mod connection;
 #[cfg(test)]
+mod counting;
+#[cfg(test)]
 mod drives;
 #[cfg(test)]
 mod outside;

@@ -57,8 +57,8 @@ const ATTACH_AGAIN: &str = r#"{"on":9,"op":"attach","process":"a"}"#;
 const ENDED: &str = "End; bytes left: 0; a is free";
 
 /// What comes on a connection of session 1 and how, and what fails. Then what is told: what goes out, how the session ends, how much is
-/// left in the source and whether its process is free; and of each call in which the disk did not fail how many commands it had and
-/// the moment of the first.
+/// left in the source and whether its process is free; of each call in which the disk did not fail how many commands it had and
+/// the moment of the first; and, where it counts, how many writes were made.
 #[derive(Drop)]
 struct Talk {
     shows: &'static str,
@@ -69,6 +69,7 @@ struct Talk {
     moments: &'static [u32],
     fails: Fails,
     machine: Machine,
+    counts: bool,
     told: &'static [&'static str],
 }
 
@@ -81,6 +82,7 @@ const ONE_PIECE: Talk = Talk {
     moments: &[1000],
     fails: NONE_FAILS,
     machine: GOOD,
+    counts: false,
     told: &[ATTACHED, ACCEPTED, HELD, ENDED, "3 at 1000", "1 at 1000"],
 };
 
@@ -295,32 +297,11 @@ const FAULTS: &[Talk] = &[
         ..ONE_PIECE
     },
     Talk {
-        shows: "the second write fails, and all are done",
+        shows: "a second write would fail, and there is none",
         fails: Fails {
             write: 2,
             ..NONE_FAILS
         },
-        told: &[
-            ATTACHED,
-            "WriteFault; bytes left: 0; a is free",
-            "3 at 1000",
-            "1 at 1000",
-        ],
-        ..ONE_PIECE
-    },
-    Talk {
-        shows: "the third write fails, and all are done",
-        fails: Fails {
-            write: 3,
-            ..NONE_FAILS
-        },
-        told: &[
-            ATTACHED,
-            ACCEPTED,
-            "WriteFault; bytes left: 0; a is free",
-            "3 at 1000",
-            "1 at 1000",
-        ],
         ..ONE_PIECE
     },
     Talk {
@@ -414,6 +395,103 @@ const FAULTS: &[Talk] = &[
             "2 at 1000",
             "1 at 1000",
         ],
+        ..ONE_PIECE
+    },
+];
+
+/// How many writes the replies are.
+const WRITES: &[Talk] = &[
+    Talk {
+        shows: "three replies to what came in one piece are one write",
+        counts: true,
+        told: &[
+            ATTACHED,
+            ACCEPTED,
+            HELD,
+            ENDED,
+            "3 at 1000",
+            "1 at 1000",
+            "writes: 1",
+        ],
+        ..ONE_PIECE
+    },
+    Talk {
+        shows: "three pieces are three writes",
+        piece: Piece::Line,
+        counts: true,
+        told: &[
+            ATTACHED,
+            ACCEPTED,
+            HELD,
+            ENDED,
+            "1 at 1000",
+            "1 at 1000",
+            "1 at 1000",
+            "1 at 1000",
+            "writes: 3",
+        ],
+        ..ONE_PIECE
+    },
+    Talk {
+        shows: "seventeen are two writes",
+        lines: &[
+            READ, READ, READ, READ, READ, READ, READ, READ, READ, READ, READ, READ, READ, READ,
+            READ, READ, READ,
+        ],
+        counts: true,
+        told: &[
+            FREE,
+            FREE,
+            FREE,
+            FREE,
+            FREE,
+            FREE,
+            FREE,
+            FREE,
+            FREE,
+            FREE,
+            FREE,
+            FREE,
+            FREE,
+            FREE,
+            FREE,
+            FREE,
+            FREE,
+            ENDED,
+            "16 at 1000",
+            "1 at 1000",
+            "writes: 2",
+        ],
+        ..ONE_PIECE
+    },
+    Talk {
+        shows: "what was answered and that there was no memory are one write, and what comes behind is another",
+        machine: Machine { fed: 1, ..GOOD },
+        counts: true,
+        told: &[
+            ATTACHED,
+            MEMORY,
+            FREE,
+            ENDED,
+            "3 at 1000",
+            "1 at 1000",
+            "1 at 1000",
+            "writes: 2",
+        ],
+        ..ONE_PIECE
+    },
+    Talk {
+        shows: "a line that asks nothing has a write of its own",
+        lines: &[READ, READ, "{}"],
+        counts: true,
+        told: &[FREE, FREE, MALFORMED, ENDED, "2 at 1000", "writes: 2"],
+        ..ONE_PIECE
+    },
+    Talk {
+        shows: "no reply, no write",
+        lines: &[],
+        counts: true,
+        told: &[ENDED, "writes: 0"],
         ..ONE_PIECE
     },
 ];
@@ -554,16 +632,20 @@ fn tell_talked(text: &mut String, talked: &Option<Talked>, left: usize) -> Resul
     writeln!(text, "; bytes left: {left}; a is {free}")
 }
 
-/// Tells what went out, how the session ended and what was called.
+/// Tells what went out, how the session ended, what was called and, where it counts, how many writes were made.
 fn tell(
     text: &mut String,
     connection: &Connection<'_>,
     talked: &Option<Talked>,
     taken: &[Taken],
+    counts: bool,
 ) -> Result<(), Fail> {
     text.push_str(std::str::from_utf8(connection.sink.taken())?)?;
     tell_talked(text, talked, connection.source.left().len())?;
     tell_calls(text, taken)?;
+    if counts {
+        writeln!(text, "writes: {}", connection.sink.writes())?;
+    }
     Ok(())
 }
 
@@ -597,7 +679,13 @@ fn serve<R: Wait + Sync>(
         connection,
     };
     match run_trial(rt, alloc, catalogue, good_calls, fed, &mut talking) {
-        Ok((talked, taken)) => tell(text, &talking.connection, &talked, taken.slice()),
+        Ok((talked, taken)) => tell(
+            text,
+            &talking.connection,
+            &talked,
+            taken.slice(),
+            talk.counts,
+        ),
         Err(none) => Err(none.into()),
     }
 }
@@ -634,7 +722,7 @@ fn try_all<R: Abort + Wait + Sync>(
 fn connections_are_served_as_it_was_worked_out(rt: HostRuntime) -> Result<(), Fail> {
     let alloc = rt.alloc();
     let catalogue = Catalogue::read(alloc, THREE_POINTS.as_bytes())?;
-    for talks in [PIECES, OTHER_LINES, FAULTS, MACHINES] {
+    for talks in [PIECES, OTHER_LINES, FAULTS, WRITES, MACHINES] {
         try_all(&rt, alloc, &catalogue, talks)?;
     }
     Ok(())

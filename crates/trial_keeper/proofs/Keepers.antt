@@ -1,5 +1,5 @@
 -- What a keeper owes for a call where it had stopped, and where its disk fails; and what one without a disk may answer.
-use Rattle.std.proofs.Common.{◌≡◌, Bool, true, false, ◌||◌, ℕ, List, [], ◌∷◌, Ok, Err, Result, OnOk, refl, sym, ap, ◌∙◌, subst}
+use Rattle.std.proofs.Common.{◌≡◌, Bool, true, false, ◌||◌, ℕ, List, [], ◌∷◌, Ok, Err, None, Result, OnOk, refl, sym, ap, ◌∙◌, subst}
 use Rattle.std.specs.List.{AllByRecursion}
 use Rattle.boss_model.specs.declared.answer.Answer.{Answer}
 use Rattle.boss_model.specs.declared.command.Command.{Command}
@@ -10,10 +10,11 @@ use Rattle.boss_outside.specs.Counts.{Rose}
 use Rattle.def_history.specs.declared.entry.Entry.{Entry}
 use Rattle.def_history.specs.declared.entry.Entry.TheVariants.{Broke}
 use Rattle.def_history.specs.declared.outcome.Outcome.{Outcome}
-use Rattle.def_history.specs.declared.outcome.Outcome.TheVariants.{Done, Stopped, DiskFault, NoMemory}
+use Rattle.def_history.specs.declared.outcome.Outcome.TheVariants.{Done, Stopped, DiskFault, NoMemory, Denied}
 use Rattle.def_history.specs.History.{is_broken, MayCall}
 use Rattle.def_history.specs.Made.{made_by}
 use Rattle.boss_shared.specs.Calls.{is_stopped}
+use Rattle.boss_shared.specs.Gates.{denial_of}
 use Rattle.boss_shared.specs.Keeping.{Keeps}
 
 module _ {V : Type 0} (plant : V → List Actuator) (state : V → State) (stopped : V → Bool) (faults : V → ℕ)
@@ -52,12 +53,13 @@ module _ {V : Type 0} (plant : V → List Actuator) (state : V → State) (stopp
   })
 
 -- where there is no disk, a command is answered or wants memory
-pub is_answered : (session moment : ℕ) (asked : Command) (outcome : Outcome) → is_stopped outcome ≡ false → is_broken (made_by session asked moment outcome) ≡ false →
+pub is_answered : (session moment : ℕ) (asked : Command) (outcome : Outcome) → is_stopped outcome ≡ false → is_broken (made_by session asked moment outcome) ≡ false → denial_of outcome ≡ None →
     ((answer : Answer) → outcome ≡ Done answer → ⊥) → (outcome ≡ NoMemory → ⊥) → ⊥
-is_answered session moment asked (Done answer) goes whole not_done not_wanting = not_done answer refl
-is_answered session moment asked Stopped goes whole not_done not_wanting = absurd cc
-is_answered session moment asked DiskFault goes whole not_done not_wanting = absurd cc
-is_answered session moment asked NoMemory goes whole not_done not_wanting = not_wanting refl
+is_answered session moment asked (Done answer) goes whole undenied not_done not_wanting = not_done answer refl
+is_answered session moment asked Stopped goes whole undenied not_done not_wanting = absurd cc
+is_answered session moment asked DiskFault goes whole undenied not_done not_wanting = absurd cc
+is_answered session moment asked NoMemory goes whole undenied not_done not_wanting = not_wanting refl
+is_answered session moment asked (Denied index rule) goes whole undenied not_done not_wanting = absurd cc
 
 pub on_ok : {T E P : Type 0} (result : Result T E) (value : T) → result ≡ Ok value → OnOk result P → P
 on_ok (Ok value) given is held = held

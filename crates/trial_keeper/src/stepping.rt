@@ -1,5 +1,5 @@
 // Commands that are done with as much memory as they are told to find.
-ghost use Rattle.std.specs.Prelude.{◌≡◌, ◌≤◌, true, false, [], length, IfOk, OnErr, vec_capacity};
+ghost use Rattle.std.specs.Prelude.{◌≡◌, ◌≤◌, true, false, [], length, None, IfOk, OnErr, vec_capacity};
 ghost use Rattle.std.specs.List.{AllByRecursion};
 ghost use Rattle.boss_model.specs.Limits.{last_moment};
 ghost use Rattle.boss_model.specs.Machine.{step};
@@ -7,6 +7,7 @@ ghost use Rattle.boss_model.specs.Sound.{IsAllowed};
 ghost use Rattle.def_history.specs.History.{IsLegal, MayCall, run};
 ghost use Rattle.def_history.specs.Made.{done_by, is_growing};
 ghost use Rattle.boss_shared.specs.Calls.{has_failed_rest, RestFits};
+ghost use Rattle.boss_shared.specs.Gates.{denial_of_rest};
 
 use boss_memory_keeper::Unkept;
 use boss_model::{Answer, Command, NoMemory, SessionId};
@@ -77,6 +78,7 @@ pub fn step_all(
     ensures done { length answers.new.items ≡ result.done }
     ensures rest { RestFits commands.now result.done result.rest }
     ensures no_fault { has_failed_rest result.rest ≡ false }
+    ensures undenied { denial_of_rest result.rest ≡ None }
     ensures room { vec_capacity answers.new ≡ vec_capacity answers.old }
 {
     let mut done = 0;

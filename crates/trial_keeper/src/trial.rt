@@ -1,5 +1,5 @@
 // What is tried at a machine of tests.
-ghost use Rattle.std.specs.Prelude.{◌≡◌, false};
+ghost use Rattle.std.specs.Prelude.{◌≡◌, false, []};
 ghost use Rattle.boss_model.specs.Catalogue.{actuators};
 ghost use Rattle.boss_model.specs.Sound.{IsSound};
 
@@ -15,10 +15,11 @@ pub trait Trial {
     /// What it tells of its calls.
     type Told: Drop;
 
-    /// Makes the calls of the trial, at a desk over the points of a catalogue.
+    /// Makes the calls of the trial, at a desk over the points of a catalogue, which has no gates.
     fn run<G: Desk>(&mut self, catalogue: &Catalogue, desk: &G, pass: &mut G::Pass) -> Self::Told
         requires own { G.owns desk.now pass.old }
         requires plant { actuators catalogue.now ≡ G.plant desk.now }
+        requires ungated { G.denies desk.now ≡ [] }
         ensures own { G.owns desk.now pass.new }
         ensures parts { G.parts pass.new ≡ G.parts pass.old };
 }

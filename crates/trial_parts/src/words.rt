@@ -11,19 +11,27 @@ const ROWS: &[(&str, &str)] = &[
     ),
     (
         "serve|k.toml|j|[::1]:80|0000000032|4294967295",
-        r#"Ok(Serve { catalogue: Word { text: "k.toml" }, journal: Word { text: "j" }, address: Word { text: "[::1]:80" }, workers: 32, connections: 4294967295, plan: None })"#,
+        r#"Ok(Serve { catalogue: Word { text: "k.toml" }, journal: Word { text: "j" }, address: Word { text: "[::1]:80" }, workers: 32, connections: 4294967295, rules: None, plan: None })"#,
     ),
     (
         "serve|k|j|a|1|2|-",
-        r#"Ok(Serve { catalogue: Word { text: "k" }, journal: Word { text: "j" }, address: Word { text: "a" }, workers: 1, connections: 2, plan: None })"#,
+        r#"Ok(Serve { catalogue: Word { text: "k" }, journal: Word { text: "j" }, address: Word { text: "a" }, workers: 1, connections: 2, rules: None, plan: None })"#,
     ),
     (
         "serve|k|-|a|1|2|-|-",
-        r#"Ok(Serve { catalogue: Word { text: "k" }, journal: Word { text: "-" }, address: Word { text: "a" }, workers: 1, connections: 2, plan: None })"#,
+        r#"Ok(Serve { catalogue: Word { text: "k" }, journal: Word { text: "-" }, address: Word { text: "a" }, workers: 1, connections: 2, rules: None, plan: None })"#,
     ),
     (
         "serve|k|-|a|1|2|-|plan.toml",
-        r#"Ok(Serve { catalogue: Word { text: "k" }, journal: Word { text: "-" }, address: Word { text: "a" }, workers: 1, connections: 2, plan: Some(Word { text: "plan.toml" }) })"#,
+        r#"Ok(Serve { catalogue: Word { text: "k" }, journal: Word { text: "-" }, address: Word { text: "a" }, workers: 1, connections: 2, rules: None, plan: Some(Word { text: "plan.toml" }) })"#,
+    ),
+    (
+        "serve|k|-|a|1|2|rules.toml",
+        r#"Ok(Serve { catalogue: Word { text: "k" }, journal: Word { text: "-" }, address: Word { text: "a" }, workers: 1, connections: 2, rules: Some(Word { text: "rules.toml" }), plan: None })"#,
+    ),
+    (
+        "serve|k|-|a|1|2|rules.toml|plan.toml",
+        r#"Ok(Serve { catalogue: Word { text: "k" }, journal: Word { text: "-" }, address: Word { text: "a" }, workers: 1, connections: 2, rules: Some(Word { text: "rules.toml" }), plan: Some(Word { text: "plan.toml" }) })"#,
     ),
     (
         "check|k.toml|j",
@@ -44,8 +52,8 @@ const ROWS: &[(&str, &str)] = &[
     ("check|k|j|x", USAGE),
     ("check|k|", USAGE),
     ("serve|k|j|a|1", USAGE),
-    ("serve|k|j|a|1|1|x", USAGE),
-    ("serve|k|j|a|1|1|x|-", USAGE),
+    ("serve|k|j|a|1|1|", USAGE),
+    ("serve|k|j|a|1|1||plan.toml", USAGE),
     ("serve|k|j|a|1|1|-|", USAGE),
     ("serve|k|j|a|1|1|-|-|-", USAGE),
     ("serve|k|j||1|1", USAGE),

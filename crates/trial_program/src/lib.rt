@@ -1,4 +1,4 @@
-//! Trials of the whole transaction manager: worked scripts, byte for byte, the statuses of runs that end early, plans that are refused, generated loads, and the
+//! Trials of the whole transaction manager: worked scripts, byte for byte, the statuses of runs that end early, plans and rules that are refused, generated loads, and the
 //! bounds of what is kept.
 #![tactic(auto)]
 
@@ -10,5 +10,7 @@ mod limits;
 mod outside;
 #[cfg(test)]
 mod plans;
+#[cfg(test)]
+mod rules;
 #[cfg(test)]
 mod scripts;

@@ -1,7 +1,7 @@
 // Scripts over two disks in memory, checks of them, and what stands outside.
 ghost use Rattle.std.specs.Prelude.{◌≡◌, vec_len};
 ghost use Rattle.boss_model.specs.Catalogue.{actuators};
-ghost use Rattle.boss_manager.specs.Programs.{lacks_device};
+ghost use Rattle.boss_jobs.specs.Programs.{lacks_device};
 ghost use Rattle.boss_points.specs.Seen.{seen};
 ghost use Rattle.boss_scripts.specs.Devices.{HasDevices};
 

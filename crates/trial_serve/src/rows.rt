@@ -22,6 +22,7 @@ const PLAIN: Setting = Setting {
     unstarted: 0,
     turns: 0,
     device: false,
+    rules: "",
     sink_fails: 0,
 };
 
@@ -54,6 +55,18 @@ const HOLD: Talk = Talk {
 const HOLD_AND_REVERT: Talk = Talk {
     text: r#"{"op":"attach","process":"a"}
 {"op":"submit","writes":[{"point":"ahu1.damper","value":45000,"priority":8,"lease":60000,"revert":[[30000,5000]]}]}
+"#,
+    fails: 0,
+};
+
+/// The last submit has a write that may be made, and then one that may not.
+const JUDGED: Talk = Talk {
+    text: r#"{"op":"attach","process":"a"}
+{"op":"submit","writes":[{"point":"ahu1.damper","value":45000,"priority":8,"lease":60000}]}
+{"op":"submit","writes":[{"point":"ahu1.damper","value":45000,"priority":7,"lease":60000}]}
+{"op":"submit","writes":[{"point":"lamp","value":1,"priority":8,"lease":60000}]}
+{"op":"read","point":"lamp"}
+{"op":"submit","writes":[{"point":"ahu1.damper","value":0,"priority":9,"lease":60000},{"point":"lamp","value":1,"priority":9,"lease":60000}]}
 "#,
     fails: 0,
 };
@@ -189,6 +202,61 @@ session 2
 pauses 3 closed
 pauses 3 closed
 events 3 now 1000 leases 0 pending 0
+status 0
+"#,
+    },
+    // What is denied is no event and takes no number; the lease ends as the process is lost.
+    Row {
+        shows: "rules deny by process, point and level, and the talk goes on",
+        setting: Setting {
+            workers: &[&[JUDGED]],
+            rules: "rule=[{process='a',point='ahu1.*',highest=8},{process='*',point='*',allow=false}]",
+            ..PLAIN
+        },
+        told: r#"session 1
+{"ok":"attached","process":"a","next":1}
+{"ok":"accepted","txn":1,"until":61000}
+{"error":"denied","index":0,"rule":1}
+{"error":"denied","index":0,"rule":2}
+{"ok":"read","point":"lamp","value":0,"from":"default","mark":"pending"}
+{"error":"denied","index":1,"rule":2}
+pauses 0
+pauses 1 closed
+events 3 now 1000 leases 0 pending 0
+status 0
+"#,
+    },
+    Row {
+        shows: "what no rule is for is denied by rule 0, and who has no process is not attached",
+        setting: Setting {
+            workers: &[&[
+                Talk {
+                    text: r#"{"op":"attach","process":"a"}
+{"op":"submit","writes":[{"point":"lamp","value":1,"priority":8,"lease":60000}]}
+"#,
+                    fails: 0,
+                },
+                Talk {
+                    text: r#"{"op":"submit","writes":[{"point":"lamp","value":1,"priority":8,"lease":60000}]}
+{"op":"attach","process":"b"}
+{"op":"submit","writes":[{"point":"lamp","value":1,"priority":8,"lease":60000}]}
+"#,
+                    fails: 0,
+                },
+            ]],
+            rules: "rule=[{process='a',point='ahu1.*',highest=8}]",
+            ..PLAIN
+        },
+        told: r#"session 1
+{"ok":"attached","process":"a","next":1}
+{"error":"denied","index":0,"rule":0}
+session 2
+{"error":"not-attached"}
+{"ok":"attached","process":"b","next":1}
+{"error":"denied","index":0,"rule":0}
+pauses 0
+pauses 1 closed
+events 2 now 1000 leases 0 pending 0
 status 0
 "#,
     },

@@ -5,7 +5,8 @@ ghost use Rattle.std.specs.Prelude.{◌≤◌};
 use crate::clocks::{call, list_clock};
 use crate::connections::{Connections, Talk, count, host, tell_talks};
 use crate::texts::{put, put_number, tell_end};
-use boss_manager::{Service, Status, Surroundings, serve_in_memory};
+use boss_access::{Rules, RulesRefusal};
+use boss_manager::{Service, Site, Status, Surroundings, serve_in_memory};
 use boss_model::{Items, NoMemory};
 use boss_outside::{BytesSink, BytesSource, SimActuators};
 use boss_outside_server::{Host, ListClock, ListHost, ListSpawner, TurnWaiter};
@@ -30,6 +31,8 @@ pub struct Setting {
     pub turns: u64,
     /// Whether there is a device.
     pub device: bool,
+    /// The access rules of a file, or an empty text for none.
+    pub rules: &'static str,
     pub sink_fails: u64,
 }
 
@@ -89,6 +92,17 @@ fn workers(setting: &Setting) -> u32
     setting.workers.len().clamp(1, 32) as u32
 }
 
+/// The rules of a text, if it has some.
+fn rules(alloc: Global, text: &str) -> Result<Option<Rules>, RulesRefusal> {
+    if text.is_empty() {
+        return Ok(None);
+    }
+    match Rules::read(alloc, text.as_bytes()) {
+        Ok(rules) => Ok(Some(rules)),
+        Err(refusal) => Err(refusal),
+    }
+}
+
 /// Serves all connections, by as many workers as the setting has.
 fn serve<R: Threads + Wait + Sync>(
     rt: &R,
@@ -100,12 +114,16 @@ fn serve<R: Threads + Wait + Sync>(
 ) -> Status
     requires { ⟦<ListHost<BytesSource, BytesSink> as Host>⟧.sound host.old }
 {
-    let plan = None;
+    let Ok(rules) = rules(alloc, setting.rules) else {
+        return Status::RULES;
+    };
+    let none = None;
     let service = Service {
         address: "here",
         workers: workers(setting),
         connections: count(setting.workers),
-        plan: &plan,
+        rules: &none,
+        plan: &none,
     };
     let surroundings = Surroundings {
         sink: &mut stage.sink,
@@ -115,7 +133,7 @@ fn serve<R: Threads + Wait + Sync>(
         waiter: &mut stage.waiter,
         spawner: &mut stage.spawner,
     };
-    serve_in_memory(rt, alloc, catalogue, service, surroundings)
+    serve_in_memory(rt, alloc, Site { catalogue, rules }, service, surroundings)
 }
 
 /// What is told of a server that is run on these connections.

@@ -5,7 +5,7 @@ ghost use Rattle.std.specs.Prelude.{◌≤◌};
 use crate::clocks::list_clock;
 use crate::texts::tell_end;
 use boss_adapters::{RealSpawner, RealWaiter};
-use boss_manager::{Service, Status, Surroundings, serve_in_memory};
+use boss_manager::{Service, Site, Status, Surroundings, serve_in_memory};
 use boss_model::{Items, NoMemory};
 use boss_outside::{BytesSink, SimActuators};
 use boss_outside_server::{Host, ListClock};
@@ -45,7 +45,11 @@ where
                 waiter: &mut waiter,
                 spawner: &mut spawner,
             };
-            Ok(serve_in_memory(rt, alloc, catalogue, service, surroundings))
+            let site = Site {
+                catalogue,
+                rules: None,
+            };
+            Ok(serve_in_memory(rt, alloc, site, service, surroundings))
         }
         Err(none) => Err(none),
     }
@@ -74,12 +78,13 @@ where
 {
     let mut sink = BytesSink::new(alloc, Items::new(alloc))?;
     let mut clock = list_clock(alloc, &[1_000], 0)?;
-    let plan = None;
+    let none = None;
     let service = Service {
         address: "here",
         workers,
         connections,
-        plan: &plan,
+        rules: &none,
+        plan: &none,
     };
     let status = serve(rt, alloc, catalogue, service, host, &mut sink, &mut clock)?;
     tell_end(text, sink.taken(), status.0)

@@ -1,6 +1,9 @@
-//! Trials of the shared manager over a real engine: callers in two threads, several commands at once, and a disk that fails.
+//! Trials of the shared manager over a real engine, alone and behind access rules: callers in two threads, several commands at once,
+//! and a disk that fails.
 #![tactic(auto)]
 
+#[cfg(test)]
+mod rules;
 #[cfg(test)]
 mod texts;
 #[cfg(test)]

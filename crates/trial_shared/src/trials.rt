@@ -17,15 +17,15 @@ use std::thread::Threads;
 use trial_keeper::FailingKeeper;
 use trial_parts::THREE_POINTS;
 
-/// The damper at 45 for a minute.
-fn submit(rt: &impl Abort, alloc: Global) -> Command
+/// The damper at 45 for a minute, at this level.
+fn submit(rt: &impl Abort, alloc: Global, priority: i64) -> Command
     ensures { (plant : List Actuator) → 0 < length plant → IsAllowed plant result }
 {
     let mut writes = Items::new(alloc);
     let write = Setting {
         point: DAMPER,
         value: 45_000,
-        priority: 8,
+        priority,
         lease: 60_000,
         revert: Items::new(alloc),
     };
@@ -37,10 +37,10 @@ fn submit(rt: &impl Abort, alloc: Global) -> Command
     }
 }
 
-fn attach(rt: &impl Abort) -> Command
+fn attach(rt: &impl Abort, name: &[u8]) -> Command
     ensures { (plant : List Actuator) → 0 < length plant → IsAllowed plant result }
 {
-    let name = Name::new(b"a").expect(rt, "a name");
+    let name = Name::new(name).expect(rt, "a name");
     Command::Attach { name }
 }
 
@@ -50,9 +50,9 @@ fn batch(rt: &impl Abort, alloc: Global) -> Items<(Command, u64)>
     ensures may { (plant : List Actuator) → 0 < length plant → AllByRecursion (MayCall plant) result }
 {
     let mut commands = Items::new(alloc);
-    let attach = attach(rt);
+    let attach = attach(rt, b"a");
     commands.try_push((attach, 1000)).expect(rt, "memory");
-    let submit = submit(rt, alloc);
+    let submit = submit(rt, alloc, 8);
     commands.try_push((submit, 1000)).expect(rt, "memory");
     commands
         .try_push((Command::Array { point: DAMPER }, 1001))
@@ -120,8 +120,8 @@ fn hold_damper<G: Desk>(
     ensures own { G.owns desk.now pass.new }
     ensures parts { G.parts pass.new ≡ G.parts pass.old }
 {
-    let attach = attach(rt);
-    let submit = submit(rt, alloc);
+    let attach = attach(rt, b"a");
+    let submit = submit(rt, alloc, 8);
     ask(rt, desk, pass, SessionId(1), &attach, 1000, told);
     ask(rt, desk, pass, SessionId(1), &submit, 1000, told);
 }
@@ -181,16 +181,39 @@ fn ask_over_a_failing_disk<G: Desk>(
     ask_all(rt, alloc, desk, pass, SessionId(2), &commands, told);
 }
 
+/// What `a` may write at level 8, it may not write at 7; and `b` may write nothing.
+fn ask_what_is_denied<G: Desk>(
+    rt: &impl Abort,
+    alloc: Global,
+    desk: &G,
+    pass: &mut G::Pass,
+    told: &mut String,
+)
+    requires own { G.owns desk.now pass.old }
+    requires point { 0 < length (G.plant desk.now) }
+    ensures own { G.owns desk.now pass.new }
+    ensures parts { G.parts pass.new ≡ G.parts pass.old }
+{
+    hold_damper(rt, alloc, desk, pass, told);
+    let higher = submit(rt, alloc, 7);
+    ask(rt, desk, pass, SessionId(1), &higher, 1001, told);
+    let attach = attach(rt, b"b");
+    ask(rt, desk, pass, SessionId(2), &attach, 1002, told);
+    let submit = submit(rt, alloc, 8);
+    ask(rt, desk, pass, SessionId(2), &submit, 1003, told);
+}
+
 /// What is asked of a machine.
 #[derive(Clone, Copy)]
-enum Asked {
+pub enum Asked {
     InTwoThreads,
     AtOnce,
     OverAFailingDisk,
+    WhatIsDenied,
 }
 
 /// Asks this of a machine.
-fn ask_for<R: Abort + Threads, G: Desk + Sync>(
+pub fn ask_for<R: Abort + Threads, G: Desk + Sync>(
     rt: &R,
     alloc: Global,
     desk: &G,
@@ -215,6 +238,10 @@ where
         }
         Asked::OverAFailingDisk => {
             ask_over_a_failing_disk(rt, alloc, desk, &mut pass, told);
+            pass
+        }
+        Asked::WhatIsDenied => {
+            ask_what_is_denied(rt, alloc, desk, &mut pass, told);
             pass
         }
     }

@@ -1,6 +1,7 @@
 """What each command of bossctl does. Each gives the status that bossctl ends with."""
 
 import argparse
+import contextlib
 import json
 import os
 import platform
@@ -9,11 +10,11 @@ import signal
 import sys
 import time
 from collections import Counter, deque
-from typing import Any, Deque, Dict, Iterable, List, Optional
+from typing import Any, Deque, Dict, Iterable, Iterator, List, Optional
 
 from .. import __version__
 from .._client import Client, Watch
-from .._protocol import Accepted, Notice, Over, UnknownTransaction, write
+from .._protocol import Accepted, Denied, Notice, Over, Request, UnknownTransaction, write
 from . import _journal, _lint, _live, _show
 from ._journal import Damaged, Event, Journal, Known
 from ._live import View
@@ -102,9 +103,10 @@ def point(words: Words) -> int:
         tell_json({**view.told(), "default": view.slots.default, "slots": [slot_told(view, priority) for priority in PRIORITIES],
                    "next": [it._asdict() for it in _live.after(view)]})
         return FINE
-    tell([f"{one.name}: {sentence(view)}; its device: {view.reading.mark}"])
-    about = f"{one.kind}, {one.range()}, default {one.show(view.slots.default)}, driver {one.driver}"
-    tell([f"  {about}"] + ([f"  {one.note}"] if one.note else []) + [""])
+    held = ", perhaps held by its minimum times" if one.times() and view.reading.mark == "pending" else ""
+    tell([f"{one.name}: {sentence(view)}; its device: {view.reading.mark}{held}"])
+    about = [one.kind, one.range(), f"default {one.show(view.slots.default)}", f"driver {one.driver}", one.times()]
+    tell([f"  {', '.join(filter(None, about))}"] + ([f"  {one.note}"] if one.note else []) + [""])
     heads = ("PRIORITY", "LEVEL", "VALUE", "WHAT", "HELD BY", "TXN", "LEFT")
     tell(_show.table(heads, [slot_row(view, priority) for priority in PRIORITIES], "r r  rr"))
     tell(["", f"Next: {next_sentence(view)}"])
@@ -197,11 +199,12 @@ def take(words: Words, lease: int, is_renewed: bool) -> int:
         first = client.next_notice or 1
         before = _live.views(client, [one])[0]
         other = before.slots.slots.get(words.priority)
-        if is_renewed:
-            held = client.hold([made])
-            accepted = Accepted(held.txn, held.until)
-        else:
-            accepted = client.submit([made])
+        with denials(client, made):
+            if is_renewed:
+                held = client.hold([made])
+                accepted = Accepted(held.txn, held.until)
+            else:
+                accepted = client.submit([made])
         taking = Taking(words, client, one, accepted.txn, first)
         if other is not None and not words.json:
             taking.say(f"took the slot from {before.owners.get(other.txn)}, which had {one.show(other.value)} there")
@@ -213,12 +216,26 @@ def take(words: Words, lease: int, is_renewed: bool) -> int:
             return taking.release()
 
 
+@contextlib.contextmanager
+def denials(client: Client, *writes: Request) -> Iterator[None]:
+    """Says of a denial which write it is about, and which rule."""
+    try:
+        yield
+    except Denied as error:
+        one = writes[error.index]
+        whose = f"for {client.process} at priority {one['priority']}"
+        why = f"by rule {error.rule} of the rules file, {whose}" if error.rule else f"{whose}: no rule of the rules file is for it"
+        raise Failure(f"refused: write {error.index} ({one['point']}) is denied {why}") from error
+
+
 class Taking:
     """A transaction of bossctl's own, which is followed until it holds its point no longer."""
 
     def __init__(self, words: Words, client: Client, one: Point, txn: int, first: int) -> None:
         self.words, self.client, self.point, self.txn, self.first = words, client, one, txn, first
         self.shown = ""
+        # At how many looks in turn the device of a point with minimum times had not answered.
+        self.waits = 0
 
     def say(self, text: str, **told: Any) -> None:
         if self.words.json:
@@ -240,6 +257,16 @@ class Taking:
         if sentence(view) != self.shown:
             self.shown = sentence(view)
             self.say(f"in force: {self.shown}")
+        if self.point.times() and view.reading is not None:
+            self.wait(view.reading.mark)
+
+    def wait(self, mark: str) -> None:
+        """Says that a device waits for its minimum time, and when it has taken the value."""
+        if mark == "settled" and self.waits > 1:
+            self.say("its device took the value")
+        self.waits = self.waits + 1 if mark == "pending" else 0
+        if self.waits == 2:
+            self.say(f"its device is not written yet: {self.point.times()}")
 
     def ended(self) -> Optional[Notice]:
         """How the lease ended, if it did; a fault of the device is told too."""
@@ -277,7 +304,9 @@ def release(words: Words) -> int:
         if slot is None:
             raise Failure(f"nothing stands at priority {words.priority} of {one.name}" + where_else(view))
         # The value stays for the moment, so that the device is not told twice.
-        txn = client.submit([write(one.name, slot.value, lease=1_000, priority=words.priority)]).txn
+        made = write(one.name, slot.value, lease=1_000, priority=words.priority)
+        with denials(client, made):
+            txn = client.submit([made]).txn
         try:
             client.cancel(txn)
         except Over:

@@ -1,7 +1,7 @@
 """What is wrong in a catalogue, in access rules and in a plan of devices: every mistake, by its line, its table and its key."""
 
 import difflib
-from typing import Any, Callable, Dict, List, NamedTuple, Optional, Sequence, Set, Tuple
+from typing import Any, Callable, Dict, List, NamedTuple, Optional, Sequence, Set, Tuple, Union
 
 from .._protocol import is_name
 from . import _toml
@@ -18,7 +18,8 @@ KINDS = ("analog", "binary", "multi")
 
 class Finding(NamedTuple):
     """A mistake, or where `is_mistake` is False something that is passed over and looks like one. `line` counts from 1 and is None where
-    it is the file's as a whole; `table` is as `point[3]`, counted from 0 as the server does; `name` is what the table is called."""
+    it is the file's as a whole; `table` is as `point[3]`, counted from 0, or as `rule 4`, counted from 1, as the server does; `name` is
+    what the table is called."""
     file: str
     line: Optional[int]
     table: str
@@ -102,10 +103,15 @@ class File:
 
     def note(self, path: Path, name: str, found: str, wanted: str, is_mistake: bool = True) -> None:
         """Keeps a finding at this path."""
-        table = f"{path[0]}[{path[1]}]" if len(path) > 1 and isinstance(path[1], int) else ""
+        place = path[1] if len(path) > 1 else None
+        table = self.table_at(path[0], place) if isinstance(place, int) else ""
         key = path[2:] if table else path
         self.findings.append(
             Finding(self.path, self.lines.of(path), table, name, ".".join(map(str, key)), found, wanted, is_mistake))
+
+    def table_at(self, key: Union[str, int], place: int) -> str:
+        """What the server calls the table of this place in an array, counted from 0."""
+        return f"{key}[{place}]"
 
     def array(self, key: str, most: Optional[int], what: str) -> List[Any]:
         """The array under a key of the top; an empty one where there is none, which is noted."""
@@ -226,39 +232,79 @@ class Catalogue(File):
 # ---- access rules
 
 RULE_KEYS = ("process", "point", "highest", "allow")
+MOST_NAMES = 3
+
+
+class Rule(NamedTuple):
+    """The patterns of a rule, and its number, from 1."""
+    number: int
+    process: str
+    point: str
 
 
 class Rules(File):
-    """Access rules: an array of tables `rule`."""
+    """Access rules: an array of tables `rule`, of which the first decides that matches the process and the point of a write."""
 
     def __init__(self, path: str, catalogue: Catalogue) -> None:
         super().__init__(path)
-        if not self.is_read:
+        self.catalogue = catalogue
+        self.earlier: List[Rule] = []
+        if self.is_read:
+            self.known((), "", self.tables, ("rule",))
+            for place, rule in enumerate(self.array("rule", MOST_RULES, "rules, each a table [[rule]]")):
+                self._rule(("rule", place), rule)
+            if not any(finding.is_mistake for finding in self.findings):
+                self._unruled()
+
+    def table_at(self, key: Union[str, int], place: int) -> str:
+        return f"{key} {place + 1}"
+
+    def _rule(self, path: Path, rule: Any) -> None:
+        if not isinstance(rule, dict):
+            self.note(path, "", shown(rule), "a table [[rule]]")
             return
-        self.known((), "", self.tables, ("rule",))
-        closed: Optional[int] = None
-        for place, rule in enumerate(self.array("rule", MOST_RULES, "rules, each a table [[rule]]")):
-            at: Path = ("rule", place)
-            if not isinstance(rule, dict):
-                self.note(at, "", shown(rule), "a table [[rule]]")
-                continue
-            for key in ("process", "point"):
-                self.one(at, "", rule, key, is_pattern, A_PATTERN)
-            self.one(at, "", rule, "highest", lambda value: is_whole(value, 1, 16), "the highest priority, 1 to 16", default=1)
-            self.one(at, "", rule, "allow", lambda value: isinstance(value, bool), "true or false", default=True)
-            self.known(at, "", rule, RULE_KEYS)
-            if closed is not None:
-                self.note(at, "", f"a rule after rule[{closed}], which decides everything", "the first rule that matches decides", is_mistake=False)
-            elif (rule.get("process"), rule.get("point")) == ("*", "*"):
-                closed = place
-            point = rule.get("point")
-            if is_pattern(point) and catalogue.points and not any(matches(str(point), name) for name in catalogue.points):
-                self.note(at + ("point",), "", f"{shown(point)}, which no point has", "a point of the catalogue", is_mistake=False)
+        are_patterns = [self.one(path, "", rule, key, is_pattern, A_PATTERN) for key in ("process", "point")]
+        self.one(path, "", rule, "highest", lambda value: is_whole(value, 1, 16),
+                 "the least priority number that it allows, 1 to 16", default=1)
+        self.one(path, "", rule, "allow", lambda value: isinstance(value, bool), "true or false", default=True)
+        if rule.get("allow") is False and "highest" in rule:
+            self.note(path + ("highest",), "", "highest beside allow = false", "such a rule denies every priority", is_mistake=False)
+        self.known(path, "", rule, RULE_KEYS)
+        if all(are_patterns):
+            self._reach(path, Rule(int(path[1]) + 1, rule["process"], rule["point"]))
+
+    def _reach(self, path: Path, rule: Rule) -> None:
+        """Notes a rule that no write comes to. Which processes there are no catalogue says."""
+        points = [name for name in self.catalogue.points if matches(rule.point, name)]
+        before = [self._earlier(rule, name) for name in points]
+        if not points and self.catalogue.points:
+            self.note(path + ("point",), "", f"{shown(rule.point)}, which fits no point", "a point of the catalogue", is_mistake=False)
+        elif points and all(before):
+            numbers = sorted({one.number for one in before if one is not None})
+            those = f"rule {numbers[0]} decides" if len(numbers) == 1 else f"rules {', '.join(map(str, numbers))} decide"
+            self.note(path, "", "a rule that no write comes to", f"{those} before it: put the narrower rule first", is_mistake=False)
+        self.earlier.append(rule)
+
+    def _earlier(self, rule: Rule, name: str) -> Optional[Rule]:
+        """An earlier rule that decides on this point for every process of the rule."""
+        return next((one for one in self.earlier if covers(one.process, rule.process) and matches(one.point, name)), None)
+
+    def _unruled(self) -> None:
+        """Notes the points that nobody may write."""
+        names = [name for name in self.catalogue.points if not any(matches(rule.point, name) for rule in self.earlier)]
+        if names:
+            first = ", ".join(map(shown, names[:MOST_NAMES])) + (f" and {len(names) - MOST_NAMES} more" if len(names) > MOST_NAMES else "")
+            self.note((), "", f"no rule for {first}", "nobody may write what no rule is for", is_mistake=False)
 
 
 def matches(pattern: str, name: str) -> bool:
     """Whether a name fits a pattern of a rule."""
     return name.startswith(pattern[:-1]) if pattern.endswith("*") else name == pattern
+
+
+def covers(pattern: str, other: str) -> bool:
+    """Whether each name that fits the other pattern fits this one."""
+    return other == pattern if not pattern.endswith("*") else other.rstrip("*").startswith(pattern[:-1])
 
 
 # ---- a plan of devices

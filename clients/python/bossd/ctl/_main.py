@@ -169,10 +169,11 @@ def parser_of() -> argparse.ArgumentParser:
     one.add_argument("--count", type=count, metavar="N", help="end after N looks")
 
     one = add(commands, "lint", _commands.lint, "look through a catalogue, access rules and a plan of devices, and name every mistake",
-              "Each mistake has its line, its table, its key, what was found and what may stand there. Tables count from 0, as in what the server\n"
-              "prints. Keys that nothing reads are named too, as passed over. Whether the program has a device for a driver is not looked at.\n\n"
+              "Each mistake has its line, its table, its key, what was found and what may stand there. Tables count from 0 and rules from 1, as in\n"
+              "what the server prints. Keys that nothing reads are named too, as passed over, and so are rules that no write comes to, patterns that\n"
+              "fit no point, and points that no rule is for. Which processes there are no file says, so none is looked for.\n\n"
               "RULES has tables [[rule]] with process, point, highest (1) and allow (true). PLAN has tables [[driver]] with name and host, and\n"
-              "[[place]] with point, unit, one of coil and register, and per (1). No server takes RULES yet.")
+              "[[place]] with point, unit, one of coil and register, and per (1).")
     one.add_argument("file", metavar="CATALOGUE", help="the catalogue")
     one.add_argument("rules", metavar="RULES", nargs="?", help="access rules; - for none")
     one.add_argument("plan", metavar="PLAN", nargs="?", help="a plan of Modbus devices; - for none")

@@ -37,6 +37,9 @@ class Point(NamedTuple):
     default: int
     unit: str = ""
     note: str = ""
+    # For how many milliseconds a binary point stays on once it is on, and off once it is off.
+    min_on: int = 0
+    min_off: int = 0
 
     def number(self, value: int) -> str:
         """A value in units, without the unit."""
@@ -68,6 +71,11 @@ class Point(NamedTuple):
             "binary": "0 or 1",
             "multi": f"a state, 1 to {self.most}",
         }[self.kind]
+
+    def times(self) -> str:
+        """Its minimum times, where it has any."""
+        lengths = [(self.min_on, "on"), (self.min_off, "off")]
+        return ", ".join(f"{word} for {exact_length(length)} at least" for length, word in lengths if length)
 
 
 class Catalogue(NamedTuple):
@@ -117,11 +125,12 @@ def catalogue_of(path: str, tables: Dict[str, Any]) -> Catalogue:
         bounds = {"analog": ("min", "max"), "binary": (), "multi": ("states",)}[kind]
         numbers = [table[key] for key in bounds]
         least, most = (numbers if kind == "analog" else [1, *numbers] if kind == "multi" else [0, 1])
-        point = Point(table["name"], table["driver"], kind, least, most, table["default"], str(table.get("unit", "")), str(table.get("note", "")))
-        if not is_name(point.name) or not all(isinstance(number, int) for number in (least, most, point.default)):
-            raise ValueError
         times = [table.get(key, 0) for key in ("min_on", "min_off")]
-        guarded = f" {times[0]} {times[1]}" if any(times) else ""
+        point = Point(table["name"], table["driver"], kind, least, most, table["default"], str(table.get("unit", "")), str(table.get("note", "")),
+                      *times)
+        if not is_name(point.name) or not all(isinstance(number, int) for number in (least, most, point.default, *times)):
+            raise ValueError
+        guarded = f" {point.min_on} {point.min_off}" if point.times() else ""
         text += f"p {point.name} {point.driver} {kind} {least} {most} {point.default}{guarded}\n"
         points[point.name] = point
     return Catalogue(path, points, hashlib.sha256(text.encode()).digest())

@@ -1,25 +1,25 @@
 use Rattle.std.proofs.Common.{inl, inr, refl, vec_len}
 use Rattle.boss_words.specs.Words.{texts}
-use Rattle.boss_manager.specs.Jobs.{world}
-use Rattle.boss_manager.specs.ServeJobs.{server_world}
-use Rattle.boss_manager.proofs.KeptLemmas.{checks-kept, checks-memory, does-kept, none-asked}
-use Rattle.boss_manager.proofs.ServeLemmas.{does-serve, serves-memory}
+use Rattle.boss_jobs.specs.Jobs.{world}
+use Rattle.boss_serve_jobs.specs.ServeJobs.{server_world}
+use Rattle.boss_jobs.proofs.KeptLemmas.{checks-kept, checks-memory, does-kept, none-asked}
+use Rattle.boss_serve_jobs.proofs.ServeLemmas.{does-serve, serves-memory}
 use Rattle.boss_manager.proofs.WordLemmas.{workers-fit}
 use Rattle.boss_manager.proofs.top_call.boss.Goals as goal
 
 -- ---- a server's workers are as many as its row allows
 
 pub do_memory_serve-requires-clause-some : goal.do_memory_serve-requires-clause-some
-do_memory_serve-requires-clause-some g c = λ _ _. (workers-fit (texts c.args.words.now.items) _ _ _ _ _ _ (rw c.in-Ok-Serve.field-0-is at c.in-Ok-Serve.ensures)).0
+do_memory_serve-requires-clause-some g c = λ _ _. (workers-fit (texts c.args.words.now.items) _ _ _ _ _ _ _ (rw c.in-Ok-Serve.field-0-is at c.in-Ok-Serve.ensures)).0
 
 pub do_memory_serve-requires-clause-few : goal.do_memory_serve-requires-clause-few
-do_memory_serve-requires-clause-few g c = λ _ _. (workers-fit (texts c.args.words.now.items) _ _ _ _ _ _ (rw c.in-Ok-Serve.field-0-is at c.in-Ok-Serve.ensures)).1
+do_memory_serve-requires-clause-few g c = λ _ _. (workers-fit (texts c.args.words.now.items) _ _ _ _ _ _ _ (rw c.in-Ok-Serve.field-0-is at c.in-Ok-Serve.ensures)).1
 
 pub do_kept_serve-requires-clause-some : goal.do_kept_serve-requires-clause-some
-do_kept_serve-requires-clause-some g c = λ _ _. (workers-fit (texts c.args.words.now.items) _ _ _ _ _ _ (rw c.in-Ok-Serve.field-0-is at c.in-Ok-Serve.ensures)).0
+do_kept_serve-requires-clause-some g c = λ _ _. (workers-fit (texts c.args.words.now.items) _ _ _ _ _ _ _ (rw c.in-Ok-Serve.field-0-is at c.in-Ok-Serve.ensures)).0
 
 pub do_kept_serve-requires-clause-few : goal.do_kept_serve-requires-clause-few
-do_kept_serve-requires-clause-few g c = λ _ _. (workers-fit (texts c.args.words.now.items) _ _ _ _ _ _ (rw c.in-Ok-Serve.field-0-is at c.in-Ok-Serve.ensures)).1
+do_kept_serve-requires-clause-few g c = λ _ _. (workers-fit (texts c.args.words.now.items) _ _ _ _ _ _ _ (rw c.in-Ok-Serve.field-0-is at c.in-Ok-Serve.ensures)).1
 
 -- ---- no memory for the words: nothing was done
 
@@ -48,20 +48,20 @@ returns-clause-check_memory g c name is =
     (λ tells. none-asked _ (g.F.Files.asked c.args.files.now))
 
 pub returns-clause-serve : goal.returns-clause-serve
-returns-clause-serve g c name journal address workers connections plan is named =
+returns-clause-serve g c name journal address workers connections rules plan is named =
     let world = world c.args.files.now c.args.source.now c.args.sink.now c.args.devices.now.items in
     let all = server_world world c.args.clock.now c.args.host.now c.args.waiter.now c.args.spawner.now in
-    does-serve g.F.Files g.S.Source g.K.Sink g.A.Actuators g.H.Host g.H.In.Source g.H.Out.Sink g.C.Clock g.W.Waiter g.P.Spawner name plan (vec_len c.args.devices.now) workers connections all all 8 journal
+    does-serve g.F.Files g.S.Source g.K.Sink g.A.Actuators g.H.Host g.H.In.Source g.H.Out.Sink g.C.Clock g.W.Waiter g.P.Spawner name rules plan (vec_len c.args.devices.now) workers connections all all 8 journal
     (inl (inl (record { why = inr (refl, refl); sink = refl; devices = refl }), record { clock = refl; host = refl; waiter = refl; spawner = refl }))
     refl
     (λ tells. none-asked _ (g.F.Files.asked c.args.files.now))
     (λ tells file first second. refl)
 
 pub returns-clause-serve_memory : goal.returns-clause-serve_memory
-returns-clause-serve_memory g c name address workers connections plan is =
+returns-clause-serve_memory g c name address workers connections rules plan is =
     let world = world c.args.files.now c.args.source.now c.args.sink.now c.args.devices.now.items in
     let all = server_world world c.args.clock.now c.args.host.now c.args.waiter.now c.args.spawner.now in
-    serves-memory g.F.Files g.S.Source g.K.Sink g.A.Actuators g.H.Host g.H.In.Source g.H.Out.Sink g.C.Clock g.W.Waiter g.P.Spawner name plan (vec_len c.args.devices.now) workers connections all all 8
+    serves-memory g.F.Files g.S.Source g.K.Sink g.A.Actuators g.H.Host g.H.In.Source g.H.Out.Sink g.C.Clock g.W.Waiter g.P.Spawner name rules plan (vec_len c.args.devices.now) workers connections all all 8
     (inl (inl (record { why = inr (refl, refl); sink = refl; devices = refl }), record { clock = refl; host = refl; waiter = refl; spawner = refl }))
     refl
     (λ tells. none-asked _ (g.F.Files.asked c.args.files.now))

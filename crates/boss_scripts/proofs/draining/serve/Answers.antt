@@ -53,7 +53,7 @@ returns-in_err-tell_write-clause-broke g c =
 pub returns-clause-lighter : goal.returns-clause-lighter
 returns-clause-lighter g c =
     want-lighter g.V.Keeper c.args.moment c.args.driver c.in-Want.point c.in-Want.version c.in-Want.value c.command_device-ok.result c.requires.running c.requires.moment c.requires.sound c.requires.wants
-    c.in-Done.ensures.kept c.in-Want.is c.apply-2.result c.apply-2.ensures.stops c.apply-2.ensures.memory c.apply-2.ensures.kept
+    c.in-Done.ensures.kept c.in-Want.is c.apply-2.result c.apply-2.ensures.stops c.apply-2.ensures.memory c.apply-2.ensures.undenied c.apply-2.ensures.kept
 
 pub returns-clause-did : goal.returns-clause-did
 returns-clause-did g c =
@@ -70,4 +70,4 @@ returns-clause-did g c =
     (λ tells. simp to_z-of_z at (c.in_ok-tell_write.ensures.bytes tells)))
     (went-report g.V.Keeper c.args.catalogue.now c.args.moment (c.in-Done.ensures.kept.same_plant ∙ c.requires.plant)
     (still-running g.V.Keeper 0 (command.Next c.args.driver) c.args.moment c.in-Done.answer c.requires.running c.in-Done.ensures.kept)
-    c.in-Want.point c.in-Want.version c.command_device-ok.result new c.apply-2.result c.apply-2.ensures.stops c.apply-2.ensures.memory c.apply-2.ensures.kept)
+    c.in-Want.point c.in-Want.version c.command_device-ok.result new c.apply-2.result c.apply-2.ensures.stops c.apply-2.ensures.memory c.apply-2.ensures.undenied c.apply-2.ensures.kept)

@@ -17,9 +17,9 @@ invariant-loop-session g l = record {
   text : l.text.capacity ≡ l.fn.text.capacity;
   few : length l.held ≤ 16;
   may : AllByRecursion (MayCall (actuators l.catalogue)) l.held;
-  answered : Answered (speech_of l.catalogue) l.session g.K.Sink.tells l.fn.commands.items l.held
-      (voice (entries_at (g.G.Desk.seen l.fn.pass) (g.G.Desk.mine l.fn.pass)) (g.K.Sink.taken l.fn.sink) (g.K.Sink.faults l.fn.sink) l.fn.attached (g.G.Desk.seen l.fn.pass))
-      (voice (entries_at (g.G.Desk.seen l.pass) (g.G.Desk.mine l.pass)) (g.K.Sink.taken l.sink) (g.K.Sink.faults l.sink) l.attached (g.G.Desk.seen l.pass));
+  answered : Answered (speech_of l.catalogue (g.G.Desk.denies l.desk)) l.session g.K.Sink.tells l.fn.commands.items l.held
+      (voice (entries_at (g.G.Desk.seen l.fn.pass) (g.G.Desk.mine l.fn.pass)) (g.K.Sink.taken l.fn.sink) (g.K.Sink.faults l.fn.sink) l.fn.attached (g.G.Desk.seen l.fn.pass) (g.G.Desk.held l.fn.pass))
+      (voice (entries_at (g.G.Desk.seen l.pass) (g.G.Desk.mine l.pass)) (g.K.Sink.taken l.sink) (g.K.Sink.faults l.sink) l.attached (g.G.Desk.seen l.pass) (g.G.Desk.held l.pass));
 }
 
 abbrev pub decreases-loop-session : goal.decreases-loop-session

@@ -15,6 +15,7 @@ pub loop-quiet-init : goal.loop-quiet-init
 loop-quiet-init g c = record {
   own = c.requires.own;
   parts = refl;
+  held = refl;
   room = refl;
   some = c.requires.from;
   watches = watches-nothing (notes c.args.catalogue.now) c.args.session c.args.name.now g.K.Sink.tells g.C.Clock.tells c.args.from (standing (entries_at (g.G.Desk.seen c.args.pass.now) (g.G.Desk.mine c.args.pass.now)) (g.K.Sink.taken c.args.sink.now) (g.K.Sink.faults c.args.sink.now) (g.C.Clock.given c.args.clock.now) false 0);
@@ -58,6 +59,7 @@ pub loop-quiet-preserved : goal.loop-quiet-preserved
 loop-quiet-preserved g c = record {
   own = c.in-Ok.ensures.own;
   parts = c.in-Ok.ensures.parts ∙ c.loop-quiet.invariant.parts;
+  held = c.in-Ok.ensures.held ∙ c.loop-quiet.invariant.held;
   room = c.in-Ok.ensures.room ∙ c.loop-quiet.invariant.room;
   some = c.in-Ok.ensures.goes_on.first;
   watches = watches-then (notes c.args.catalogue.now) c.args.session c.args.name.now g.K.Sink.tells g.C.Clock.tells c.args.from c.loop-quiet.next c.in-Ok.turn.next (standing (entries_at (g.G.Desk.seen c.args.pass.now) (g.G.Desk.mine c.args.pass.now)) (g.K.Sink.taken c.args.sink.now) (g.K.Sink.faults c.args.sink.now) (g.C.Clock.given c.args.clock.now) false 0) (standing (entries_at (g.G.Desk.seen c.loop-quiet.pass) (g.G.Desk.mine c.loop-quiet.pass)) (g.K.Sink.taken c.loop-quiet.sink) (g.K.Sink.faults c.loop-quiet.sink) (g.C.Clock.given c.loop-quiet.clock) false 0) (standing (entries_at (g.G.Desk.seen c.take_turn.new.pass) (g.G.Desk.mine c.take_turn.new.pass)) (g.K.Sink.taken c.take_turn.new.sink) (g.K.Sink.faults c.take_turn.new.sink) (g.C.Clock.given c.take_turn.new.clock) false 0) c.loop-quiet.invariant.watches c.in-Ok.ensures.watches;

@@ -13,6 +13,7 @@ abbrev pub invariant-loop-quiet : goal.invariant-loop-quiet
 invariant-loop-quiet g l = record {
   own : g.G.Desk.owns l.desk l.pass;
   parts : g.G.Desk.parts l.pass ≡ g.G.Desk.parts l.fn.pass;
+  held : g.G.Desk.held l.pass ≡ g.G.Desk.held l.fn.pass;
   room : l.text.capacity ≡ l.fn.text.capacity;
   some : 1 ≤ l.next;
   watches : Watches (notes l.catalogue) l.session l.name g.K.Sink.tells g.C.Clock.tells l.from l.next

@@ -22,6 +22,7 @@ pub loop-later-init : goal.loop-later-init
 loop-later-init g c = record {
   own = c.requires.own;
   parts = refl;
+  held = refl;
   room = let same : c.in-Ok.text.capacity ≡ 32768 = ap (λ (b : Held). b.capacity) c.in-Ok.ensures in omega (arith, same);
   some = c.requires.from;
   watches = watches-nothing (notes c.args.catalogue.now) c.args.session c.args.name.now g.K.Sink.tells g.C.Clock.tells c.args.from (standing (entries_at (g.G.Desk.seen c.args.pass.now) (g.G.Desk.mine c.args.pass.now)) (g.K.Sink.taken c.args.sink.now) (g.K.Sink.faults c.args.sink.now) (g.C.Clock.given c.args.clock.now) false 0);
@@ -51,6 +52,7 @@ pub loop-later-preserved : goal.loop-later-preserved
 loop-later-preserved g c = record {
   own = c.in-Ok-await_notices.ensures.own;
   parts = c.in-Ok-await_notices.ensures.parts ∙ c.loop-later.invariant.parts;
+  held = c.in-Ok-await_notices.ensures.held ∙ c.loop-later.invariant.held;
   room = omega (arith, c.in-Ok-await_notices.ensures.room, c.loop-later.invariant.room);
   some = c.in-Ok-await_notices.ensures.goes_on.first;
   watches = watches-then (notes c.args.catalogue.now) c.args.session c.args.name.now g.K.Sink.tells g.C.Clock.tells c.args.from c.loop-later.next c.in-Ok-await_notices.later (standing (entries_at (g.G.Desk.seen c.args.pass.now) (g.G.Desk.mine c.args.pass.now)) (g.K.Sink.taken c.args.sink.now) (g.K.Sink.faults c.args.sink.now) (g.C.Clock.given c.args.clock.now) false 0) (standing (entries_at (g.G.Desk.seen c.loop-later.pass) (g.G.Desk.mine c.loop-later.pass)) (g.K.Sink.taken c.loop-later.sink) (g.K.Sink.faults c.loop-later.sink) (g.C.Clock.given c.loop-later.clock) false 0) (standing (entries_at (g.G.Desk.seen c.await_notices.new.pass) (g.G.Desk.mine c.await_notices.new.pass)) (g.K.Sink.taken c.await_notices.new.sink) (g.K.Sink.faults c.await_notices.new.sink) (g.C.Clock.given c.await_notices.new.clock) false 0) c.loop-later.invariant.watches c.in-Ok-await_notices.ensures.watches;

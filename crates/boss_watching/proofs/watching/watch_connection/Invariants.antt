@@ -13,6 +13,7 @@ abbrev pub invariant-loop-later : goal.invariant-loop-later
 invariant-loop-later g l = record {
   own : g.G.Desk.owns l.desk l.pass;
   parts : g.G.Desk.parts l.pass ≡ g.G.Desk.parts l.initial.pass;
+  held : g.G.Desk.held l.pass ≡ g.G.Desk.held l.initial.pass;
   room : 32768 ≤ l.text.capacity;
   some : 1 ≤ l.next;
   watches : Watches (notes l.catalogue) l.session l.name g.K.Sink.tells g.C.Clock.tells l.from l.next

@@ -1,9 +1,10 @@
-use Rattle.std.proofs.Common.{sym, ◌∙◌, subst, lit<}
+use Rattle.std.proofs.Common.{sym, ◌∙◌, subst, None, lit<}
 use Rattle.def_lanes.specs.Lanes.{of_session}
 use Rattle.def_lanes.specs.Parts.{Added}
 use Rattle.def_history.specs.History.{is_broken}
 use Rattle.boss_model.specs.Catalogue.{actuators}
 use Rattle.boss_outside_server.specs.Hosts.{served_of}
+use Rattle.boss_sessions.specs.Holding.{Holds}
 use Rattle.boss_worker.specs.Desks.{own_of}
 use Rattle.boss_worker.specs.Saying.{IsVisit}
 use Rattle.boss_worker.specs.Troubles.{is_trouble, ClockTrouble}
@@ -14,10 +15,10 @@ use Rattle.boss_worker.proofs.visit.attend.Goals as goal
 pub returns-in-Watch-clause-added : goal.returns-in-Watch-clause-added
 returns-in-Watch-clause-added g c =
     let served = served_of g.S.Source g.K.Sink c.args.session c.serve_connection.new.source c.watch_connection.new.sink in
-    subst (λ trouble. Added (actuators c.args.catalogue.now) (of_session c.args.session) (λ entries. g.S.Source.tells → IsVisit c.args.catalogue.now g.K.Sink.tells served (is_trouble trouble) entries)
+    subst (λ trouble. Added (actuators c.args.catalogue.now) (of_session c.args.session) (λ entries. g.S.Source.tells → IsVisit c.args.catalogue.now (g.G.Desk.denies c.args.desk.now) g.K.Sink.tells served (is_trouble trouble) entries)
     g.C.Clock.tells (own_of g.G.Desk c.args.pass.now) (own_of g.G.Desk c.watch_connection.new.pass) (g.C.Clock.given c.args.clock.now) (g.C.Clock.given c.watch_connection.new.clock))
     (sym c.watch_trouble.ensures)
-    (watch-visit c.args.catalogue.now g.S.Source.tells g.K.Sink.tells g.C.Clock.tells served c.requires.some (g.S.Source.left c.args.input.now)
+    (watch-visit c.args.catalogue.now (g.G.Desk.denies c.args.desk.now) g.S.Source.tells g.K.Sink.tells g.C.Clock.tells served c.requires.some (g.S.Source.left c.args.input.now)
     (λ told. c.serve_connection.ensures.held told ∙ sym c.requires.fresh.whole)
     (own_of g.G.Desk c.args.pass.now) (own_of g.G.Desk c.watch_connection.new.pass) (g.K.Sink.taken c.args.output.now) (g.K.Sink.faults c.args.output.now)
     c.requires.fresh.empty c.requires.fresh.no_write_failed (g.C.Clock.given c.args.clock.now) (g.C.Clock.given c.watch_connection.new.clock)
@@ -35,10 +36,10 @@ returns-in-Watch-clause-broken g c = λ is. broken-watched c.watch_connection.re
 pub returns-in_default-clause-added : goal.returns-in_default-clause-added
 returns-in_default-clause-added g c =
     let served = served_of g.S.Source g.K.Sink c.args.session c.serve_connection.new.source c.serve_connection.new.sink in
-    subst (λ trouble. Added (actuators c.args.catalogue.now) (of_session c.args.session) (λ entries. g.S.Source.tells → IsVisit c.args.catalogue.now g.K.Sink.tells served (is_trouble trouble) entries)
+    subst (λ trouble. Added (actuators c.args.catalogue.now) (of_session c.args.session) (λ entries. g.S.Source.tells → IsVisit c.args.catalogue.now (g.G.Desk.denies c.args.desk.now) g.K.Sink.tells served (is_trouble trouble) entries)
     g.C.Clock.tells (own_of g.G.Desk c.args.pass.now) (own_of g.G.Desk c.serve_connection.new.pass) (g.C.Clock.given c.args.clock.now) (g.C.Clock.given c.serve_connection.new.clock))
     (sym c.session_trouble.ensures)
-    (talk-visit c.args.catalogue.now g.S.Source.tells g.K.Sink.tells g.C.Clock.tells served c.requires.some (g.S.Source.left c.args.input.now)
+    (talk-visit c.args.catalogue.now (g.G.Desk.denies c.args.desk.now) g.S.Source.tells g.K.Sink.tells g.C.Clock.tells served c.requires.some (g.S.Source.left c.args.input.now)
     (λ told. c.serve_connection.ensures.held told ∙ sym c.requires.fresh.whole)
     (own_of g.G.Desk c.args.pass.now) (own_of g.G.Desk c.serve_connection.new.pass) (g.K.Sink.taken c.args.output.now) (g.K.Sink.faults c.args.output.now)
     c.requires.fresh.empty c.requires.fresh.no_write_failed (g.C.Clock.given c.args.clock.now) (g.C.Clock.given c.serve_connection.new.clock)
@@ -52,3 +53,7 @@ returns-in_default-clause-clocked g c =
 
 pub returns-in_default-clause-broken : goal.returns-in_default-clause-broken
 returns-in_default-clause-broken g c = λ is. broken-served c.serve_connection.result (is_broken (g.G.Desk.seen c.args.pass.now)) (is_broken (g.G.Desk.seen c.serve_connection.new.pass)) c.serve_connection.ensures.kept (sym c.session_trouble.ensures ∙ is)
+
+pub returns-in-Watch-clause-others : goal.returns-in-Watch-clause-others
+returns-in-Watch-clause-others g c = λ other apart holds.
+    subst (Holds (g.G.Desk.denies c.args.desk.now) other None) (sym c.watch_connection.ensures.held) (c.in-Watch.ensures.others other apart holds)

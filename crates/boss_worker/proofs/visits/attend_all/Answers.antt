@@ -7,6 +7,7 @@ use Rattle.boss_worker.specs.Saying.{terms_of}
 use Rattle.boss_worker.specs.Troubles.{is_trouble, flags_after, Counts}
 use Rattle.boss_worker.specs.Visits.{SoFar}
 use Rattle.boss_worker.proofs.FlagLemmas.{clock-after, disk-after, host-after}
+use Rattle.boss_worker.proofs.HeldLemmas.{earlier-other, free-holds}
 use Rattle.boss_worker.proofs.LeftLemmas.{left-broken, so-far-first, so-far-more}
 use Rattle.boss_worker.proofs.visits.attend_all.Goals as goal
 
@@ -14,12 +15,13 @@ pub connections-init : goal.connections-init
 connections-init g c = record {
   own = c.requires.own;
   parts = refl;
+  unheld = λ session from. free-holds (g.G.Desk.denies c.args.server.now.desk) session (g.G.Desk.held c.args.pass.now) c.requires.free;
   sound = c.requires.fresh.sound;
   back = c.requires.fresh.back;
   share = refl;
   within = omega (arith, c.requires.fresh.handed);
   works = [];
-  so_far = so-far-first (terms_of c.args.server.now.catalogue.now c.args.server.now.workers g.H.In.Source.tells g.H.Out.Sink.tells g.H.Host.tells g.C.Clock.tells g.W.Waiter.tells) c.args.number
+  so_far = so-far-first (terms_of c.args.server.now.catalogue.now (g.G.Desk.denies c.args.server.now.desk) c.args.server.now.workers g.H.In.Source.tells g.H.Out.Sink.tells g.H.Host.tells g.C.Clock.tells g.W.Waiter.tells) c.args.number
       (own_of g.G.Desk c.args.pass.now) (g.H.Host.served c.args.host.now) (g.C.Clock.given c.args.clock.now) (g.H.Host.handed c.args.host.now) _ _ c.requires.empty c.requires.fresh.handed (ap (λ n. 1 + n) c.from-next.ensures);
   small = omega (arith, c.from-next.ensures, c.requires.number, c.requires.few);
   hosted = c.requires.fresh.faults;
@@ -35,15 +37,17 @@ connections-preserved g c =
     record {
       own = c.attend-trouble.ensures.own;
       parts = c.attend-trouble.ensures.parts ∙ inv.parts;
+      unheld = λ session from. c.attend-trouble.ensures.others session (earlier-other c.connections.next session (omega (arith, from, c.requires.number, c.from-next-in-Conn.ensures)))
+          (inv.unheld session (omega (arith, from)));
       sound = c.give_back.ensures.sound;
       back = omega (arith, c.give_back.ensures.counts.2, c.in-Conn.ensures.count.2);
       share = c.give_back.ensures.counts.1 ∙ c.accept.ensures.share ∙ inv.share;
       within = omega (arith, c.give_back.ensures.counts.0, c.in-Conn.ensures.count.0, c.in-Conn.ensures.count.1, inv.share);
       works = inv.works ++ visit one (is_trouble c.attend-trouble.result) ∷ [];
-      so_far = subst (λ f. SoFar (terms_of c.args.server.now.catalogue.now c.args.server.now.workers g.H.In.Source.tells g.H.Out.Sink.tells g.H.Host.tells g.C.Clock.tells g.W.Waiter.tells) c.args.number (inv.works ++ visit one (is_trouble c.attend-trouble.result) ∷ [])
+      so_far = subst (λ f. SoFar (terms_of c.args.server.now.catalogue.now (g.G.Desk.denies c.args.server.now.desk) c.args.server.now.workers g.H.In.Source.tells g.H.Out.Sink.tells g.H.Host.tells g.C.Clock.tells g.W.Waiter.tells) c.args.number (inv.works ++ visit one (is_trouble c.attend-trouble.result) ∷ [])
           (own_of g.G.Desk c.attend-trouble.new.pass) (g.H.Host.served c.args.host.now) (g.H.Host.served c.give_back.new.self) (g.C.Clock.given c.args.clock.now) (g.C.Clock.given c.attend-trouble.new.clock)
           (g.H.Host.handed c.give_back.new.self) (c.connections.next + c.from-next-in-Conn.result) f) (sym c.after-flags.ensures)
-          (so-far-more (terms_of c.args.server.now.catalogue.now c.args.server.now.workers g.H.In.Source.tells g.H.Out.Sink.tells g.H.Host.tells g.C.Clock.tells g.W.Waiter.tells) c.args.number inv.works
+          (so-far-more (terms_of c.args.server.now.catalogue.now (g.G.Desk.denies c.args.server.now.desk) c.args.server.now.workers g.H.In.Source.tells g.H.Out.Sink.tells g.H.Host.tells g.C.Clock.tells g.W.Waiter.tells) c.args.number inv.works
           (own_of g.G.Desk c.connections.pass) (own_of g.G.Desk c.attend-trouble.new.pass) (g.H.Host.served c.args.host.now) (g.H.Host.served c.connections.host) (g.H.Host.served c.give_back.new.self)
           (g.C.Clock.given c.args.clock.now) (g.C.Clock.given c.connections.clock) (g.C.Clock.given c.attend-trouble.new.clock) (g.H.Host.handed c.connections.host) (g.H.Host.handed c.give_back.new.self)
           c.connections.next (c.connections.next + c.from-next-in-Conn.result) c.connections.flags c.attend-trouble.result one inv.so_far c.attend-trouble.ensures.added
@@ -63,14 +67,14 @@ returns-in-Disk-clause-left g c =
     let inv = c.connections.invariant in
     let one = served_of g.H.In.Source g.H.Out.Sink c.connections.next c.attend-trouble.new.input c.attend-trouble.new.output in (
       inv.works ++ visit one (is_trouble c.attend-trouble.result) ∷ [],
-      left-broken (terms_of c.args.server.now.catalogue.now c.args.server.now.workers g.H.In.Source.tells g.H.Out.Sink.tells g.H.Host.tells g.C.Clock.tells g.W.Waiter.tells) c.args.number (g.H.Host.share c.args.host.now) (inv.works ++ visit one (is_trouble c.attend-trouble.result) ∷ [])
+      left-broken (terms_of c.args.server.now.catalogue.now (g.G.Desk.denies c.args.server.now.desk) c.args.server.now.workers g.H.In.Source.tells g.H.Out.Sink.tells g.H.Host.tells g.C.Clock.tells g.W.Waiter.tells) c.args.number (g.H.Host.share c.args.host.now) (inv.works ++ visit one (is_trouble c.attend-trouble.result) ∷ [])
           (own_of g.G.Desk c.attend-trouble.new.pass) (g.G.Desk.seen c.attend-trouble.new.pass) (g.H.Host.served c.args.host.now) (g.H.Host.served c.give_back.new.self)
           (g.C.Clock.given c.args.clock.now) (g.C.Clock.given c.attend-trouble.new.clock) (g.H.Host.handed c.give_back.new.self) (c.connections.next + c.args.server.now.workers)
           (g.H.Host.faults c.give_back.new.self) (g.C.Clock.faults c.attend-trouble.new.clock) c.after-flags.result
-          (subst (λ f. SoFar (terms_of c.args.server.now.catalogue.now c.args.server.now.workers g.H.In.Source.tells g.H.Out.Sink.tells g.H.Host.tells g.C.Clock.tells g.W.Waiter.tells) c.args.number (inv.works ++ visit one (is_trouble c.attend-trouble.result) ∷ [])
+          (subst (λ f. SoFar (terms_of c.args.server.now.catalogue.now (g.G.Desk.denies c.args.server.now.desk) c.args.server.now.workers g.H.In.Source.tells g.H.Out.Sink.tells g.H.Host.tells g.C.Clock.tells g.W.Waiter.tells) c.args.number (inv.works ++ visit one (is_trouble c.attend-trouble.result) ∷ [])
           (own_of g.G.Desk c.attend-trouble.new.pass) (g.H.Host.served c.args.host.now) (g.H.Host.served c.give_back.new.self) (g.C.Clock.given c.args.clock.now) (g.C.Clock.given c.attend-trouble.new.clock)
           (g.H.Host.handed c.give_back.new.self) (c.connections.next + c.args.server.now.workers) f) (sym c.after-flags.ensures)
-          (so-far-more (terms_of c.args.server.now.catalogue.now c.args.server.now.workers g.H.In.Source.tells g.H.Out.Sink.tells g.H.Host.tells g.C.Clock.tells g.W.Waiter.tells) c.args.number inv.works
+          (so-far-more (terms_of c.args.server.now.catalogue.now (g.G.Desk.denies c.args.server.now.desk) c.args.server.now.workers g.H.In.Source.tells g.H.Out.Sink.tells g.H.Host.tells g.C.Clock.tells g.W.Waiter.tells) c.args.number inv.works
           (own_of g.G.Desk c.connections.pass) (own_of g.G.Desk c.attend-trouble.new.pass) (g.H.Host.served c.args.host.now) (g.H.Host.served c.connections.host) (g.H.Host.served c.give_back.new.self)
           (g.C.Clock.given c.args.clock.now) (g.C.Clock.given c.connections.clock) (g.C.Clock.given c.attend-trouble.new.clock) (g.H.Host.handed c.connections.host) (g.H.Host.handed c.give_back.new.self)
           c.connections.next (c.connections.next + c.args.server.now.workers) c.connections.flags c.attend-trouble.result one inv.so_far c.attend-trouble.ensures.added
@@ -81,3 +85,6 @@ returns-in-Disk-clause-left g c =
           (ap (λ (f : Flags). f.disk) c.after-flags.ensures ∙ ap (λ trouble. (flags_after trouble c.connections.flags).disk) c.in-Disk.is)
           (c.attend-trouble.ensures.broken c.in-Disk.is),
     )
+
+pub attend-trouble-requires-clause-unheld : goal.attend-trouble-requires-clause-unheld
+attend-trouble-requires-clause-unheld g c = c.connections.invariant.unheld c.connections.next (omega arith)

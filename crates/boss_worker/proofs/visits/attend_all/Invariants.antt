@@ -1,5 +1,6 @@
-use Rattle.std.proofs.Common.{◌≡◌, ◌+◌, ◌*◌, ◌-◌, ◌≤◌, false, List}
+use Rattle.std.proofs.Common.{◌≡◌, ℕ, ◌+◌, ◌*◌, ◌-◌, ◌≤◌, false, List, None}
 use Rattle.def_lanes.specs.Works.{Work}
+use Rattle.boss_sessions.specs.Holding.{Holds}
 use Rattle.boss_worker.specs.Desks.{own_of}
 use Rattle.boss_worker.specs.Saying.{terms_of}
 use Rattle.boss_worker.specs.Troubles.{Counts}
@@ -11,12 +12,13 @@ abbrev pub invariant-connections : goal.invariant-connections
 invariant-connections g l = record {
   own : g.G.Desk.owns l.server.desk l.pass;
   parts : g.G.Desk.parts l.pass ≡ g.G.Desk.parts l.fn.pass;
+  unheld : (session : ℕ) → l.next ≤ session → Holds (g.G.Desk.denies l.server.desk) session None (g.G.Desk.held l.pass);
   sound : g.H.Host.sound l.host;
   back : g.H.Host.away l.host ≡ 0;
   share : g.H.Host.share l.host ≡ g.H.Host.share l.fn.host;
   within : g.H.Host.handed l.host ≤ g.H.Host.share l.fn.host;
   works : List Work;
-  so_far : SoFar (terms_of l.server.catalogue.now l.server.workers g.H.In.Source.tells g.H.Out.Sink.tells g.H.Host.tells g.C.Clock.tells g.W.Waiter.tells) l.number works
+  so_far : SoFar (terms_of l.server.catalogue.now (g.G.Desk.denies l.server.desk) l.server.workers g.H.In.Source.tells g.H.Out.Sink.tells g.H.Host.tells g.C.Clock.tells g.W.Waiter.tells) l.number works
       (own_of g.G.Desk l.pass) (g.H.Host.served l.fn.host) (g.H.Host.served l.host) (g.C.Clock.given l.fn.clock) (g.C.Clock.given l.clock)
       (g.H.Host.handed l.host) l.next l.flags;
   small : l.next ≤ 32 + 32 * g.H.Host.handed l.host;

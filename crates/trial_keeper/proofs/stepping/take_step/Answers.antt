@@ -12,5 +12,5 @@ pub returns-in-NoMemory-clause-err : goal.returns-in-NoMemory-clause-err
 returns-in-NoMemory-clause-err c = c.in-NoMemory.ensures.kept.state_is refl
 
 pub unreachable-requires : goal.unreachable-requires
-unreachable-requires c = is_answered c.args.session c.args.moment c.args.command.now c.apply.result c.apply.ensures.stops (sym c.apply.ensures.kept.marked)
+unreachable-requires c = is_answered c.args.session c.args.moment c.args.command.now c.apply.result c.apply.ensures.stops (sym c.apply.ensures.kept.marked) c.apply.ensures.undenied
     (λ answer is. c.in_default.not-Done answer is) (λ is. c.in_default.not-NoMemory is)

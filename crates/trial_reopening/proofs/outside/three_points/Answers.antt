@@ -3,8 +3,8 @@ use Rattle.std.proofs.Math.Seq.{drop-length}
 use Rattle.std.specs.List.{position_from}
 use Rattle.boss_model.specs.Catalogue.{Point}
 use Rattle.boss_points.specs.Seen.{seen}
-use Rattle.boss_manager.specs.Programs.{lacks_device}
-use Rattle.boss_manager.proofs.Places.{all-have, position-here}
+use Rattle.boss_jobs.specs.Programs.{lacks_device}
+use Rattle.boss_jobs.proofs.Places.{all-have, position-here}
 use Rattle.trial_reopening.proofs.outside.three_points.Goals as goal
 
 pub loop-place-preserved : goal.loop-place-preserved

@@ -1,6 +1,6 @@
 use Rattle.std.proofs.Common.{◌≡◌, drop}
 use Rattle.std.specs.List.{position_from}
-use Rattle.boss_manager.specs.Programs.{lacks_device}
+use Rattle.boss_jobs.specs.Programs.{lacks_device}
 use Rattle.trial_reopening.proofs.outside.three_points.Given as goal
 
 -- no point so far is behind another driver

@@ -1,16 +1,19 @@
-use Rattle.std.proofs.Common.{◌∙◌}
-use Rattle.boss_shared.proofs.Holding.{holds_on}
+use Rattle.std.proofs.Common.{ap, ◌∙◌}
+use Rattle.boss_shared.proofs.Holding.{held_as, holds_on}
 use Rattle.boss_shared.proofs.Telling.{calls_told}
 use Rattle.boss_shared.proofs.Turns.{batch_of_turn, owned_after, turn_of}
+use Rattle.boss_shared.proofs.Ungated.{allowed_ungated, judged_ungated}
 use Rattle.boss_shared.proofs.manager.ManagerDesk.call_all.Goals as goal
 
 pub leave-requires-clause-value : goal.leave-requires-clause-value
 leave-requires-clause-value g c =
-    (holds_on _ _ _ _ _ _ _ _ _ _ _ c.enter-held.ensures.value.0 c.apply_all-outcomes.ensures.kept, c.apply_all-outcomes.ensures.under ∙ c.enter-held.ensures.value.1)
+    let entered = held_as _ _ _ _ _ _ _ _ _ _ c.deref_mut.ensures.value c.enter-held.ensures.value.0 in
+    (holds_on _ _ _ _ _ _ _ _ _ _ _ entered c.apply_all-outcomes.ensures.kept, c.apply_all-outcomes.ensures.under ∙ ap g.K.Keeper.under c.deref_mut.ensures.value ∙ c.enter-held.ensures.value.1)
 
 pub returns-clause-own : goal.returns-clause-own
 returns-clause-own g c =
-    let held = holds_on _ _ _ _ _ _ _ _ _ _ _ c.enter-held.ensures.value.0 c.apply_all-outcomes.ensures.kept in
+    let entered = held_as _ _ _ _ _ _ _ _ _ _ c.deref_mut.ensures.value c.enter-held.ensures.value.0 in
+    let held = holds_on _ _ _ _ _ _ _ _ _ _ _ entered c.apply_all-outcomes.ensures.kept in
     owned_after _ _ c.args.self.now.lock c.args.pass.now _ _ _ (record {
       entered = c.enter-held.ensures.seat;
       goes_on = c.enter-held.ensures.history;
@@ -21,19 +24,27 @@ returns-clause-own g c =
 
 pub returns-clause-turn : goal.returns-clause-turn
 returns-clause-turn g c =
-    let held = holds_on _ _ _ _ _ _ _ _ _ _ _ c.enter-held.ensures.value.0 c.apply_all-outcomes.ensures.kept in
+    let entered = held_as _ _ _ _ _ _ _ _ _ _ c.deref_mut.ensures.value c.enter-held.ensures.value.0 in
+    let held = holds_on _ _ _ _ _ _ _ _ _ _ _ entered c.apply_all-outcomes.ensures.kept in
     turn_of _ _ c.args.pass.now _ _ _ _ (record {
       entered = c.enter-held.ensures.seat;
       goes_on = c.enter-held.ensures.history;
       left = c.leave.ensures.seat;
       own = c.leave.ensures.own_entries;
       places = c.leave.ensures.places;
-    }) held.legal (c.apply_all-outcomes.ensures.stops ∙ c.enter-held.ensures.value.0.marked)
+    }) held.legal (c.apply_all-outcomes.ensures.stops ∙ entered.marked)
 
 pub returns-clause-batch : goal.returns-clause-batch
 returns-clause-batch g c = batch_of_turn _ _ _ _ _ _ _ _ _ _ (returns-clause-turn g c)
 
+pub returns-clause-allowed : goal.returns-clause-allowed
+returns-clause-allowed g c = allowed_ungated _ _ _
+
+pub returns-clause-gate : goal.returns-clause-gate
+returns-clause-gate g c = judged_ungated c.args.session c.args.commands.now c.apply_all-outcomes.result.done c.apply_all-outcomes.result.rest c.apply_all-outcomes.ensures.undenied
+
 pub returns-clause-told : goal.returns-clause-told
 returns-clause-told g c =
-    let held = holds_on _ _ _ _ _ _ _ _ _ _ _ c.enter-held.ensures.value.0 c.apply_all-outcomes.ensures.kept in
+    let entered = held_as _ _ _ _ _ _ _ _ _ _ c.deref_mut.ensures.value c.enter-held.ensures.value.0 in
+    let held = holds_on _ _ _ _ _ _ _ _ _ _ _ entered c.apply_all-outcomes.ensures.kept in
     calls_told _ _ _ _ _ _ _ _ held.sound held.legal c.apply_all-outcomes.ensures.done c.apply_all-outcomes.ensures.rest

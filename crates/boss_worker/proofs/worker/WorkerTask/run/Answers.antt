@@ -1,6 +1,5 @@
 use Rattle.std.proofs.Common.{◌^◌, refl, sym, ap, ◌∙◌, subst, true, arith}
 use Rattle.boss_model.specs.Catalogue.{actuators}
-use Rattle.def_history.specs.History.{IsLegal}
 use Rattle.boss_worker.specs.declared.duty.Duty.TheVariants.{Devices}
 use Rattle.boss_worker.specs.Desks.{own_of}
 use Rattle.boss_worker.specs.Saying.{terms_of}
@@ -26,11 +25,11 @@ returns-in-Connections g c =
         own = c.attend_all-self.ensures.own;
         one = c.attend_all-self.ensures.parts ∙ c.requires.one;
         works = works;
-        left = left-fresh true (terms_of c.args.self.now.server.now.catalogue.now c.args.self.now.server.now.workers g.H.In.Source.tells g.H.Out.Sink.tells g.H.Host.tells g.C.Clock.tells g.W.Waiter.tells) c.args.self.now.number (g.H.Host.share c.attend_all-self.new.host) works (own_of g.G.Desk c.attend_all-self.new.pass)
+        left = left-fresh true (terms_of c.args.self.now.server.now.catalogue.now (g.G.Desk.denies c.args.self.now.server.now.desk) c.args.self.now.server.now.workers g.H.In.Source.tells g.H.Out.Sink.tells g.H.Host.tells g.C.Clock.tells g.W.Waiter.tells) c.args.self.now.number (g.H.Host.share c.attend_all-self.new.host) works (own_of g.G.Desk c.attend_all-self.new.pass)
             (g.G.Desk.seen c.attend_all-self.new.pass) (g.H.Host.served c.in-Connections.host) (g.H.Host.served c.attend_all-self.new.host)
             (g.C.Clock.given c.args.self.now.clock) (g.C.Clock.given c.attend_all-self.new.clock) (g.H.Host.handed c.attend_all-self.new.host) (g.H.Host.faults c.attend_all-self.new.host)
             (g.C.Clock.faults c.attend_all-self.new.clock) c.attend_all-self.result
-            (subst (λ share. Left true (terms_of c.args.self.now.server.now.catalogue.now c.args.self.now.server.now.workers g.H.In.Source.tells g.H.Out.Sink.tells g.H.Host.tells g.C.Clock.tells g.W.Waiter.tells) c.args.self.now.number share works (own_of g.G.Desk c.attend_all-self.new.pass)
+            (subst (λ share. Left true (terms_of c.args.self.now.server.now.catalogue.now (g.G.Desk.denies c.args.self.now.server.now.desk) c.args.self.now.server.now.workers g.H.In.Source.tells g.H.Out.Sink.tells g.H.Host.tells g.C.Clock.tells g.W.Waiter.tells) c.args.self.now.number share works (own_of g.G.Desk c.attend_all-self.new.pass)
             (g.G.Desk.seen c.attend_all-self.new.pass) (g.H.Host.served c.in-Connections.host) (g.H.Host.served c.attend_all-self.new.host)
             (g.C.Clock.given c.args.self.now.clock) (g.C.Clock.given c.attend_all-self.new.clock) (g.H.Host.handed c.attend_all-self.new.host) (g.H.Host.faults c.attend_all-self.new.host)
             (g.C.Clock.faults c.attend_all-self.new.clock) c.attend_all-self.result) (sym c.attend_all-self.ensures.share) left) fresh.2 c.requires.given;
@@ -48,7 +47,7 @@ returns-in-Time g c = (
   refl,
   refl,
   refl,
-  subst (λ flags. HasLeft g.G.Desk g.H.Host g.C.Clock g.W.Waiter g.A.Actuators true (terms_of c.args.self.now.server.now.catalogue.now c.args.self.now.server.now.workers g.H.In.Source.tells g.H.Out.Sink.tells g.H.Host.tells g.C.Clock.tells g.W.Waiter.tells) c.args.self.now.server.now.desk c.args.self.now.number
+  subst (λ flags. HasLeft g.G.Desk g.H.Host g.C.Clock g.W.Waiter g.A.Actuators true (terms_of c.args.self.now.server.now.catalogue.now (g.G.Desk.denies c.args.self.now.server.now.desk) c.args.self.now.server.now.workers g.H.In.Source.tells g.H.Out.Sink.tells g.H.Host.tells g.C.Clock.tells g.W.Waiter.tells) c.args.self.now.server.now.desk c.args.self.now.number
       c.expire-end.new.pass c.args.self.now.duty c.expire-end.new.clock c.expire-end.new.waiter flags)
       (sym (c.after-self.ensures ∙ ap (λ trouble. flags_after trouble c.args.self.now.flags) c.work_trouble.ensures))
       (has-left-time g.G.Desk g.H.Host g.C.Clock g.W.Waiter g.A.Actuators c.args.self.now.server.now.catalogue.now g.H.In.Source.tells g.H.Out.Sink.tells c.args.self.now.server.now.desk c.args.self.now.server.now.workers c.args.self.now.number c.args.self.now.pass c.args.self.now.duty c.args.self.now.clock c.args.self.now.waiter c.args.self.now.flags c.requires
@@ -62,12 +61,10 @@ returns-in-Devices g c = (
   refl,
   sym (ap (share_at g.H.Host) c.in-Devices.is),
   sym (ap was_at c.in-Devices.is),
-  subst (λ flags. HasLeft g.G.Desk g.H.Host g.C.Clock g.W.Waiter g.A.Actuators true (terms_of c.args.self.now.server.now.catalogue.now c.args.self.now.server.now.workers g.H.In.Source.tells g.H.Out.Sink.tells g.H.Host.tells g.C.Clock.tells g.W.Waiter.tells) c.args.self.now.server.now.desk c.args.self.now.number
-      c.drive-end.new.pass (Devices c.in-Devices.driver c.drive-end.new.devices c.in-Devices.field-2) c.drive-end.new.clock c.drive-end.new.waiter flags)
-      (sym (c.after-self-in-Devices.ensures ∙ ap (λ trouble. flags_after trouble c.args.self.now.flags) c.work_trouble-in-Devices.ensures))
+  subst (λ flags. HasLeft g.G.Desk g.H.Host g.C.Clock g.W.Waiter g.A.Actuators true (terms_of c.args.self.now.server.now.catalogue.now (g.G.Desk.denies c.args.self.now.server.now.desk) c.args.self.now.server.now.workers g.H.In.Source.tells g.H.Out.Sink.tells g.H.Host.tells g.C.Clock.tells g.W.Waiter.tells) c.args.self.now.server.now.desk c.args.self.now.number
+      c.drive_devices-trouble.new.pass (Devices c.in-Devices.driver c.drive_devices-trouble.new.devices c.in-Devices.field-2) c.drive_devices-trouble.new.clock c.drive_devices-trouble.new.waiter flags)
+      (sym c.after-self-in-Devices.ensures)
       (has-left-devices g.G.Desk g.H.Host g.C.Clock g.W.Waiter g.A.Actuators c.args.self.now.server.now.catalogue.now g.H.In.Source.tells g.H.Out.Sink.tells c.args.self.now.server.now.desk c.args.self.now.server.now.workers c.args.self.now.number c.args.self.now.pass c.args.self.now.duty c.args.self.now.clock c.args.self.now.waiter c.args.self.now.flags c.requires
-      c.drive-end.new.pass c.drive-end.new.clock c.drive-end.new.waiter (2 ^ 62) (omega arith) c.drive-end.result c.drive-end.ensures.own c.drive-end.ensures.parts c.drive-end.ensures.clock
-      c.drive-end.ensures.cause c.in-Devices.driver c.in-Devices.devices c.drive-end.new.devices c.in-Devices.field-2 c.in-Devices.is (g.G.Desk.opening c.args.self.now.server.now.desk)
-      (subst (λ plant. IsLegal plant (g.G.Desk.seen c.drive-end.new.pass) (g.G.Desk.opening c.args.self.now.server.now.desk)) (sym c.requires.plant)
-      (g.met.G.Desk.owned c.args.self.now.server.now.desk c.drive-end.new.pass c.drive-end.ensures.own).legal) c.drive-end.ensures.driven),
+      c.drive_devices-trouble.new.pass c.drive_devices-trouble.new.clock c.drive_devices-trouble.new.waiter (2 ^ 62) (omega arith) c.drive_devices-trouble.result c.drive_devices-trouble.ensures.own c.drive_devices-trouble.ensures.parts c.drive_devices-trouble.ensures.clock
+      c.drive_devices-trouble.ensures.disk c.drive_devices-trouble.ensures.told c.in-Devices.driver c.in-Devices.devices c.drive_devices-trouble.new.devices c.in-Devices.field-2 c.in-Devices.is c.drive_devices-trouble.ensures.drove),
 )

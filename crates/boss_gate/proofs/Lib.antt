@@ -1,0 +1,3 @@
+pub mod Allowing
+pub mod OneByOne
+pub mod WholeBatches

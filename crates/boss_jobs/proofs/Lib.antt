@@ -1,0 +1,12 @@
+pub mod JobLemmas
+pub mod KeptLemmas
+pub mod Lifting
+pub mod LoadLemmas
+pub mod OpenedLemmas
+pub mod Places
+pub mod Refusals
+pub mod Reopening
+pub mod RunLemmas
+pub mod StandingLemmas
+pub mod StatusLemmas
+pub mod UnkeptLemmas

@@ -1,0 +1,41 @@
+use Rattle.std.proofs.Common.{◌≡◌, [], Some, Ok, List, ℕ, unwrap_or, inl, inr, refl, sym, ap, subst, ◌∙◌, append-nil, vec_len, rules}
+use Rattle.boss_jobs.specs.Jobs.{TellsLine, world}
+use Rattle.boss_jobs.specs.Programs.{usable}
+use Rattle.boss_jobs.proofs.KeptLemmas.{checks-memory, one-asked}
+use Rattle.boss_jobs.proofs.memory_jobs.check_memory.Goals as goal
+
+pub returns-in-Ok : goal.returns-in-Ok
+returns-in-Ok g c =
+    let f = g.F.Files in
+    let count : c.len.result ≡ vec_len c.args.devices.now = search rules in
+    let loads : f.tells → (file : List ℕ) × (f.holds c.args.files.now c.args.name.now ≡ Some file) × (usable (vec_len c.args.devices.now) file ≡ Ok c.in-Ok._catalogue) =
+    subst (λ n. f.tells → (file : List ℕ) × (f.holds c.args.files.now c.args.name.now ≡ Some file) × (usable n file ≡ Ok c.in-Ok._catalogue)) count c.in-Ok.ensures.loads in
+    checks-memory f g.S.Source g.K.Sink g.A.Actuators
+    (world c.args.files.now c.args.source.now c.args.sink.now c.args.devices.now.items)
+    (world c.load.new.files c.args.source.now c.say.new.sink c.args.devices.now.items) c.say.result.0
+    c.args.name.now (vec_len c.args.devices.now)
+    (inr (inr (record {
+      catalogue = c.in-Ok._catalogue;
+      spells = loads;
+      tells = subst (λ line. TellsLine g.K.Sink line 0 c.args.sink.now c.say.new.sink c.say.result.0) c.new_line.ensures c.say.ensures;
+      files = c.in-Ok.ensures.cause;
+    })))
+    (λ tells file. ap (λ h. unwrap_or h []) (c.in-Ok.ensures.stays tells file))
+    refl refl
+    (λ tells. one-asked c.args.name.now _ _ _ (c.in-Ok.ensures.asks tells))
+
+pub returns-in-Err-NoMemory : goal.returns-in-Err-NoMemory
+returns-in-Err-NoMemory g c =
+    let f = g.F.Files in
+    let ends = rw c.in-Err-NoMemory.field-0-is at c.in-Err-NoMemory.ensures in
+    checks-memory f g.S.Source g.K.Sink g.A.Actuators
+    (world c.args.files.now c.args.source.now c.args.sink.now c.args.devices.now.items)
+    (world c.load.new.files c.args.source.now c.args.sink.now c.args.devices.now.items) 8
+    c.args.name.now (vec_len c.args.devices.now)
+    (inl (record { why = inr (refl, ends.cause); source = refl; sink = refl; devices = refl }))
+    (λ tells file. ap (λ h. unwrap_or h []) (ends.stays tells file))
+    refl refl
+    (λ tells. elim (ends.asks tells) [
+      | inl none ↦ ([], (_, refl), none ∙ sym (append-nil (f.asked c.args.files.now)))
+      | inr noted ↦ one-asked c.args.name.now _ _ _ noted
+    ])

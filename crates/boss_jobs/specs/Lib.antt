@@ -1,0 +1,10 @@
+pub mod Checks
+pub mod Ends
+pub mod Jobs
+pub mod Journals
+pub mod KeptScripts
+pub mod LoadJobs
+pub mod Loads
+pub mod Openings
+pub mod Programs
+pub mod Scripts

@@ -1,0 +1,5 @@
+pub mod PreparingLemmas
+pub mod RulingLemmas
+pub mod ServeLemmas
+pub mod ServeLifting
+pub mod ServedLemmas

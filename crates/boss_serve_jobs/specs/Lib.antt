@@ -1,0 +1,4 @@
+pub mod Preparing
+pub mod Ruling
+pub mod ServeJobs
+pub mod Serving

@@ -1,0 +1,112 @@
+ghost use Rattle.std.specs.Prelude.{◌≡◌, ℕ, List, ◌∷◌, ◌++◌, vec_len};
+ghost use Rattle.boss_plans.specs.Lines.{refusal_line};
+ghost use Rattle.boss_jobs.specs.Jobs.{TellsLine};
+ghost use Rattle.boss_serve_jobs.specs.Preparing.{AsksNames, GivesPlan, GivesRules, listed, Prepares, reading, setting};
+
+use crate::ruling::{Unruled, read_rules, say_rules_refusal};
+use boss_access::Rules;
+use boss_assignment::{Unplanned, assign_plan};
+use boss_files::Files;
+use boss_jobs::{Status, Unusable, load, say, say_refusal};
+use boss_outside::{Actuators, Sink};
+use boss_plans::{PlanRefusal, refusal_line};
+use boss_points::Catalogue;
+use boss_words::Word;
+use std::alloc::Global;
+
+/// Sets a server up: reads the catalogue of a file, then the access rules of another, if there is one, and where there is a plan's file
+/// tells each device that it names where its points are. Where one of them can't be had, or is refused, the answer is the status to end
+/// with, and no device is told anything.
+pub fn prepare<F: Files, K: Sink, A: Actuators>(
+    alloc: Global,
+    name: &str,
+    rules: &Option<Word>,
+    plan: &Option<Word>,
+    files: &mut F,
+    sink: &mut K,
+    devices: &mut Vec<A>,
+) -> Result<(Catalogue, Option<Rules>), Status>
+    ensures prepares { Prepares F.Files K.Sink A.Actuators name.now rules.now plan.now (vec_len devices.old)
+        (setting files.old sink.old devices.old.items) (setting files.new sink.new devices.new.items) result }
+    ensures asks { F.tells → AsksNames (name.now ∷ listed rules.now ++ listed plan.now) (F.asked files.old) (F.asked files.new) result }
+    ensures stays { F.tells → (file : List ℕ) → F.holds files.new file ≡ F.holds files.old file }
+{
+    let catalogue = match load(alloc, files, name, devices.len()) {
+        Ok(catalogue) => catalogue,
+        Err(Unusable::Refused(refusal)) => return Err(say_refusal(alloc, sink, refusal)),
+        Err(Unusable::FileFault) => return Err(Status::FILE_FAULT),
+        Err(Unusable::NoMemory) => return Err(Status::NO_MEMORY),
+    };
+    let rules = match take_rules(alloc, rules, files, sink) {
+        Ok(rules) => rules,
+        Err(status) => return Err(status),
+    };
+    match take_plan(alloc, plan, &catalogue, files, sink, devices) {
+        Ok(()) => Ok((catalogue, rules)),
+        Err(status) => Err(status),
+    }
+}
+
+/// The access rules of a file, if there is one.
+fn take_rules<F: Files, K: Sink>(
+    alloc: Global,
+    rules: &Option<Word>,
+    files: &mut F,
+    sink: &mut K,
+) -> Result<Option<Rules>, Status>
+    ensures gives { GivesRules F.Files K.Sink rules.now (reading files.old sink.old) (reading files.new sink.new) result }
+    ensures asks { F.tells → AsksNames (listed rules.now) (F.asked files.old) (F.asked files.new) result }
+    ensures stays { F.tells → (file : List ℕ) → F.holds files.new file ≡ F.holds files.old file }
+{
+    let Some(name) = rules else {
+        return Ok(None);
+    };
+    match read_rules(alloc, files, name.text()) {
+        Ok(rules) => Ok(Some(rules)),
+        Err(Unruled::Refused(refusal)) => Err(say_rules_refusal(alloc, sink, refusal)),
+        Err(Unruled::FileFault) => Err(Status::FILE_FAULT),
+        Err(Unruled::NoMemory) => Err(Status::NO_MEMORY),
+    }
+}
+
+/// Tells each device that a plan names where its points are, if there is a plan.
+fn take_plan<F: Files, K: Sink, A: Actuators>(
+    alloc: Global,
+    plan: &Option<Word>,
+    catalogue: &Catalogue,
+    files: &mut F,
+    sink: &mut K,
+    devices: &mut Vec<A>,
+) -> Result<(), Status>
+    ensures gives { GivesPlan F.Files K.Sink A.Actuators plan.now catalogue.now
+        (setting files.old sink.old devices.old.items) (setting files.new sink.new devices.new.items) result }
+    ensures asks { F.tells → AsksNames (listed plan.now) (F.asked files.old) (F.asked files.new) result }
+    ensures stays { F.tells → (file : List ℕ) → F.holds files.new file ≡ F.holds files.old file }
+{
+    let Some(name) = plan else {
+        return Ok(());
+    };
+    match assign_plan(alloc, files, name.text(), catalogue, devices) {
+        Ok(()) => Ok(()),
+        Err(Unplanned::Refused(refusal)) => {
+            Err(say_plan_refusal(alloc, sink, catalogue, refusal))
+        }
+        Err(Unplanned::FileFault) => Err(Status::FILE_FAULT),
+        Err(Unplanned::NoMemory) => Err(Status::NO_MEMORY),
+    }
+}
+
+/// Tells why a plan was refused under a catalogue.
+fn say_plan_refusal<K: Sink>(
+    alloc: Global,
+    sink: &mut K,
+    catalogue: &Catalogue,
+    refusal: PlanRefusal,
+) -> Status
+    ensures { TellsLine K.Sink (refusal_line catalogue.now refusal) 17 sink.old sink.new result.0 }
+{
+    match refusal_line(alloc, catalogue, refusal) {
+        Ok(line) => say(sink, &line, Status::PLAN),
+        Err(_) => Status::NO_MEMORY,
+    }
+}

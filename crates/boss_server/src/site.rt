@@ -1,0 +1,11 @@
+use boss_access::Rules;
+use boss_points::Catalogue;
+
+/// What a server goes by.
+#[derive(Drop)]
+pub struct Site<'a> {
+    /// The points, by which lines are read and answers told.
+    pub catalogue: &'a Catalogue,
+    /// The rules by which submits are denied, if there are such.
+    pub rules: Option<Rules>,
+}
