@@ -114,3 +114,11 @@ def full(points, rounds=1):
         writes = [lines.write(*slot, 600_000_000, 8) for slot in slots[place:place + 32]]
         lines.ask("submit", writes=writes, on=1 + place // 32 % 256)
     return lines.lines
+
+
+def superseding(count, writes):
+    """For a connection, whose lines have no moment: an attach, and so many submits of so many writes, each in the place of the one before."""
+    lines = Lines(writes, 1)
+    made = [{"op": "attach", "process": "holder"}]
+    made += [{"op": "submit", "writes": [lines.write(point, 8, 600_000_000, 0) for point in range(writes)]} for _ in range(count)]
+    return [json.dumps(line, separators=(",", ":")) for line in made]
