@@ -26,6 +26,15 @@ def need_program():
         sys.exit(f"{name}: there is no program at {PROGRAM}: run ./bossd once, or name another one in BOSSD")
 
 
+def heading():
+    """When a run began, the commit of the repository in which the program lies, and how busy the machine was: a row of docs/MEASURED.md
+    has all three."""
+    ran = subprocess.run(["git", "-C", os.path.dirname(PROGRAM), "log", "-1", "--format=%h"], capture_output=True, text=True)
+    when = time.strftime("%Y-%m-%d %H:%M UTC", time.gmtime())
+    commit = ran.stdout.strip() or "unknown"
+    return f"{when}, commit {commit}, {os.cpu_count()} processors, load {os.getloadavg()[0]:.1f}"
+
+
 def free_port():
     """A port of 127.0.0.1 on which nobody listens."""
     with socket.create_server(("127.0.0.1", 0)) as taken:
