@@ -1,4 +1,4 @@
 pub mod Texts
 pub mod OfEvents
 pub mod OfStates
-pub mod Size
+pub mod Sizes

@@ -1,7 +1,6 @@
 -- Events are spelled by bytes.
-use Rattle.std.proofs.Common.{◌≡◌, ℕ, ◌==◌, nat_lt, Bool, true, false, cond, List, [], ◌∷◌, Option, refl}
+use Rattle.std.proofs.Common.{◌≡◌, ℕ, ◌==◌, Bool, true, false, cond, List, [], ◌∷◌}
 use Rattle.std.specs.Int.{w16, w32, w64}
-use Rattle.std.specs.Prelude.{flat_map}
 use Rattle.std.specs.List.{AllByRecursion}
 use Rattle.boss_model.specs.declared.event.Act.{Act}
 use Rattle.boss_model.specs.declared.event.Act.TheVariants as act
@@ -9,7 +8,7 @@ use Rattle.boss_model.specs.declared.event.Event.{Event}
 use Rattle.boss_model.specs.Limits.{longest_name, most_steps, most_writes}
 use Rattle.boss_model.specs.Names.{is_name}
 use Rattle.def_bytes.specs.Exact.{IsBytes}
-use Rattle.def_bytes.specs.Fields.{Field, number, byte, both, only, counted}
+use Rattle.def_bytes.specs.Fields.{Field, number, byte, only, counted}
 use Rattle.def_bytes.specs.Parts.{nothing, within, bits_of, signed64, unsigned, natural, moment, name, policy_number, policy_of, policy, step_parts, step_of, step, steps}
 use Rattle.def_bytes.specs.Events.{setting_parts, setting_of, setting, writes, points, submission, renewal, is_number, owned, numbered, act_fits, act_text, events, event}
 use Rattle.def_bytes.specs.Batches.{batch_text}

@@ -1,8 +1,7 @@
 -- States are spelled by bytes.
-use Rattle.std.proofs.Common.{◌≡◌, ℕ, ◌==◌, true, List, Option, Some, None}
+use Rattle.std.proofs.Common.{◌≡◌, ℕ, ◌==◌, true, Option, Some, None}
 use Rattle.std.specs.Int.{w16, w32, w64}
 use Rattle.std.proofs.lemmas.Bool.{cond_both}
-use Rattle.boss_model.specs.declared.kept.Acceptance.{Acceptance}
 use Rattle.boss_model.specs.declared.kept.KeptReply.{KeptReply}
 use Rattle.boss_model.specs.declared.notice.Cause.{Cause}
 use Rattle.boss_model.specs.declared.notice.Cause.TheVariants as cause
@@ -11,9 +10,9 @@ use Rattle.boss_model.specs.declared.notice.What.TheVariants as what
 use Rattle.boss_model.specs.Limits.{notices_kept}
 use Rattle.boss_model.specs.Records.{End}
 use Rattle.def_bytes.specs.Exact.{IsBytes}
-use Rattle.def_bytes.specs.Fields.{Field, number, byte, both, counted, tagged}
+use Rattle.def_bytes.specs.Fields.{number, byte, tagged}
 use Rattle.def_bytes.specs.Parts.{nothing, signed64, listed, name, policy, steps}
-use Rattle.def_bytes.specs.States.{cause_fits, cause_text, causes, ended, cut, what_fits, what_text, whats, told, acceptance_numbers, reply_numbers, reply_fits, reply_text, replies, no_reply_part, no_reply, reply, process_parts, process_of, are_sent, sent, process, end_parts, end_of, end, end_fits, end_text, ends, part_parts, part_of, part, most_parts, transaction_parts, transaction_of, transaction, lease_parts, lease_of, lease, pending_parts, pending_of, pending, state_parts, state_of, state}
+use Rattle.def_bytes.specs.States.{cause_fits, cause_text, causes, what_fits, what_text, whats, told, acceptance_numbers, reply_fits, reply_text, replies, no_reply_part, no_reply, reply, process_parts, process_of, are_sent, sent, process, end_parts, end_of, end, end_fits, end_text, ends, part_parts, part_of, part, most_parts, transaction_parts, transaction_of, transaction, lease_parts, lease_of, lease, pending_parts, pending_of, pending, state_parts, state_of, state}
 use Rattle.law_bytes.proofs.Texts.{IsOfBytes, no-bytes, numbers, one-byte, pair, tested, whole, list, kinds}
 use Rattle.law_bytes.proofs.OfEvents.{nothing-at-all, signed, names, policies, reversions}
 
