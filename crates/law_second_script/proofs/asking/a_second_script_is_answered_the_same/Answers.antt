@@ -2,7 +2,7 @@ use Rattle.std.proofs.Common.{refl}
 use Rattle.boss_model.specs.Settle.{opened}
 use Rattle.def_history.specs.History.{run}
 use Rattle.def_history.proofs.Sound.{legal-sound}
-use Rattle.law_second_script.proofs.Asking.{same-answers}
+use Rattle.law_second_script.proofs.Answered.{same-answers}
 use Rattle.law_second_script.proofs.asking.a_second_script_is_answered_the_same.Goals as goal
 
 pub returns : goal.returns

@@ -1,4 +1,4 @@
-use Rattle.law_second_script.proofs.Asking.{at-once, all-rows}
+use Rattle.law_second_script.proofs.Answered.{at-once, all-rows}
 use Rattle.law_second_script.proofs.asking.asking_changes_no_more_than_time.Goals as goal
 
 pub returns : goal.returns

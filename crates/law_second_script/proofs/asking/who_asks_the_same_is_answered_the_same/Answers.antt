@@ -1,4 +1,4 @@
-use Rattle.law_second_script.proofs.Asking.{same-answers}
+use Rattle.law_second_script.proofs.Answered.{same-answers}
 use Rattle.law_second_script.proofs.asking.who_asks_the_same_is_answered_the_same.Goals as goal
 
 pub returns : goal.returns

@@ -55,7 +55,7 @@ quiet-step plant session (command.Notices (Some name) from most) m s only = refl
 quiet-step plant session (command.Notices None from most) m s only = cc
 
 -- what a question is answered, of what lasts once time has passed
-said : List Actuator → Command → Persistent → Answer
+pub said : List Actuator → Command → Persistent → Answer
 said plant c d = unmarked (act plant 0 0 c (shell d [])).answer
 
 question-said : (plant : List Actuator) (session : ℕ) (c : Command) (m : ℕ) (s : State) → asks c ≡ true →
@@ -106,7 +106,7 @@ module _ (plant : List Actuator) (d : Persistent) (sound : IsSoundPersistent pla
       all-rows rows (max moment m) (after_entry plant (Did session c m given) s) only.1 (one-row session c m moment s only.0 is)
   all-rows (Broke session commands ∷ rows) moment s only is = absurd (let no : false ≡ true = only.0 in cc)
 
-  answer-at : Command × ℕ → Answer
+  pub answer-at : Command × ℕ → Answer
   answer-at question = said plant question.0 (tick d question.1)
 
   pub all-answers : (rows : List Entry) (moment : ℕ) (s : State) → OnlyAsks rows → IsLegal plant rows s → s.persistent ≡ tick d moment →
