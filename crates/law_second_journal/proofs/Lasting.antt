@@ -32,13 +32,14 @@ none-stays plant (e ∷ es) to is = none-stays plant es to is
 
 each-sound : (plant : List Actuator) (es : List Event) (from to : Persistent) → IsSoundPersistent plant from → Fit es → replay_all plant from es ≡ Some to → IsSoundPersistent plant to
 each-sound plant [] from to sound fit is = let same : from ≡ to = cc in subst (IsSoundPersistent plant) same sound
-each-sound plant (e ∷ es) from to sound fit is = by (replay plant e from) refl is
+each-sound plant (e ∷ es) from to sound fit is = by (λ next then rest. each-sound plant es next to then fit.1 rest) (replay plant e from) refl is
   where
-    by : (found : Option Persistent) → replay plant e from ≡ found → fold (replay_next plant) found es ≡ Some to → IsSoundPersistent plant to
-    by None none rest = absurd (none-stays plant es to rest)
-    by (Some next) led rest =
+    by : ((next : Persistent) → IsSoundPersistent plant next → replay_all plant next es ≡ Some to → IsSoundPersistent plant to) →
+        (found : Option Persistent) → replay plant e from ≡ found → fold (replay_next plant) found es ≡ Some to → IsSoundPersistent plant to
+    by others None none rest = absurd (none-stays plant es to rest)
+    by others (Some next) led rest =
         let spelled = event-spelled e fit.0 (effective-modest plant e from next sound led) in
-        each-sound plant es next to (replay-sound plant e from sound spelled.moment next spelled.act led) fit.1 rest
+        others next (replay-sound plant e from sound spelled.moment next spelled.act led) rest
 
 both-fit : (xs ys : List Event) → Fit xs → Fit ys → Fit (xs ++ ys)
 both-fit [] ys fit too = too
