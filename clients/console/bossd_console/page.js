@@ -562,7 +562,7 @@ async function preview() {
     const answer = await post("api/preview", {do: mine.do, id: mine.id, point: point.name, ...mine.body()}), told = await answer.json();
     if (asked !== mine) return;
     if (!answer.ok) { find("ask-next").replaceChildren(); sayAsked(told.sentence); return; }
-    if (!mine.busy) sayAsked("");
+    if (!mine.busy && !mine.refused) sayAsked("");
     const [first, ...rest] = told.next, what = first.from === "default" ? "its default" : `${FROM[first.from]} at priority ${level(first.priority)}`;
     find("ask-next").replaceChildren(make("li", {textContent: `at once: ${shown(point, first.value)}, ${what}`}), ...rest.map((one) => make("li", {textContent: comingSentence(point, one)})));
     const loses = mine.do === "take" && first.txn !== undefined && first.txn !== 0;
@@ -583,7 +583,7 @@ async function ask() {
   const mine = asked, yes = find("ask").querySelector("[value=yes]"), given = find("ask-token").querySelector("input").value.trim();
   if (mine.busy) return;
   if (given) keepToken(given);
-  mine.busy = true; yes.disabled = true;
+  mine.busy = true; mine.refused = false; yes.disabled = true;
   const body = {id: mine.id, point: mine.point.name, ...mine.body()};
   for (let times = 1; asked === mine; times += 1) {
     sayAsked(times === 1 ? "Asked…" : `No answer came. Asked again, under the same number, so that it is made once (${times})…`, "busy");
@@ -601,6 +601,8 @@ async function ask() {
 
 function refuse(mine, answer, told) {
   mine.busy = false;
+  // Why it was refused stays in sight until a field is changed, or it is asked again.
+  mine.refused = true;
   // What was refused was not made: the next try is another change.
   mine.id = newId();
   if (answer.status === 401) { keepToken(""); find("ask-token").hidden = false; }
@@ -636,6 +638,7 @@ for (const key of Object.keys(FILTERS)) {
   }}));
 }
 find("ask").addEventListener("close", () => { asked = null; });
+find("ask-fields").addEventListener("input", () => { if (asked) asked.refused = false; });
 find("ask").querySelector("[value=no]").addEventListener("click", () => find("ask").close());
 find("ask").querySelector("form").addEventListener("submit", (event) => { event.preventDefault(); ask(); });
 addEventListener("hashchange", openHash);
