@@ -1,6 +1,7 @@
 pub mod Places
 pub mod Views
 pub mod Names
+pub mod Distinct
 pub mod Drivers
 pub mod Whole
 pub mod Fed

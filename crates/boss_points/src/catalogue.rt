@@ -1,9 +1,10 @@
-ghost use Rattle.std.specs.Prelude.{◌≡◌, ◌<◌, ◌≤◌, length, true, slice_get, Some};
+ghost use Rattle.std.specs.Prelude.{◌≡◌, ◌<◌, ◌≤◌, length, map, true, slice_get, Some};
 ghost use Rattle.sha2.specs.Sha256.{sha256};
 ghost use Rattle.toml.specs.View.{view};
 ghost use Rattle.boss_model.specs.Catalogue.{actuators, place_of, fits};
 ghost use Rattle.boss_model.specs.Limits.{most_points};
 ghost use Rattle.boss_model.specs.Plants.{IsPlant};
+ghost use Rattle.boss_model.specs.Sound.{DistinctNames};
 ghost use Rattle.boss_points.specs.Canonical.{canonical};
 ghost use Rattle.boss_points.specs.Given.{Gives};
 ghost use Rattle.boss_points.specs.Kept.{AreTimes};
@@ -93,11 +94,12 @@ impl Catalogue {
         &self.points[id.0 as usize]
     }
 
-    /// How many points there are: at most 4,096.
+    /// How many points there are: at most 4,096. Their names are all different.
     pub fn count(&self) -> u32
         ensures count { result ≡ length self.now.points }
         ensures few { result ≤ most_points }
         ensures plant { IsPlant (actuators self.now) }
+        ensures apart { DistinctNames (map (λ point. point.name) self.now.points) }
     {
         self.points.len() as u32
     }

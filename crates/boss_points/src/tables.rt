@@ -2,6 +2,7 @@ ghost use Rattle.std.specs.Prelude.{◌≡◌, ◌≤◌, [], ◌∷◌, ◌++�
 ghost use Rattle.std.specs.List.{AllByRecursion, list_any, filter_map};
 ghost use Rattle.std.specs.Str.{bytes_eq};
 ghost use Rattle.toml.specs.View.{view};
+ghost use Rattle.boss_model.specs.Sound.{DistinctNames};
 ghost use Rattle.boss_points.specs.declared.refusal.CatalogueRefusal.TheVariants.{BadDriver, SameName, NoMemory};
 ghost use Rattle.boss_points.specs.Given.{Gives};
 ghost use Rattle.boss_points.specs.Keys.{name_spelled, name_of, kind_of, default_of, driver_of, times_of, point_of};
@@ -162,6 +163,7 @@ pub(crate) fn points_of(
     requires { length drivers.now ≤ 16 }
     ensures points { Gives (λ found. found.1.items) result (points_of drivers.now (views tables.now)) }
     ensures names { IfOk result (λ found. texts found.0.keys ≡ map (λ point. point.name) found.1.items) }
+    ensures apart { IfOk result (λ found. DistinctNames (map (λ point. point.name) found.1.items)) }
     ensures whole { IfOk result (λ found. All (IsWhole (length drivers.now)) found.1.items) }
     ensures few { IfOk result (λ found. length found.1.items ≤ length tables.now) }
 {

@@ -6,5 +6,6 @@ invariant_of-result c = record {
   few_drivers = omega (arith, c.in_ok-at_most.ensures.few, c.in_ok-drivers-2.ensures.few);
   few_points = omega (arith, c.in_ok-at_most-2.ensures.few, c.in_ok-names.ensures.few);
   named = c.in_ok-names.ensures.names;
+  apart = c.in_ok-names.ensures.apart;
   whole = rw c.deref.ensures.value at c.in_ok-names.ensures.whole;
 }
