@@ -24,7 +24,7 @@ use Rattle.def_disk_pair.proofs.Disks.{written_state, opens_first, opens_second}
 use Rattle.def_disk_pair.proofs.OfKinds as kinds
 use Rattle.boss_snapshot.proofs.KeptFronts.{written_front}
 use Rattle.boss_snapshot.specs.Writes.{state_front, DiffersAtFirst, IsIdle, IsWritten, WhileWriting}
-use Rattle.boss_disk_pair.specs.Images.{OpensTo, OpensToOne}
+use Rattle.boss_disk_pair.specs.Images.{OpensEither, OpensTo}
 use Rattle.boss_disk_pair.specs.Orders.{InOrder, stories_of}
 use Rattle.boss_disk_pair.specs.Rests.{forced, IsInForce, Resting}
 use Rattle.boss_disk_pair.proofs.Forced.{between, beside_idle, next_in_force, opens_in, from_order}
@@ -86,26 +86,27 @@ module _ (plant : List Actuator) (digest : List ℕ) (whole : length digest ≡ 
         (written_state plant digest _ 2 generation events d (is_front first generation marked small))),
   )
 
-  pub writing_leaves : (second : Bool) (held was bytes : List ℕ) (generation count : ℕ) →
+  -- while it is written the one that was in force holds its own state, maybe of another plant
+  pub writing_leaves : (old_plant : List Actuator) (old_digest : List ℕ) (old : Persistent) (second : Bool) (held was bytes : List ℕ) (generation count : ℕ) →
       (kind_of held ≡ Plain) ⊎ ((kind_of held ≡ State generation) × (generation < 2 ^ 64)) →
-      between second (kind_of held) (kind_of was) ≡ forced second → HoldsCleanly plant digest d count held →
-      WhileWriting was digest ((generation + 1) % 2 ^ 64) events d bytes → InOrder (OpensToOne plant digest d d) second held bytes
-  writing_leaves second held was bytes generation count kind here holds (inl (inl idle)) =
-      in_order _ (OpensToOne plant digest d d) second held bytes (λ x y opens. inl (count, opens))
-      (opens_in plant digest second held bytes d count
+      between second (kind_of held) (kind_of was) ≡ forced second → HoldsCleanly old_plant old_digest old count held →
+      WhileWriting was digest ((generation + 1) % 2 ^ 64) events d bytes → InOrder (OpensEither old_plant old_digest old plant digest d) second held bytes
+  writing_leaves old_plant old_digest old second held was bytes generation count kind here holds (inl (inl idle)) =
+      in_order _ (OpensEither old_plant old_digest old plant digest d) second held bytes (λ x y opens. inl (count, opens))
+      (opens_in old_plant old_digest second held bytes old count
       (ap (between second (kind_of held)) (idle_kind bytes idle)
       ∙ beside_idle second (kind_of held) (kind_of was) (⊎_elim (λ plain. inl plain) (λ state. inr (generation, state.0)) kind) here)
       holds)
-  writing_leaves second held was bytes generation count kind here holds (inl (inr differs)) =
-      in_order _ (OpensToOne plant digest d d) second held bytes (λ x y opens. inl (count, opens))
-      (opens_in plant digest second held bytes d count (ap (between second (kind_of held)) (same_kind was bytes differs) ∙ here) holds)
-  writing_leaves second held was bytes generation count kind here holds (inr written) =
+  writing_leaves old_plant old_digest old second held was bytes generation count kind here holds (inl (inr differs)) =
+      in_order _ (OpensEither old_plant old_digest old plant digest d) second held bytes (λ x y opens. inl (count, opens))
+      (opens_in old_plant old_digest second held bytes old count (ap (between second (kind_of held)) (same_kind was bytes differs) ∙ here) holds)
+  writing_leaves old_plant old_digest old second held was bytes generation count kind here holds (inr written) =
       let small : (generation + 1) % 2 ^ 64 < 2 ^ 64 = omega arith in
-      in_order (OpensTo plant digest d) (OpensToOne plant digest d d) second held bytes (λ x y opens. inl opens)
+      in_order (OpensTo plant digest d) (OpensEither old_plant old_digest old plant digest d) second held bytes (λ x y opens. inr opens)
       (other_opens second held bytes ((generation + 1) % 2 ^ 64) written.first written.marked small
       (next_in_force second (kind_of held) (kind_of was) generation kind here) written.is)
 
--- ---- a pair at rest, and the next generation
+-- ---- a pair at rest, and the next generation, of the same plant or another
 
 -- the disks turned round
 turned : (second : Bool) (one other : List ℕ) → between second (kind_of one) (kind_of other) ≡ cond second First Second → InOrder (IsInForce (not second)) (not second) other one
@@ -125,23 +126,24 @@ no_more number few = omega (arith, few)
 module _ (plant : List Actuator) (digest : List ℕ) (version : ℕ) (second : Bool) (generation number place : ℕ) (reads : List ℕ) (window : Window)
     (other : List ℕ) (beside : Window) (stopped : Bool) (d : Persistent) (count : ℕ)
     (rest : Resting plant digest version second generation number place reads window other beside stopped d count)
-    (few : number ≤ last_number) (fits : (state 2).fits d ≡ true) (sound : IsSoundPersistent plant d) where
-  pub rotated_rests : (gate : ℕ) (now : List ℕ) (last : Window) → IsWritten digest ((generation + 1) % 2 ^ 64) number d gate now last →
-      Resting plant digest 2 (not second) ((generation + 1) % 2 ^ 64) number gate now last reads window stopped d count
-  rotated_rests gate now last written =
+    (new_plant : List Actuator) (new_digest : List ℕ) (whole : length new_digest ≡ 32) (e : Persistent)
+    (few : number ≤ last_number) (fits : (state 2).fits e ≡ true) (sound : IsSoundPersistent new_plant e) where
+  pub changed_rests : (gate : ℕ) (now : List ℕ) (last : Window) → IsWritten new_digest ((generation + 1) % 2 ^ 64) number e gate now last →
+      Resting new_plant new_digest 2 (not second) ((generation + 1) % 2 ^ 64) number gate now last reads window stopped e count
+  changed_rests gate now last written =
       let small : (generation + 1) % 2 ^ 64 < 2 ^ 64 = omega arith in
       let some : ◌≢◌ {A = ℕ} 66 0 = not_none in
       let none : number ≡ min (number + 0) last_number = no_more number few in
-      let front = state_front 66 digest ((generation + 1) % 2 ^ 64) number d in
+      let front = state_front 66 new_digest ((generation + 1) % 2 ^ 64) number e in
       let kind : kind_of now ≡ State ((generation + 1) % 2 ^ 64) =
-      ap kind_of written.is ∙ written_kind plant digest rest.whole d number few fits sound 66 ((generation + 1) % 2 ^ 64) [] some small in
+      ap kind_of written.is ∙ written_kind new_plant new_digest whole e number few fits sound 66 ((generation + 1) % 2 ^ 64) [] some small in
       record {
         front = front;
-        from = d;
+        from = e;
         before = number;
         batches = [];
         course = record {
-          is_front = inr ((generation + 1) % 2 ^ 64, is_front plant digest rest.whole d number few fits sound 66 ((generation + 1) % 2 ^ 64) some small);
+          is_front = inr ((generation + 1) % 2 ^ 64, is_front new_plant new_digest whole e number few fits sound 66 ((generation + 1) % 2 ^ 64) some small);
           each = tt;
           of_version = λ first. tt;
           leads = refl;
@@ -149,7 +151,7 @@ module _ (plant : List Actuator) (digest : List ℕ) (version : ℕ) (second : B
         log = record { tail = []; is = written.is; here = written.gate ∙ ap length (sym (append-nil front)); each = tt; synced = written.synced };
         synced = rest.log.synced;
         going = rest.going;
-        whole = rest.whole;
+        whole = whole;
         kind = inr (kind, small);
         is_in_force = turned second reads now (ap (between second (kind_of reads)) kind
             ∙ next_in_force second (kind_of reads) (kind_of other) generation rest.kind (from_order second reads other rest.is_in_force));
@@ -158,11 +160,12 @@ module _ (plant : List Actuator) (digest : List ℕ) (version : ℕ) (second : B
       }
 
   -- what is left while it is written
-  pub rotating_leaves : (a b : List ℕ) → IsImage window a → WhileWriting other digest ((generation + 1) % 2 ^ 64) number d b → InOrder (OpensToOne plant digest d d) second a b
-  rotating_leaves a b image of =
+  pub changing_leaves : (a b : List ℕ) → IsImage window a → WhileWriting other new_digest ((generation + 1) % 2 ^ 64) number e b →
+      InOrder (OpensEither plant digest d new_plant new_digest e) second a b
+  changing_leaves a b image of =
       let here = synced_image window reads a rest.log.synced image in
-      subst (λ x. InOrder (OpensToOne plant digest d d) second x b) (sym here)
-      (writing_leaves plant digest rest.whole d number few fits sound second reads other b generation _ rest.kind (from_order second reads other rest.is_in_force)
+      subst (λ x. InOrder (OpensEither plant digest d new_plant new_digest e) second x b) (sym here)
+      (writing_leaves new_plant new_digest whole e number few fits sound plant digest d second reads other b generation _ rest.kind (from_order second reads other rest.is_in_force)
       (rest_holds plant digest rest.whole version rest.front rest.from rest.before rest.batches d reads rest.log.tail rest.course rest.log.is) of)
 
 -- the same run, of the next generation and of this state

@@ -1,5 +1,5 @@
 -- What the words on pairs give.
-use Rattle.std.proofs.Common.{◌≡◌, inl, inr, ℕ, ◌+◌, ◌<◌, Bool, true, false, List, length, refl, sym, ◌∙◌, subst, arith}
+use Rattle.std.proofs.Common.{◌≡◌, inl, inr, ℕ, ◌+◌, ◌<◌, Bool, true, false, List, length, Result, Ok, Err, OnOk, OnErr, refl, sym, ◌∙◌, subst, arith}
 use Rattle.boss_model.specs.declared.state.Actuator.{Actuator}
 use Rattle.boss_model.specs.Limits.{last_number}
 use Rattle.boss_model.specs.State.{Persistent}
@@ -20,6 +20,11 @@ use Rattle.boss_disk_pair.proofs.Forced.{from_order, opens_in}
 use Rattle.boss_disk_pair.proofs.Orders.{in_order, both_leave, both_stand}
 
 -- ---- without a pair
+
+-- what holds after a call that did its work, and after one that failed
+pub either_way : {T E P : Type 0} (r : Result T E) → OnOk r P → OnErr r P → P
+either_way (Ok x) done failed = done
+either_way (Err e) done failed = failed
 
 wider : (plant : List Actuator) (digest : List ℕ) (d e : Persistent) (first second : List ℕ) → OpensToOne plant digest d d first second → OpensToOne plant digest d e first second
 wider plant digest d e first second (inl opens) = inl opens

@@ -11,3 +11,7 @@ OpensTo plant digest d first second = (count : ℕ) × OpensCleanly plant digest
 -- to one of two
 abbrev pub OpensToOne : List Actuator → List ℕ → Persistent → Persistent → List ℕ → List ℕ → Type 0
 OpensToOne plant digest a b first second = OpensTo plant digest a first second ⊎ OpensTo plant digest b first second
+
+-- to one state under one plant and digest, or to another under another
+abbrev pub OpensEither : List Actuator → List ℕ → Persistent → List Actuator → List ℕ → Persistent → List ℕ → List ℕ → Type 0
+OpensEither plant digest a other_plant other_digest b first second = OpensTo plant digest a first second ⊎ OpensTo other_plant other_digest b first second

@@ -14,7 +14,7 @@ use Rattle.def_log.specs.InForce.{InForce, First, Second}
 use Rattle.def_log.specs.Kinds.{kind_of, in_force}
 use Rattle.def_disk_pair.specs.Contents.{joined, IsCourse}
 use Rattle.boss_disk_pair.specs.declared.two_disks.TwoDisks.{TwoDisks}
-use Rattle.boss_disk_pair.specs.Images.{OpensToOne}
+use Rattle.boss_disk_pair.specs.Images.{OpensEither, OpensToOne}
 use Rattle.boss_disk_pair.specs.Orders.{InOrder, stories_of}
 
 -- the number of events stands still at its greatest
@@ -64,3 +64,7 @@ module _ {D : Type 0} {g : disk.Ghosts D} where
   -- From the one moment to the other, while one disk moves at a time, each image is clean and opens to one of these states.
   unfoldable pub passes : TwoDisks D g → TwoDisks D g → List Actuator → Persistent → Persistent → Type 0
   passes old new plant a b = g.tells → (new.digest ≡ old.digest) × Legs (LeaveBoth (OpensToOne plant old.digest a b)) (stories old) (stories new)
+
+  -- The same, to one state under the plant and digest of before, or to another under a new plant and digest.
+  unfoldable pub changes : TwoDisks D g → TwoDisks D g → List Actuator → Persistent → List Actuator → List ℕ → Persistent → Type 0
+  changes old new plant a new_plant new_digest b = g.tells → Legs (LeaveBoth (OpensEither plant old.digest a new_plant new_digest b)) (stories old) (stories new)

@@ -5,7 +5,7 @@ ghost use Rattle.boss_model.specs.Seen.{seen};
 ghost use Rattle.boss_model.specs.Sound.{IsSoundPersistent};
 ghost use Rattle.boss_model.specs.State.{Persistent};
 ghost use Rattle.boss_disk_pair.specs.Causes.{CallCause, counts_of};
-ghost use Rattle.boss_disk_pair.specs.Rests.{rests, leaves, passes};
+ghost use Rattle.boss_disk_pair.specs.Rests.{changes, rests, leaves, passes};
 
 use crate::TwoDisks;
 use boss_disk::Disk;
@@ -36,15 +36,41 @@ impl<D: Disk> TwoDisks<D> {
         ensures events { self.new.events ≡ self.old.events }
         ensures digest { self.new.digest ≡ self.old.digest }
     {
+        let digest = self.digest;
+        self.change(kept, &digest)
+    }
+
+    /// The same under another catalogue, which the digest names: the kept state is one of its plant, and from then on the pair is
+    /// told under that digest. Whatever a crash leaves in between opens to the state of before under the old digest, or to the
+    /// kept one under the new. After a failure the pair goes by the old digest.
+    pub fn change(&mut self, kept: &Kept, digest: &[u8; 32]) -> Result<(), Failed>
+        requires { (state 2).fits (seen kept.now) ≡ true }
+        ensures rests { (plant new_plant : List Actuator) (d e : Persistent) (count : ℕ) → rests self.old plant d count
+            → seen kept.entry.now ≡ e → IsSoundPersistent new_plant e → OnOk result (rests self.new new_plant e count) }
+        ensures changes { (plant new_plant : List Actuator) (d e : Persistent) (count : ℕ) → rests self.old plant d count
+            → seen kept.entry.now ≡ e → IsSoundPersistent new_plant e → changes self.old self.new plant d new_plant digest.now e }
+        ensures cause { CallCause self.old.stopped (counts_of self.old) (counts_of self.new) result }
+        ensures fine { OnOk result (self.new.stopped ≡ false) }
+        ensures stops { OnErr result (self.new.stopped ≡ true) }
+        ensures still { self.old.stopped ≡ true → self.new ≡ self.old }
+        ensures log { OnOk result (self.new.journal.place ≡ self.new.journal.first) }
+        ensures version { OnOk result (self.new.journal.version ≡ 2) }
+        ensures generation { OnOk result (self.new.generation ≡ (self.old.generation + 1) % 2 ^ 64) }
+        ensures order { OnOk result (self.new.second ≡ not self.old.second) }
+        ensures events { self.new.events ≡ self.old.events }
+        ensures digest { OnOk result (self.new.digest ≡ digest.now) }
+        ensures old_digest { OnErr result (self.new.digest ≡ self.old.digest) }
+    {
         if self.stopped {
             return Err(Failed);
         }
         let generation = self.generation.wrapping_add(1);
-        match write_state(kept, &mut self.spare, &self.digest, generation, self.events) {
+        match write_state(kept, &mut self.spare, digest, generation, self.events) {
             Ok(place) => {
                 self.journal.go_on_in(&mut self.spare, place);
                 self.second = !self.second;
                 self.generation = generation;
+                self.digest = *digest;
                 Ok(())
             }
             Err(Failed) => {
