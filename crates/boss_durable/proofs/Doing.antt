@@ -22,7 +22,7 @@ use Rattle.boss_durable.specs.declared.batch.Batch.{Batch}
 use Rattle.boss_durable.specs.declared.durable.Durable.{Durable}
 use Rattle.boss_durable.specs.Taken.{Taken}
 use Rattle.boss_engine.specs.Running.{Running}
-use Rattle.boss_durable.specs.Words.{lasting, keeps, leaves, passes, faults, Does, RunsThrough}
+use Rattle.boss_durable.specs.Words.{lasting, keeps, leaves, passes, changes, faults, Does, RunsThrough}
 
 never : (b : Bool) → b ≡ true → b ≡ false → ⊥
 never b on off = let clash : true ≡ false = sym on ∙ off in cc
@@ -46,14 +46,20 @@ module _ {D : Type 0} {g : disk.Ghosts D} where
   unfolding keeps passes
   keeps_passes durable before held = words.rests_passes durable.disks durable.engine.plant (lasting durable) (length before) held
 
-  -- ---- a log begun anew
+  -- ---- a log begun anew, of the same engine or another
 
-  pub anew_keeps : (old new : Durable D g) → new.engine ≡ old.engine →
-      ((count : ℕ) → pair.rests old.disks old.engine.plant (lasting old) count → pair.rests new.disks old.engine.plant (lasting old) count) →
+  pub anew_keeps : (old new : Durable D g) (engine : Running) → new.engine ≡ engine →
+      ((count : ℕ) → pair.rests old.disks old.engine.plant (lasting old) count → pair.rests new.disks engine.plant engine.state.persistent count) →
       (before : List Event) → keeps old before → keeps new before
   unfolding keeps
-  anew_keeps old new same rests before held =
-      subst (λ (e : Running). pair.rests new.disks e.plant e.state.persistent (length before)) (sym same) (rests (length before) held)
+  anew_keeps old new engine is rests before held =
+      subst (λ (e : Running). pair.rests new.disks e.plant e.state.persistent (length before)) (sym is) (rests (length before) held)
+
+  pub anew_changes : (old new : Durable D g) (plant : List Actuator) (digest : List ℕ) (d : Persistent) →
+      ((count : ℕ) → pair.rests old.disks old.engine.plant (lasting old) count → pair.changes old.disks new.disks old.engine.plant (lasting old) plant digest d) →
+      (before : List Event) → keeps old before → changes old new plant digest d
+  unfolding keeps changes
+  anew_changes old new plant digest d runs before held = runs (length before) held
 
   pub anew_leaves : (old new : Durable D g) → new.engine ≡ old.engine →
       ((count : ℕ) → pair.rests old.disks old.engine.plant (lasting old) count → pair.leaves new.disks old.engine.plant (lasting old) (lasting old)) →

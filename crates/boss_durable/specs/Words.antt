@@ -5,6 +5,7 @@ use Rattle.boss_disk.specs.declared.disk.Disk as disk
 use Rattle.def_history.specs.declared.entry.Entry.{Entry}
 use Rattle.def_history.specs.History.{run_tried}
 use Rattle.boss_model.specs.declared.event.Event.{Event}
+use Rattle.boss_model.specs.declared.state.Actuator.{Actuator}
 use Rattle.boss_model.specs.State.{Persistent}
 use Rattle.boss_shared.specs.Keeping.{shortened, Keeps}
 use Rattle.boss_disk_pair.specs.Causes.{counts_of}
@@ -26,6 +27,11 @@ module _ {D : Type 0} {g : disk.Ghosts D} where
   -- From the one moment to the other, while one disk moves at a time, each image is clean and opens to one of these states.
   unfoldable pub passes : Durable D g → Durable D g → Persistent → Persistent → Type 0
   passes old new a b = pair.passes old.disks new.disks old.engine.plant a b
+
+  -- The same where the plant changes too: each image opens to what lasted, under the plant and digest of before, or to another
+  -- state under a new plant and digest.
+  unfoldable pub changes : Durable D g → Durable D g → List Actuator → List ℕ → Persistent → Type 0
+  changes old new plant digest b = pair.changes old.disks new.disks old.engine.plant (lasting old) plant digest b
 
   -- how many calls of the two disks have failed
   abbrev pub faults : Durable D g → ℕ

@@ -44,14 +44,14 @@ impl<D: Disk> Durable<D> {
         if self.disks.log() <= self.log_limit - RECORD_ROOM as u64 {
             return Begun::Ready;
         }
-        match self.kept() {
+        match self.keep() {
             Ok(kept) => self.go_on_behind(&kept),
             Err(NoMemory) => Begun::NoMemory,
         }
     }
 
-    /// What lasts of the engine, as plain lists.
-    fn kept(&self) -> Result<Kept, NoMemory>
+    /// What lasts of the engine, as plain lists. It is sound, and has a spelling.
+    pub fn keep(&self) -> Result<Kept, NoMemory>
         ensures kept { IfOk result (λ kept. seen kept ≡ lasting self.now) }
         ensures fits { IfOk result (λ kept. (state 2).fits (seen kept) ≡ true) }
         ensures sound { IsSoundPersistent self.now.engine.plant (lasting self.now) }

@@ -10,6 +10,7 @@
 mod applying;
 mod batch;
 mod beginning;
+mod changing;
 mod closing;
 mod counting;
 mod durable;

@@ -5,7 +5,7 @@ use Rattle.boss_durable.proofs.durable.Durable.go_on_behind.Goals as goal
 
 pub returns-in-Ok-clause-keeps : goal.returns-in-Ok-clause-keeps
 returns-in-Ok-clause-keeps g c before held fine =
-    anew_keeps c.args.self.now _ refl
+    anew_keeps c.args.self.now _ c.args.self.now.engine refl
     (λ count at. c.in-Ok.ensures.rests c.args.self.now.engine.plant (lasting c.args.self.now) count at c.requires.kept c.requires.sound) before held
 
 pub returns-in-Ok-clause-leaves : goal.returns-in-Ok-clause-leaves
