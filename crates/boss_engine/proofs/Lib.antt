@@ -1,5 +1,6 @@
 pub mod Again
 pub mod Attaching
+pub mod Concerned
 pub mod Doing
 pub mod Keeping
 pub mod Opening

@@ -1,5 +1,6 @@
 -- The parts of a step, one after another, are the machine's step.
-use Rattle.std.proofs.Common.{◌≡◌, ℕ, ◌≤◌, ◌<◌, ◌==◌, ◌^◌, ℤ, max, length, List, [], Bool, true, false, not, cond, refl, ap, sym, subst, ◌∙◌, arith}
+use Rattle.std.proofs.Common.{◌≡◌, ℕ, ◌≤◌, ◌<◌, ◌==◌, ◌^◌, ℤ, max, length, List, [], Bool, true, false, not, cond, Option, Some, None, is_some, IfSome, refl, ap, sym, subst, ◌∙◌, arith}
+use Rattle.std.specs.Option.{option_map_or}
 use Rattle.std.specs.List.{AllByRecursion}
 use Rattle.std.proofs.lemmas.Bool.{cond_both}
 use Rattle.boss_model.specs.declared.answer.Answer.{Answer}
@@ -49,10 +50,11 @@ begins plant c moment before n opened from is allowed small sound first at = rec
   at = at ∙ ap (λ k. max k moment) first;
 }
 
--- the owner counts where something was changed
-one-owner : (n : ℕ) (rest : Effect) (changed : Bool) (one other : ℕ) → (changed ≡ true → one ≡ other) → cond changed (effect.Whole n one) rest ≡ cond changed (effect.Whole n other) rest
-one-owner n rest true one other is = ap (effect.Whole n) (is refl)
-one-owner n rest false one other is = refl
+-- the process that was concerned is told where something was changed
+one-owner : (n : ℕ) (rest : Effect) (given : Option ℕ) (other : ℕ) → IfSome given (λ owner. owner ≡ other) →
+    option_map_or (effect.Whole n) given rest ≡ cond (is_some given) (effect.Whole n other) rest
+one-owner n rest (Some owner) other is = ap (effect.Whole n) is
+one-owner n rest None other is = refl
 
 module _ (plant : List Actuator) (session : ℕ) (c : Command) (m n : ℕ) (s : State) (at : n ≡ max s.persistent.now m)
     (allowed : IsAllowed plant c) (small : m ≤ 2 ^ 60) (sound : IsSound plant s) (p : State) (passed : p ≡ pass_time plant n s) where
@@ -104,23 +106,23 @@ module _ (plant : List Actuator) (session : ℕ) (c : Command) (m n : ℕ) (s : 
       ap (λ (t : State). (proxy_of t.proxies k).commanded) is ∙ commanded-acted p plant session n c k ∙ all-current plant p passed-well k within
       ∙ sym (same-targets k) ∙ ap (λ (t : State). target_at plant t.persistent.now p.persistent k) (sym is) ∙ sym (shows (default_of plant k) a.persistent.now)
 
-  -- what two flags tell is the effect, with the process that the command concerns where it changes something
-  pub told-by : (changed : Bool) (owner before end : ℕ) → changed ≡ changes plant session n c p → (changed ≡ true → owner ≡ concerned c session p) → before ≡ s.persistent.now → end ≡ p.persistent.now →
-      cond changed (effect.Whole n owner) (cond (not (end == before)) (effect.Tick end) effect.Unchanged) ≡ step_effect plant session c m s
-  told-by changed owner before end is-changed is-owner is-before is-end =
+  -- the process that the command concerned where it changed something, and the moments before and after tell the effect
+  pub told-by : (given : Option ℕ) (before end : ℕ) → is_some given ≡ changes plant session n c p → IfSome given (λ owner. owner ≡ concerned c session p) → before ≡ s.persistent.now → end ≡ p.persistent.now →
+      option_map_or (effect.Whole n) given (cond (not (end == before)) (effect.Tick end) effect.Unchanged) ≡ step_effect plant session c m s
+  told-by given before end is-changed is-owner is-before is-end =
       let k = max s.persistent.now m in
-      let flag : changed ≡ changes plant session k c (pass_time plant k s) =
+      let flag : is_some given ≡ changes plant session k c (pass_time plant k s) =
       is-changed ∙ ap (changes plant session n c) passed ∙ ap (λ x. changes plant session x c (pass_time plant x s)) at in
       let whose : concerned c session p ≡ concerned c session (record s { persistent = tick_to k s.persistent }) =
       ap (concerned c session) passed ∙ ap (λ x. concerned c session (pass_time plant x s)) at ∙ concerned-passed plant session k s c in
       let reached : end ≡ (tick_to k s.persistent).now = is-end ∙ ap (λ t. t.persistent.now) passed ∙ ap (λ x. (tick_to x s.persistent).now) at in
-      one-owner n _ changed owner (concerned c session p) is-owner
+      one-owner n _ given (concerned c session p) is-owner
       ∙ (λ i. cond (flag i) (effect.Whole (at i) (whose i)) (cond (not (reached i == is-before i)) (effect.Tick (reached i)) effect.Unchanged))
       ∙ sym (step-flags plant s session c m sound allowed small)
 
   -- a command that acted once time had passed was carried out
   pub carried-out : (m : Machine) (deed : Deed) → told (persistent_of m.lasting) deed.done.reply ≡ (act plant session n c p).answer → IsTellable plant (persistent_of m.lasting) deed.done.reply →
-      (is_answered_apart c ≡ false → is_told_apart deed.done.reply ≡ false) → deed.done.changed ≡ changes plant session n c p → (deed.done.changed ≡ true → deed.done.owner ≡ concerned c session p) → deed.passed ≡ p.persistent.now → state_of m ≡ (act plant session n c p).state → HasPlaces plant m →
+      (is_answered_apart c ≡ false → is_told_apart deed.done.reply ≡ false) → is_some deed.done.concerned ≡ changes plant session n c p → IfSome deed.done.concerned (λ owner. owner ≡ concerned c session p) → deed.passed ≡ p.persistent.now → state_of m ≡ (act plant session n c p).state → HasPlaces plant m →
       ((k : ℕ) → is_touched m.lasting.holdings k ≡ false → (default : ℤ) (moment : ℕ) →
       value_of default moment (in_force (persistent_of m.lasting).leases k) (playing (persistent_of m.lasting).pending k) ≡ value_of default moment (in_force p.persistent.leases k) (playing p.persistent.pending k)) →
       IsDone plant session c n s m deed
@@ -129,7 +131,7 @@ module _ (plant : List Actuator) (session : ℕ) (c : Command) (m n : ℕ) (s : 
     tellable = tellable;
     apart = apart;
     changed = is-changed ∙ ap (changes plant session n c) passed;
-    owner = λ yes. is-owner yes ∙ ap (concerned c session) passed;
+    owner = subst (λ t. IfSome deed.done.concerned (λ owner. owner ≡ concerned c session t)) passed is-owner;
     passed = is-passed ∙ ap (λ (t : State). t.persistent.now) passed;
     state = is-state ∙ ap (λ t. (act plant session n c t).state) passed;
     places = places;

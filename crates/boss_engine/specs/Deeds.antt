@@ -1,4 +1,4 @@
-use Rattle.std.specs.Prelude.{◌≡◌, ℕ, ◌≤◌, Bool, true, false, List}
+use Rattle.std.specs.Prelude.{◌≡◌, ℕ, ◌≤◌, Bool, true, false, List, is_some, IfSome}
 use Rattle.law_effects.specs.Changes.{changes}
 use Rattle.boss_model.specs.declared.answer.Answer.{Answer}
 use Rattle.boss_model.specs.declared.command.Command.{Command}
@@ -46,8 +46,8 @@ pub record IsDone (plant : List Actuator) (session : ℕ) (command : Command) (n
   pub answer : told (persistent_of m.lasting) deed.done.reply ≡ (act plant session n command (pass_time plant n s)).answer
   pub tellable : IsTellable plant (persistent_of m.lasting) deed.done.reply
   pub apart : is_answered_apart command ≡ false → is_told_apart deed.done.reply ≡ false
-  pub changed : deed.done.changed ≡ changes plant session n command (pass_time plant n s)
-  pub owner : deed.done.changed ≡ true → deed.done.owner ≡ concerned command session (pass_time plant n s)
+  pub changed : is_some deed.done.concerned ≡ changes plant session n command (pass_time plant n s)
+  pub owner : IfSome deed.done.concerned (λ owner. owner ≡ concerned command session (pass_time plant n s))
   pub passed : deed.passed ≡ (pass_time plant n s).persistent.now
   pub state : state_of m ≡ (act plant session n command (pass_time plant n s)).state
   pub places : HasPlaces plant m

@@ -1,5 +1,6 @@
-ghost use Rattle.std.specs.Prelude.{◌≡◌, ℕ, true, false, ◌≤◌, ◌<◌, ◌+◌, ◌==◌, not, ◌&&◌, ◌||◌, if◌then◌else◌, List, [], ◌∷◌, length, filter, Some, None, is_none, vec_len};
+ghost use Rattle.std.specs.Prelude.{◌≡◌, ℕ, true, false, ◌≤◌, ◌<◌, ◌+◌, ◌==◌, not, ◌&&◌, ◌||◌, if◌then◌else◌, List, [], ◌∷◌, length, filter, Some, None, is_none, is_some, vec_len, IfSome};
 ghost use Rattle.std.specs.List.{AllByRecursion};
+ghost use Rattle.std.specs.Option.{option_map_or};
 ghost use Rattle.boss_model.specs.declared.state.Actuator.{Actuator};
 ghost use Rattle.boss_model.specs.declared.answer.Answer.TheVariants as answer;
 ghost use Rattle.boss_model.specs.declared.command.Command.TheVariants as command;
@@ -63,8 +64,8 @@ impl Machine {
         ensures apart { is_told_apart result.reply ≡ false }
         ensures answer { (plant : List Actuator) → told (persistent_of self.new.lasting) result.reply ≡ (act plant session n (command.Attach name.now) (state_of self.old)).answer }
         ensures state { (plant : List Actuator) → state_of self.new ≡ (act plant session n (command.Attach name.now) (state_of self.old)).state }
-        ensures changed { (plant : List Actuator) → result.changed ≡ changes plant session n (command.Attach name.now) (state_of self.old) }
-        ensures owner { result.changed ≡ true → result.owner ≡ concerned (command.Attach name.now) session (state_of self.old) }
+        ensures changed { (plant : List Actuator) → is_some result.concerned ≡ changes plant session n (command.Attach name.now) (state_of self.old) }
+        ensures owner { IfSome result.concerned (λ owner. owner ≡ concerned (command.Attach name.now) session (state_of self.old)) }
         ensures places { (plant : List Actuator) → HasPlaces plant self.old → HasPlaces plant self.new }
         ensures untouched { ShowsAsBefore self.old.lasting.holdings self.new.lasting.holdings }
     {
@@ -78,8 +79,7 @@ impl Machine {
                 name: name.copied(),
                 next: self.lasting.processes.next_notice(entrant.process),
             },
-            changed: entrant.is_new,
-            owner: entrant.process,
+            concerned: entrant.is_new.then_some(entrant.process),
         }
     }
 
@@ -126,10 +126,10 @@ impl Machine {
             state_of self.new ≡ (act plant session n (command.Submit writes policy seq) (state_of self.old)).state }
         ensures changed { (plant : List Actuator) (session : ℕ) (writes : List Setting) (policy : Policy) → 1 ≤ length writes →
             IsReadyToSubmit plant (process_of self.old.attached.items session) writes policy seq n ready (state_of self.old) →
-            result.changed ≡ changes plant session n (command.Submit writes policy seq) (state_of self.old) }
+            is_some result.concerned ≡ changes plant session n (command.Submit writes policy seq) (state_of self.old) }
         ensures owner { (plant : List Actuator) (session : ℕ) (writes : List Setting) (policy : Policy) → 1 ≤ length writes →
             IsReadyToSubmit plant (process_of self.old.attached.items session) writes policy seq n ready (state_of self.old) →
-            result.changed ≡ true → result.owner ≡ concerned (command.Submit writes policy seq) session (state_of self.old) }
+            IfSome result.concerned (λ owner. owner ≡ concerned (command.Submit writes policy seq) session (state_of self.old)) }
         ensures places { (plant : List Actuator) → HasPlaces plant self.old → HasPlaces plant self.new }
         ensures untouched { ShowsAsBefore self.old.lasting.holdings self.new.lasting.holdings }
     {
@@ -144,8 +144,7 @@ impl Machine {
                 let accepted = Acceptance::Accepted { txn, until };
                 Done {
                     reply: Reply::Decided(Decision::Again(accepted)),
-                    changed: true,
-                    owner,
+                    concerned: Some(owner),
                 }
             }
             Ready::Decided(decision) => Done::unchanged(Reply::Decided(decision)),
@@ -199,8 +198,8 @@ impl Machine {
         ensures apart { is_told_apart result.reply ≡ false }
         ensures answer { (plant : List Actuator) → told (persistent_of self.new.lasting) result.reply ≡ (act plant session n (command.Renew txn duration points.now seq) (state_of self.old)).answer }
         ensures state { (plant : List Actuator) → state_of self.new ≡ (act plant session n (command.Renew txn duration points.now seq) (state_of self.old)).state }
-        ensures changed { (plant : List Actuator) → result.changed ≡ changes plant session n (command.Renew txn duration points.now seq) (state_of self.old) }
-        ensures owner { result.changed ≡ true → result.owner ≡ concerned (command.Renew txn duration points.now seq) session (state_of self.old) }
+        ensures changed { (plant : List Actuator) → is_some result.concerned ≡ changes plant session n (command.Renew txn duration points.now seq) (state_of self.old) }
+        ensures owner { IfSome result.concerned (λ owner. owner ≡ concerned (command.Renew txn duration points.now seq) session (state_of self.old)) }
         ensures places { (plant : List Actuator) → HasPlaces plant self.old → HasPlaces plant self.new }
         ensures untouched { ShowsAsBefore self.old.lasting.holdings self.new.lasting.holdings }
     {
@@ -233,8 +232,8 @@ impl Machine {
         ensures tellable { (plant : List Actuator) → IsTellable plant (persistent_of self.new.lasting) result.reply }
         ensures apart { is_told_apart result.reply ≡ false }
         ensures answer { told (persistent_of self.new.lasting) result.reply ≡ answer.Renewed txn (renewed_until txn duration points.now n (persistent_of self.old.lasting)) }
-        ensures changed { result.changed ≡ renewal_changes n txn duration points.now seq (persistent_of self.old.lasting) }
-        ensures owner { result.owner ≡ owner }
+        ensures changed { is_some result.concerned ≡ renewal_changes n txn duration points.now seq (persistent_of self.old.lasting) }
+        ensures owner { IfSome result.concerned (λ process. process ≡ owner) }
         ensures after { persistent_of self.new.lasting ≡ with_reply owner seq
             (acceptance.Renewed txn (renewed_until txn duration points.now n (persistent_of self.old.lasting)))
             (renewed txn duration points.now n (persistent_of self.old.lasting)) }
@@ -253,8 +252,7 @@ impl Machine {
         self.lasting.processes.accept(owner, seq, renewed);
         Done {
             reply: Reply::Decided(Decision::Again(renewed)),
-            changed: 0 < seq || later || extended.longer,
-            owner,
+            concerned: (0 < seq || later || extended.longer).then_some(owner),
         }
     }
 
@@ -267,8 +265,8 @@ impl Machine {
         ensures apart { is_told_apart result.reply ≡ false }
         ensures answer { (plant : List Actuator) → told (persistent_of self.new.lasting) result.reply ≡ (act plant session n (command.Cancel txn seq) (state_of self.old)).answer }
         ensures state { (plant : List Actuator) → state_of self.new ≡ (act plant session n (command.Cancel txn seq) (state_of self.old)).state }
-        ensures changed { (plant : List Actuator) → result.changed ≡ changes plant session n (command.Cancel txn seq) (state_of self.old) }
-        ensures owner { result.changed ≡ true → result.owner ≡ concerned (command.Cancel txn seq) session (state_of self.old) }
+        ensures changed { (plant : List Actuator) → is_some result.concerned ≡ changes plant session n (command.Cancel txn seq) (state_of self.old) }
+        ensures owner { IfSome result.concerned (λ owner. owner ≡ concerned (command.Cancel txn seq) session (state_of self.old)) }
         ensures places { (plant : List Actuator) → HasPlaces plant self.old → HasPlaces plant self.new }
         ensures untouched { ShowsAsBefore self.old.lasting.holdings self.new.lasting.holdings }
     {
@@ -285,8 +283,7 @@ impl Machine {
         let cancelled = Acceptance::Cancelled { txn, at: n };
         Done {
             reply: Reply::Decided(Decision::Again(cancelled)),
-            changed: true,
-            owner,
+            concerned: Some(owner),
         }
     }
 
@@ -322,8 +319,8 @@ impl Machine {
         ensures apart { is_told_apart result.reply ≡ false }
         ensures answer { (plant : List Actuator) → told (persistent_of self.new.lasting) result.reply ≡ (act plant session n (command.Gone) (state_of self.old)).answer }
         ensures state { (plant : List Actuator) → state_of self.new ≡ (act plant session n (command.Gone) (state_of self.old)).state }
-        ensures changed { (plant : List Actuator) → result.changed ≡ changes plant session n (command.Gone) (state_of self.old) }
-        ensures owner { result.changed ≡ true → result.owner ≡ concerned (command.Gone) session (state_of self.old) }
+        ensures changed { (plant : List Actuator) → is_some result.concerned ≡ changes plant session n (command.Gone) (state_of self.old) }
+        ensures owner { IfSome result.concerned (λ owner. owner ≡ concerned (command.Gone) session (state_of self.old)) }
         ensures places { (plant : List Actuator) → HasPlaces plant self.old → HasPlaces plant self.new }
         ensures untouched { ShowsAsBefore self.old.lasting.holdings self.new.lasting.holdings }
     {
@@ -334,8 +331,7 @@ impl Machine {
         detach(&mut self.attached, session);
         Done {
             reply: Reply::Gone { ended },
-            changed: 0 < ended,
-            owner,
+            concerned: (0 < ended).then_some(owner),
         }
     }
 
@@ -383,8 +379,8 @@ impl Machine {
         ensures tellable { (plant : List Actuator) → IsTellable plant (persistent_of self.new.lasting) result.reply }
         ensures answer { (plant : List Actuator) (session : ℕ) → HasPlaces plant self.old → told (persistent_of self.new.lasting) result.reply ≡ (act plant session n (command.Report point version ok) (state_of self.old)).answer }
         ensures state { (plant : List Actuator) (session : ℕ) → HasPlaces plant self.old → state_of self.new ≡ (act plant session n (command.Report point version ok) (state_of self.old)).state }
-        ensures changed { (plant : List Actuator) (session : ℕ) → HasPlaces plant self.old → result.changed ≡ changes plant session n (command.Report point version ok) (state_of self.old) }
-        ensures owner { (session : ℕ) → result.changed ≡ true → result.owner ≡ concerned (command.Report point version ok) session (state_of self.old) }
+        ensures changed { (plant : List Actuator) (session : ℕ) → HasPlaces plant self.old → is_some result.concerned ≡ changes plant session n (command.Report point version ok) (state_of self.old) }
+        ensures owner { (session : ℕ) → IfSome result.concerned (λ owner. owner ≡ concerned (command.Report point version ok) session (state_of self.old)) }
         ensures places { (plant : List Actuator) → HasPlaces plant self.old → HasPlaces plant self.new }
         ensures untouched { ShowsAsBefore self.old.lasting.holdings self.new.lasting.holdings }
     {
@@ -393,43 +389,42 @@ impl Machine {
             return Done::unchanged(Reply::Noted { current: false });
         }
         let failed = reported == Reported::FirstFailure;
-        let owner = self.owner_of_failed(point, failed);
-        let changed = self.follow_up(point, failed, n);
         Done {
             reply: Reply::Noted { current: true },
-            changed,
-            owner,
+            concerned: self.follow_up(point, failed, n),
         }
     }
 
     /// What follows for the lease in force on a point, whose device has failed to take its value, for the first time or again.
-    /// The answer is whether it changed something.
+    /// The answer is the lease's owner, where that changed something.
     #[inline(always)]
-    pub fn follow_up(&mut self, point: PointId, first: bool, n: u64) -> bool
+    pub fn follow_up(&mut self, point: PointId, first: bool, n: u64) -> Option<ProcId>
         requires can_act { (plant : List Actuator) × CanAct plant self.old }
         requires point { point < self.old.lasting.holdings.points }
         requires passed { IsPassed n (persistent_of self.old.lasting) }
         requires moment { (self.old.lasting.holdings.now ≤ n) × (n ≤ last_moment) }
-        ensures changed { result ≡ (first && failure_changes n (in_force (persistent_of self.old.lasting).leases point) (persistent_of self.old.lasting)) }
+        ensures changed { is_some result ≡ (first && failure_changes n (in_force (persistent_of self.old.lasting).leases point) (persistent_of self.old.lasting)) }
+        ensures owner { IfSome result (λ owner. owner ≡ option_map_or (λ lease. lease.owner) (in_force (persistent_of self.old.lasting).leases point) 0) }
         ensures after { persistent_of self.new.lasting ≡ (if first then faulted (in_force (persistent_of self.old.lasting).leases point) n (persistent_of self.old.lasting) else persistent_of self.old.lasting) }
         ensures others { (self.new.marks ≡ self.old.marks) × (self.new.attached ≡ self.old.attached) }
         ensures places { (plant : List Actuator) → HasPlaces plant self.old → HasPlaces plant self.new }
         ensures untouched { ShowsAsBefore self.old.lasting.holdings self.new.lasting.holdings }
     {
         if !first {
-            return false;
+            return None;
         }
         let Some(lease) = self.lasting.in_force(point) else {
-            return false;
+            return None;
         };
+        let owner = lease.owner;
         let happened = fault_of(lease, n);
         match on_fault(Some(lease.policy), first) {
             Policing::EndAll => {
                 self.abort(happened, n);
-                true
+                Some(owner)
             }
-            Policing::Tell => self.tell(happened, n),
-            Policing::Mark => false,
+            Policing::Tell => self.tell(happened, n).then_some(owner),
+            Policing::Mark => None,
         }
     }
 

@@ -1,32 +1,31 @@
-ghost use Rattle.std.specs.Prelude.{◌≡◌, false};
+ghost use Rattle.std.specs.Prelude.{◌≡◌, None};
 ghost use Rattle.boss_engine.specs.declared.reply.Reply.TheVariants as reply;
 
 use crate::reply::Reply;
 use boss_model::{ProcId, Refusal};
 
-/// What a command came to, whether it changed what outlasts a stop, beside what time did, and the process that it then concerned.
+/// What a command came to.
 #[derive(Drop)]
 pub struct Done {
     pub reply: Reply,
-    pub changed: bool,
-    pub owner: ProcId,
+    /// The process that the command concerned, where it changed what outlasts a stop, beside what time did.
+    pub concerned: Option<ProcId>,
 }
 
 impl Done {
     /// The command changed nothing that outlasts a stop.
     pub fn unchanged(reply: Reply) -> Done
-        ensures { result ≡ record { reply = reply; changed = false; owner = 0 } }
+        ensures { result ≡ record { reply = reply; concerned = None } }
     {
         Done {
             reply,
-            changed: false,
-            owner: ProcId(0),
+            concerned: None,
         }
     }
 
     /// The command was refused.
     pub fn refused(why: Refusal) -> Done
-        ensures { result ≡ record { reply = reply.Refused why; changed = false; owner = 0 } }
+        ensures { result ≡ record { reply = reply.Refused why; concerned = None } }
     {
         Done::unchanged(Reply::Refused(why))
     }

@@ -1,4 +1,4 @@
-ghost use Rattle.std.specs.Prelude.{◌≡◌, ℕ, true, false, List, ◌≤◌, length, map, IfOk, OnOk, OnErr};
+ghost use Rattle.std.specs.Prelude.{◌≡◌, ℕ, true, false, List, ◌≤◌, length, map, is_some, IfOk, IfSome, OnOk, OnErr};
 ghost use Rattle.boss_model.specs.declared.command.Command.{Command};
 ghost use Rattle.boss_model.specs.declared.state.Actuator.{Actuator};
 ghost use Rattle.boss_model.specs.Effects.{concerned};
@@ -24,9 +24,7 @@ use crate::reply::Reply;
 use crate::settling::settle;
 use boss_booking::Telling;
 use boss_marks::Marks;
-use boss_model::{
-    Actuator, Command, DriverId, Effect, Items, MOST_PROCESSES, NoMemory, ProcId, SessionId,
-};
+use boss_model::{Actuator, Command, DriverId, Effect, Items, MOST_PROCESSES, NoMemory, SessionId};
 use boss_persistent::{Attachment, Lasting};
 use std::alloc::Global;
 
@@ -120,12 +118,8 @@ impl Machine {
         ensures ready { CanRun plant.now self.new }
     {
         settle(plant, &mut self.lasting, &mut self.marks);
-        let Done {
-            reply,
-            changed,
-            owner,
-        } = deed.done;
-        let effect = effect_of(changed, n, owner, before, deed.passed);
+        let Done { reply, concerned } = deed.done;
+        let effect = effect_of(concerned, n, before, deed.passed);
         (reply, effect)
     }
 
@@ -212,8 +206,8 @@ impl Machine {
         ensures answer { told (persistent_of self.new.lasting) result.reply ≡ (act plant.now session n command.now (state_of self.old)).answer }
         ensures tellable { IsTellable plant.now (persistent_of self.new.lasting) result.reply }
         ensures apart { is_answered_apart command.now ≡ false → is_told_apart result.reply ≡ false }
-        ensures changed { result.changed ≡ changes plant.now session n command.now (state_of self.old) }
-        ensures owner { result.changed ≡ true → result.owner ≡ concerned command.now session (state_of self.old) }
+        ensures changed { is_some result.concerned ≡ changes plant.now session n command.now (state_of self.old) }
+        ensures owner { IfSome result.concerned (λ owner. owner ≡ concerned command.now session (state_of self.old)) }
         ensures state { state_of self.new ≡ (act plant.now session n command.now (state_of self.old)).state }
         ensures places { HasPlaces plant.now self.new }
         ensures untouched { ShowsAsBefore self.old.lasting.holdings self.new.lasting.holdings }
@@ -223,8 +217,7 @@ impl Machine {
             Command::Submit { seq, .. } => self.submit(*seq, n, ready),
             Command::Notices { name, from, max } => Done {
                 reply: self.notices(session, name, *from, *max, ready),
-                changed: false,
-                owner: ProcId(0),
+                concerned: None,
             },
             Command::Renew { .. }
             | Command::Cancel { .. }
@@ -249,8 +242,8 @@ impl Machine {
         ensures answer { told (persistent_of self.new.lasting) result.reply ≡ (act plant.now session n command.now (state_of self.old)).answer }
         ensures tellable { IsTellable plant.now (persistent_of self.new.lasting) result.reply }
         ensures apart { is_answered_apart command.now ≡ false → is_told_apart result.reply ≡ false }
-        ensures changed { result.changed ≡ changes plant.now session n command.now (state_of self.old) }
-        ensures owner { result.changed ≡ true → result.owner ≡ concerned command.now session (state_of self.old) }
+        ensures changed { is_some result.concerned ≡ changes plant.now session n command.now (state_of self.old) }
+        ensures owner { IfSome result.concerned (λ owner. owner ≡ concerned command.now session (state_of self.old)) }
         ensures state { state_of self.new ≡ (act plant.now session n command.now (state_of self.old)).state }
         ensures places { HasPlaces plant.now self.new }
         ensures untouched { ShowsAsBefore self.old.lasting.holdings self.new.lasting.holdings }
@@ -268,29 +261,24 @@ impl Machine {
                 reply: Reply::Ticked {
                     now: self.lasting.holdings.now(),
                 },
-                changed: false,
-                owner: ProcId(0),
+                concerned: None,
             },
             Command::Next { driver } => Done {
                 reply: self.next(*driver),
-                changed: false,
-                owner: ProcId(0),
+                concerned: None,
             },
             Command::Report { point, version, ok } => self.report(*point, *version, *ok, n),
             Command::Read { point } => Done {
                 reply: self.read(plant, *point),
-                changed: false,
-                owner: ProcId(0),
+                concerned: None,
             },
             Command::Array { point } => Done {
                 reply: Reply::Array { point: *point },
-                changed: false,
-                owner: ProcId(0),
+                concerned: None,
             },
             Command::Status { txn } => Done {
                 reply: Reply::Status { txn: *txn },
-                changed: false,
-                owner: ProcId(0),
+                concerned: None,
             },
             Command::Attach { .. } | Command::Submit { .. } | Command::Notices { .. } =>
                 unreachable!(),

@@ -117,7 +117,8 @@ impl Machine {
                 seq,
             } => {
                 self.renew_for(*owner, *txn, *length, points.slice(), *seq, n)
-                    .changed
+                    .concerned
+                    .is_some()
             }
             Act::Cancel { owner, txn, seq } => {
                 self.cancel_for(*owner, *txn, *seq, n);
@@ -125,7 +126,7 @@ impl Machine {
             }
             Act::Gone { owner } => 0 < self.lose(*owner, n),
             Act::Tick => false,
-            Act::Fault { point } => self.follow_up(*point, true, n),
+            Act::Fault { point } => self.follow_up(*point, true, n).is_some(),
         }
     }
     /// The leases of a new transaction take their slots. `seq` is the number of the request, 0 for none.

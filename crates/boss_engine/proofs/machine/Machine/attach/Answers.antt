@@ -7,6 +7,7 @@ use Rattle.boss_engine.specs.Inside.{state_of}
 use Rattle.boss_persistent.specs.Lasting.{IsKept}
 use Rattle.boss_persistent.proofs.Attaching.{few-attached}
 use Rattle.boss_engine.proofs.Attaching.{ready-attach}
+use Rattle.boss_engine.proofs.Concerned.{concerned-changed, concerned-owner}
 use Rattle.boss_engine.proofs.Doing.{attach-leaves, next-enrolled}
 use Rattle.boss_engine.proofs.Keeping.{keeps-places, kept-aside}
 use Rattle.boss_engine.proofs.machine.Machine.attach.Goals as goal
@@ -58,10 +59,10 @@ pub returns-clause-changed : goal.returns-clause-changed
 returns-clause-changed c = λ any.
     let s = state_of c.args.self.now in
     let passed = ready-attach c.args.session c.args.name.now c.args.ready s c.requires.ready c.in_default.not-Refused in
-    c.process_for-entrant.ensures.is_new ∙ sym (ap (λ why. is_none why && is_none (process_named s.persistent.processes c.args.name.now)) passed)
+    concerned-changed _ _ _ c.then_some.ensures ∙ c.process_for-entrant.ensures.is_new ∙ sym (ap (λ why. is_none why && is_none (process_named s.persistent.processes c.args.name.now)) passed)
 
 pub returns-clause-untouched : goal.returns-clause-untouched
 returns-clause-untouched c = λ default point moment left. ap (λ (m : Machine). shown default moment m.lasting.holdings point) c.process_for-entrant.ensures.others
 
 pub returns-clause-owner : goal.returns-clause-owner
-returns-clause-owner c = λ _. c.process_for-entrant.ensures.process
+returns-clause-owner c = concerned-owner _ _ _ _ c.then_some.ensures c.process_for-entrant.ensures.process

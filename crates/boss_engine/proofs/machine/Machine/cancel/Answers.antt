@@ -25,4 +25,4 @@ returns-clause-state c = λ any.
     ∙ sym (ap (λ r. r.state) (cancel-leaves any c.args.session owner c.args.txn c.args.seq c.args.n (state_of m) held undecided passed))
 
 pub returns-clause-owner : goal.returns-clause-owner
-returns-clause-owner c = λ _. ap (λ h. unwrap_or h 0) (c.in-Some.ensures ∙ ap (λ attached. process_of attached c.args.session) c.deref.ensures.value)
+returns-clause-owner c = ap (λ h. unwrap_or h 0) (c.in-Some.ensures ∙ ap (λ attached. process_of attached c.args.session) c.deref.ensures.value)

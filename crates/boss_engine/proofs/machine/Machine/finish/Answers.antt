@@ -52,7 +52,7 @@ returns-clause-did c = λ session command moment s begun done. record {
   tellable = subst (λ (d : Persistent). IsTellable c.args.plant.now d c.args.deed.done.reply) (sym (ap persistent_of c.settle.ensures.others)) done.tellable;
   apart = done.apart;
   effect = c.effect_of-effect.ensures
-      ∙ told-by c.args.plant.now session command moment c.args.n s begun.at begun.allowed begun.small begun.sound (pass_time c.args.plant.now c.args.n s) refl _ _ _ _
+      ∙ told-by c.args.plant.now session command moment c.args.n s begun.at begun.allowed begun.small begun.sound (pass_time c.args.plant.now c.args.n s) refl _ _ _
       done.changed done.owner begun.first done.passed;
   state = over c session command moment s begun done;
 }

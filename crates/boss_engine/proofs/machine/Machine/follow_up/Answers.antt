@@ -1,10 +1,13 @@
 use Rattle.std.proofs.Common.{◌≡◌, ◌<◌, ◌==◌, not, ◌||◌, [], ◌∷◌, length, Some, subst, sym, ap, ◌∙◌}
+use Rattle.std.specs.Option.{option_map_or}
 use Rattle.boss_model.specs.declared.notice.Cause.TheVariants as cause
+use Rattle.boss_model.specs.declared.state.Lease.{Lease}
 use Rattle.boss_model.specs.Ends.{end_leases, is_of}
 use Rattle.boss_model.specs.Happenings.{Happening, tell}
 use Rattle.boss_model.specs.Target.{in_force}
 use Rattle.boss_persistent.specs.Lasting.{persistent_of}
 use Rattle.law_effects.specs.Changes.{may_be_told}
+use Rattle.boss_engine.proofs.Concerned.{concerned-changed, concerned-owner}
 use Rattle.boss_engine.proofs.Doing.{ended-all, ended-changed, marked-unchanged, told-changed, told-only}
 use Rattle.law_due.proofs.Owners.{in-force-known}
 use Rattle.boss_engine.proofs.machine.Machine.follow_up.Goals as goal
@@ -40,9 +43,16 @@ returns-in-EndAll-clause-changed c =
 pub returns-in-Tell-clause-changed : goal.returns-in-Tell-clause-changed
 returns-in-Tell-clause-changed c =
     let d = persistent_of c.args.self.now.lasting in
-    c.tell.ensures.changed ∙ ap (λ (h : Happening). not (d.now == c.args.n) || may_be_told d.processes h.owner) c.fault_of-happened.ensures
+    concerned-changed _ _ _ c.then_some.ensures ∙ c.tell.ensures.changed ∙ ap (λ (h : Happening). not (d.now == c.args.n) || may_be_told d.processes h.owner) c.fault_of-happened.ensures
     ∙ told-changed c.args.point c.args.n c.in-Some.lease.now c.args.first d c.in-Some.ensures (sym c.in-Tell.is ∙ c.on_fault.ensures)
 
 pub returns-in-Mark-clause-changed : goal.returns-in-Mark-clause-changed
 returns-in-Mark-clause-changed c =
     marked-unchanged c.args.point c.args.n c.in-Some.lease.now c.args.first (persistent_of c.args.self.now.lasting) (sym c.in-Mark.is ∙ c.on_fault.ensures)
+
+pub returns-in-EndAll-clause-owner : goal.returns-in-EndAll-clause-owner
+returns-in-EndAll-clause-owner c = ap (λ found. option_map_or (λ (lease : Lease). lease.owner) found 0) c.in-Some.ensures
+
+pub returns-in-Tell-clause-owner : goal.returns-in-Tell-clause-owner
+returns-in-Tell-clause-owner c =
+    concerned-owner _ _ _ _ c.then_some.ensures (ap (λ found. option_map_or (λ (lease : Lease). lease.owner) found 0) c.in-Some.ensures)

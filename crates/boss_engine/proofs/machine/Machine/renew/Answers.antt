@@ -1,5 +1,6 @@
 use Rattle.std.proofs.Common.{◌≡◌, FitsSigned, w64, Some, None, sym, ap, ◌∙◌}
 use Rattle.std.proofs.lemmas.Int.{to_z-of_z}
+use Rattle.std.proofs.lemmas.Option.{IfSome_then}
 use Rattle.std.specs.Prelude.{unwrap_or}
 use Rattle.std.specs.Option.{option_map}
 use Rattle.boss_model.specs.Processes.{process_of}
@@ -29,5 +30,5 @@ returns-clause-state c = λ any.
     ∙ sym (ap (λ r. r.state) (renew-leaves any c.args.session owner c.args.txn c.args.duration c.args.points.now c.args.seq c.args.n (state_of m) held undecided allowed))
 
 pub returns-clause-owner : goal.returns-clause-owner
-returns-clause-owner c = λ _.
-    c.renew_for.ensures.owner ∙ ap (λ h. unwrap_or h 0) (c.in-Some.ensures ∙ ap (λ attached. process_of attached c.args.session) c.deref.ensures.value)
+returns-clause-owner c = IfSome_then c.renew_for.result.concerned c.renew_for.ensures.owner
+    (λ process is. is ∙ ap (λ h. unwrap_or h 0) (c.in-Some.ensures ∙ ap (λ attached. process_of attached c.args.session) c.deref.ensures.value))

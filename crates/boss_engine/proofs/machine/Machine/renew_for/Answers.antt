@@ -1,4 +1,4 @@
-use Rattle.std.proofs.Common.{◌≡◌, ℕ, ◌+◌, List, filter, map, unsigned_abs, w64, sym, ap, ◌∙◌}
+use Rattle.std.proofs.Common.{◌≡◌, ℕ, ◌+◌, List, filter, map, unsigned_abs, w64, refl, sym, ap, ◌∙◌}
 use Rattle.std.proofs.lemmas.Int.{to_z-of_z}
 use Rattle.boss_model.specs.declared.answer.Answer.TheVariants as answer
 use Rattle.boss_model.specs.declared.kept.Acceptance.TheVariants as acceptance
@@ -10,6 +10,7 @@ use Rattle.boss_holdings.specs.Held.{Held, is_touched, shown}
 use Rattle.boss_persistent.specs.Lasting.{persistent_of}
 use Rattle.boss_persistent.specs.Replying.{accepted, renewed_until, with_reply}
 use Rattle.boss_persistent.proofs.Concluded.{renewed-plain}
+use Rattle.boss_engine.proofs.Concerned.{concerned-owner}
 use Rattle.boss_engine.proofs.machine.Machine.renew_for.Goals as goal
 
 abbrev longer : goal.Joined-later → List Lease
@@ -54,3 +55,6 @@ pub returns-clause-untouched : goal.returns-clause-untouched
 returns-clause-untouched c = λ default point moment left.
     ap (λ (h : Held). shown default moment h point) c.reach.ensures
     ∙ c.extend-extended.ensures.untouched default point moment (sym (ap (λ (h : Held). is_touched h point) c.reach.ensures) ∙ left)
+
+pub returns-clause-owner : goal.returns-clause-owner
+returns-clause-owner c = concerned-owner _ _ _ _ c.then_some.ensures refl

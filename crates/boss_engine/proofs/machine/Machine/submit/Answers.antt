@@ -1,5 +1,5 @@
 use Rattle.std.proofs.Common.{ℕ, ◌<◌, ◌≤◌, length, subst, sym, ap, ◌∙◌}
-use Rattle.std.specs.Prelude.{unwrap_or}
+use Rattle.std.specs.Prelude.{is_some, unwrap_or}
 use Rattle.std.specs.List.{AllByRecursion}
 use Rattle.boss_model.specs.declared.state.Lease.{Lease}
 use Rattle.boss_model.specs.declared.kept.Acceptance.TheVariants as acceptance
@@ -84,17 +84,17 @@ returns-in-Refused-clause-state c = λ plant session writes policy some is.
 pub returns-in-Decided-clause-changed : goal.returns-in-Decided-clause-changed
 returns-in-Decided-clause-changed c = λ plant session writes policy some is.
     let s = state_of c.args.self.now in
-    ap (λ d. d.changed) c.unchanged.ensures ∙ decided-unchanged plant (process_of s.attached session) writes policy c.args.seq c.args.n c.in-Decided.decision s
+    ap (λ d. is_some d.concerned) c.unchanged.ensures ∙ decided-unchanged plant (process_of s.attached session) writes policy c.args.seq c.args.n c.in-Decided.decision s
     (subst (λ (given : Ready). IsReadyToSubmit plant (process_of s.attached session) writes policy c.args.seq c.args.n given s) c.in-Decided.is is)
 
 pub returns-in-Refused-clause-changed : goal.returns-in-Refused-clause-changed
 returns-in-Refused-clause-changed c = λ plant session writes policy some is.
     let s = state_of c.args.self.now in
-    ap (λ d. d.changed) c.refused.ensures ∙ refused-unchanged plant (process_of s.attached session) writes policy c.args.seq c.args.n c.in-Refused.why s
+    ap (λ d. is_some d.concerned) c.refused.ensures ∙ refused-unchanged plant (process_of s.attached session) writes policy c.args.seq c.args.n c.in-Refused.why s
     (subst (λ (given : Ready). IsReadyToSubmit plant (process_of s.attached session) writes policy c.args.seq c.args.n given s) c.in-Refused.is is)
 
 pub returns-in-Submit-clause-owner : goal.returns-in-Submit-clause-owner
-returns-in-Submit-clause-owner c = λ plant session writes policy some is _.
+returns-in-Submit-clause-owner c = λ plant session writes policy some is.
     let s = state_of c.args.self.now in
     let begun = ready-submit plant (process_of s.attached session) writes policy c.args.seq c.args.n c.in-Submit.transaction c.in-Submit.leases s some
     (subst (λ (given : Ready). IsReadyToSubmit plant (process_of s.attached session) writes policy c.args.seq c.args.n given s) c.in-Submit.is is) in
