@@ -13,20 +13,20 @@ use Rattle.boss_persistent.proofs.Concluded.{renewed-plain}
 use Rattle.boss_engine.proofs.Concerned.{concerned-owner}
 use Rattle.boss_engine.proofs.machine.Machine.renew_for.Goals as goal
 
-abbrev longer : goal.Joined-later → List Lease
+abbrev longer : goal.After-then_some → List Lease
 longer c = map (extended_if (is_meant c.args.txn c.args.points.now) (c.args.n + unsigned_abs c.args.duration)) (persistent_of c.args.self.now.lasting).leases
 
-later : (c : goal.Joined-later) → persistent_of c.extend-extended.new.self ≡ record (persistent_of c.args.self.now.lasting) { leases = longer c }
+later : (c : goal.After-then_some) → persistent_of c.extend-extended.new.self ≡ record (persistent_of c.args.self.now.lasting) { leases = longer c }
 later c =
     let d = persistent_of c.args.self.now.lasting in
     c.extend-extended.ensures.after
     ∙ ap {A = ℕ} (λ k. record d { leases = map (extended_if (is_meant c.args.txn c.args.points.now) (c.args.n + k)) d.leases }) (c.unsigned_abs.ensures.value ∙ ap unsigned_abs (to_z-of_z w64 c.args.duration c.ranges.duration))
 
-plain : (c : goal.Joined-later) →
+plain : (c : goal.After-then_some) →
     renewed c.args.txn c.args.duration c.args.points.now c.args.n (persistent_of c.args.self.now.lasting) ≡ record (persistent_of c.args.self.now.lasting) { now = c.args.n; leases = longer c }
 plain c = renewed-plain c.requires.can_act.0 c.args.txn c.args.duration c.args.points.now c.args.n (persistent_of c.args.self.now.lasting) c.requires.can_act.1.sound
 
-first : (c : goal.Joined-later) → c.extend-extended.result.first_until ≡ renewed_until c.args.txn c.args.duration c.args.points.now c.args.n (persistent_of c.args.self.now.lasting)
+first : (c : goal.After-then_some) → c.extend-extended.result.first_until ≡ renewed_until c.args.txn c.args.duration c.args.points.now c.args.n (persistent_of c.args.self.now.lasting)
 first c =
     let ends = λ (e : Persistent). first_until (filter (is_meant c.args.txn c.args.points.now) e.leases) in
     c.extend-extended.ensures.first ∙ ap ends (later c) ∙ sym (ap ends (plain c))
