@@ -6,18 +6,19 @@ use Rattle.boss_model.specs.State.{Persistent}
 use Rattle.boss_disk.specs.declared.disk.Disk as disk
 use Rattle.boss_disk.specs.Legs.{Legs, LeaveBoth}
 use Rattle.boss_disk.specs.Story.{Story}
-use Rattle.boss_disk.specs.Window.{Window, settled}
+use Rattle.boss_disk.specs.Window.{Window, settled, IsImage}
 use Rattle.boss_disk.proofs.Legs.{then_legs, weaker_legs, legs_last}
 use Rattle.boss_disk.proofs.Torn.{synced_image}
 use Rattle.def_disk_pair.specs.Contents.{joined}
 use Rattle.def_disk_pair.specs.Pairs.{OpensCleanly}
 use Rattle.boss_disk_pair.specs.declared.two_disks.TwoDisks.{TwoDisks}
-use Rattle.boss_disk_pair.specs.Images.{OpensToOne}
-use Rattle.boss_disk_pair.specs.Orders.{InOrder, stories_of}
-use Rattle.boss_disk_pair.specs.Rests.{Resting, rests, leaves, stories, passes}
+use Rattle.boss_disk_pair.specs.Causes.{first_disk, second_disk}
+use Rattle.boss_disk_pair.specs.Images.{OpensEither, OpensToOne}
+use Rattle.boss_disk_pair.specs.Orders.{InOrder, first_of, second_of, stories_of}
+use Rattle.boss_disk_pair.specs.Rests.{Resting, rests, leaves, stories, passes, changes}
 use Rattle.boss_disk_pair.proofs.Appends.{rest_holds}
 use Rattle.boss_disk_pair.proofs.Forced.{from_order, opens_in}
-use Rattle.boss_disk_pair.proofs.Orders.{in_order, both_leave, both_stand}
+use Rattle.boss_disk_pair.proofs.Orders.{in_order, both_leave, both_left, both_stand}
 
 -- ---- without a pair
 
@@ -33,6 +34,16 @@ wider plant digest d e first second (inr opens) = inl opens
 second_wider : (plant : List Actuator) (digest : List ℕ) (d e : Persistent) (first second : List ℕ) → OpensToOne plant digest d d first second → OpensToOne plant digest e d first second
 second_wider plant digest d e first second (inl opens) = inr opens
 second_wider plant digest d e first second (inr opens) = inr opens
+
+either_wider : (plant : List Actuator) (digest : List ℕ) (d : Persistent) (new_plant : List Actuator) (new_digest : List ℕ) (e : Persistent) (first second : List ℕ) →
+    OpensToOne plant digest d d first second → OpensEither plant digest d new_plant new_digest e first second
+either_wider plant digest d new_plant new_digest e first second (inl opens) = inl opens
+either_wider plant digest d new_plant new_digest e first second (inr opens) = inl opens
+
+-- what holds of the bytes of two disks, said of the disks in their order
+of_disks : {D X : Type 0} (P : X → X → Type 0) (f : D → X) (second : Bool) (one other : D) → InOrder P second (f one) (f other) → P (f (first_of second one other)) (f (second_of second one other))
+of_disks P f false one other here = here
+of_disks P f true one other here = here
 
 last_in_order : (Q : Window → Window → Type 0) (second : Bool) (one other : Story) → Q (stories_of second one other).first.window (stories_of second one other).second.window
     → InOrder Q second one.window other.window
@@ -130,3 +141,27 @@ module _ {D : Type 0} {g : disk.Ghosts D} where
   leaves_wider pair plant d e left = λ told.
       in_order (LeaveBoth (OpensToOne plant pair.digest d d)) (LeaveBoth (OpensToOne plant pair.digest d e)) pair.second (g.story pair.journal.disk).window (g.story pair.spare).window
       (λ x y leave a b one other. wider plant pair.digest d e a b (leave a b one other)) (left told)
+
+  -- ---- another plant
+
+  -- nothing changes
+  pub rests_changes : (pair : TwoDisks D g) (plant : List Actuator) (d : Persistent) (count : ℕ) (new_plant : List Actuator) (digest : List ℕ) (e : Persistent) →
+      rests pair plant d count → changes pair pair plant d new_plant digest e
+  unfolding rests changes
+  rests_changes pair plant d count new_plant digest e at_rest = λ told.
+      both_stand (LeaveBoth (OpensEither plant pair.digest d new_plant digest e)) pair.second (g.story pair.journal.disk) (g.story pair.spare)
+      (in_order (LeaveBoth (OpensToOne plant pair.digest d d)) (LeaveBoth (OpensEither plant pair.digest d new_plant digest e)) pair.second
+      (g.story pair.journal.disk).window (g.story pair.spare).window
+      (λ x y leave a b one other. either_wider plant pair.digest d new_plant digest e a b (leave a b one other))
+      (at_rest_leaves _ _ _ _ _ _ _ _ _ _ _ _ _ _ (at_rest told)))
+
+  -- what the disks hold in the end
+  pub changes_left : (old new : TwoDisks D g) (plant : List Actuator) (d : Persistent) (new_plant : List Actuator) (digest : List ℕ) (e : Persistent) → g.tells →
+      IsImage (g.story new.journal.disk).window (g.reads new.journal.disk) → IsImage (g.story new.spare).window (g.reads new.spare) →
+      changes old new plant d new_plant digest e → OpensEither plant old.digest d new_plant digest e (g.reads (first_disk new)) (g.reads (second_disk new))
+  unfolding changes
+  changes_left old new plant d new_plant digest e told held beside run =
+      let P : List ℕ → List ℕ → Type 0 = OpensEither plant old.digest d new_plant digest e in
+      of_disks P g.reads new.second new.journal.disk new.spare
+      (both_left P new.second (g.story new.journal.disk).window (g.story new.spare).window (g.reads new.journal.disk) (g.reads new.spare)
+      (last_in_order (LeaveBoth P) new.second (g.story new.journal.disk) (g.story new.spare) (legs_last (run told))) held beside)
