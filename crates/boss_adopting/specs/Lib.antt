@@ -1,0 +1,3 @@
+pub mod Adopts
+pub mod Counts
+pub mod Places

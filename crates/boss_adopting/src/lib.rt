@@ -1,0 +1,16 @@
+//! What outlasts a stop under one catalogue, adopted under a changed one: its points are renumbered by their names.
+#![tactic(auto)]
+
+mod adopting;
+mod counts;
+mod moving;
+mod notices;
+mod numbering;
+mod records;
+mod refusal;
+mod unfit;
+mod uses;
+
+pub use adopting::adopt_state;
+pub use counts::{added_points, removed_points};
+pub use refusal::AdoptRefusal;
