@@ -1,3 +1,4 @@
 pub mod Adopts
 pub mod Counts
+pub mod Least
 pub mod Places

@@ -3,11 +3,13 @@
 
 mod adopting;
 mod counts;
+mod least;
 mod moving;
 mod notices;
 mod numbering;
 mod records;
 mod refusal;
+mod slots;
 mod unfit;
 mod uses;
 
