@@ -1,3 +1,4 @@
+pub mod Fronts
 pub mod LeastOf
 pub mod Used
 pub mod Told
@@ -5,3 +6,4 @@ pub mod Apart
 pub mod Recorded
 pub mod Numbered
 pub mod Known
+pub mod Taken

@@ -1,8 +1,10 @@
-ghost use Rattle.std.specs.Prelude.{◌≡◌, IfOk, length, slice_get};
+ghost use Rattle.std.specs.Prelude.{◌≡◌, map, IfOk};
+ghost use Rattle.boss_model.specs.Catalogue.{place_of};
+ghost use Rattle.boss_model.specs.Sound.{DistinctNames};
 ghost use Rattle.law_adoption.specs.Renumber.{renumbered, stays, at};
 ghost use Rattle.boss_adopting.specs.Places.{places_of, places_between};
 
-use boss_model::{NoMemory, PointId};
+use boss_model::{Name, NoMemory, PointId};
 use boss_points::Catalogue;
 use std::alloc::Global;
 use std::marker::Model;
@@ -23,13 +25,14 @@ impl Model for Numbering {
 }
 
 impl Numbering {
-    /// The places that the points of the old catalogue have in the new one, by their names.
+    /// The places that the points of the old catalogue have in the new one, by their names, which are all different.
     pub(crate) fn between(
         alloc: Global,
         old: &Catalogue,
         new: &Catalogue,
     ) -> Result<Numbering, NoMemory>
-        ensures { IfOk result (λ numbering. places_of numbering ≡ renumbered old.now new.now) }
+        ensures places { IfOk result (λ numbering. places_of numbering ≡ renumbered old.now new.now) }
+        ensures apart { DistinctNames (map (λ point. point.name) old.now.points) }
     {
         let places = places_between(alloc, old, new)?;
         Ok(Numbering { places })
@@ -66,12 +69,19 @@ fn places_between(
     old: &Catalogue,
     new: &Catalogue,
 ) -> Result<Vec<Option<PointId>>, NoMemory>
-    ensures { IfOk result (λ places. places.items ≡ places_between old.now new.now) }
+    ensures places { IfOk result (λ places. places.items ≡ places_between old.now new.now) }
+    ensures apart { DistinctNames (map (λ point. point.name) old.now.points) }
 {
-    let count = old.count();
-    let mut places = Vec::with_capacity(alloc, count as usize)?;
-    for place in 0..count {
-        places.push(new.find(old.point(PointId(place)).name.bytes()))?;
+    let mut places = Vec::new(alloc);
+    for place in 0..old.count() {
+        places.push(place_in(new, &old.point(PointId(place)).name))?;
     }
     Ok(places)
+}
+
+/// The place of the point that has this name.
+pub(crate) fn place_in(catalogue: &Catalogue, name: &Name) -> Option<PointId>
+    ensures { result ≡ place_of catalogue.now name.now }
+{
+    catalogue.find(name.bytes())
 }

@@ -1,7 +1,4 @@
-ghost use Rattle.std.specs.Prelude.{◌≡◌};
-
-use boss_model::{Name, NoMemory};
-use std::alloc::{AllocError, AllocFailed};
+use boss_model::Name;
 use std::error::Error;
 use std::fmt;
 
@@ -34,33 +31,3 @@ impl fmt::Display for AdoptRefusal {
 }
 
 impl Error for AdoptRefusal {}
-
-impl From<AllocError> for AdoptRefusal {
-    ghost use Rattle.boss_adopting.specs.declared.refusal.AdoptRefusal.TheVariants as refusal;
-
-    ghost from_gives = { λ _ refused. refused ≡ refusal.NoMemory };
-
-    fn from(_error: AllocError) -> Self {
-        AdoptRefusal::NoMemory
-    }
-}
-
-impl<T: Drop> From<AllocFailed<T>> for AdoptRefusal {
-    ghost use Rattle.boss_adopting.specs.declared.refusal.AdoptRefusal.TheVariants as refusal;
-
-    ghost from_gives = { λ _ refused. refused ≡ refusal.NoMemory };
-
-    fn from(_failed: AllocFailed<T>) -> Self {
-        AdoptRefusal::NoMemory
-    }
-}
-
-impl From<NoMemory> for AdoptRefusal {
-    ghost use Rattle.boss_adopting.specs.declared.refusal.AdoptRefusal.TheVariants as refusal;
-
-    ghost from_gives = { λ _ refused. refused ≡ refusal.NoMemory };
-
-    fn from(_error: NoMemory) -> Self {
-        AdoptRefusal::NoMemory
-    }
-}

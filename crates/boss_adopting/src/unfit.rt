@@ -1,6 +1,6 @@
 //! Whether each point takes under the new catalogue what it holds.
 
-ghost use Rattle.std.specs.Prelude.{◌≡◌};
+ghost use Rattle.std.specs.Prelude.{◌≡◌, ◌∷◌, []};
 ghost use Rattle.std.specs.List.{list_all};
 ghost use Rattle.boss_model.specs.Catalogue.{actuators, fits_at};
 ghost use Rattle.boss_model.specs.Seen.{seen};
@@ -29,11 +29,20 @@ fn least_unfit_lease(new: &Catalogue, numbering: &Numbering, leases: &[Lease]) -
 {
     let mut found = None;
     for lease in leases {
-        if !lease_fits(new, numbering, lease) {
-            found = lesser_of(found, Some(lease.point));
-        }
+        found = lesser_of(found, unfit_lease(new, numbering, lease));
     }
     found
+}
+
+/// The lease's point, unless the lease fits.
+fn unfit_lease(new: &Catalogue, numbering: &Numbering, lease: &Lease) -> Option<PointId>
+    ensures { result ≡ least_failing (λ lease. lease.point) (lease_fits (actuators new.now) (places_of numbering.now)) (lease.now ∷ []) }
+{
+    if lease_fits(new, numbering, lease) {
+        None
+    } else {
+        Some(lease.point)
+    }
 }
 
 /// The least point of the reversions that do not fit.
@@ -46,11 +55,20 @@ fn least_unfit_reversion(
 {
     let mut found = None;
     for reversion in pending {
-        if !pending_fits(new, numbering, reversion) {
-            found = lesser_of(found, Some(reversion.point));
-        }
+        found = lesser_of(found, unfit_reversion(new, numbering, reversion));
     }
     found
+}
+
+/// The reversion's point, unless the reversion fits.
+fn unfit_reversion(new: &Catalogue, numbering: &Numbering, reversion: &Pending) -> Option<PointId>
+    ensures { result ≡ least_failing (λ reversion. reversion.point) (pending_fits (actuators new.now) (places_of numbering.now)) (reversion.now ∷ []) }
+{
+    if pending_fits(new, numbering, reversion) {
+        None
+    } else {
+        Some(reversion.point)
+    }
 }
 
 /// Whether the lease's new point takes its value and those of the steps to come.

@@ -1,6 +1,6 @@
 //! Whether a removed point is in use.
 
-ghost use Rattle.std.specs.Prelude.{◌≡◌, ◌∷◌, [], map};
+ghost use Rattle.std.specs.Prelude.{◌≡◌, ◌∷◌, [], if◌then◌else◌, map};
 ghost use Rattle.boss_model.specs.Lists.{member};
 ghost use Rattle.boss_model.specs.Seen.{seen, seen_txn};
 ghost use Rattle.law_adoption.specs.MayMove.{in_use};
@@ -35,8 +35,19 @@ fn least_used_by(numbering: &Numbering, done: &[Txn], transaction: &KeptTxn) -> 
 {
     match least_removed(numbering, transaction.parts.slice()) {
         // few records name a removed point, and only for these the done ones are gone through
-        Some(point) if !is_among(done, transaction.txn) => Some(point),
-        _ => None,
+        Some(point) => unless_done(done, transaction.txn, point),
+        None => None,
+    }
+}
+
+/// The point, unless the transaction is done.
+fn unless_done(done: &[Txn], txn: Txn, point: PointId) -> Option<PointId>
+    ensures { result ≡ (if member txn done.now then None else Some point) }
+{
+    if is_among(done, txn) {
+        None
+    } else {
+        Some(point)
     }
 }
 
@@ -46,11 +57,20 @@ fn least_removed(numbering: &Numbering, parts: &[KeptPart]) -> Option<PointId>
 {
     let mut found = None;
     for part in parts {
-        if !numbering.stays(part.point) {
-            found = lesser_of(found, Some(part.point));
-        }
+        found = lesser_of(found, unless_staying(numbering, part.point));
     }
     found
+}
+
+/// The point, unless it stays.
+fn unless_staying(numbering: &Numbering, point: PointId) -> Option<PointId>
+    ensures { result ≡ least_removed (places_of numbering.now) (point ∷ []) }
+{
+    if numbering.stays(point) {
+        None
+    } else {
+        Some(point)
+    }
 }
 
 /// Whether the number stands in the list.
