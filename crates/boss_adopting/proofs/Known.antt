@@ -1,9 +1,11 @@
 -- A point that is told is one of the old catalogue.
-use Rattle.std.proofs.Common.{◌≡◌, ℕ, ◌<◌, List, length, map, Bool, not, Option, Some, ◌++◌}
+use Rattle.std.proofs.Common.{◌≡◌, ℕ, ◌<◌, List, length, map, Bool, not, Option, Some, ◌++◌, arith}
 use Rattle.std.specs.List.{filter, flat_map, AllByRecursion}
+use Rattle.std.proofs.lemmas.List.{length-map}
 use Rattle.boss_model.specs.declared.state.Actuator.{Actuator}
 use Rattle.boss_model.specs.declared.state.Lease.{Lease}
 use Rattle.boss_model.specs.declared.state.Pending.{Pending}
+use Rattle.boss_model.specs.Catalogue.{Point, Catalogue, actuators}
 use Rattle.boss_model.specs.Lists.{member}
 use Rattle.boss_model.specs.Records.{Part, Transaction}
 use Rattle.boss_model.specs.Sound.{IsPart, IsTransaction, IsSoundPersistent}
@@ -41,3 +43,9 @@ module _ (plant : List Actuator) (to : ℕ → Option ℕ) (d : Persistent) (sou
       (each-mapped IsKnown (λ (r : Pending). r.point) unfit_pending (each-filter (λ r. IsKnown r.point) (λ r. not (pending_fits new to r)) d.pending
       (of-pending (λ r. IsKnown r.point) d.pending d.leases courses))))
       told
+
+-- the points of a catalogue are those that the machine knows of
+pub in-catalogue : (catalogue : Catalogue) (point : ℕ) → point < length (actuators catalogue) → point < length catalogue.points
+in-catalogue catalogue point there =
+    let as_many : length (actuators catalogue) ≡ length catalogue.points = length-map catalogue.points (λ (p : Point). p.actuator) in
+    omega arith

@@ -1,9 +1,10 @@
 -- What is left of notices, with one notice more.
-use Rattle.std.proofs.Common.{◌≡◌, ℕ, ◌+◌, ◌<◌, List, [], ◌∷◌, ◌++◌, length, get_or, take, map, Bool, true, false, ◌&&◌, cond, Option, refl, ap, sym, ◌∙◌, arith}
+use Rattle.std.proofs.Common.{◌≡◌, ℕ, ◌+◌, ◌<◌, List, [], ◌∷◌, ◌++◌, length, get_or, take, map, Bool, true, false, ◌&&◌, cond, Option, ap, ◌∙◌, arith}
 use Rattle.std.specs.List.{list_all}
 use Rattle.std.proofs.lemmas.Bool.{cond_both}
-use Rattle.std.proofs.lemmas.List.{take_more, map-append}
+use Rattle.std.proofs.lemmas.List.{map-append}
 use Rattle.boss_model.specs.declared.notice.Notice.{Notice}
+use Rattle.boss_adopting.proofs.Fronts.{take-item}
 use Rattle.law_adoption.specs.Adopted.{moved_notice, notice_stays, last_passing}
 
 module _ {X : Type 0} (test : X → Bool) (x : X) where
@@ -26,16 +27,15 @@ module _ {X : Type 0} (test : X → Bool) (x : X) where
       ap (λ b. cond b (y ∷ (ys ++ x ∷ [])) (last_passing test (ys ++ x ∷ []))) none ∙ passing-snoc ys false is
 
 -- the first notices, and one more
-pub left-more : (to : ℕ → Option ℕ) (notices : List Notice) (i : ℕ) (d : Notice) → i < length notices →
-    map (moved_notice to) (last_passing (notice_stays to) (take (i + 1) notices))
-    ≡ cond (notice_stays to (get_or notices i d)) (map (moved_notice to) (last_passing (notice_stays to) (take i notices)) ++ moved_notice to (get_or notices i d) ∷ []) []
-left-more to notices i d within =
-    let x = get_or notices i d in
-    ap (λ ns. map (moved_notice to) (last_passing (notice_stays to) ns)) (take_more notices i d within)
-    ∙ ap (map (moved_notice to)) (passing-snoc (notice_stays to) x (take i notices) (notice_stays to x) refl)
-    ∙ by (notice_stays to x)
-  where
-    by : (b : Bool) → map (moved_notice to) (cond b (last_passing (notice_stays to) (take i notices) ++ get_or notices i d ∷ []) [])
-        ≡ cond b (map (moved_notice to) (last_passing (notice_stays to) (take i notices)) ++ moved_notice to (get_or notices i d) ∷ []) []
-    by true = map-append (moved_notice to) (last_passing (notice_stays to) (take i notices)) (get_or notices i d ∷ [])
-    by false = refl
+module _ (to : ℕ → Option ℕ) (notices : List Notice) (i : ℕ) (x : Notice) (within : i < length notices) (is : x ≡ get_or notices i x) where
+  left-next : (stays : Bool) → notice_stays to x ≡ stays →
+      last_passing (notice_stays to) (take (i + 1) notices) ≡ cond stays (last_passing (notice_stays to) (take i notices) ++ x ∷ []) []
+  left-next stays so = ap (last_passing (notice_stays to)) (take-item notices i x within is) ∙ passing-snoc (notice_stays to) x (take i notices) stays so
+
+  pub left-staying : notice_stays to x ≡ true →
+      map (moved_notice to) (last_passing (notice_stays to) (take (i + 1) notices))
+      ≡ map (moved_notice to) (last_passing (notice_stays to) (take i notices)) ++ moved_notice to x ∷ []
+  left-staying so = ap (map (moved_notice to)) (left-next true so) ∙ map-append (moved_notice to) (last_passing (notice_stays to) (take i notices)) (x ∷ [])
+
+  pub left-going : notice_stays to x ≡ false → map (moved_notice to) (last_passing (notice_stays to) (take (i + 1) notices)) ≡ []
+  left-going so = ap (map (moved_notice to)) (left-next false so)

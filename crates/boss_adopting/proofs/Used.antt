@@ -1,13 +1,14 @@
 -- The least removed point that records name, one record after another.
-use Rattle.std.proofs.Common.{◌≡◌, ℕ, ◌+◌, ◌<◌, List, [], ◌∷◌, ◌++◌, length, get_or, take, map, Bool, true, false, not, cond, Option, None, refl, ap, ◌∙◌}
+use Rattle.std.proofs.Common.{◌≡◌, ℕ, ◌+◌, ◌<◌, List, [], ◌∷◌, ◌++◌, length, get_or, take, map, Bool, true, false, not, cond, Option, None, refl, ap, sym, ◌∙◌}
 use Rattle.std.specs.List.{filter, flat_map}
 use Rattle.std.proofs.lemmas.Grind.{flat_map-append}
-use Rattle.std.proofs.lemmas.List.{take_more, map-append, append-nil}
+use Rattle.std.proofs.lemmas.List.{map-append, append-nil}
+use Rattle.boss_model.specs.declared.kept.KeptPart.{KeptPart}
 use Rattle.boss_model.specs.declared.kept.KeptTxn.{KeptTxn}
 use Rattle.boss_model.specs.Lists.{member}
 use Rattle.boss_model.specs.Order.{least}
-use Rattle.boss_model.specs.Records.{Transaction}
-use Rattle.boss_model.specs.Seen.{seen_txn}
+use Rattle.boss_model.specs.Records.{Part, Transaction}
+use Rattle.boss_model.specs.Seen.{seen_part, seen_txn}
 use Rattle.law_time.proofs.Filters.{filter-append}
 use Rattle.law_adoption.specs.Renumber.{stays}
 use Rattle.boss_adopting.specs.Least.{lesser_of, least_removed, least_used}
@@ -21,12 +22,12 @@ removed-append to xs ys =
     ap (least (λ p. p)) (filter-append (λ p. not (stays to p)) xs ys) ∙ least-append (filter (λ p. not (stays to p)) xs) (filter (λ p. not (stays to p)) ys)
 
 -- the first points, and one more
-pub removed-more : {X : Type 0} (to : ℕ → Option ℕ) (point : X → ℕ) (xs : List X) (i : ℕ) (d : X) → i < length xs →
-    least_removed to (map point (take (i + 1) xs)) ≡ lesser_of (least_removed to (map point (take i xs))) (least_removed to (point (get_or xs i d) ∷ []))
-removed-more to point xs i d within =
-    ap (λ ys. least_removed to (map point ys)) (take_more xs i d within)
-    ∙ ap (least_removed to) (map-append point (take i xs) (get_or xs i d ∷ []))
-    ∙ removed-append to (map point (take i xs)) (point (get_or xs i d) ∷ [])
+pub removed-more : {X : Type 0} (to : ℕ → Option ℕ) (point : X → ℕ) (xs : List X) (i : ℕ) (x : X) → i < length xs → x ≡ get_or xs i x →
+    least_removed to (map point (take (i + 1) xs)) ≡ lesser_of (least_removed to (map point (take i xs))) (least_removed to (point x ∷ []))
+removed-more to point xs i x within is =
+    ap (λ ys. least_removed to (map point ys)) (take-item xs i x within is)
+    ∙ ap (least_removed to) (map-append point (take i xs) (x ∷ []))
+    ∙ removed-append to (map point (take i xs)) (point x ∷ [])
 
 -- ---- records
 
@@ -55,6 +56,25 @@ module _ (to : ℕ → Option ℕ) (done : List ℕ) where
   one-used t true = refl
   one-used t false = ap (least_removed to) (append-nil (points t))
 
-  -- one record
-  pub used-one : (t : Transaction) → least_used to done (t ∷ []) ≡ cond (member t.txn done) None (least_removed to (points t))
+  used-one : (t : Transaction) → least_used to done (t ∷ []) ≡ cond (member t.txn done) None (least_removed to (points t))
   used-one t = one-used t (member t.txn done)
+
+  -- the points of a record are those that are kept of it
+  same-points : (parts : List KeptPart) → map (λ (part : Part). part.point) (map seen_part parts) ≡ map (λ (part : KeptPart). part.point) parts
+  same-points [] = refl
+  same-points (part ∷ parts) = ap (λ rest. part.point ∷ rest) (same-points parts)
+
+  -- one record, by what was found of its points
+  pub used-found : (t : KeptTxn) (found : Option ℕ) → found ≡ least_removed to (map (λ (part : KeptPart). part.point) t.parts) →
+      least_used to done (seen_txn t ∷ []) ≡ cond (member t.txn done) None found
+  used-found t found is =
+      used-one (seen_txn t)
+      ∙ ap (λ ps. cond (member t.txn done) None (least_removed to ps)) (same-points t.parts)
+      ∙ ap (cond (member t.txn done) None) (sym is)
+
+  neither : (b : Bool) → ◌≡◌ {A = Option ℕ} (cond b None None) None
+  neither true = refl
+  neither false = refl
+
+  pub none-used : (t : KeptTxn) → None ≡ least_removed to (map (λ (part : KeptPart). part.point) t.parts) → None ≡ least_used to done (seen_txn t ∷ [])
+  none-used t none = sym (used-found t None none ∙ neither (member t.txn done))

@@ -1,6 +1,6 @@
 //! Processes, whose notices tell of their new points; what was told up to a removed point is forgotten.
 
-ghost use Rattle.std.specs.Prelude.{◌≡◌, ◌∷◌, ◌++◌, [], map, if◌then◌else◌, IfOk, OnOk};
+ghost use Rattle.std.specs.Prelude.{◌≡◌, map, IfOk};
 ghost use Rattle.boss_model.specs.Seen.{seen_process};
 ghost use Rattle.law_adoption.specs.Adopted.{moved_what, moved_notice, what_stays, notice_stays, last_passing, moved_process};
 ghost use Rattle.boss_adopting.specs.Places.{places_of};
@@ -51,21 +51,13 @@ fn moved_notices(
 {
     let mut moved = Vec::new(alloc);
     for notice in notices {
-        follow(numbering, &mut moved, *notice)?;
+        if what_stays(numbering, notice.what) {
+            moved.push(moved_notice(numbering, *notice))?;
+        } else {
+            moved.clear();
+        }
     }
     Ok(moved)
-}
-
-/// One notice more is kept, or at a removed point none of those so far.
-fn follow(numbering: &Numbering, moved: &mut Vec<Notice>, notice: Notice) -> Result<(), NoMemory>
-    ensures { OnOk result (moved.new.items ≡ (if notice_stays (places_of numbering.now) notice then moved.old.items ++ moved_notice (places_of numbering.now) notice ∷ [] else [])) }
-{
-    if what_stays(numbering, notice.what) {
-        moved.push(moved_notice(numbering, notice))?;
-    } else {
-        moved.clear();
-    }
-    Ok(())
 }
 
 /// Whether it tells of no removed point.

@@ -1,11 +1,13 @@
 //! The records of transactions that name no removed point, on their new points, and which of them are done.
 
 ghost use Rattle.std.specs.Prelude.{◌≡◌, ◌∷◌, [], true, false, map, filter, IfOk};
+ghost use Rattle.std.specs.List.{list_all};
 ghost use Rattle.std.specs.List.Sorted.{IsPartitionPoint};
 ghost use Rattle.boss_model.specs.Seen.{seen_part, seen_txn};
 ghost use Rattle.boss_model.specs.Sound.{Rising, is_kept, number_rank};
 ghost use Rattle.boss_state_check.specs.Searches.{precedes, kept_rank};
 ghost use Rattle.law_adoption.specs.Adopted.{moved_part, moved_txn, all_stay, staying};
+ghost use Rattle.law_adoption.specs.Renumber.{stays};
 ghost use Rattle.boss_adopting.specs.Places.{places_of};
 
 use crate::numbering::Numbering;
@@ -33,11 +35,14 @@ pub(crate) fn moved_records(
 fn all_stay(numbering: &Numbering, transaction: &KeptTxn) -> bool
     ensures { result ≡ all_stay (places_of numbering.now) (seen_txn transaction.now) }
 {
-    transaction
-        .parts
-        .slice()
-        .iter()
-        .all(|part| numbering.stays(part.point))
+    parts_stay(numbering, transaction.parts.slice())
+}
+
+/// Whether none of these parts is on a removed point.
+fn parts_stay(numbering: &Numbering, parts: &[KeptPart]) -> bool
+    ensures { result ≡ list_all (λ part. stays (places_of numbering.now) part.point) parts.now }
+{
+    parts.iter().all(|part| numbering.stays(part.point))
 }
 
 /// The record on its new points.

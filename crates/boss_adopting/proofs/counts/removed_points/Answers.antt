@@ -13,8 +13,8 @@ loop-place-preserved c =
     let place = c.loop-place.place in
     let more = count-get test points place (seen c.point.result.now) c.point.ensures.point in
     record {
-      count = ap₂ (λ m n. m + n) c.loop-place.invariant.count c.one_if_removed.ensures ∙ sym more;
-      few = grind (arith, c.one_if_removed.ensures, c.loop-place.invariant.few);
+      count = ap₂ (λ m n. m + n) c.loop-place.invariant.count c.one_if_removed-count.ensures ∙ sym more;
+      few = grind (arith, c.one_if_removed-count.ensures, c.loop-place.invariant.few);
     }
 
 pub returns-clause-count : goal.returns-clause-count

@@ -15,7 +15,8 @@ returns-in-Some c =
     let looked = c.in-Some.ensures.lookup in
     let there : slice_get c.args.txns.now c.record_place.result ≡ Some c.in-Some.transaction.now =
     slice_get_read c.args.txns.now (length c.args.txns.now) c.record_place.result c.in-Some.transaction.now refl looked.3.0 looked.1 in
-    sym (record-found c.args.txns.now c.args.txn c.record_place.result c.requires c.record_place.ensures
+    c.eq.ensures
+    ∙ sym (record-found c.args.txns.now c.args.txn c.record_place.result c.requires c.record_place.ensures
     ∙ ap (λ found. option_map_or (λ (t : KeptTxn). t.txn == c.args.txn) found false) there)
 
 pub returns-in-None : goal.returns-in-None
