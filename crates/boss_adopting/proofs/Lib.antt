@@ -6,4 +6,4 @@ pub mod Apart
 pub mod Recorded
 pub mod Numbered
 pub mod Known
-pub mod Adopting
+pub mod AdoptedSound

@@ -2,7 +2,7 @@ use Rattle.std.proofs.Common.{sym}
 use Rattle.boss_model.specs.Catalogue.{actuators}
 use Rattle.boss_model.specs.Seen.{seen}
 use Rattle.boss_adopting.specs.Places.{places_of}
-use Rattle.boss_adopting.proofs.Adopting.{sound-by}
+use Rattle.boss_adopting.proofs.AdoptedSound.{sound-by}
 use Rattle.boss_adopting.proofs.Known.{in_use-known, unfit-known, in-catalogue}
 use Rattle.boss_adopting.proofs.adopting.adopt_by.Goals as goal
 

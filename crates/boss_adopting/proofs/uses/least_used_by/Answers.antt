@@ -1,4 +1,4 @@
-use Rattle.std.proofs.Common.{map, None, cond, ap, sym, ◌∙◌}
+use Rattle.std.proofs.Common.{map, Some, ap, sym, ◌∙◌}
 use Rattle.boss_model.specs.declared.kept.KeptPart.{KeptPart}
 use Rattle.boss_adopting.specs.Least.{least_removed}
 use Rattle.boss_adopting.specs.Places.{places_of}
