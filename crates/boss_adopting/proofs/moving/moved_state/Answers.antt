@@ -1,8 +1,8 @@
-use Rattle.std.proofs.Common.{◌≡◌, ℕ, map, ap, ◌∙◌}
+use Rattle.std.proofs.Common.{◌≡◌, map, ap, ◌∙◌}
 use Rattle.std.specs.List.{filter}
 use Rattle.boss_model.specs.Order.{in_order}
 use Rattle.boss_model.specs.Seen.{seen_txn, seen_process}
-use Rattle.boss_model.specs.Sound.{Rising, is_kept, number_rank}
+use Rattle.boss_model.specs.Sound.{is_kept}
 use Rattle.boss_model.specs.State.{lease_slot, pending_slot}
 use Rattle.law_time.proofs.Filters.{filter-alike}
 use Rattle.law_adoption.specs.Adopted.{moved_lease, moved_pending, moved_txn, staying, moved_process}

@@ -2,7 +2,6 @@ use Rattle.std.proofs.Common.{◌≡◌, ◌+◌, ◌≤◌, ◌++◌, [], ◌�
 use Rattle.std.proofs.lemmas.List.{map-append, take_all}
 use Rattle.boss_model.specs.Catalogue.{Point, place_of}
 use Rattle.boss_points.specs.Seen.{seen}
-use Rattle.boss_adopting.specs.Places.{places_between}
 use Rattle.boss_adopting.proofs.Fronts.{take-get}
 use Rattle.boss_adopting.proofs.numbering.places_between.Goals as goal
 
