@@ -1,7 +1,9 @@
-//! Trials of kept states over a disk in memory: the bytes that the format spells by its table, a state read as it was written,
-//! each refusal at its place, and a disk that fails or stops at each of its calls.
+//! Trials of kept states: over a disk in memory the bytes that the format spells by its table, a state read as it was written,
+//! each refusal at its place, and a disk that fails or stops at each of its calls; and states adopted under changed catalogues.
 #![tactic(auto)]
 
+#[cfg(test)]
+mod adopting;
 #[cfg(test)]
 mod bytes;
 #[cfg(test)]
