@@ -45,7 +45,7 @@ pub fn summary_in_room(line: &mut Vec<u8>, events: u64, now: u64, leases: u64, p
 }
 
 /// Puts a word and a number behind what is there.
-fn put(line: &mut Vec<u8>, word: &[u8], number: u64)
+pub(crate) fn put(line: &mut Vec<u8>, word: &[u8], number: u64)
     requires room { vec_len line.old + length word.now + 20 ≤ vec_capacity line.old }
     ensures items { line.new.items ≡ line.old.items ++ word.now ++ decimal number }
     ensures short { vec_len line.new ≤ vec_len line.old + length word.now + 20 }
@@ -56,7 +56,7 @@ fn put(line: &mut Vec<u8>, word: &[u8], number: u64)
 }
 
 /// Puts bytes behind what is there, for which there is room.
-fn put_bytes(line: &mut Vec<u8>, bytes: &[u8])
+pub(crate) fn put_bytes(line: &mut Vec<u8>, bytes: &[u8])
     requires room { vec_len line.old + length bytes.now ≤ vec_capacity line.old }
     ensures items { line.new.items ≡ line.old.items ++ bytes.now }
     ensures room { vec_capacity line.old ≤ vec_capacity line.new }

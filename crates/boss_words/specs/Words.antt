@@ -7,7 +7,7 @@ use Rattle.std.specs.Str.{bytes_eq}
 use Rattle.std.specs.Str.Parse.{digits_value}
 use Rattle.std.specs.declared.alloc.Global.{Global}
 use Rattle.boss_words.specs.declared.job.Job.{Job}
-use Rattle.boss_words.specs.declared.job.Job.TheVariants.{Script, Serve, Check, Load}
+use Rattle.boss_words.specs.declared.job.Job.TheVariants.{Script, Serve, Check, Adopt, Load}
 
 abbrev pub texts : List (String Global) → List (List ℕ)
 texts words = map (λ word. string_bytes word) words
@@ -74,6 +74,15 @@ check_of (catalogue ∷ journal ∷ []) = do
   Some (Check catalogue journal)
 check_of _ = None
 
+-- adopt OLD NEW JOURNAL
+abbrev pub adopt_of : List (List ℕ) → Option Job
+adopt_of (old ∷ new ∷ journal ∷ []) = do
+  old ← word_of old
+  new ← word_of new
+  journal ← word_of journal
+  Some (Adopt old new journal)
+adopt_of _ = None
+
 -- load COUNT SEED
 abbrev pub load_of : List (List ℕ) → Option Job
 load_of (count ∷ seed ∷ []) = do
@@ -89,4 +98,5 @@ job_of (job ∷ arguments) =
     if bytes_eq job (codes "script") then script_of arguments else
     (if bytes_eq job (codes "serve") then serve_of arguments else
     (if bytes_eq job (codes "check") then check_of arguments else
-    (if bytes_eq job (codes "load") then load_of arguments else None)))
+    (if bytes_eq job (codes "adopt") then adopt_of arguments else
+    (if bytes_eq job (codes "load") then load_of arguments else None))))

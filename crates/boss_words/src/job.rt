@@ -34,6 +34,15 @@ pub enum Job {
         /// The journal's file.
         journal: Word,
     },
+    /// Take over what a journal stands for under a changed catalogue.
+    Adopt {
+        /// The file of the catalogue that the journal was kept under.
+        old: Word,
+        /// The file of the catalogue that it is to be kept under.
+        new: Word,
+        /// The journal's file, or `-` for a journal in memory alone.
+        journal: Word,
+    },
     /// Run a generated script.
     Load {
         /// How many transactions it submits: 1 to 10,000.

@@ -1,4 +1,4 @@
-ghost use Rattle.boss_words.specs.Words.{texts, job_of, script_of, serve_of, check_of, load_of, optional_of, file_of};
+ghost use Rattle.boss_words.specs.Words.{texts, job_of, script_of, serve_of, check_of, adopt_of, load_of, optional_of, file_of};
 ghost use Rattle.boss_words.specs.Given.{Gives};
 ghost use Rattle.boss_words.specs.declared.read.WordsRefusal.TheVariants.{NoMemory};
 ghost use Rattle.std.specs.Prelude.{◌≡◌};
@@ -48,6 +48,7 @@ pub fn read_words(alloc: Global, words: &Vec<String>) -> Result<Job, WordsRefusa
         "script" => script(alloc, arguments),
         "serve" => serve(alloc, arguments),
         "check" => check(alloc, arguments),
+        "adopt" => adopt(alloc, arguments),
         "load" => load(arguments),
         _ => Err(WordsRefusal::Usage),
     }
@@ -140,6 +141,19 @@ fn check(alloc: Global, arguments: &[String]) -> Result<Job, WordsRefusal>
     let catalogue = Word::new(alloc, catalogue.as_str())?;
     let journal = Word::new(alloc, journal.as_str())?;
     Ok(Job::Check { catalogue, journal })
+}
+
+/// `adopt OLD NEW JOURNAL`
+fn adopt(alloc: Global, arguments: &[String]) -> Result<Job, WordsRefusal>
+    ensures { Gives result (adopt_of (texts arguments.now)) }
+{
+    let [old, new, journal] = arguments else {
+        return Err(WordsRefusal::Usage);
+    };
+    let old = Word::new(alloc, old.as_str())?;
+    let new = Word::new(alloc, new.as_str())?;
+    let journal = Word::new(alloc, journal.as_str())?;
+    Ok(Job::Adopt { old, new, journal })
 }
 
 /// `load COUNT SEED`
