@@ -8,7 +8,7 @@ use Rattle.boss_points.specs.declared.CatalogueRefusal.{CatalogueRefusal}
 use Rattle.boss_points.specs.declared.CatalogueRefusal.TheVariants.{UnknownDriver}
 use Rattle.boss_points.specs.Reading.{catalogue_of, ◌>>=◌}
 use Rattle.boss_words.specs.declared.Job.{Job}
-use Rattle.boss_words.specs.declared.Job.TheVariants.{Script, Serve, Check, Load}
+use Rattle.boss_words.specs.declared.Job.TheVariants.{Script, Serve, Check, Adopt, Load}
 use Rattle.boss_words.specs.Words.{job_of}
 
 -- the catalogue's file of a script whose journal is in memory alone
@@ -16,6 +16,7 @@ abbrev pub catalogue_word : Job → Option (List ℕ)
 catalogue_word (Script catalogue journal) = if bytes_eq journal (codes "-") then Some catalogue else None
 catalogue_word (Serve catalogue journal address workers connections rules plan) = None
 catalogue_word (Check catalogue journal) = None
+catalogue_word (Adopt old new journal) = None
 catalogue_word (Load count seed) = None
 
 abbrev pub script_of_words : List (List ℕ) → Option (List ℕ)
@@ -25,6 +26,7 @@ script_of_words words = option_and_then catalogue_word (job_of words)
 abbrev pub is_served : Option Job → Bool
 is_served (Some (Script catalogue journal)) = true
 is_served (Some (Check catalogue journal)) = true
+is_served (Some (Adopt old new journal)) = true
 is_served (Some (Serve catalogue journal address workers connections rules plan)) = true
 is_served (Some (Load count seed)) = true
 is_served None = false

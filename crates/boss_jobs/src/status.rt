@@ -31,6 +31,8 @@ impl Status {
     pub const LINE_TOO_LONG: Status = Status(13);
     /// There are more than 2^32 lines.
     pub const TOO_MANY_LINES: Status = Status(14);
+    /// The adoption of a changed catalogue was refused.
+    pub const ADOPTION: Status = Status(15);
     /// The access rules were refused.
     pub const RULES: Status = Status(16);
     /// The plan of the devices was refused.
@@ -53,6 +55,7 @@ impl fmt::Display for Status {
             Status::CLOCK_FAULT => "the clock failed",
             Status::LINE_TOO_LONG => "a line is too long",
             Status::TOO_MANY_LINES => "there are too many lines",
+            Status::ADOPTION => "the adoption of a changed catalogue was refused",
             Status::RULES => "the access rules were refused",
             Status::PLAN => "the plan of the devices was refused",
             Status(_) => "no status of the program",

@@ -6,14 +6,15 @@ use Rattle.std.specs.Option.{option_and_then}
 use Rattle.std.specs.Str.{bytes_eq}
 use Rattle.std.specs.Str.Parse.{digits_value}
 use Rattle.boss_words.specs.declared.job.Job.{Job}
-use Rattle.boss_words.specs.declared.job.Job.TheVariants.{Script, Serve, Check, Load}
-use Rattle.boss_words.specs.Words.{check_of, is_number, job_of, load_of, number_of, optional_of, script_of, serve_of, word_of}
+use Rattle.boss_words.specs.declared.job.Job.TheVariants.{Script, Serve, Check, Adopt, Load}
+use Rattle.boss_words.specs.Words.{adopt_of, check_of, is_number, job_of, load_of, number_of, optional_of, script_of, serve_of, word_of}
 
 -- the workers of a server are 1 to 32; of other jobs nothing is said
 abbrev Fits : Option Job → Type 0
 Fits (Some (Serve catalogue journal address workers connections rules plan)) = (1 ≤ workers) × (workers ≤ 32)
 Fits (Some (Script catalogue journal)) = Unit {0}
 Fits (Some (Check catalogue journal)) = Unit {0}
+Fits (Some (Adopt old new journal)) = Unit {0}
 Fits (Some (Load count seed)) = Unit {0}
 Fits None = Unit {0}
 
@@ -59,6 +60,13 @@ fits-check [] = tt
 fits-check (a ∷ []) = tt
 fits-check (a ∷ b ∷ c ∷ more) = tt
 
+fits-adopt : (arguments : List (List ℕ)) → Fits (adopt_of arguments)
+fits-adopt (old ∷ new ∷ journal ∷ []) = fits-then _ (word_of old) (λ o _. fits-then _ (word_of new) (λ n _. fits-then _ (word_of journal) (λ j _. tt)))
+fits-adopt [] = tt
+fits-adopt (a ∷ []) = tt
+fits-adopt (a ∷ b ∷ []) = tt
+fits-adopt (a ∷ b ∷ c ∷ d ∷ more) = tt
+
 fits-load : (arguments : List (List ℕ)) → Fits (load_of arguments)
 fits-load (count ∷ seed ∷ []) = fits-then _ (number_of 1 10000 count) (λ n _. fits-then _ (number_of 0 4294967295 seed) (λ m _. tt))
 fits-load [] = tt
@@ -81,7 +89,8 @@ fits-job (job ∷ arguments) =
     fits-if (bytes_eq job (codes "script")) _ _ (fits-script arguments)
     (fits-if (bytes_eq job (codes "serve")) _ _ (fits-serve arguments)
     (fits-if (bytes_eq job (codes "check")) _ _ (fits-check arguments)
-    (fits-if (bytes_eq job (codes "load")) _ _ (fits-load arguments) tt)))
+    (fits-if (bytes_eq job (codes "adopt")) _ _ (fits-adopt arguments)
+    (fits-if (bytes_eq job (codes "load")) _ _ (fits-load arguments) tt))))
 
 -- a server that the words ask for has 1 to 32 workers
 pub workers-fit : (words : List (List ℕ)) (name journal address : List ℕ) (workers connections : ℕ) (rules plan : Option (List ℕ)) → job_of words ≡ Some (Serve name journal address workers connections rules plan) → (1 ≤ workers) × (workers ≤ 32)

@@ -1,6 +1,7 @@
 ghost use Rattle.std.specs.Prelude.{◌≡◌, ◌≢◌, List, ℕ, Option, None, Some, codes, false, vec_len};
 ghost use Rattle.boss_words.specs.declared.job.Job.TheVariants as job;
 ghost use Rattle.boss_words.specs.Words.{job_of, texts};
+ghost use Rattle.boss_adopt_jobs.specs.AdoptJobs.{AdoptsJournal, AdoptsMemory};
 ghost use Rattle.boss_jobs.specs.Checks.{ChecksJournal, ChecksMemory};
 ghost use Rattle.boss_jobs.specs.Jobs.{DoesScript, SaysUsage, world};
 ghost use Rattle.boss_jobs.specs.KeptScripts.{DoesKeptScript};
@@ -8,6 +9,7 @@ ghost use Rattle.boss_jobs.specs.LoadJobs.{DoesLoad};
 ghost use Rattle.boss_jobs.specs.Programs.{is_served, script_of_words};
 ghost use Rattle.boss_serve_jobs.specs.ServeJobs.{DoesServe, is_serve, server_world, ServesInMemory};
 
+use boss_adopt_jobs::{adopt_kept, adopt_memory};
 use boss_files::Files;
 use boss_jobs::{Status, check_kept, check_memory, do_kept_script, do_load, do_script, say_usage};
 use boss_outside::{Actuators, Sink, Source};
@@ -20,9 +22,10 @@ use std::sync::Wait;
 /// Does what the words ask for. They do not include the program's own name.
 ///
 /// This is a script, `script CATALOGUE JOURNAL`, a server, `serve CATALOGUE JOURNAL ADDRESS WORKERS CONNECTIONS RULES PLAN`, a check, `check
-/// CATALOGUE JOURNAL`, or a generated load, `load COUNT SEED`. A script reads the catalogue, opens the journal, answers the lines of
+/// CATALOGUE JOURNAL`, an adoption of a changed catalogue, `adopt OLD NEW JOURNAL`, or a generated load, `load COUNT SEED`. A script reads the catalogue, opens the journal, answers the lines of
 /// the source to the sink and drives the devices, the d-th of them for driver d. A server does so for so many connections that the host
-/// takes at the address, by so many workers, in time that the clock tells. A check tells what the journal stands for. The journal is
+/// takes at the address, by so many workers, in time that the clock tells. A check tells what the journal stands for. An adoption takes
+/// that over under the new catalogue, where no removed point is in use and each point takes all values that it holds. The journal is
 /// kept in two files, that of its name and that of its name with `.b` behind it, or with `-` in memory alone. A load tells what came of
 /// a generated day.
 pub fn boss<
@@ -66,6 +69,12 @@ where
         (world files.old source.old sink.old devices.old.items) (world files.new source.new sink.new devices.new.items) result.0 }
     ensures check_memory { (name : List ℕ) → job_of (texts words.now.items) ≡ Some (job.Check name (codes "-"))
         → ChecksMemory ⟦<F as Files>⟧ ⟦<S as Source>⟧ ⟦<K as Sink>⟧ ⟦<A as Actuators>⟧ name (vec_len devices.old)
+        (world files.old source.old sink.old devices.old.items) (world files.new source.new sink.new devices.new.items) result.0 }
+    ensures adopt { (old_name new_name journal : List ℕ) → job_of (texts words.now.items) ≡ Some (job.Adopt old_name new_name journal) → journal ≢ codes "-"
+        → AdoptsJournal ⟦<F as Files>⟧ ⟦<S as Source>⟧ ⟦<K as Sink>⟧ ⟦<A as Actuators>⟧ old_name new_name (vec_len devices.old)
+        (world files.old source.old sink.old devices.old.items) (world files.new source.new sink.new devices.new.items) result.0 journal }
+    ensures adopt_memory { (old_name new_name : List ℕ) → job_of (texts words.now.items) ≡ Some (job.Adopt old_name new_name (codes "-"))
+        → AdoptsMemory ⟦<F as Files>⟧ ⟦<S as Source>⟧ ⟦<K as Sink>⟧ ⟦<A as Actuators>⟧ old_name new_name (vec_len devices.old)
         (world files.old source.old sink.old devices.old.items) (world files.new source.new sink.new devices.new.items) result.0 }
     ensures serve { (name journal address : List ℕ) (workers connections : ℕ) (rules plan : Option (List ℕ))
         → job_of (texts words.now.items) ≡ Some (job.Serve name journal address workers connections rules plan) → journal ≢ codes "-"
@@ -157,6 +166,22 @@ where
                 do_memory_serve(rt, alloc, catalogue.text(), service, world)
             } else {
                 do_kept_serve(rt, alloc, catalogue.text(), journal.text(), service, world)
+            }
+        }
+        Ok(Job::Adopt { old, new, journal }) => {
+            if journal.text() == "-" {
+                adopt_memory(alloc, old.text(), new.text(), files, source, sink, devices)
+            } else {
+                adopt_kept(
+                    alloc,
+                    old.text(),
+                    new.text(),
+                    journal.text(),
+                    files,
+                    source,
+                    sink,
+                    devices,
+                )
             }
         }
         Ok(Job::Load { count, seed }) => do_load(alloc, count, seed, sink),

@@ -16,7 +16,7 @@ use Rattle.boss_outside_server.specs.declared.waiter.Waiter as waiter
 use Rattle.boss_pair_find.specs.declared.refusal.DurableRefusal.{DurableRefusal}
 use Rattle.boss_files.specs.Names.{second_name}
 use Rattle.boss_words.specs.declared.job.Job.{Job}
-use Rattle.boss_words.specs.declared.job.Job.TheVariants.{Script, Serve, Check, Load}
+use Rattle.boss_words.specs.declared.job.Job.TheVariants.{Script, Serve, Check, Adopt, Load}
 use Rattle.boss_serve_jobs.specs.declared.world.World.{World as Given}
 use Rattle.boss_jobs.specs.Jobs.{World, world}
 use Rattle.boss_jobs.specs.Journals.{AsksFront, in_files, IsRefused}
@@ -31,6 +31,7 @@ abbrev pub is_serve : Option Job → Bool
 is_serve (Some (Serve catalogue journal address workers connections rules plan)) = true
 is_serve (Some (Script catalogue journal)) = false
 is_serve (Some (Check catalogue journal)) = false
+is_serve (Some (Adopt old new journal)) = false
 is_serve (Some (Load count seed)) = false
 is_serve None = false
 

@@ -4,7 +4,7 @@ use boss_manager::Status;
 use std::alloc::{AllocError, Global};
 
 /// One sentence for a status: what happened, and what to do about it, with the names among the program's words. Where all was done there
-/// is one only for a check that found neither of a journal's files. Where the catalogue was refused for a point, it has that point's name.
+/// is one only for a check or an adoption that found neither of a journal's files. Where the catalogue was refused for a point, it has that point's name.
 pub fn advice(
     alloc: Global,
     status: Status,
@@ -15,8 +15,8 @@ pub fn advice(
     if status != Status::DONE {
         return Ok(Some(sentence(alloc, status, words, point)?));
     }
-    let journal = word_at(words, 2);
-    if has_journal || word_at(words, 0) != "check" || journal == "-" {
+    let journal = journal_word(words);
+    if has_journal || !is_told_new(word_at(words, 0)) || journal == "-" {
         return Ok(None);
     }
     let sentence = format!(in alloc;
@@ -32,9 +32,15 @@ fn sentence(
     point: Option<&str>,
 ) -> Result<String, AllocError> {
     let catalogue = word_at(words, 1);
-    let journal = word_at(words, 2);
+    let journal = journal_word(words);
     if status == Status::USAGE {
         return String::from_str(alloc, USAGE);
+    }
+    if status == Status::CATALOGUE && word_at(words, 0) == ADOPT {
+        let new = word_at(words, 2);
+        return format!(in alloc;
+            "the catalogue {catalogue}, or else {new}, was refused, as its line says; bossctl lint names the line, the key and what may stand there"
+        );
     }
     if status == Status::CATALOGUE {
         return of_catalogue(alloc, catalogue, point);
@@ -42,6 +48,12 @@ fn sentence(
     if status == Status::JOURNAL {
         return format!(in alloc;
             "the journal {journal} was refused, as its line says; name this catalogue's journal, or a new one"
+        );
+    }
+    if status == Status::ADOPTION {
+        let new = word_at(words, 2);
+        return format!(in alloc;
+            "the journal {journal} was not taken over under {new}, as its line says; end what holds that point, or let {new} have it as it was, and try again"
         );
     }
     if status == Status::RULES {
@@ -68,8 +80,11 @@ fn sentence(
     String::from_str(alloc, of_this_run(status))
 }
 
+/// The job that has two catalogues before its journal.
+const ADOPT: &str = "adopt";
+
 const USAGE: &str =
-    "these words ask for nothing that it does; write script CATALOGUE JOURNAL, check CATALOGUE JOURNAL or \
+    "these words ask for nothing that it does; write script CATALOGUE JOURNAL, check CATALOGUE JOURNAL, adopt OLD NEW JOURNAL or \
     serve CATALOGUE JOURNAL ADDRESS WORKERS CONNECTIONS, with - for a journal in memory alone, RULES after them where names have access \
     rules and PLAN after these, or - for none, where devices have a plan, or load COUNT SEED";
 
@@ -111,6 +126,17 @@ fn of_catalogue(alloc: Global, catalogue: &str, point: Option<&str>) -> Result<S
             "the catalogue {catalogue} was refused, as its line says; bossctl lint {catalogue} names the line, the key and what may stand there"
         ),
     }
+}
+
+/// Whether the job of this name says of a journal that it is new.
+fn is_told_new(job: &str) -> bool {
+    job == "check" || job == ADOPT
+}
+
+/// The journal's name among the words: it stands behind one catalogue, or behind two.
+fn journal_word(words: &Vec<String>) -> &str {
+    let place = if word_at(words, 0) == ADOPT { 3 } else { 2 };
+    word_at(words, place)
 }
 
 /// The word at this place, counted from 0, or an empty one.

@@ -1,7 +1,9 @@
-//! Trials of the whole transaction manager: worked scripts, byte for byte, the statuses of runs that end early, plans and rules that are refused, generated loads, and the
-//! bounds of what is kept.
+//! Trials of the whole transaction manager: worked scripts, byte for byte, the statuses of runs that end early, plans and rules that are refused, catalogues that are adopted,
+//! generated loads, and the bounds of what is kept.
 #![tactic(auto)]
 
+#[cfg(test)]
+mod adoptions;
 #[cfg(test)]
 mod endings;
 #[cfg(test)]

@@ -72,30 +72,49 @@ pub fn expect<R: Abort + Threads + Wait + Sync>(
 /// Runs the program on these words with two files, `site.toml` and `plan.toml`, with this input, and with sixteen devices, of which
 /// the first may fail, and gives all that it tells as one text.
 fn run<R: Abort + Threads + Wait + Sync>(rt: &R, alloc: Global, given: &Given) -> String {
-    let words = words_of(rt, alloc, given.words);
-    let Fails {
-        files,
-        source,
-        sink,
-        device,
-        host,
-    } = given.fails;
     let shelf = shelf(rt, alloc, given.file, given.plan);
-    let mut files = MemoryFiles::new(alloc, shelf, call(rt, alloc, files)).expect(rt, "memory");
-    let mut source = source_of(rt, alloc, given.input, source);
-    let mut sink = BytesSink::new(alloc, call(rt, alloc, sink)).expect(rt, "memory");
-    let mut devices = sixteen_devices(rt, alloc, device);
+    let fails = call(rt, alloc, given.fails.files);
+    let mut files = MemoryFiles::new(alloc, shelf, fails).expect(rt, "memory");
+    let ran = run_on(rt, alloc, &mut files, given.words, given.input, given.fails);
+    tell(rt, alloc, &ran)
+}
+
+/// What is left of a run of the program, beside its files.
+pub struct Ran {
+    pub sink: BytesSink,
+    pub devices: Vec<SimActuators>,
+    pub status: Status,
+}
+
+/// Runs the program on these words over these files, with this input, and with sixteen devices. Of the calls of all but the files one
+/// may fail.
+pub fn run_on<R: Abort + Threads + Wait + Sync>(
+    rt: &R,
+    alloc: Global,
+    files: &mut MemoryFiles,
+    words: &str,
+    input: &str,
+    fails: Fails,
+) -> Ran {
+    let words = words_of(rt, alloc, words);
+    let mut source = source_of(rt, alloc, input, fails.source);
+    let mut sink = BytesSink::new(alloc, call(rt, alloc, fails.sink)).expect(rt, "memory");
+    let mut devices = sixteen_devices(rt, alloc, fails.device);
     let status = alone(
         rt,
         alloc,
         &words,
-        &mut files,
+        files,
         &mut source,
         &mut sink,
         &mut devices,
-        host,
+        fails.host,
     );
-    tell(rt, alloc, &sink, &devices, status)
+    Ran {
+        sink,
+        devices,
+        status,
+    }
 }
 
 /// Runs the program with a host that has no connection and may not be able to listen, a clock that tells 0, a waiter that closes at once, and a spawner that starts
@@ -176,7 +195,8 @@ fn sixteen_devices(rt: &impl Abort, alloc: Global, fails: u64) -> Vec<SimActuato
     devices
 }
 
-fn bytes(rt: &impl Abort, alloc: Global, text: &str) -> Items<u8>
+/// The bytes of a text.
+pub fn bytes(rt: &impl Abort, alloc: Global, text: &str) -> Items<u8>
     ensures { result ≡ text.now }
 {
     Items::from_vec(text.as_bytes().to_vec(alloc).expect(rt, "memory"))
@@ -190,18 +210,12 @@ fn call(rt: &impl Abort, alloc: Global, number: u64) -> Items<u64> {
 }
 
 /// The output, the calls of the first device, and the status.
-fn tell(
-    rt: &impl Abort,
-    alloc: Global,
-    sink: &BytesSink,
-    devices: &Vec<SimActuators>,
-    status: Status,
-) -> String {
+fn tell(rt: &impl Abort, alloc: Global, ran: &Ran) -> String {
     let mut text = String::new(alloc);
-    let output = str::from_utf8(sink.taken()).expect(rt, "a text");
+    let output = str::from_utf8(ran.sink.taken()).expect(rt, "a text");
     text.push_str(output).expect(rt, "memory");
-    tell_calls(rt, &mut text, devices.first().expect(rt, "a device"));
-    writeln!(text, "status {}", status.0).expect(rt, "memory");
+    tell_calls(rt, &mut text, ran.devices.first().expect(rt, "a device"));
+    writeln!(text, "status {}", ran.status.0).expect(rt, "memory");
     text
 }
 

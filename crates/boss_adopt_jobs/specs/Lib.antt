@@ -1,0 +1,5 @@
+pub mod Adoptions
+pub mod AdoptJobs
+pub mod Loads
+pub mod Openings
+pub mod Telling
