@@ -1,0 +1,4 @@
+pub mod Coming
+pub mod Completing
+pub mod Following
+pub mod Loading

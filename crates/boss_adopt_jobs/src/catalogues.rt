@@ -1,6 +1,5 @@
-ghost use Rattle.std.specs.Prelude.{◌≡◌, ◌∷◌, [], ℕ, List};
-ghost use Rattle.boss_jobs.specs.Journals.{AsksFront};
-ghost use Rattle.boss_adopt_jobs.specs.Loads.{BothCause, LoadsBoth};
+ghost use Rattle.std.specs.Prelude.{◌≡◌, ℕ, List};
+ghost use Rattle.boss_adopt_jobs.specs.Loads.{AsksBoth, BothCause, LoadsBoth};
 
 use boss_files::Files;
 use boss_jobs::{Unusable, load};
@@ -23,8 +22,8 @@ pub fn load_both<F: Files>(
     new_name: &str,
     devices: usize,
 ) -> Result<Change, Unusable>
-    ensures loads { F.tells → LoadsBoth F.Files devices old_name.now new_name.now files.old result }
-    ensures asks { F.tells → AsksFront (old_name.now ∷ new_name.now ∷ []) (F.asked files.old) (F.asked files.new) }
+    ensures loads { LoadsBoth F.Files devices files.old old_name.now new_name.now result }
+    ensures asks { F.tells → AsksBoth old_name.now new_name.now (F.asked files.old) (F.asked files.new) result }
     ensures stays { F.tells → (file : List ℕ) → F.holds files.new file ≡ F.holds files.old file }
     ensures cause { BothCause (F.faults files.old) (F.faults files.new) result }
 {

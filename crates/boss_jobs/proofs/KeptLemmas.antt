@@ -67,10 +67,10 @@ completes-over Ran old new (Err WriteFault) ends read write fine fine' short few
 completes-over Ran old new (Err NoMemory) ends read write fine fine' short few = inr refl
 
 -- a line that was told where no write failed
-told-fine : {K : Type 0} (k : sink.Ghosts K) (line : List ℕ) (old new : K) (status : ℕ) → ¬ Rose (k.faults old) (k.faults new) → TellsLine k line 0 old new status → (status ≡ 0) ⊎ (status ≡ 8)
+pub told-fine : {K : Type 0} (k : sink.Ghosts K) (line : List ℕ) (old new : K) (status : ℕ) → ¬ Rose (k.faults old) (k.faults new) → TellsLine k line 0 old new status → (status ≡ 0) ⊎ (status ≡ 8)
 told-fine k line old new status fine tells = elim tells [ inl said ↦ inl said.0 | inr (inl failed) ↦ absurd (fine failed.2) | inr (inr lack) ↦ inr lack.0 ]
 
-none-fine : {X : Type 0} (was now : Pair) (old new : X) (status : ℕ) → HadNoJournal was now old new status → ¬ Rose was.faults now.faults → (status ≡ 0) ⊎ (status ≡ 8)
+pub none-fine : {X : Type 0} (was now : Pair) (old new : X) (status : ℕ) → HadNoJournal was now old new status → ¬ Rose was.faults now.faults → (status ≡ 0) ⊎ (status ≡ 8)
 none-fine was now old new status none fine = elim none.why [ inl fault ↦ absurd (fine fault.1) | inr lack ↦ inr lack.0 ]
 
 module _ {F D S K A : Type 0} (f : files.Ghosts F D) (s : source.Ghosts S) (k : sink.Ghosts K) (a : actuators_of.Ghosts A) (old new : World F S K A) (status : ℕ) where

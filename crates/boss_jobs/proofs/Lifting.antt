@@ -50,7 +50,7 @@ module _ (was now was' now' : Pair) (so : Follows was now was' now') where
             );
       }
 
-  holds-so : (was'.tells → (now'.first ≡ was'.first) × (now'.second ≡ was'.second)) → was.tells → (now.first ≡ was.first) × (now.second ≡ was.second)
+  pub holds-so : (was'.tells → (now'.first ≡ was'.first) × (now'.second ≡ was'.second)) → was.tells → (now.first ≡ was.first) × (now.second ≡ was.second)
   holds-so it told =
       let held : (now'.first ≡ was'.first) × (now'.second ≡ was'.second) = it (so.tells told) in
       let began : (was'.first ≡ was.first) × (was'.second ≡ was.second) = so.began told in

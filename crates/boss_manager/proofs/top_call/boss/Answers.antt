@@ -4,6 +4,7 @@ use Rattle.boss_jobs.specs.Jobs.{world}
 use Rattle.boss_serve_jobs.specs.ServeJobs.{server_world}
 use Rattle.boss_jobs.proofs.KeptLemmas.{checks-kept, checks-memory, does-kept, none-asked}
 use Rattle.boss_serve_jobs.proofs.ServeLemmas.{does-serve, serves-memory}
+use Rattle.boss_adopt_jobs.proofs.Completing.{does-adopt, does-adopt-memory}
 use Rattle.boss_manager.proofs.WordLemmas.{workers-fit}
 use Rattle.boss_manager.proofs.top_call.boss.Goals as goal
 
@@ -66,3 +67,20 @@ returns-clause-serve_memory g c name address workers connections rules plan is =
     refl
     (λ tells. none-asked _ (g.F.Files.asked c.args.files.now))
     (λ tells file. refl)
+
+pub returns-clause-adopt : goal.returns-clause-adopt
+returns-clause-adopt g c old_name new_name journal is named =
+    let all = world c.args.files.now c.args.source.now c.args.sink.now c.args.devices.now.items in
+    does-adopt g.F.Files g.S.Source g.K.Sink g.A.Actuators old_name new_name (vec_len c.args.devices.now) all all 8 journal
+    (inl (record { why = inr (refl, refl); source = refl; sink = refl; devices = refl }))
+    refl refl
+    (λ tells. none-asked _ (g.F.Files.asked c.args.files.now))
+    (λ tells file first second. refl)
+
+pub returns-clause-adopt_memory : goal.returns-clause-adopt_memory
+returns-clause-adopt_memory g c old_name new_name is =
+    let all = world c.args.files.now c.args.source.now c.args.sink.now c.args.devices.now.items in
+    does-adopt-memory g.F.Files g.S.Source g.K.Sink g.A.Actuators old_name new_name (vec_len c.args.devices.now) all all 8
+    (inl (record { why = inr (refl, refl); source = refl; sink = refl; devices = refl }))
+    (λ tells file. refl) refl refl
+    (λ tells. none-asked _ (g.F.Files.asked c.args.files.now))

@@ -1,0 +1,84 @@
+-- What is said of an adoption over one pair is said of another that follows it.
+use Rattle.std.proofs.Common.{◌≡◌, inl, inr, ℕ, List, sym, ◌∙◌, refl}
+use Rattle.boss_model.specs.Catalogue.{Catalogue, actuators}
+use Rattle.boss_model.specs.Limits.{last_number}
+use Rattle.boss_model.specs.State.{Persistent}
+use Rattle.boss_outside.specs.Counts.{Rose}
+use Rattle.boss_outside.specs.declared.sink.Sink as sink
+use Rattle.def_disk_pair.specs.Pairs.{OpensCleanly}
+use Rattle.boss_disk_pair.specs.Images.{OpensEither}
+use Rattle.boss_pair_find.specs.Holds.{IsNewPair}
+use Rattle.boss_opening.specs.Opens.{digest_of, OpenedAt}
+use Rattle.boss_jobs.specs.Journals.{HoldSame, Pair}
+use Rattle.boss_jobs.proofs.Lifting.{Follows, holds-so, none-so, refused-so, same-two, stands-so}
+use Rattle.boss_adopt_jobs.specs.Adoptions.{AdoptsOver, ComesTo, OpensUnder, taken_over}
+use Rattle.boss_adopt_jobs.specs.Openings.{OpensToAdopt}
+
+module _ (was now was' now' : Pair) {K : Type 0} (k : sink.Ghosts K) (old new : Catalogue) (before after : K) (status : ℕ) where
+  module _ (tells : was.tells → was'.tells) (left : was.tells → (now'.first ≡ now.first) × (now'.second ≡ now.second))
+      (rose : Rose was'.faults now'.faults → Rose was.faults now.faults) (stood : now'.faults ≡ was'.faults → now.faults ≡ was.faults) (d : Persistent) (number : ℕ) where
+    -- of a pair only what it holds in the end, and its count, are told
+    pub comes-so : ComesTo k old new d number was' now' before after status → ComesTo k old new d number was now before after status
+    comes-so it = elim it [
+      | inl done ↦ inl (record {
+        may = done.may;
+        tells = done.tells;
+        opens = λ told. same-two (λ a b. OpensUnder new (taken_over old new d) (record now' { first = a; second = b })) _ _ _ _ (left told) (done.opens (tells told));
+        counted = λ told few. same-two (λ a b. OpensCleanly (actuators new) (digest_of new) (taken_over old new d) number a b) _ _ _ _ (left told) (done.counted (tells told) few);
+        faults = stood done.faults;
+      })
+      | inr (inl refused) ↦ inr (inl (record {
+        refusal = refused.refusal;
+        refuses = refused.refuses;
+        tells = refused.tells;
+        opens = λ told. same-two (λ a b. OpensUnder old d (record now' { first = a; second = b })) _ _ _ _ (left told) (refused.opens (tells told));
+        faults = stood refused.faults;
+      }))
+      | inr (inr (inl broke)) ↦ inr (inr (inl (record {
+        may = broke.may;
+        status_is = broke.status_is;
+        told = broke.told;
+        opens = λ told. same-two (λ a b. OpensEither (actuators old) (digest_of old) d (actuators new) (digest_of new) (taken_over old new d) a b) _ _ _ _ (left told) (broke.opens (tells told));
+        faults = rose broke.faults;
+      })))
+      | inr (inr (inr lacked)) ↦ inr (inr (inr (record {
+        status_is = lacked.status_is;
+        told = lacked.told;
+        opens = λ told. same-two (λ a b. OpensUnder old d (record now' { first = a; second = b })) _ _ _ _ (left told) (lacked.opens (tells told));
+        faults = stood lacked.faults;
+      })))
+    ]
+
+  module _ (so : Follows was now was' now') where
+    -- a journal that is not new was opened, as far as it came to that
+    pub opened-so : (was.tells → IsNewPair was.first was.second → ⊥) → OpensToAdopt k old new was' now' before after status → AdoptsOver k old new was now before after status
+    opened-so not_new it = elim it [
+      | inl none ↦ inl (none-so was now was' now' so before after status none.0, λ told lasts. stands-so was now was' now' so old told (none.1 (so.tells told) (so.lasts told lasts)))
+      | inr (inl refused) ↦ inr (inl (refused-so was now was' now' so k old before after status refused))
+      | inr (inr found) ↦ inr (inr (inr (record {
+        state = found.state;
+        number = found.number;
+        not_new = not_new;
+        opened = λ told. same-two (λ a b. OpenedAt (actuators old) (digest_of old) a b found.state found.number) _ _ _ _ (so.began told) (found.opened (so.tells told));
+        comes = comes-so so.tells so.left so.rose so.stood found.state.persistent found.number found.comes;
+      })))
+    ]
+
+    pub adopts-so : AdoptsOver k old new was' now' before after status → AdoptsOver k old new was now before after status
+    adopts-so it = elim it [
+      | inl none ↦ inl (none-so was now was' now' so before after status none.0, λ told lasts. stands-so was now was' now' so old told (none.1 (so.tells told) (so.lasts told lasts)))
+      | inr (inl refused) ↦ inr (inl (refused-so was now was' now' so k old before after status refused))
+      | inr (inr (inl fresh)) ↦ inr (inr (inl (record {
+        new_pair = λ told. same-two IsNewPair _ _ _ _ (so.began told) (fresh.new_pair (so.tells told));
+        tells = fresh.tells;
+        holds = holds-so was now was' now' so fresh.holds;
+        faults = so.stood fresh.faults;
+      })))
+      | inr (inr (inr found)) ↦ inr (inr (inr (record {
+        state = found.state;
+        number = found.number;
+        not_new = λ told is. found.not_new (so.tells told) (same-two IsNewPair _ _ _ _ (sym (so.began told).0, sym (so.began told).1) is);
+        opened = λ told. same-two (λ a b. OpenedAt (actuators old) (digest_of old) a b found.state found.number) _ _ _ _ (so.began told) (found.opened (so.tells told));
+        comes = comes-so so.tells so.left so.rose so.stood found.state.persistent found.number found.comes;
+      })))
+    ]
