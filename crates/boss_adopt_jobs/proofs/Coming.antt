@@ -116,7 +116,7 @@ module _ {D K : Type 0} (d : disk.Ghosts D) (k : sink.Ghosts K) (old new : Catal
     module _ (back : Durable D d) (closed : Closed d back disks) where
       pub fault-so : (why : AdoptFault) → Refuses old new (lasting durable) why → (why ≢ fault.DiskFault → back ≡ durable) → is_of_earlier why ≡ false →
           FaultCause (counts_of durable.disks) (counts_of back.disks) why →
-          (d.tells → OpensEither (actuators old) (digest_of old) (lasting durable) (actuators new) (digest_of new) (adopted_of old new durable)
+          (d.tells → (events : List Event) → keeps durable events → OpensEither (actuators old) (digest_of old) (lasting durable) (actuators new) (digest_of new) (adopted_of old new durable)
           (d.reads (first_disk back.disks)) (d.reads (second_disk back.disks))) →
           TellsFault k why before after status →
           ComesTo k old new (lasting durable) number (of_durable d durable) (on_disks d disks) before after status
@@ -133,7 +133,7 @@ module _ {D K : Type 0} (d : disk.Ghosts D) (k : sink.Ghosts K) (old new : Catal
         status_is = tells.0;
         told = tells.1;
         opens = λ told. subst (λ (pair : List ℕ × List ℕ). OpensEither (actuators old) (digest_of old) (lasting durable) (actuators new) (digest_of new) (adopted_of old new durable) pair.0 pair.1)
-            (λ i. (d.reads (sym closed.parts.0 i), d.reads (sym closed.parts.1 i))) (images told);
+            (λ i. (d.reads (sym closed.parts.0 i), d.reads (sym closed.parts.1 i))) (images told any kept);
         faults = subst (Rose (both (counts_of durable.disks))) (sym (counts-so d back disks closed)) (one-rose (counts_of durable.disks) (counts_of back.disks) cause);
       })))
       fault-so fault.NoMemory why same late cause images tells = lacked-so back closed (same (λ e. absurd cc)) tells.0 tells.1

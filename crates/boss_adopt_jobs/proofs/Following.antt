@@ -6,12 +6,12 @@ use Rattle.boss_model.specs.State.{Persistent}
 use Rattle.boss_outside.specs.Counts.{Rose}
 use Rattle.boss_outside.specs.declared.sink.Sink as sink
 use Rattle.def_disk_pair.specs.Pairs.{OpensCleanly}
-use Rattle.boss_disk_pair.specs.Images.{OpensEither}
+use Rattle.boss_disk_pair.specs.Images.{OpensEither, OpensTo}
 use Rattle.boss_pair_find.specs.Holds.{IsNewPair}
 use Rattle.boss_opening.specs.Opens.{digest_of, OpenedAt}
 use Rattle.boss_jobs.specs.Journals.{HoldSame, Pair}
 use Rattle.boss_jobs.proofs.Lifting.{Follows, holds-so, none-so, refused-so, same-two, stands-so}
-use Rattle.boss_adopt_jobs.specs.Adoptions.{AdoptsOver, ComesTo, OpensUnder, taken_over}
+use Rattle.boss_adopt_jobs.specs.Adoptions.{AdoptsOver, ComesTo, taken_over}
 use Rattle.boss_adopt_jobs.specs.Openings.{OpensToAdopt}
 
 module _ (was now was' now' : Pair) {K : Type 0} (k : sink.Ghosts K) (old new : Catalogue) (before after : K) (status : ℕ) where
@@ -23,7 +23,7 @@ module _ (was now was' now' : Pair) {K : Type 0} (k : sink.Ghosts K) (old new : 
       | inl done ↦ inl (record {
         may = done.may;
         tells = done.tells;
-        opens = λ told. same-two (λ a b. OpensUnder new (taken_over old new d) (record now' { first = a; second = b })) _ _ _ _ (left told) (done.opens (tells told));
+        opens = λ told. same-two (λ a b. OpensTo (actuators new) (digest_of new) (taken_over old new d) a b) _ _ _ _ (left told) (done.opens (tells told));
         counted = λ told few. same-two (λ a b. OpensCleanly (actuators new) (digest_of new) (taken_over old new d) number a b) _ _ _ _ (left told) (done.counted (tells told) few);
         faults = stood done.faults;
       })
@@ -31,7 +31,7 @@ module _ (was now was' now' : Pair) {K : Type 0} (k : sink.Ghosts K) (old new : 
         refusal = refused.refusal;
         refuses = refused.refuses;
         tells = refused.tells;
-        opens = λ told. same-two (λ a b. OpensUnder old d (record now' { first = a; second = b })) _ _ _ _ (left told) (refused.opens (tells told));
+        opens = λ told. same-two (λ a b. OpensTo (actuators old) (digest_of old) d a b) _ _ _ _ (left told) (refused.opens (tells told));
         faults = stood refused.faults;
       }))
       | inr (inr (inl broke)) ↦ inr (inr (inl (record {
@@ -44,7 +44,7 @@ module _ (was now was' now' : Pair) {K : Type 0} (k : sink.Ghosts K) (old new : 
       | inr (inr (inr lacked)) ↦ inr (inr (inr (record {
         status_is = lacked.status_is;
         told = lacked.told;
-        opens = λ told. same-two (λ a b. OpensUnder old d (record now' { first = a; second = b })) _ _ _ _ (left told) (lacked.opens (tells told));
+        opens = λ told. same-two (λ a b. OpensTo (actuators old) (digest_of old) d a b) _ _ _ _ (left told) (lacked.opens (tells told));
         faults = stood lacked.faults;
       })))
     ]

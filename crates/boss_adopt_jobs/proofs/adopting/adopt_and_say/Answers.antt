@@ -1,4 +1,4 @@
-use Rattle.std.proofs.Common.{subst, sym, refl}
+use Rattle.std.proofs.Common.{subst, ◌∙◌}
 use Rattle.boss_jobs.specs.Jobs.{TellsLine}
 use Rattle.boss_adopt_jobs.proofs.Coming.{adopted-so, fault-so}
 use Rattle.boss_adopt_jobs.proofs.adopting.adopt_and_say.Goals as goal
@@ -18,4 +18,4 @@ returns-in-Err g c =
     fault-so g.D.Disk g.K.Sink c.args.old.now c.args.new.now c.args.durable c.requires.plant c.requires.digest c.requires.keeps c.requires.leaves
     c.args.sink.now c.say_fault-status.new.sink c.say_fault-status.result.0 c.close-in-Err.result c.in-Err.durable
     (record { parts = c.close-in-Err.ensures.disks; opens = c.close-in-Err.ensures.opens; left = c.close-in-Err.ensures.left })
-    c.in-Err.fault answer.refuses answer.unchanged answer.stopped answer.cause answer.holds c.say_fault-status.ensures
+    c.in-Err.fault answer.refuses answer.unchanged (answer.stopped ∙ c.requires.going) answer.cause answer.holds c.say_fault-status.ensures
