@@ -80,6 +80,7 @@ fn run<R: Abort + Threads + Wait + Sync>(rt: &R, alloc: Global, given: &Given) -
 }
 
 /// What is left of a run of the program, beside its files.
+#[derive(Drop)]
 pub struct Ran {
     pub sink: BytesSink,
     pub devices: Vec<SimActuators>,
