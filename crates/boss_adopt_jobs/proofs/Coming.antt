@@ -17,6 +17,7 @@ use Rattle.boss_durable.specs.declared.durable.Durable.{Durable}
 use Rattle.boss_durable.specs.Words.{keeps, lasting, leaves}
 use Rattle.boss_opening.specs.Opens.{digest_of}
 use Rattle.boss_adopting.specs.Counts.{removed}
+use Rattle.boss_adopting.specs.declared.refusal.AdoptRefusal.{AdoptRefusal}
 use Rattle.boss_adopting.specs.declared.refusal.AdoptRefusal.TheVariants as refusal
 use Rattle.boss_changing.specs.Adoptions.{adopted_of, FaultCause, is_of_earlier, MayAdopt, Refuses}
 use Rattle.boss_changing.specs.declared.fault.AdoptFault.{AdoptFault}
@@ -29,6 +30,17 @@ use Rattle.boss_jobs.proofs.Refusals.{both, one-rose}
 use Rattle.boss_jobs.proofs.RunLemmas.{one-as, opens-as}
 use Rattle.boss_adopt_jobs.specs.Adoptions.{Adopted, ComesTo, OpensUnder, taken_over}
 use Rattle.boss_adopt_jobs.specs.Telling.{TellsFault}
+
+-- ---- answers apart
+
+wrong : {P : Type 0} → true ≡ false → P
+wrong e = absurd cc
+
+refused-differs : (why : AdoptRefusal) → fault.Refused why ≢ fault.DiskFault
+refused-differs why e = absurd cc
+
+lack-differs : fault.NoMemory ≢ fault.DiskFault
+lack-differs e = absurd cc
 
 -- ---- disks that came back of an engine
 
@@ -121,13 +133,13 @@ module _ {D K : Type 0} (d : disk.Ghosts D) (k : sink.Ghosts K) (old new : Catal
           TellsFault k why before after status →
           ComesTo k old new (lasting durable) number (of_durable d durable) (on_disks d disks) before after status
       fault-so (fault.Refused (refusal.InUse name)) why same late cause images tells =
-          let is = same (λ e. absurd cc) in
+          let is = same (refused-differs (refusal.InUse name)) in
           inr (inl (record { refusal = refusal.InUse name; refuses = why; tells = tells; opens = still back closed is; faults = no-rise back closed is }))
       fault-so (fault.Refused (refusal.Unfit name)) why same late cause images tells =
-          let is = same (λ e. absurd cc) in
+          let is = same (refused-differs (refusal.Unfit name)) in
           inr (inl (record { refusal = refusal.Unfit name; refuses = why; tells = tells; opens = still back closed is; faults = no-rise back closed is }))
       fault-so (fault.Refused refusal.NoMemory) why same late cause images tells = absurd why
-      fault-so fault.Stopped why same late cause images tells = absurd cc
+      fault-so fault.Stopped why same late cause images tells = wrong late
       fault-so fault.DiskFault why same late cause images tells = inr (inr (inl (record {
         may = why;
         status_is = tells.0;
@@ -136,4 +148,4 @@ module _ {D K : Type 0} (d : disk.Ghosts D) (k : sink.Ghosts K) (old new : Catal
             (λ i. (d.reads (sym closed.parts.0 i), d.reads (sym closed.parts.1 i))) (images told any kept);
         faults = subst (Rose (both (counts_of durable.disks))) (sym (counts-so d back disks closed)) (one-rose (counts_of durable.disks) (counts_of back.disks) cause);
       })))
-      fault-so fault.NoMemory why same late cause images tells = lacked-so back closed (same (λ e. absurd cc)) tells.0 tells.1
+      fault-so fault.NoMemory why same late cause images tells = lacked-so back closed (same lack-differs) tells.0 tells.1

@@ -23,9 +23,15 @@ use Rattle.boss_adopt_jobs.specs.Telling.{TellsRefusal}
 
 -- ---- statuses
 
+none-some : {P : Type 0} {X : Type 0} {x : X} → None ≡ Some x → P
+none-some e = absurd cc
+
+some-none : {P : Type 0} {X : Type 0} {x : X} → Some x ≡ None → P
+some-none e = absurd cc
+
 no-name : {P : Type 0} (catalogue : Catalogue) (point : Option ℕ) (name : List ℕ) → point ≡ None → name_at catalogue point ≡ Some name → P
-no-name catalogue None name is named = absurd cc
-no-name catalogue (Some point) name is named = absurd cc
+no-name catalogue None name is named = none-some named
+no-name catalogue (Some point) name is named = some-none is
 
 module _ {K : Type 0} (k : sink.Ghosts K) (old new : Catalogue) (before after : K) (status : ℕ) where
   -- a state that may be adopted is refused for want of memory alone
