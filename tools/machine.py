@@ -1,5 +1,6 @@
 """A small model of the lease machine, written apart from the program: what a session is answered, what processes are told, and
-what devices are told. Devices take every command. Moments are milliseconds, values thousandths. With access rules it denies writes."""
+what devices are told; and how all that goes on under a changed catalogue. Devices take every command. Moments are milliseconds, values
+thousandths. With access rules it denies writes."""
 
 import json
 from dataclasses import dataclass, field
@@ -122,6 +123,19 @@ class End:
 KINDS = ["fault", "ended", "reverted", "cut", "done"]
 
 
+def forget_up_to(told, place):
+    """Lets go of what a process was told, up to this place."""
+    told[:place + 1] = [None] * (place + 1)
+
+
+def first_kept(told):
+    """The number of the first notice that is kept, one above the last where none is."""
+    first = max(1, len(told) - KEPT_NOTICES + 1)
+    while first <= len(told) and told[first - 1] is None:
+        first += 1
+    return first
+
+
 @dataclass
 class Notice:
     at: int
@@ -160,7 +174,7 @@ class Machine:
         self.transactions = {}
         self.done = []
         self.processes = []
-        # Of each process all that it was told.
+        # Of each process all that it was told, with None for what can't be asked for any more.
         self.told = []
         # Of a process the number of its last numbered request that was accepted, and what that was answered.
         self.kept = {}
@@ -170,6 +184,41 @@ class Machine:
         self.wants = list(range(len(points)))
         self.lines = []
         self.drain()
+
+    def lasting(self):
+        """What lasts, as far as it shows whether a step has changed it, which makes it an event of a journal. What is told and what becomes
+        done changes with it."""
+        return repr((self.now, self.next, self.leases, self.reversions, self.processes, self.kept))
+
+    def adopt(self, drivers, points):
+        """What lasts goes on under another catalogue, where points are known by their names. Why it can't, by the point's name, and then
+        nothing has changed; or None, and then it has to be opened again."""
+        places = {point.name: place for place, point in enumerate(points)}
+        used = {point for txn, made in self.transactions.items() if txn not in self.done for point in made.ends}
+        for point in sorted(used):
+            if self.names[point] not in places:
+                return f"in-use {self.names[point]}"
+        for point in range(len(self.points)):
+            values = [lease.value for lease in self.leases if lease.point == point]
+            values += [value for it in self.leases + self.reversions if it.point == point for value, _ in it.steps]
+            if not all(points[places[self.names[point]]].fits(value) for value in values):
+                return f"unfit {self.names[point]}"
+
+        renumbered = {old: places[name] for old, name in enumerate(self.names) if name in places}
+        for it in self.leases + self.reversions:
+            it.point = renumbered[it.point]
+        self.transactions = {txn: made for txn, made in self.transactions.items() if made.ends.keys() <= renumbered.keys()}
+        self.done = [txn for txn in self.done if txn in self.transactions]
+        for made in self.transactions.values():
+            made.ends = {renumbered[point]: end for point, end in made.ends.items()}
+        for told in self.told:
+            gone = [place for place, it in enumerate(told) if it and it.kind != "done" and it.point not in renumbered]
+            forget_up_to(told, max(gone, default=-1))
+            for it in told:
+                if it and it.kind != "done":
+                    it.point = renumbered[it.point]
+        self.drivers, self.points, self.names = drivers, points, [point.name for point in points]
+        return None
 
     def reopen(self):
         """What lasts is opened again: nobody is attached, and each point wants its target."""
@@ -444,7 +493,7 @@ class Machine:
         kept = self.asked_of(session, request)
         if kept is None:
             return error("not-attached")
-        first = max(1, len(kept) - KEPT_NOTICES + 1)
+        first = first_kept(kept)
         start = min(max(request.get("from", 1), first), len(kept) + 1)
         end = min(start + request.get("max", 16), len(kept) + 1)
         told = [kept[number - 1].told(number, self.names) for number in range(start, end)]
