@@ -1,4 +1,4 @@
-//! Trials of a server, `serve_in_memory`: over hosts, clocks, waiters and spawners in memory, over threads, and over a socket. Each says
+//! Trials of a server, `serve_in_memory` and `serve_on_disks`: over hosts, clocks, waiters and spawners in memory, over threads, and over a socket. Each says
 //! what the connections were answered, how the workers paused, what a device was told, and the line and the status at the end.
 #![tactic(auto)]
 
@@ -10,6 +10,8 @@ mod clocks;
 mod connections;
 #[cfg(test)]
 mod held;
+#[cfg(test)]
+mod journals;
 #[cfg(test)]
 mod listening;
 #[cfg(test)]

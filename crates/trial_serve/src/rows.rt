@@ -14,7 +14,7 @@ struct Row {
 }
 
 /// A server at the moment 1,000, whose worker of time is told to end at its first pause.
-const PLAIN: Setting = Setting {
+pub const PLAIN: Setting = Setting {
     workers: &[],
     moments: &[1_000],
     clock_fails: 0,

@@ -6,7 +6,8 @@ use crate::clocks::{call, list_clock};
 use crate::connections::{Connections, Talk, count, host, tell_talks};
 use crate::texts::{put, put_number, tell_end};
 use boss_access::{Rules, RulesRefusal};
-use boss_manager::{Service, Site, Status, Surroundings, serve_in_memory};
+use boss_disk::MemoryDisk;
+use boss_manager::{Service, Site, Status, Surroundings, serve_in_memory, serve_on_disks};
 use boss_model::{Items, NoMemory};
 use boss_outside::{BytesSink, BytesSource, SimActuators};
 use boss_outside_server::{Host, ListClock, ListHost, ListSpawner, TurnWaiter};
@@ -164,6 +165,65 @@ pub fn run<R: Threads + Wait + Sync>(
 ) -> Result<String, NoMemory> {
     match host(alloc, setting.workers, setting.host_fails) {
         Ok(mut host) => run_on(rt, alloc, catalogue, setting, &mut host),
+        Err(none) => Err(none),
+    }
+}
+
+/// The two disks of a journal.
+pub type Pair = (MemoryDisk, MemoryDisk);
+
+/// Serves all connections over a journal on two disks, without rules.
+fn serve_kept<R: Threads + Wait + Sync>(
+    rt: &R,
+    alloc: Global,
+    catalogue: &Catalogue,
+    setting: &Setting,
+    disks: Pair,
+    host: &mut Connections,
+    stage: &mut Stage<R>,
+) -> (Pair, Status)
+    requires { ⟦<ListHost<BytesSource, BytesSink> as Host>⟧.sound host.old }
+{
+    let none = None;
+    let service = Service {
+        address: "here",
+        workers: workers(setting),
+        connections: count(setting.workers),
+        rules: &none,
+        plan: &none,
+    };
+    let surroundings = Surroundings {
+        sink: &mut stage.sink,
+        devices: &mut stage.devices,
+        clock: &mut stage.clock,
+        host,
+        waiter: &mut stage.waiter,
+        spawner: &mut stage.spawner,
+    };
+    let site = Site {
+        catalogue,
+        rules: None,
+    };
+    serve_on_disks(rt, alloc, site, disks.0, disks.1, service, surroundings)
+}
+
+/// What comes of a server over a journal, as text, and its disks afterwards.
+pub fn run_on_disks<R: Threads + Wait + Sync>(
+    rt: &R,
+    alloc: Global,
+    catalogue: &Catalogue,
+    setting: &Setting,
+    disks: Pair,
+) -> Result<(String, Pair), NoMemory> {
+    let mut stage = Stage::new(alloc, setting)?;
+    match host(alloc, setting.workers, setting.host_fails) {
+        Ok(mut host) => {
+            let (disks, status) = serve_kept(
+                rt, alloc, catalogue, setting, disks, &mut host, &mut stage,
+            );
+            let told = tell(alloc, &host, &stage, status)?;
+            Ok((told, disks))
+        }
         Err(none) => Err(none),
     }
 }
