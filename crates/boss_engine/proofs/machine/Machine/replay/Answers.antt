@@ -127,7 +127,8 @@ still c = record {
 
 pub returns-then-changed-clause-effective : goal.returns-then-changed-clause-effective
 returns-then-changed-clause-effective c =
-    ap (λ b. b || not ((persistent_of c.tick.new.self.lasting).now == (persistent_of c.args.self.now.lasting).now)) (sym c.if-changed.true)
+    c.if-changed.true
+    ∙ ap (λ b. b || not ((persistent_of c.tick.new.self.lasting).now == (persistent_of c.args.self.now.lasting).now)) (sym c.if-changed.true)
     ∙ effective (goal.at.returns-then-changed-clause-effective c).After-act_again-changed
 
 pub returns-then-changed-clause-after : goal.returns-then-changed-clause-after
