@@ -1,3 +1,4 @@
+-- Source: own (first rule that is for a write decides).
 -- What the rules deny. A write of a process is decided by the first rule that is for it.
 use Rattle.std.specs.Prelude.{ℕ, ◌+◌, ℤ, pos, int_le, Bool, ◌&&◌, if◌then◌else◌, List, [], ◌∷◌, slice_get, Option, Some, None}
 use Rattle.std.specs.Option.{option_map_or}

@@ -1,3 +1,4 @@
+-- Source: TOML 1.0.0 (the form of the file); its keys own; levels: ASHRAE 135, clause 19.2.
 -- What the keys of a rule spell. A key that is not named here is passed over.
 use Rattle.std.specs.Prelude.{ℕ, nat_le, ℤ, pos, negsuc, Bool, true, ◌&&◌, if◌then◌else◌, List, codes, Option, Some, None}
 use Rattle.std.specs.Option.{option_map_or}

@@ -1,3 +1,4 @@
+-- Source: own.
 -- The limits of access rules. `src/limits.rt` has the same numbers for the program.
 use Rattle.std.specs.Prelude.{ℕ}
 

@@ -1,3 +1,4 @@
+-- Source: own.
 -- The line that says why a file of access rules is refused.
 use Rattle.std.specs.Prelude.{ℕ, List, [], ◌∷◌, ◌++◌, codes, decimal}
 use Rattle.boss_access.specs.declared.refusal.RulesRefusal.{RulesRefusal}

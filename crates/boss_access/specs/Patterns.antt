@@ -1,3 +1,4 @@
+-- Source: own.
 -- Which names a pattern is for, and how a text spells it.
 use Rattle.std.specs.Prelude.{ℕ, ◌-◌, nat_eq, nat_le, Bool, true, ◌&&◌, if◌then◌else◌, List, [], ◌∷◌, length, take, drop, codes, Option, Some, None}
 use Rattle.std.specs.List.{starts_with}

@@ -1,3 +1,4 @@
+-- Source: TOML 1.0.0 (the form of the file); its keys own; the tests and their order own.
 -- The rules that a file spells, or why it is refused: five tests in their order, and in the last the least place.
 use Rattle.std.specs.Prelude.{◌≡◌, ℕ, ◌+◌, nat_lt, Bool, if◌then◌else◌, List, [], ◌∷◌, ◌++◌, length, codes, Result, Ok, Err}
 use Rattle.std.specs.Option.{option_map_or, ok_or}

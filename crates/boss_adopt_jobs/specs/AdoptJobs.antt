@@ -1,3 +1,4 @@
+-- Source: own.
 -- `adopt OLD NEW JOURNAL`.
 use Rattle.std.specs.Prelude.{◌≡◌, ◌≢◌, ◌⊎◌, ℕ, List, [], ◌∷◌, Some, Ok}
 use Rattle.boss_model.specs.Catalogue.{Catalogue, actuators}

@@ -1,3 +1,4 @@
+-- Source: own.
 -- The adoption of a changed catalogue, by what two disks or a journal's two files hold.
 use Rattle.std.specs.Prelude.{◌≡◌, ◌⊎◌, ℕ, ◌<◌, length, Err}
 use Rattle.boss_model.specs.Catalogue.{Catalogue, actuators}

@@ -1,3 +1,4 @@
+-- Source: own.
 -- The catalogues of two files: the one that a journal was kept under, and the one that it is to be kept under.
 use Rattle.std.specs.Prelude.{◌≡◌, ◌⊎◌, ℕ, List, [], ◌∷◌, ◌++◌, Some, Result, Ok, Err}
 use Rattle.boss_model.specs.Catalogue.{Catalogue}

@@ -1,3 +1,4 @@
+-- Source: own.
 -- What is said on the way of a journal that is not new.
 use Rattle.std.specs.Prelude.{◌≡◌, ◌⊎◌, ℕ}
 use Rattle.boss_model.specs.Catalogue.{Catalogue, actuators}

@@ -1,3 +1,4 @@
+-- Source: own.
 -- What is told of a refused adoption.
 use Rattle.std.specs.Prelude.{◌≡◌, ℕ}
 use Rattle.boss_outside.specs.declared.sink.Sink as sink

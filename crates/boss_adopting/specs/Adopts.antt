@@ -1,3 +1,4 @@
+-- Source: own.
 -- What an adoption answers of a state.
 use Rattle.std.specs.Prelude.{◌≡◌, ℕ, List, Option, Some, None, Result, Ok, Err, slice_get}
 use Rattle.std.specs.Option.{option_map, option_and_then}

@@ -1,3 +1,4 @@
+-- Source: own.
 -- Points of one catalogue that another one has not.
 use Rattle.std.specs.Prelude.{List, filter, is_none}
 use Rattle.boss_model.specs.Catalogue.{Point, Catalogue, place_of}

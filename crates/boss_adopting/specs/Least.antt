@@ -1,3 +1,4 @@
+-- Source: own.
 -- The least of some points.
 use Rattle.std.specs.Prelude.{ℕ, Bool, not, List, map, filter, flat_map, Option, Some, None}
 use Rattle.boss_model.specs.Lists.{member}

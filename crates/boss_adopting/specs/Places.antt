@@ -1,3 +1,4 @@
+-- Source: own.
 -- A renumbering as a list: for each point of the old catalogue its place in the new one.
 use Rattle.std.specs.Prelude.{ℕ, List, map, Option, slice_get}
 use Rattle.std.specs.Option.{option_and_then}

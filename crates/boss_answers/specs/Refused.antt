@@ -1,3 +1,4 @@
+-- Source: own.
 -- What the program says where its words or the catalogue come to nothing.
 use Rattle.std.specs.Prelude.{ℕ, List, [], ◌∷◌, ◌++◌, codes, decimal}
 use Rattle.boss_points.specs.declared.CatalogueRefusal.{CatalogueRefusal}

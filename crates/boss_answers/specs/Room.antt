@@ -1,3 +1,4 @@
+-- Source: own.
 -- Room in a buffer, in bytes. A number has at most 20, and a name in quotes 66; the other bounds are sums, some rounded up.
 use Rattle.std.specs.Prelude.{◌≡◌, ℕ, ◌+◌, ◌≤◌, List, ◌++◌, length}
 use Rattle.boss_model.specs.Held.{Held}

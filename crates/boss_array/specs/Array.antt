@@ -1,3 +1,4 @@
+-- Source: ASHRAE 135, clause 19.2 (the first entry of the Priority_Array that is set).
 use Rattle.std.specs.Prelude.{ℕ, ◌+◌, List, [], ◌∷◌, Option, Some, None}
 use Rattle.boss_array.specs.declared.array.Entry.{Entry}
 use Rattle.boss_array.specs.declared.array.Entry.TheVariants.{Lease, Pending}

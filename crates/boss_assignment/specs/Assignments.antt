@@ -1,3 +1,4 @@
+-- Source: own.
 -- What a plan's file comes to, and the devices as a plan assigns them.
 use Rattle.std.specs.Prelude.{◌≡◌, ◌⊎◌, ℕ, List, [], ◌∷◌, ◌++◌, slice_get, slice_set, Option, Some, None, Result, Ok, Err}
 use Rattle.boss_model.specs.Catalogue.{Catalogue}

@@ -1,3 +1,4 @@
+-- Source: own.
 use Rattle.std.specs.Prelude.{◌≡◌, ℕ, nat_lt, nat_le, Bool, true, false, if◌then◌else◌, List, [], ◌∷◌, ◌++◌, length, map, filter, flat_map, fold, Option, Some, None}
 use Rattle.boss_model.specs.declared.command.Step.{Step}
 use Rattle.boss_model.specs.declared.notice.Cause.{Cause}

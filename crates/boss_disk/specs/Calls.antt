@@ -1,3 +1,4 @@
+-- Source: own.
 use Rattle.std.specs.Prelude.{◌≡◌, ℕ, ◌-◌, Bool, false, ◌==◌, ◌||◌, [], ◌∷◌, ◌++◌, Option, Some, None, option_map, Result, OnOk, OnErr, IsErr, IsTrue, is_err}
 use Rattle.boss_outside.specs.Plan.{fails_next, after_call}
 use Rattle.boss_disk.specs.declared.failures.Failures.{Failures}

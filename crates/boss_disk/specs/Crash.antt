@@ -1,3 +1,4 @@
+-- Source: own (what may be lost between two syncs); the calls meant are POSIX.1-2017 pwrite, ftruncate, fdatasync.
 use Rattle.std.specs.Prelude.{◌≡◌, ℕ, ◌+◌, ◌<◌, ◌≤◌, min, max, ◌⊎◌, List, [], ◌∷◌, length, slice_index}
 use Rattle.boss_disk.specs.Window.{Window, after_write, after_cut}
 

@@ -1,3 +1,4 @@
+-- Source: own.
 -- Lemmas: what a disk in memory reads, and what its last sync left, are among what a crash may leave.
 
 use Rattle.std.proofs.Common.{◌≡◌, ℕ, ◌+◌, ◌-◌, ◌≤◌, ◌<◌, min, max, List, [], ◌∷◌, ◌++◌, length, get_or, map, take, drop, Option, Some, None, ◌⊎◌, inl, inr, ⊎_elim, sym, ◌∙◌, ap, refl, length-append, length-take, length-drop, arith}

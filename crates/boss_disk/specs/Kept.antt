@@ -1,3 +1,4 @@
+-- Source: own.
 use Rattle.std.specs.Prelude.{◌≡◌, ℕ, ◌^◌, ◌≤◌, List, length, map, take, drop, Option, Some}
 use Rattle.std.specs.List.{fold}
 use Rattle.boss_disk.specs.declared.memory.DiskCall.{DiskCall}

@@ -1,3 +1,4 @@
+-- Source: own.
 use Rattle.std.specs.Prelude.{ℕ, List}
 use Rattle.boss_disk.specs.Runs.{Through}
 use Rattle.boss_disk.specs.Story.{Story}

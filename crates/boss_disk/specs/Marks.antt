@@ -1,3 +1,4 @@
+-- Source: own.
 -- Lemmas: marks by the place that they stand at.
 
 use Rattle.std.proofs.Common.{◌≡◌, ℕ, zero, suc, ◌+◌, ◌-◌, ◌≤◌, ◌<◌, min, List, [], ◌∷◌, ◌++◌, length, get_or, take, drop, Option, Some, None, ◌⊎◌, ⊎_elim, sym, ◌∙◌, ap, refl, length-append, length-take, length-drop, arith}

@@ -1,3 +1,4 @@
+-- Source: own.
 use Rattle.std.specs.Prelude.{◌≡◌, ◌≢◌, ℕ, ◌-◌, ◌^◌, ◌/◌, ◌%◌, ◌<◌, ◌==◌, if◌then◌else◌, List, length, slice_index, Option, Some, None, bit_and}
 use Rattle.std.specs.List.{slice_index_or}
 use Rattle.boss_disk.specs.Record.{DiskState}

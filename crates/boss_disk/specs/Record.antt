@@ -1,3 +1,4 @@
+-- Source: own.
 use Rattle.std.specs.Prelude.{ℕ, List, [], ◌∷◌, ◌++◌, length, take}
 use Rattle.std.specs.List.{fold}
 use Rattle.boss_disk.specs.declared.failures.Failures.{Failures}

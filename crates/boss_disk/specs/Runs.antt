@@ -1,3 +1,4 @@
+-- Source: own.
 use Rattle.std.specs.Prelude.{◌≡◌, ℕ, ◌⊎◌, List, ◌++◌, length, Result, OnOk}
 use Rattle.std.specs.List.{All}
 use Rattle.boss_disk.specs.Story.{Story}

@@ -1,3 +1,4 @@
+-- Source: own.
 use Rattle.std.specs.Prelude.{◌≡◌, ℕ, ◌⊎◌, List, [], ◌∷◌, ◌++◌, drop, Result, OnOk, OnErr}
 use Rattle.std.specs.List.{Contains}
 use Rattle.boss_disk.specs.Window.{Window, IsImage}

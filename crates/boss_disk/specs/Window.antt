@@ -1,3 +1,4 @@
+-- Source: own (POSIX gives no order of unsynced writes; any byte of theirs may be lost).
 use Rattle.std.specs.Prelude.{◌≡◌, ℕ, ◌+◌, ◌≤◌, max, List, [], ◌∷◌, ◌++◌, length, map, take, drop, Option, Some, None}
 
 -- What a crash may leave of a disk, by what happened since its last sync. `stays` has a mark for each byte below the

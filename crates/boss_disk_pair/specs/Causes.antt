@@ -1,3 +1,4 @@
+-- Source: own.
 -- When a call tells that a disk failed.
 use Rattle.std.specs.Prelude.{◌≡◌, ◌⊎◌, ℕ, Bool, true, false, Result, Ok, Err}
 use Rattle.boss_outside.specs.Counts.{Rose}

@@ -1,3 +1,4 @@
+-- Source: own.
 -- Which disk is in force, as it is told.
 use Rattle.std.specs.Prelude.{◌≡◌, true, false, Option, Some, None}
 use Rattle.def_log.specs.declared.kind.DiskKind.{DiskKind}

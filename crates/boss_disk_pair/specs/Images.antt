@@ -1,3 +1,4 @@
+-- Source: own.
 -- What a crash may leave of a pair.
 use Rattle.std.specs.Prelude.{◌⊎◌, ℕ, List}
 use Rattle.boss_model.specs.declared.state.Actuator.{Actuator}

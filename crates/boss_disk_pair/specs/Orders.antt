@@ -1,3 +1,4 @@
+-- Source: own.
 -- Two disks in their order, by whether the one in force is the second.
 use Rattle.std.specs.Prelude.{Bool, true, false}
 use Rattle.boss_disk.specs.Legs.{Two}

@@ -1,3 +1,4 @@
+-- Source: own.
 -- What is said of a pair whose log is read, where its disks tell what they hold.
 use Rattle.std.specs.Prelude.{◌≡◌, ◌≢◌, ◌⊎◌, ℕ, ◌^◌, ◌<◌, Bool, List, ◌∷◌, ◌++◌, length, map}
 use Rattle.boss_model.specs.declared.event.Event.{Event}

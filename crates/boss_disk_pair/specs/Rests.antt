@@ -1,3 +1,4 @@
+-- Source: own.
 -- What is said of a pair, and of a call of it, where its disks tell what they hold. Nothing above looks into these words.
 use Rattle.std.specs.Prelude.{◌≡◌, ◌⊎◌, ℕ, ◌+◌, ◌^◌, ◌<◌, min, Bool, true, false, List, length, map}
 use Rattle.boss_model.specs.declared.event.Event.{Event}

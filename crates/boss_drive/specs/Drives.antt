@@ -1,3 +1,4 @@
+-- Source: own.
 -- What the worker that drives the devices of a driver has done, as its lane has it.
 use Rattle.std.specs.Prelude.{◌≡◌, ℕ, List}
 use Rattle.boss_model.specs.DeviceCall.{DeviceCall}

@@ -1,3 +1,4 @@
+-- Source: own.
 -- The turns of the worker that drives the devices of a driver.
 use Rattle.std.specs.Prelude.{◌≡◌, ℕ, ℤ, suc, Bool, true, false, List, [], ◌∷◌, ◌++◌, length}
 use Rattle.boss_model.specs.declared.answer.Answer.{Answer}

@@ -1,3 +1,4 @@
+-- Source: own.
 -- How a call begins, and what its beginning tells of the disks.
 use Rattle.std.specs.Prelude.{◌≡◌, Bool, true, false, ℕ, List, Option, is_none}
 use Rattle.std.specs.List.{AllByRecursion}

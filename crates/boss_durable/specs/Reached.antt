@@ -1,3 +1,4 @@
+-- Source: own.
 -- What holds of every machine that a catalogue's points can come to.
 use Rattle.boss_engine.specs.Running.{Running}
 use Rattle.boss_model.specs.Plants.{IsPlant}

@@ -1,3 +1,4 @@
+-- Source: own.
 -- What was done so far in a call.
 use Rattle.std.specs.Prelude.{◌≡◌, ℕ, ◌≤◌, true, false, List, length, Some}
 use Rattle.std.specs.List.{AllByRecursion}

@@ -1,3 +1,4 @@
+-- Source: own.
 -- What is said of an engine with its disks, and of a call of it, where the disks tell what they hold. Nothing above looks into
 -- these words.
 use Rattle.std.specs.Prelude.{ℕ, ◌+◌, ◌-◌, List, length}

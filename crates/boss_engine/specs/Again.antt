@@ -1,3 +1,4 @@
+-- Source: own.
 -- What was made ready for an event is what its act will use at moment n.
 use Rattle.std.specs.Prelude.{◌≡◌, ℕ, List, []}
 use Rattle.boss_model.specs.declared.command.Policy.{Policy}

@@ -1,3 +1,4 @@
+-- Source: own.
 use Rattle.std.specs.Prelude.{◌≡◌, ℕ, ◌≤◌, Bool, true, false, List, is_some, IfSome}
 use Rattle.law_effects.specs.Changes.{changes}
 use Rattle.boss_model.specs.declared.answer.Answer.{Answer}

@@ -1,3 +1,4 @@
+-- Source: own.
 use Rattle.std.specs.Prelude.{◌≤◌, ◌<◌, Bool, true, false, List, length, vec_capacity}
 use Rattle.std.specs.Option.{IfSome}
 use Rattle.boss_model.specs.declared.answer.Answer.{Answer}

@@ -1,3 +1,4 @@
+-- Source: own.
 use Rattle.std.specs.Prelude.{List}
 use Rattle.boss_model.specs.declared.state.Actuator.{Actuator}
 use Rattle.boss_model.specs.State.{State}

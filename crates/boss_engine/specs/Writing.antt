@@ -1,3 +1,4 @@
+-- Source: ASHRAE 135, clause 19.2 (levels 1 to 16); a week own.
 use Rattle.std.specs.Prelude.{pos, ◌≤ℤ◌}
 use Rattle.boss_model.specs.declared.command.Setting.{Setting}
 use Rattle.boss_stages.specs.Stages.{HasLevel}

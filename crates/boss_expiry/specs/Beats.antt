@@ -1,3 +1,4 @@
+-- Source: own.
 -- What the worker that lets time pass has done, as its lane has it.
 use Rattle.std.specs.Prelude.{◌≡◌, ℕ, List, length}
 use Rattle.boss_model.specs.declared.answer.Answer.{Answer}

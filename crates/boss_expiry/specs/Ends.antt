@@ -1,3 +1,4 @@
+-- Source: own.
 -- Why a worker ended, and what its last turn left that was cut by the end.
 use Rattle.std.specs.Prelude.{◌≡◌, ℕ, ◌<◌, Bool, true, List, [], ◌∷◌, ◌++◌}
 use Rattle.boss_model.specs.declared.command.Command.{Command}

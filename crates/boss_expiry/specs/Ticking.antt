@@ -1,3 +1,4 @@
+-- Source: own.
 -- The turns of the worker that lets time pass.
 use Rattle.std.specs.Prelude.{◌≡◌, ℕ, List, [], ◌∷◌, ◌++◌, length}
 use Rattle.boss_model.specs.declared.answer.Answer.{Answer}

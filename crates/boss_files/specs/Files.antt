@@ -1,3 +1,4 @@
+-- Source: own.
 use Rattle.std.specs.Prelude.{◌≡◌, ℕ, ◌<◌, ◌≤◌, ◌⊎◌, Bool, true, false, List, [], ◌∷◌, ◌++◌, length, Option, Some, unwrap_or, Result, Ok, Err}
 use Rattle.boss_outside.specs.Counts.{Rose}
 use Rattle.boss_files.specs.declared.files.FileBytes.{FileBytes}

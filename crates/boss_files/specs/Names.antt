@@ -1,3 +1,4 @@
+-- Source: own.
 use Rattle.std.specs.Prelude.{ℕ, List, ◌++◌, codes}
 
 -- the name of a journal's second file

@@ -1,3 +1,4 @@
+-- Source: own.
 use Rattle.std.specs.Prelude.{◌≡◌, ℕ, Bool, true, ◌&&◌, ◌||◌, is_none, is_ok, if◌then◌else◌, List, [], ◌∷◌, ◌++◌, Option, find, option_map, bytes_eq, Result}
 use Rattle.boss_outside.specs.Plan.{Plan, fails_next, after_call}
 use Rattle.boss_files.specs.declared.files.FileFault.{FileFault}

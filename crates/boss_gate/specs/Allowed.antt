@@ -1,3 +1,4 @@
+-- Source: own.
 -- What a gate says of the entries that a pass made: each submit among them was allowed for the name that was held at its place.
 use Rattle.std.specs.Prelude.{◌≡◌, List, [], ◌∷◌, ◌++◌, None}
 use Rattle.boss_shared.specs.Gates.{denied_at, held_by, Gate, Holding}

@@ -1,3 +1,4 @@
+-- Source: own.
 -- Which commands a gate hands on as they are: those that leave what is held, and of which it denies none.
 use Rattle.std.specs.Prelude.{ℕ, Bool, true, false, not, ◌&&◌, List, is_none}
 use Rattle.std.specs.List.{list_all}

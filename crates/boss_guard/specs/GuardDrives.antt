@@ -1,3 +1,4 @@
+-- Source: own.
 -- What a guarded worker has done, as the lane of its driver has it.
 use Rattle.std.specs.Prelude.{◌≡◌, ℕ, ℤ, ◌==◌, if◌then◌else◌, List, [], ◌∷◌}
 use Rattle.boss_model.specs.Catalogue.{Catalogue}

@@ -1,3 +1,4 @@
+-- Source: own.
 -- The work of a guarded worker up to its end.
 use Rattle.std.specs.Prelude.{◌≡◌, ℕ, Bool, List, length}
 use Rattle.def_history.specs.declared.entry.Entry.{Entry}

@@ -1,3 +1,4 @@
+-- Source: own.
 -- What the turns of a guarded worker make: entries, moments that the clock gave, and calls of devices. All that is made at a
 -- moment is made at the greatest reading so far.
 use Rattle.std.specs.Prelude.{ℕ, max, Bool, List, [], ◌∷◌, Option, Some, None}

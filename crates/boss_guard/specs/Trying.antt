@@ -1,3 +1,4 @@
+-- Source: own.
 -- What the parts of a turn do: one want, the wants of some points, and the whole turn.
 use Rattle.std.specs.Prelude.{◌≡◌, ℕ, ◌+◌, max, Bool, true, false, List, [], ◌∷◌, ◌++◌, Option, Some, None, drop}
 use Rattle.boss_model.specs.declared.answer.Answer.{Answer}

@@ -1,3 +1,4 @@
+-- Source: own.
 -- Reversions that are put back.
 use Rattle.std.specs.Prelude.{◌≡◌, ℕ, ◌==◌, ◌<◌, ◌≤◌, ◌&&◌, Bool, false, List, [], ◌∷◌}
 use Rattle.std.specs.List.{list_any}

@@ -1,3 +1,4 @@
+-- Source: own.
 -- `check CATALOGUE JOURNAL`.
 use Rattle.std.specs.Prelude.{◌≡◌, ◌⊎◌, ℕ, List, [], ◌∷◌, Some, Ok, unwrap_or}
 use Rattle.boss_model.specs.Catalogue.{Catalogue}

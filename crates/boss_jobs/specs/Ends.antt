@@ -1,3 +1,4 @@
+-- Source: own.
 -- How a script ended.
 use Rattle.std.specs.Prelude.{◌≡◌, ◌⊎◌, ℕ, ◌≤◌, false, length, Result, Ok, Err, OnErr}
 use Rattle.boss_lines.specs.declared.reader.Next.{Next}

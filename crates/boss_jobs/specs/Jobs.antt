@@ -1,3 +1,4 @@
+-- Source: own.
 -- What the program does, a relation for each job that the words may ask for.
 use Rattle.std.specs.Prelude.{◌≡◌, ◌⊎◌, ℕ, ◌≤◌, false, List, [], ◌∷◌, ◌++◌, length, Some, Result, Ok, Err}
 use Rattle.boss_model.specs.Catalogue.{Catalogue}

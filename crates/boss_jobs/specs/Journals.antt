@@ -1,3 +1,4 @@
+-- Source: own.
 -- A script over a journal, and a check of one, by what two disks or a journal's two files hold.
 use Rattle.std.specs.Prelude.{◌≡◌, ◌⊎◌, ℕ, ◌+◌, ◌<◌, true, false, if◌then◌else◌, List, [], ◌++◌, length, unwrap_or, Result, IfOk, OnErr}
 use Rattle.boss_model.specs.Catalogue.{Catalogue, actuators}

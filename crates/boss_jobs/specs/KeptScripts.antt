@@ -1,3 +1,4 @@
+-- Source: own.
 -- `script CATALOGUE JOURNAL`, where the journal is kept in two files.
 use Rattle.std.specs.Prelude.{◌≡◌, ◌≢◌, ◌⊎◌, ℕ, ◌≤◌, false, List, [], ◌∷◌, length, Some, Ok}
 use Rattle.boss_model.specs.Catalogue.{Catalogue}

@@ -1,3 +1,4 @@
+-- Source: own.
 -- `load COUNT SEED`.
 use Rattle.std.specs.Prelude.{◌≡◌, ◌⊎◌, ℕ}
 use Rattle.boss_outside.specs.declared.actuators.Actuators as actuators

@@ -1,3 +1,4 @@
+-- Source: own.
 use Rattle.std.specs.Prelude.{◌≡◌, ◌⊎◌, ℕ, List, [], ◌∷◌, ◌++◌, Option, Some, Result, Ok, Err}
 use Rattle.boss_model.specs.Catalogue.{Catalogue}
 use Rattle.boss_outside.specs.Counts.{Rose}

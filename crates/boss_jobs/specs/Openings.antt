@@ -1,3 +1,4 @@
+-- Source: own.
 -- What is said on the way of a journal that was opened, and of one that was not.
 use Rattle.std.specs.Prelude.{◌≡◌, ℕ, ◌+◌, ◌<◌, true, false, if◌then◌else◌, List, length, Result, Ok, Err, IfOk, OnErr}
 use Rattle.boss_model.specs.Catalogue.{Catalogue, actuators}

@@ -1,3 +1,4 @@
+-- Source: own.
 -- What the words and the catalogue's file come to.
 use Rattle.std.specs.Prelude.{ℕ, Bool, true, false, not, nat_lt, if◌then◌else◌, List, codes, Option, Some, None, Result, Ok, Err}
 use Rattle.std.specs.List.{position_from}

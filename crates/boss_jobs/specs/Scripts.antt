@@ -1,3 +1,4 @@
+-- Source: own.
 -- A script as a whole.
 use Rattle.std.specs.Prelude.{◌≡◌, ℕ, Bool, false, List, [], ◌++◌, None}
 use Rattle.boss_model.specs.DeviceCall.{DeviceCall}

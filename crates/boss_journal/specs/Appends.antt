@@ -1,3 +1,4 @@
+-- Source: own.
 -- What an append leaves, and what its answers tell.
 use Rattle.std.specs.Prelude.{◌≡◌, ◌≢◌, ℕ, ◌⊎◌, Bool, true, false, List, [], ◌∷◌, ◌++◌}
 use Rattle.boss_outside.specs.Counts.{Rose}

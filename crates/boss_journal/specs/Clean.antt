@@ -1,3 +1,4 @@
+-- Source: own.
 -- A log that a later opening reads whole.
 use Rattle.std.specs.Prelude.{ℕ, List}
 use Rattle.def_log.specs.Log.{IsLog, IsClean}

@@ -1,3 +1,4 @@
+-- Source: own.
 -- The front of a journal, and which bytes are a new one.
 use Rattle.std.specs.Prelude.{◌≡◌, ℕ, ◌≤◌, ◌⊎◌, List, [], ◌∷◌, ◌++◌, length, codes}
 

@@ -1,3 +1,4 @@
+-- Source: own.
 -- What stands at a place of a journal, by the bytes from there on.
 use Rattle.std.specs.Prelude.{◌≡◌, ℕ, ◌+◌, ◌<◌, ◌≤◌, List, ◌∷◌, ◌++◌, length}
 use Rattle.std.specs.Int.{w32, to_be_bytes}

@@ -1,3 +1,4 @@
+-- Source: own.
 -- What a look at a disk tells.
 use Rattle.std.specs.Prelude.{◌≡◌, ℕ, false, List}
 use Rattle.boss_disk.specs.declared.disk.Disk as disk

@@ -1,3 +1,4 @@
+-- Source: own.
 -- When a journal is opened, and when that is refused.
 use Rattle.std.specs.Prelude.{◌≡◌, ◌≢◌, ℕ, ◌≤◌, ◌⊎◌, List, [], ◌∷◌, ◌++◌, length, take, drop, slice_index, codes, Result, Ok, Err}
 use Rattle.boss_outside.specs.Counts.{Rose}

@@ -1,3 +1,4 @@
+-- Source: own.
 -- Where a journal stands in the bytes of its disk: a front, records behind open gates, and the gate that it is at.
 use Rattle.std.specs.Prelude.{◌≡◌, ℕ, List, ◌∷◌, ◌++◌, length}
 use Rattle.boss_disk.specs.Window.{Window, settled}

@@ -1,3 +1,4 @@
+-- Source: own.
 -- What reading on in a journal tells, and what shutting its last gate leaves.
 use Rattle.std.specs.Prelude.{◌≡◌, ℕ, ◌+◌, Bool, true, List, [], ◌∷◌, ◌++◌, length}
 use Rattle.boss_outside.specs.Counts.{Rose}

@@ -1,3 +1,4 @@
+-- Source: own.
 -- What the program says of a changed catalogue that a journal is to be kept under.
 use Rattle.std.specs.Prelude.{ℕ, List, [], ◌∷◌, ◌++◌, codes, decimal}
 

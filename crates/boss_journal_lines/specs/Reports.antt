@@ -1,3 +1,4 @@
+-- Source: own.
 -- What the program says of a journal.
 use Rattle.std.specs.Prelude.{ℕ, List, [], ◌∷◌, ◌++◌, codes, decimal}
 use Rattle.hex.specs.Hex.{encode_lower}

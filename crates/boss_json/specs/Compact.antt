@@ -1,3 +1,4 @@
+-- Source: RFC 8259 (JSON), as the library json writes it.
 -- The text that a value is written as, with no space, and which values are read compactly.
 use Rattle.std.specs.Prelude.{◌≡◌, ℕ, ◌≤◌, true, List}
 use Rattle.json.specs.Json.{Json}

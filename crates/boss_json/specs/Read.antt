@@ -1,3 +1,4 @@
+-- Source: RFC 8259 (JSON), as the library serde_json reads it.
 -- What a line was read as.
 use Rattle.std.specs.Prelude.{◌≡◌, ℕ, List, Some, None, Result, Ok, Err}
 use Rattle.serde_json.specs.Data.{Data}

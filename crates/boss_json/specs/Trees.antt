@@ -1,3 +1,4 @@
+-- Source: RFC 8259 (JSON), as the libraries json and serde_json read it.
 -- What a tree of `json` stands for: the data that serde_json reads of the same text, where each number is in range. (One that is
 -- too large for a float is null here; a line that has one is no value.)
 use Rattle.std.specs.Prelude.{Bool, true, ◌&&◌, Option, Some, None, is_some}

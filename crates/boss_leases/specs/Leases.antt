@@ -1,3 +1,5 @@
+-- Source: own (a slab and a stack of free keys); what a lease is: BOSS (Dawson-Haggerty et al., NSDI 2013),
+-- transaction manager.
 use Rattle.std.specs.Prelude.{◌≡◌, ℕ, ◌+◌, ◌≤◌, ◌^◌, ◌==◌, nat_lt, Bool, ◌&&◌, if◌then◌else◌, List, length, map, Option, Some, None, IsSome, is_none, is_some, count_by, slice_index_or}
 use Rattle.boss_model.specs.declared.state.Lease.{Lease}
 use Rattle.slab.specs.Slab.{Slab, get, slab_len}

@@ -1,3 +1,4 @@
+-- Source: own.
 -- The lines that were given of a source, and what was read of it.
 use Rattle.std.specs.Prelude.{◌≡◌, ℕ, ◌<◌, List, [], ◌∷◌, ◌++◌, length, take}
 use Rattle.boss_model.specs.Limits.{longest_line}

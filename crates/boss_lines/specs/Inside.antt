@@ -1,3 +1,4 @@
+-- Source: own.
 use Rattle.std.specs.Prelude.{◌≡◌, ℕ, ◌≤◌, List, length, drop, Option, Some}
 use Rattle.boss_lines.specs.declared.reader.Next.{Next}
 use Rattle.boss_model.specs.Limits.{longest_line}

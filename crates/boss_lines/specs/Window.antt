@@ -1,3 +1,4 @@
+-- Source: own.
 use Rattle.std.specs.Prelude.{◌≡◌, ◌≢◌, ℕ, ◌+◌, ◌<◌, ◌≤◌, List, [], ◌++◌, length, slice_index}
 use Rattle.boss_outside.specs.Counts.{Rose}
 use Rattle.boss_outside.specs.declared.source.Got.{Got}

@@ -1,3 +1,4 @@
+-- Source: own.
 -- A day's load: the catalogue of a plant of 40 points, and a script in which six processes hold them one after another. Each
 -- transaction is renewed six times, and then left to expire.
 use Rattle.std.specs.Prelude.{ℕ, ◌+◌, ◌*◌, ◌%◌, List, ◌++◌, codes, decimal}

@@ -1,3 +1,4 @@
+-- Source: own.
 use Rattle.std.specs.Prelude.{ℕ, List, ◌++◌, codes, count_by, decimal, nat_eq}
 use Rattle.std.specs.List.{starts_with}
 use Rattle.boss_model.specs.Lines.{lines}

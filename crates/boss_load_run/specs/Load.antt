@@ -1,3 +1,4 @@
+-- Source: own.
 -- The load that is run, and what its summary tells.
 use Rattle.std.specs.Prelude.{◌≡◌, ℕ, ◌-◌, ◌^◌, min, Bool, true, false, List, [], ◌++◌, codes, sum_by, None, Result, Ok, Err}
 use Rattle.std.specs.List.{AllByRecursion}

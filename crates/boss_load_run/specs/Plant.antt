@@ -1,3 +1,4 @@
+-- Source: own.
 -- The plant of the load.
 use Rattle.std.specs.Prelude.{ℕ, pos, List, [], ◌∷◌, ◌++◌, map, codes, decimal}
 use Rattle.std.specs.List.{range_with_len}

@@ -1,3 +1,4 @@
+-- Source: own.
 -- Words that count, and lists of places in a history. Counts are numbers, so that what is said of many
 -- seats is a sum over them.
 use Rattle.std.specs.Prelude.{◌≡◌, ◌⊎◌, ℕ, zero, suc, ◌+◌, ◌<◌, List, [], ◌∷◌, ◌++◌, length, if◌then◌else◌, nat_lt}

@@ -1,3 +1,4 @@
+-- Source: a ticket lock (Mellor-Crummey and Scott, ACM TOCS 9(1), 1991); the rule of proof own.
 -- The rule of the lock: a fact over the two words, the slot and what every seat knows.
 -- The first word is the next ticket to be drawn, and the second the one that is served, each modulo 2 ^ 64.
 use Rattle.std.specs.Prelude.{◌≡◌, ℕ, ◌+◌, ◌%◌, ◌^◌, ◌<◌, ◌≤◌, List, [], ◌∷◌, ◌++◌, length, Option, Some, None}

@@ -1,3 +1,4 @@
+-- Source: own.
 -- What contracts see of a lock and of a seat.
 use Rattle.std.specs.Prelude.{◌≡◌, ℕ, ◌+◌, ◌-◌, ◌<◌, List, [], ◌∷◌, ◌++◌, length, Option, Some, None, unwrap_or}
 use mathlib.Core.List.{IsPrefix}

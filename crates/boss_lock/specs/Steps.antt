@@ -1,3 +1,4 @@
+-- Source: a ticket lock; its steps as views own.
 -- The views that the kinds of step leave, and what each step tells the seat that makes it.
 -- A telling takes the step, the seat before, the number found in the word, and the seat after.
 use Rattle.std.specs.Prelude.{◌≡◌, ◌≢◌, ℕ, ◌+◌, ◌-◌, ◌%◌, ◌^◌, List, [], ◌∷◌, ◌++◌, length, Option, Some}

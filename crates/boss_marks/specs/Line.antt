@@ -1,3 +1,4 @@
+-- Source: own.
 use Rattle.std.specs.Prelude.{◌≡◌, ℕ, zero, suc, ◌<◌, ◌==◌, Bool, false, if◌then◌else◌, List, [], ◌∷◌, length, Option, Some, None, slice_index_or, slice_set, reverse}
 use Rattle.boss_model.specs.Lists.{member}
 use Rattle.boss_model.specs.Sound.{Distinct}

@@ -1,3 +1,4 @@
+-- Source: own.
 use Rattle.std.specs.Prelude.{ℕ, ◌+◌, ◌%◌, ◌^◌, ℤ, Bool, false, if◌then◌else◌}
 use Rattle.boss_model.specs.declared.answer.Mark.TheVariants as mark
 use Rattle.boss_model.specs.Devices.{taken, not_taken}

@@ -1,3 +1,4 @@
+-- Source: own.
 use Rattle.std.specs.Prelude.{◌≡◌, ℕ, ◌<◌, ◌≤◌, ◌^◌, ◌==◌, true, List, map, length, find, Option, None, slice_index, slice_index_or}
 use Rattle.boss_model.specs.Lists.{member}
 use Rattle.boss_model.specs.Order.{least}

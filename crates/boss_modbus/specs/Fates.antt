@@ -1,3 +1,5 @@
+-- Source: MODBUS Application Protocol 1.1b3, sections 6.5, 6.6 (the echo) and 7 (the exception); how ends are told
+-- apart own.
 -- How a write fares, by the bytes that were received in it.
 use Rattle.std.specs.Prelude.{◌≡◌, ◌≢◌, ℕ, ◌+◌, ◌<◌, ◌≤◌, Bool, true, false, if◌then◌else◌, List, [], length, take, bytes_eq, slice_get, unwrap_or, Result, Ok, Err}
 use Rattle.boss_outside.specs.Counts.{Rose}

@@ -1,3 +1,4 @@
+-- Source: MODBUS Messaging on TCP/IP 1.0b, section 3.1.3; MODBUS Application Protocol 1.1b3, sections 6.5, 6.6 and 7.
 -- Frames of Modbus over TCP (MODBUS Messaging on TCP/IP 1.0b, section 3.1.3; MODBUS Application Protocol 1.1b3, sections 6.5, 6.6 and 7).
 use Rattle.std.specs.Prelude.{ℕ, ◌+◌, ◌/◌, ◌%◌, if◌then◌else◌, List, [], ◌∷◌, ◌++◌, bytes_eq}
 use Rattle.boss_modbus.specs.declared.asked.Asked.{Asked}

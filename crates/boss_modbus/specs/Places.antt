@@ -1,3 +1,4 @@
+-- Source: MODBUS Application Protocol 1.1b3, sections 6.5 (a coil is FF00 or 0000) and 6.6; scaling by `per` own.
 -- What is asked of a device for a point and a value.
 use Rattle.std.specs.Prelude.{ℕ, ◌/◌, nat_eq, nat_le, ℤ, pos, negsuc, ◌&&◌, if◌then◌else◌, List, find, Option, Some, None}
 use Rattle.std.specs.Option.{option_and_then}

@@ -1,3 +1,4 @@
+-- Source: own over MODBUS Application Protocol 1.1b3.
 -- What one write does to a device and to its link.
 use Rattle.std.specs.Prelude.{◌≡◌, ◌≢◌, ◌⊎◌, ℕ, ◌+◌, ◌%◌, ◌^◌, ℤ, Bool, true, false, List, [], ◌∷◌, ◌++◌, Option, Some, None}
 use Rattle.boss_outside.specs.Streams.{TakesFront}

@@ -1,3 +1,5 @@
+-- Source: ASHRAE 135, clause 19.2 (commandable properties, Relinquish_Default; minimum on and off times); clause 12
+-- (analog, binary and multi-state objects).
 use Rattle.std.specs.Prelude.{ℕ, ℤ, pos, int_le, List, slice_get, map, Bool, false, ◌&&◌, Option, nat_eq, position}
 use Rattle.std.specs.Option.{option_map_or}
 use Rattle.std.specs.Cmp.Lexicographic.{pointwise}

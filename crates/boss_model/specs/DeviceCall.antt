@@ -1,3 +1,4 @@
+-- Source: own.
 use Rattle.std.specs.Prelude.{ℕ, ℤ, Bool}
 
 -- one command to a device: the point, the value that it was to take, and whether it took it

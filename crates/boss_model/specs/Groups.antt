@@ -1,3 +1,4 @@
+-- Source: own (what follows where leases end, told in one group).
 use Rattle.std.specs.Prelude.{ℕ, not, ◌&&◌, List, ◌++◌, map, filter, fold}
 use Rattle.boss_model.specs.Happenings.{Happening, rank, lives, done_at, finish, tell}
 use Rattle.boss_model.specs.Order.{in_order}

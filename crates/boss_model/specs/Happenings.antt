@@ -1,3 +1,4 @@
+-- Source: own.
 use Rattle.std.specs.Prelude.{ℕ, ◌+◌, ◌==◌, max, nat_lt, Bool, true, false, if◌then◌else◌, List, [], ◌∷◌, ◌++◌, map, filter, flat_map, Option, Some, None, slice_get, slice_set}
 use Rattle.std.specs.List.{list_any}
 use Rattle.boss_model.specs.declared.command.Step.{Step}
@@ -88,11 +89,11 @@ abbrev pub is_done : Option What → Bool
 is_done (Some what.Done) = true
 is_done told = false
 
--- a transaction that became done is the last of the done ones, of which the last `done_kept` are kept
+-- a transaction that became done is the last of the done ones, of which at most `done_kept` are kept, the last ones
 abbrev pub finish : List ℕ → Happening → List ℕ
 finish done happening = if is_done happening.told then keep_last done_kept (done ++ happening.txn ∷ []) else done
 
--- one notice more, with the next number, and of all the last `notices_kept` are kept; after the number `last_number` none is sent
+-- one notice more, with the next number; at most `notices_kept` are kept, the last ones; after the number `last_number` none is sent
 abbrev pub posted : ℕ → ℕ → What → Process → Process
 posted at txn told process = if process.count == last_number
     then process

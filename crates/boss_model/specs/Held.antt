@@ -1,3 +1,4 @@
+-- Source: own.
 use Rattle.std.specs.Prelude.{ℕ, List}
 
 -- what a buffer holds: its bytes, and how many it has room for

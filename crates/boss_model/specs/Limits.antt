@@ -1,3 +1,4 @@
+-- Source: own; levels 1 to 16: ASHRAE 135, clause 19.2.1.
 -- Every limit of the machine, of its lines, of its files and of its workers, each under one name, with its unit and why it is
 -- what it is. `src/limits.rt` has the same numbers for the program.
 use Rattle.std.specs.Prelude.{ℕ, ◌^◌}
@@ -45,7 +46,7 @@ longest_hold = 86400000
 abbrev pub most_steps : ℕ
 most_steps = 8
 
--- transactions that are done, and still kept, so that who comes late can ask what became of them
+-- transactions that are done, and still kept, at most, so that who comes late can ask what became of them
 abbrev pub done_kept : ℕ
 done_kept = 1024
 
@@ -54,7 +55,7 @@ done_kept = 1024
 abbrev pub most_processes : ℕ
 most_processes = 256
 
--- notices that are kept for each of them
+-- notices that are kept for each of them, at most
 abbrev pub notices_kept : ℕ
 notices_kept = 1024
 

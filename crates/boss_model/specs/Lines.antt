@@ -1,3 +1,4 @@
+-- Source: own (lines end with byte 10, as POSIX.1-2017, definition 3.206, but the last may lack it).
 use Rattle.std.specs.Prelude.{ℕ, ◌==◌, ◌||◌, Bool, if◌then◌else◌, List, [], ◌∷◌}
 use Rattle.std.specs.List.{onto_first, list_all}
 

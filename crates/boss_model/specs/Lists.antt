@@ -1,3 +1,4 @@
+-- Source: own.
 use Rattle.std.specs.Prelude.{ℕ, ◌-◌, max, ◌==◌, Bool, not, List, [], ◌∷◌, length, drop, filter, Option, Some, None}
 use Rattle.std.specs.List.{list_any}
 

@@ -1,3 +1,4 @@
+-- Source: own.
 -- What a catalogue sees to of its points, beside their names: there are not too many, and their limits are within bounds.
 use Rattle.std.specs.Prelude.{◌≡◌, ◌^◌, ◌≤◌, ℤ, pos, neg_ℤ, Bool, true, List, length}
 use Rattle.std.specs.List.{AllByRecursion}

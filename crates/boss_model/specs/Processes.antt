@@ -1,3 +1,4 @@
+-- Source: BOSS (Dawson-Haggerty et al., NSDI 2013), transaction manager (control processes); names and sessions own.
 use Rattle.std.specs.Prelude.{ℕ, ◌+◌, ◌==◌, nat_eq, nat_le, Bool, not, if◌then◌else◌, List, [], ◌∷◌, ◌++◌, length, filter, find, position, Option, Some, None, slice_get}
 use Rattle.std.specs.Option.{option_map, option_map_or}
 use Rattle.std.specs.Cmp.Lexicographic.{pointwise}

@@ -1,3 +1,5 @@
+-- Source: ASHRAE 135, clause 19.2 (Present_Value, Priority_Array); BOSS (Dawson-Haggerty et al., NSDI 2013),
+-- transaction manager (states of a transaction); notices own.
 use Rattle.std.specs.Prelude.{ℕ, ◌+◌, ◌==◌, min, max, nat_lt, nat_le, ◌&&◌, if◌then◌else◌, List, [], length, map, filter, find, Option, Some, None, slice_get}
 use Rattle.std.specs.Option.{option_map_or}
 use Rattle.std.specs.List.{range_with_len}

@@ -1,3 +1,5 @@
+-- Source: BOSS (Dawson-Haggerty et al., NSDI 2013), transaction manager (transactions and their error policies); the
+-- form of a record own.
 use Rattle.std.specs.Prelude.{ℕ, List, Option}
 use Rattle.boss_model.specs.declared.command.Policy.{Policy}
 use Rattle.boss_model.specs.declared.notice.Cause.{Cause}

@@ -1,3 +1,5 @@
+-- Source: BOSS (Dawson-Haggerty et al., NSDI 2013), transaction manager (leases are renewed); which parts, and
+-- refusals, own.
 use Rattle.std.specs.Prelude.{ℕ, ◌+◌, ◌==◌, max, ℤ, unsigned_abs, Bool, not, ◌&&◌, ◌||◌, if◌then◌else◌, List, [], ◌∷◌, length, map, filter, find, filter_map, position, Option, Some, None}
 use Rattle.std.specs.Option.{option_map}
 use Rattle.std.specs.List.{list_any}

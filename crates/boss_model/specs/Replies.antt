@@ -1,3 +1,4 @@
+-- Source: own.
 -- Numbered requests. A process may number a submit, a renewal or a cancel, and what the last one that was accepted was answered
 -- is kept. So a request that is sent again with its number is made once.
 use Rattle.std.specs.Prelude.{ℕ, ◌==◌, nat_lt, Bool, false, ◌&&◌, if◌then◌else◌, List, Option, Some, None, slice_get, slice_set}

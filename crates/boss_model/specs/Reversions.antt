@@ -1,3 +1,5 @@
+-- Source: BOSS (Dawson-Haggerty et al., NSDI 2013), transaction manager (reversion sequences); values held in turn,
+-- and their arithmetic, own.
 use Rattle.std.specs.Prelude.{ℕ, ◌+◌, ℤ, unsigned_abs, nat_lt, if◌then◌else◌, List, [], ◌∷◌, ◌++◌, map, Option, Some, None}
 use Rattle.boss_model.specs.declared.command.Step.{Step}
 use Rattle.boss_model.specs.Order.{in_order}

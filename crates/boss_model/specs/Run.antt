@@ -1,3 +1,4 @@
+-- Source: own.
 use Rattle.std.specs.Prelude.{ℕ, List, [], ◌∷◌, fold, Option, Some}
 use Rattle.std.specs.List.{cons_option}
 use Rattle.boss_model.specs.declared.answer.Answer.{Answer}

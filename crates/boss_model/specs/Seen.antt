@@ -1,3 +1,4 @@
+-- Source: own.
 -- What plain lists that outlast a stop stand for.
 use Rattle.std.specs.Prelude.{List, map, Option, Some, None}
 use Rattle.std.specs.Option.{option_map}

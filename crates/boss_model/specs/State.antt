@@ -1,3 +1,5 @@
+-- Source: ASHRAE 135, clause 19.2 (slots of the Priority_Array); BOSS (Dawson-Haggerty et al., NSDI 2013),
+-- transaction manager (leases, control processes); the rest (marks, wants, what lasts) own.
 use Rattle.std.specs.Prelude.{ℕ, List, [], ◌∷◌, Option}
 use Rattle.boss_model.specs.declared.kept.KeptReply.{KeptReply}
 use Rattle.boss_model.specs.declared.notice.Notice.{Notice}

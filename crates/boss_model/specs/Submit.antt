@@ -1,3 +1,6 @@
+-- Source: ASHRAE 135, clause 19.2 (16 priorities; 6 kept for minimum on and off times; a write replaces what its
+-- entry held); BOSS (Dawson-Haggerty et al., NSDI 2013), transaction manager (transactions of writes with priority,
+-- lease and reversion, all or none); limits and the order of refusals own.
 use Rattle.std.specs.Prelude.{ℕ, ◌+◌, ℤ, pos, int_le, unsigned_abs, ◌==◌, nat_le, Bool, not, ◌&&◌, if◌then◌else◌, List, [], ◌∷◌, ◌++◌, length, map, filter, position, Option, Some, None}
 use Rattle.std.specs.Option.{option_map, option_map_or}
 use Rattle.std.specs.List.{list_any, list_all}

@@ -1,3 +1,5 @@
+-- Source: ASHRAE 135, clause 19.2 (the value of the highest priority, else Relinquish_Default); that a reversion
+-- ranks between the two is own.
 use Rattle.std.specs.Prelude.{ℕ, ◌==◌, ℤ, List, Option, Some, None, filter, unwrap_or}
 use Rattle.boss_model.specs.declared.answer.Basis.{Basis}
 use Rattle.boss_model.specs.declared.answer.Basis.TheVariants as basis

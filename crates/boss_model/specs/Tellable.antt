@@ -1,3 +1,4 @@
+-- Source: own.
 -- What can be told: a text has room for it, and the catalogue has its points.
 use Rattle.std.specs.Prelude.{◌<◌, ◌≤◌, List, length}
 use Rattle.std.specs.List.{AllByRecursion}

@@ -1,3 +1,5 @@
+-- Source: BOSS (Dawson-Haggerty et al., NSDI 2013), transaction manager (a lease ends, and its reversion sequence is
+-- played); due moments and what is kept own.
 use Rattle.std.specs.Prelude.{ℕ, max, ◌&&◌, ◌||◌, ◌==◌, nat_lt, nat_le, if◌then◌else◌, List, map, filter, find, fold, Option, Some, None}
 use Rattle.boss_model.specs.declared.notice.Cause.TheVariants as cause
 use Rattle.boss_model.specs.Happenings.{Happening, coming, lives, finish, tell, later}

@@ -30,13 +30,13 @@ pub const LONGEST_HOLD: i64 = 86_400_000;
 /// How many steps a reversion may have.
 pub const MOST_STEPS: usize = 8;
 
-/// How many transactions that are done are kept.
+/// How many transactions that are done are kept, at most.
 pub const DONE_KEPT: usize = 1_024;
 
 /// How many control processes there may be.
 pub const MOST_PROCESSES: usize = 256;
 
-/// How many notices are kept for each process.
+/// How many notices are kept for each process, at most.
 pub const NOTICES_KEPT: usize = 1_024;
 
 /// How many notices are told at once.

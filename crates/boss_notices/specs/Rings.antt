@@ -1,3 +1,4 @@
+-- Source: own.
 use Rattle.std.specs.Prelude.{ℕ, ◌+◌, ◌==◌, min, max, if◌then◌else◌, List, [], ◌∷◌, ◌++◌, slice_get, unwrap_or}
 use Rattle.std.specs.Option.{option_map_or}
 use Rattle.circular_buffer.specs.Buffer.{keep_last}
@@ -18,7 +19,7 @@ no_notices = record { count = 0; kept = [] }
 abbrev pub ring_of : List Ring → ℕ → Ring
 ring_of rings owner = unwrap_or (slice_get rings owner) no_notices
 
--- one notice more, with the next number, and of all notices the last ones are kept; after the last number none is told
+-- one notice more, with the next number, and at most 1,024 are kept, the last ones; after the last number none is told
 abbrev pub posted : ℕ → ℕ → What → Ring → Ring
 posted at txn what ring = if ring.count == last_number
     then ring

@@ -1,4 +1,4 @@
-//! What processes are told: for each process the last 1,024 of its notices, by number.
+//! What processes are told: for each process at most 1,024 of its notices, the last ones, by number.
 #![tactic(auto)]
 
 mod ring;

@@ -98,7 +98,7 @@ impl Rings {
     }
 
     /// A notice more for this process, with the next number, if that is at most 2^62: what happened to its transaction at
-    /// this moment, in milliseconds. The last 1,024 are kept. It takes no memory.
+    /// this moment, in milliseconds. At most 1,024 are kept, the last ones. It takes no memory.
     pub fn post(&mut self, owner: ProcId, at: u64, txn: Txn, what: What)
         requires { owner < length self.old }
         ensures { self.new ≡ slice_set self.old owner (posted at txn what (ring_of self.old owner)) }

@@ -1,3 +1,4 @@
+-- Source: own.
 -- What is said of records that are done again.
 use Rattle.std.specs.Prelude.{◌≡◌, ℕ, ◌≤◌, true, List, ◌++◌, length, take, Some}
 use Rattle.def_bytes.specs.Batches.{act_number, batch_text}

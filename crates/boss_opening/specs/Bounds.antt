@@ -1,3 +1,4 @@
+-- Source: own; levels: ASHRAE 135, clause 19.2.
 -- What an event may ask for: no event that is effective leaves these bounds. The bytes of an event can tell more.
 use Rattle.std.specs.Prelude.{pos, Bool, true, ◌&&◌}
 use Rattle.std.specs.List.{list_all}

@@ -1,3 +1,4 @@
+-- Source: own.
 -- What a check tells of a pair.
 use Rattle.std.specs.Prelude.{◌≡◌, ℕ, ◌+◌, List, length, Some, Result, Ok, Err, IfOk, IfErr}
 use Rattle.boss_disk.specs.declared.disk.Disk as disk

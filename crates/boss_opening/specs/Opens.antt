@@ -1,3 +1,4 @@
+-- Source: own; digest_of: FIPS 180-4 (SHA-256).
 -- What is said of an opening: what was opened, why a pair is refused, which disks come back, and what a crash may leave meanwhile.
 use Rattle.std.specs.Prelude.{◌≡◌, ◌⊎◌, ℕ, ◌+◌, List, length, Some, Result, Ok, Err, false, IfOk, IfErr}
 use Rattle.boss_disk.specs.declared.disk.Disk as disk

@@ -1,3 +1,4 @@
+-- Source: own.
 -- What is said of a pair whose log is read, and whose events are done again.
 use Rattle.std.specs.Prelude.{◌≡◌, ℕ, ◌+◌, List, [], ◌++◌, length, Some, Result, Ok, Err, OnOk}
 use Rattle.boss_disk.specs.declared.disk.Disk as disk

@@ -1,3 +1,4 @@
+-- Source: own.
 -- A record that was under way as a stop came.
 use Rattle.std.specs.Prelude.{◌≡◌, ◌≢◌, ◌⊎◌, ℕ, List, ◌∷◌, ◌++◌}
 use Rattle.def_bytes.specs.Batches.{batch_text}

@@ -1,3 +1,4 @@
+-- Source: own.
 use Rattle.std.specs.Prelude.{◌≡◌, ◌⊎◌, ℕ, Bool, false, List, [], ◌∷◌, ◌++◌, take, Result, Ok, Err}
 use Rattle.boss_outside.specs.declared.source.Got.{Got}
 use Rattle.boss_outside.specs.declared.source.Got.TheVariants.{Bytes, Finish, Failed}

@@ -1,3 +1,4 @@
+-- Source: own.
 use Rattle.std.specs.Prelude.{ℕ, Bool, List, drop}
 use Rattle.boss_outside.specs.DeviceCall.{DeviceCall}
 use Rattle.boss_outside.specs.Plan.{Plan}

@@ -1,3 +1,4 @@
+-- Source: own.
 use Rattle.std.specs.Prelude.{◌≡◌, ℕ, ◌-◌, min, List, [], ◌∷◌, ◌++◌, length, slice_index, Result, Ok, Err}
 use Rattle.boss_outside.specs.Counts.{one_more}
 use Rattle.boss_outside.specs.Plan.{Plan, new_plan}

@@ -1,3 +1,4 @@
+-- Source: own.
 use Rattle.boss_outside_server.specs.declared.one_of.OneOf.{OneOf}
 use Rattle.boss_outside_server.specs.declared.one_of.OneOf.TheVariants.{First, Second}
 

@@ -1,3 +1,4 @@
+-- Source: own.
 use Rattle.std.specs.Prelude.{List, [], ◌∷◌}
 use Rattle.boss_outside_server.specs.declared.log.Link.{Link}
 use Rattle.boss_outside_server.specs.declared.log.Link.TheVariants.{End, More'}

@@ -1,3 +1,4 @@
+-- Source: own.
 use Rattle.std.specs.Prelude.{◌≡◌, ℕ, Bool, true, false, not, List, [], ◌∷◌, map}
 use Rattle.std.specs.List.{AllByRecursion, AllZip}
 use Rattle.boss_outside.specs.Counts.{Rose}

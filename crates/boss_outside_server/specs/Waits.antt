@@ -1,3 +1,4 @@
+-- Source: own.
 use Rattle.std.specs.Prelude.{◌≡◌, ℕ, ◌+◌, min, Bool, true, false, List, []}
 use Rattle.boss_model.specs.Limits.{last_number}
 use Rattle.boss_outside.specs.Counts.{Rose}

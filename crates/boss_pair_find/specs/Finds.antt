@@ -1,3 +1,4 @@
+-- Source: own.
 -- What is found on a pair of disks.
 use Rattle.std.specs.Prelude.{◌≡◌, ℕ, [], false, List, Result, Ok, Err}
 use Rattle.boss_disk.specs.declared.disk.Disk as disk

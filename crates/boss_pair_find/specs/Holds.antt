@@ -1,3 +1,4 @@
+-- Source: own.
 -- What a pair of disks holds, by its bytes.
 use Rattle.std.specs.Prelude.{◌≡◌, ◌⊎◌, ℕ, List}
 use Rattle.def_log.specs.InForce.{Foreign, Neither}

@@ -1,3 +1,4 @@
+-- Source: own.
 -- What a journal is that was made on a pair.
 use Rattle.std.specs.Prelude.{◌≡◌, ℕ, List, Result, Ok, Err}
 use Rattle.boss_disk.specs.declared.disk.Disk as disk

@@ -1,3 +1,4 @@
+-- Source: own.
 -- Why nothing is found on a pair of disks.
 use Rattle.std.specs.Prelude.{◌≡◌, ℕ, List, Result, Ok, Err}
 use Rattle.def_log.specs.Kinds.{kind_of}

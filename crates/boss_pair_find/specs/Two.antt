@@ -1,3 +1,4 @@
+-- Source: own.
 -- Two disks together.
 use Rattle.std.specs.Prelude.{ℕ, List, Result, Ok, Err, ◌≡◌}
 use Rattle.boss_disk.specs.Legs.{Two}

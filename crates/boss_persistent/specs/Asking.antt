@@ -1,3 +1,4 @@
+-- Source: own.
 use Rattle.std.specs.Prelude.{◌≡◌, ℕ, Bool, true, false, List}
 use Rattle.std.specs.Option.{option_map_or}
 use Rattle.boss_model.specs.declared.state.Lease.{Lease}

@@ -1,3 +1,4 @@
+-- Source: own.
 use Rattle.std.specs.Prelude.{ℕ, nat_lt, Bool, ◌&&◌, List, [], map, filter_map, Option, Some, None}
 use Rattle.std.specs.List.{list_any}
 use Rattle.std.specs.Option.{option_map}

@@ -1,3 +1,4 @@
+-- Source: own.
 use Rattle.std.specs.Prelude.{ℕ, not, List, [], ◌∷◌, map, position, Option}
 use Rattle.std.specs.Option.{option_map}
 use Rattle.boss_model.specs.declared.answer.Refusal.{Refusal}

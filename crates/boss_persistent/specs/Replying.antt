@@ -1,3 +1,4 @@
+-- Source: own.
 -- What the reply that is kept of a process means for its next numbered request.
 use Rattle.std.specs.Prelude.{ℕ, ◌==◌, nat_lt, ℤ, if◌then◌else◌, List, filter, Option, Some, None}
 use Rattle.boss_model.specs.declared.answer.Answer.{Answer}

@@ -1,3 +1,4 @@
+-- Source: own.
 use Rattle.std.specs.Prelude.{◌≡◌, ℕ, ℤ, false}
 use Rattle.boss_holdings.specs.Held.{Held, is_touched, shown}
 

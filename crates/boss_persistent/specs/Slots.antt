@@ -1,3 +1,4 @@
+-- Source: own.
 use Rattle.std.specs.Prelude.{ℕ, ◌==◌, ◌&&◌, List, map, find}
 use Rattle.std.specs.List.{range_with_len}
 use Rattle.boss_model.specs.declared.answer.Slot.{Slot}

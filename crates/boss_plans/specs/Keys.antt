@@ -1,3 +1,5 @@
+-- Source: TOML 1.0.0 (the form of the file); its keys own; unit, coil, register and their ranges: MODBUS Application
+-- Protocol 1.1b3, section 4.4, and MODBUS Messaging on TCP/IP 1.0b, section 3.1.3 (unit).
 -- What the keys of a plan's tables spell. A key that is not named here is passed over.
 use Rattle.std.specs.Prelude.{ℕ, ◌^◌, ◌/◌, nat_le, ℤ, pos, negsuc, int_le, Bool, true, false, ◌&&◌, if◌then◌else◌, List, length, codes, Option, Some, None}
 use Rattle.std.specs.Option.{option_and_then, option_map_or}

@@ -1,3 +1,4 @@
+-- Source: own.
 -- The line that says why a plan is refused.
 use Rattle.std.specs.Prelude.{ℕ, List, [], ◌∷◌, ◌++◌, codes, decimal, slice_get}
 use Rattle.std.specs.Option.{option_map_or}

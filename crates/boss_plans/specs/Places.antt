@@ -1,3 +1,4 @@
+-- Source: TOML 1.0.0 (the form of the file); its keys own.
 -- The drivers and the places that a plan's tables spell.
 use Rattle.std.specs.Prelude.{ℕ, nat_eq, Bool, false, ◌&&◌, not, if◌then◌else◌, List, codes, slice_get, Option, Some, None}
 use Rattle.std.specs.List.{list_any, position_from}

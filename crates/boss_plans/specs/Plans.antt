@@ -1,3 +1,4 @@
+-- Source: TOML 1.0.0 (the form of the file); its keys own; the tests and their order own.
 -- The plan that a file spells, or why it is refused: six tests in their order, and in each the least place or point.
 use Rattle.std.specs.Prelude.{◌≡◌, ℕ, ◌+◌, ◌<◌, nat_lt, Bool, ◌&&◌, not, if◌then◌else◌, List, [], ◌∷◌, ◌++◌, length, map, filter, codes, Option, Some, None, Result, Ok, Err}
 use Rattle.std.specs.Option.{option_map_or, ok_or}

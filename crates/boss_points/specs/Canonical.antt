@@ -1,3 +1,4 @@
+-- Source: own; it is what the digest (SHA-256, FIPS 180-4) is of.
 -- The canonical text of a catalogue, which its digest is of: two files that spell one catalogue have one digest.
 use Rattle.std.specs.Prelude.{ℕ, ℤ, pos, ◌&&◌, if◌then◌else◌, List, [], ◌∷◌, ◌++◌, codes, slice_index_or}
 use Rattle.std.specs.Fmt.{signed_decimal}

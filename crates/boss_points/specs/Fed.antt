@@ -1,3 +1,4 @@
+-- Source: FIPS 180-4 (SHA-256), as the library sha2 says it.
 use Rattle.std.specs.Prelude.{ℕ, List, ◌++◌}
 use Rattle.sha2.specs.Hashers.{Holds256}
 use Rattle.sha2.specs.declared.Sha256.{Sha256}

@@ -1,3 +1,4 @@
+-- Source: own.
 use Rattle.std.specs.Prelude.{◌≡◌, Result, Ok, Err}
 use Rattle.boss_points.specs.declared.refusal.CatalogueRefusal.{CatalogueRefusal}
 use Rattle.boss_points.specs.declared.refusal.CatalogueRefusal.TheVariants.{NoMemory}

@@ -1,3 +1,4 @@
+-- Source: own; minimum times of binary points alone: ASHRAE 135, clause 19.2.
 -- What holds of every catalogue.
 use Rattle.std.specs.Prelude.{◌≡◌, ℕ, ◌<◌, ◌≤◌, ℤ, pos, true, List, length, map, All, Vec}
 use Rattle.std.specs.declared.alloc.Global.{Global}

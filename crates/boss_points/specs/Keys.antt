@@ -1,3 +1,4 @@
+-- Source: TOML 1.0.0 (the form of the file); its keys own; kinds and minimum times: ASHRAE 135, clauses 12 and 19.2.
 -- What the keys of a file and of a point spell. A key that is not named here is passed over.
 use Rattle.std.specs.Prelude.{ℕ, ◌^◌, ℤ, pos, neg_ℤ, int_le, Bool, ◌&&◌, if◌then◌else◌, List, [], ◌∷◌, codes, position, Option, Some, None}
 use Rattle.std.specs.Option.{option_and_then, option_map_or}

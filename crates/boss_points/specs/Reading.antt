@@ -1,3 +1,4 @@
+-- Source: TOML 1.0.0 (the form of the file); its keys own; the tests and their order own.
 -- The catalogue that a file spells, or why it is refused: eleven tests in their order, and in each the least place.
 use Rattle.std.specs.Prelude.{ℕ, ◌+◌, Bool, nat_lt, if◌then◌else◌, List, [], ◌∷◌, ◌++◌, length, map, position, codes, Option, Some, None, option_map, is_none, Result, Ok, Err}
 use Rattle.std.specs.List.{list_any, filter_map}

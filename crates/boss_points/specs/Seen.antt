@@ -1,3 +1,4 @@
+-- Source: own (over TOML 1.0.0).
 -- What contracts see of the values that a file's table has, and of what a catalogue keeps.
 use Rattle.std.specs.Prelude.{ℕ, List, map, Vec}
 use Rattle.std.specs.declared.alloc.Global.{Global}

@@ -1,3 +1,5 @@
+-- Source: BOSS (Dawson-Haggerty et al., NSDI 2013), transaction manager (error policies); the first failure alone
+-- counting is own.
 use Rattle.std.specs.Prelude.{Bool, true, false, Option, Some, None}
 use Rattle.boss_model.specs.declared.command.Policy.{Policy}
 use Rattle.boss_model.specs.declared.command.Policy.TheVariants.{Abort, Keep}

@@ -1,3 +1,4 @@
+-- Source: own.
 -- What a reader gives: the value that the bytes begin with, and what is behind it.
 use Rattle.std.specs.Prelude.{◌≡◌, ℕ, List, Option, Some, None, Result, Ok, Err}
 use Rattle.boss_records.specs.declared.unread.NoSpelling.{NoSpelling}

@@ -1,3 +1,4 @@
+-- Source: own.
 use Rattle.std.specs.Prelude.{◌≡◌, ◌≤◌, ℕ, true, List, Result, Ok, Err}
 use Rattle.boss_model.specs.declared.answer.Refusal.TheVariants as refusal
 use Rattle.boss_model.specs.declared.state.Actuator.{Actuator}

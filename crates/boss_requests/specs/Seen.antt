@@ -1,3 +1,4 @@
+-- Source: own over RFC 8259 (JSON).
 -- The parts of a request that contracts speak of.
 use Rattle.std.specs.Prelude.{ℕ}
 use Rattle.serde_json.specs.Data.{Data}

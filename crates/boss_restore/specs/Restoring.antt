@@ -1,3 +1,4 @@
+-- Source: own.
 -- What is put back of a state that was kept.
 use Rattle.std.specs.Prelude.{◌≡◌, ℕ, ◌==◌, nat_le, Bool, false, not, ◌&&◌, List, map, filter, find, length, is_none}
 use Rattle.std.specs.Option.{option_map_or}

@@ -1,3 +1,5 @@
+-- Source: BOSS (Dawson-Haggerty et al., NSDI 2013), transaction manager (reversion sequences); bounds and boundaries
+-- own.
 use Rattle.std.specs.Prelude.{ℕ, ◌≤◌, ◌^◌, nat_lt, nat_le, ◌&&◌, max, List, length, Option, fold, filter, find}
 use Rattle.std.specs.List.{AllByRecursion}
 use Rattle.boss_model.specs.declared.command.Step.{Step}

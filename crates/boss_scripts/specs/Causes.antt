@@ -1,3 +1,4 @@
+-- Source: own.
 -- Why a part of a script broke off, by the counts of faults of what it called.
 use Rattle.std.specs.Prelude.{◌≡◌, ℕ, Result, Ok, Err}
 use Rattle.boss_outside.specs.Counts.{Rose}

@@ -1,3 +1,4 @@
+-- Source: own.
 -- The lines of a script, and how they came to their end.
 use Rattle.std.specs.Prelude.{◌≡◌, ℕ, ◌<◌, Bool, false, true, List, [], ◌++◌, length, take}
 use Rattle.std.specs.List.{list_any}

@@ -1,3 +1,4 @@
+-- Source: own.
 -- A part of a script that a keeper carries out.
 use Rattle.std.specs.Prelude.{◌≡◌, false, List}
 use Rattle.boss_model.specs.declared.state.Actuator.{Actuator}

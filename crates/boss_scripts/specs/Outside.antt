@@ -1,3 +1,4 @@
+-- Source: own.
 -- What a script has to do with, as each part of it tells of itself at one moment.
 use Rattle.std.specs.Prelude.{◌≡◌, ◌⊎◌, ℕ, Bool, true, List, map, slice_index_or}
 use Rattle.std.specs.List.{AllByRecursion}

@@ -1,3 +1,4 @@
+-- Source: own.
 use Rattle.std.specs.Prelude.{◌≡◌, ℕ, suc, ◌==◌, Bool, true, false, ◌||◌, List, [], ◌∷◌, ◌++◌, fold, map, filter, Option, Some, None, slice_set, slice_index_or}
 use Rattle.std.specs.List.{enumerate_from}
 use Rattle.boss_model.specs.declared.event.Event.{Event}

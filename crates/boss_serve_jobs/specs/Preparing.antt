@@ -1,3 +1,4 @@
+-- Source: own.
 -- What a server is set up with before it opens a journal: the catalogue of a file, the access rules of another, if the words name one,
 -- and the devices as a plan assigns them.
 use Rattle.std.specs.Prelude.{◌≡◌, ◌⊎◌, ℕ, List, [], ◌∷◌, ◌++◌, Option, Some, None, Result, Ok, Err}

@@ -1,3 +1,4 @@
+-- Source: own.
 -- What a file of access rules comes to.
 use Rattle.std.specs.Prelude.{◌≡◌, ◌⊎◌, ℕ, List, [], ◌∷◌, ◌++◌, Option, Some, Result, Ok, Err}
 use Rattle.boss_outside.specs.Counts.{Rose}

@@ -1,3 +1,4 @@
+-- Source: own.
 -- `serve CATALOGUE JOURNAL ADDRESS WORKERS CONNECTIONS RULES PLAN`.
 use denote.Ref.{MutBor}
 use Rattle.std.specs.declared.alloc.Global.{Global}

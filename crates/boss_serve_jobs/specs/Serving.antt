@@ -1,3 +1,4 @@
+-- Source: own.
 -- A server over a journal, or over memory alone: what it did, and how it ended.
 use denote.Ref.{MutBor}
 use Rattle.std.specs.declared.alloc.Global.{Global}

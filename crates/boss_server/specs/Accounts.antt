@@ -1,3 +1,4 @@
+-- Source: own.
 -- All that several workers left.
 use Rattle.std.specs.Prelude.{◌≡◌, ℕ, ◌+◌, ◌-◌, ◌<◌, ◌≤◌, Bool, true, false, List, ◌++◌, length}
 use Rattle.boss_model.specs.DeviceCall.{DeviceCall}

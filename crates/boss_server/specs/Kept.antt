@@ -1,3 +1,4 @@
+-- Source: own.
 -- What a server did over a keeper.
 use Rattle.std.specs.Prelude.{◌≡◌, ℕ, Bool, List, length, min}
 use Rattle.boss_model.specs.Catalogue.{Catalogue}

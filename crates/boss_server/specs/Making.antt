@@ -1,3 +1,4 @@
+-- Source: own.
 -- Parts as they are made, and what they were made of.
 use Rattle.std.specs.Prelude.{◌≡◌, ℕ, Bool, List, [], ◌++◌}
 use Rattle.std.specs.List.{AllByRecursion}

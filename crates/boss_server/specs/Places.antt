@@ -1,3 +1,4 @@
+-- Source: own.
 -- Devices that come back in the place that their driver's number is.
 use Rattle.std.specs.Prelude.{ℕ, ◌≤◌, List, insert}
 use Rattle.boss_worker.specs.declared.duty.Duty.{Duty}

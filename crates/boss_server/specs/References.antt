@@ -1,3 +1,4 @@
+-- Source: own.
 -- A struct of references that stays a struct of the same ones.
 use Rattle.std.specs.Prelude.{◌≡◌}
 use Rattle.boss_server.specs.declared.outside.Outside.{Outside}

@@ -1,3 +1,4 @@
+-- Source: own.
 -- Connections shared out to workers.
 use Rattle.std.specs.Prelude.{ℕ, ◌+◌, ◌/◌, ◌%◌, nat_lt, if◌then◌else◌}
 

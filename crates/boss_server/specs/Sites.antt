@@ -1,3 +1,4 @@
+-- Source: own.
 -- The gates of a server: its rules, where it has some.
 use Rattle.std.specs.Prelude.{List, [], ◌∷◌, Option, Some, None}
 use Rattle.boss_model.specs.Catalogue.{Catalogue}

@@ -1,3 +1,4 @@
+-- Source: own.
 -- What several workers left, taken together.
 use Rattle.std.specs.Prelude.{◌≡◌, ℕ, Bool, true, false, List, length}
 use Rattle.boss_outside.specs.Counts.{Rose}

@@ -1,3 +1,4 @@
+-- Source: own.
 -- Workers in the order of their numbers.
 use Rattle.std.specs.Prelude.{◌≡◌, ℕ, suc, ◌+◌, Bool, true, false, List, [], ◌∷◌, ◌++◌}
 use Rattle.boss_outside_server.specs.declared.task.Ran.{Ran}

@@ -1,3 +1,4 @@
+-- Source: own.
 -- Why a session ends.
 use Rattle.std.specs.Prelude.{◌≡◌, ℕ, Bool, true, false, List, [], Option, Some, None, Result, Ok, Err}
 use Rattle.boss_outside.specs.Counts.{Rose}

@@ -1,3 +1,4 @@
+-- Source: own.
 -- Requests that are held, and what came behind them.
 use Rattle.std.specs.Prelude.{◌≡◌, ℕ, ◌<◌, ◌≤◌, Bool, false, not, List, [], ◌∷◌, ◌++◌, map, filter}
 use Rattle.boss_model.specs.declared.command.Command.{Command}

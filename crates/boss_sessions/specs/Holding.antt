@@ -1,3 +1,4 @@
+-- Source: own.
 -- What a pass holds at the gates of a desk, and the name that its session then has.
 use Rattle.std.specs.Prelude.{◌≡◌, ℕ, ◌==◌, false, List, [], ◌∷◌, Option, Some, None}
 use Rattle.boss_model.specs.declared.command.Command.{Command}

@@ -1,3 +1,4 @@
+-- Source: own.
 -- The last call of a session, which tells that its process is lost.
 use Rattle.std.specs.Prelude.{◌≡◌, ℕ, Bool, true, false, ◌||◌, List, [], ◌∷◌, ◌++◌}
 use Rattle.boss_model.specs.declared.command.Command.TheVariants as command

@@ -1,3 +1,4 @@
+-- Source: own.
 -- How far the lines of a connection were taken.
 use Rattle.std.specs.Prelude.{◌≡◌, ℕ, ◌+◌, List, [], ◌∷◌, ◌++◌, length, Option, Some, None}
 use Rattle.boss_model.specs.Lines.{lines}

@@ -1,3 +1,4 @@
+-- Source: own.
 -- Replies that are held in a buffer, and written together.
 use Rattle.std.specs.Prelude.{◌≡◌, ℕ, ◌+◌, List, ◌++◌, Result, Ok, Err}
 use Rattle.boss_model.specs.Limits.{answer_room}

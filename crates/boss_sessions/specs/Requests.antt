@@ -1,3 +1,4 @@
+-- Source: own.
 -- What one line is: a request, which is held, or something else.
 use Rattle.std.specs.Prelude.{◌≡◌, ℕ, ◌≤◌, Bool, false, List, [], ◌∷◌, ◌++◌}
 use Rattle.boss_model.specs.declared.command.Command.{Command}

@@ -1,3 +1,4 @@
+-- Source: own.
 -- A session line by line: as far as it goes on, and where it ends.
 use Rattle.std.specs.Prelude.{◌≡◌, ℕ, ◌≤◌, Bool, true, false, List, [], ◌∷◌, Option, Some, None, vec_capacity}
 use Rattle.boss_model.specs.Limits.{last_moment}

@@ -1,3 +1,4 @@
+-- Source: own.
 -- How the lines of a connection are read, and the texts of its replies.
 use Rattle.std.specs.Prelude.{ℕ, Bool, true, false, List}
 use Rattle.boss_model.specs.Catalogue.{Catalogue}

@@ -1,3 +1,4 @@
+-- Source: own.
 -- What the outcome of a call says, apart from what stands in the history.
 use Rattle.std.specs.Prelude.{◌≡◌, ℕ, zero, suc, ◌<◌, Bool, true, false, List, [], ◌∷◌, length, Option, Some, None}
 use Rattle.boss_model.specs.declared.command.Command.{Command}

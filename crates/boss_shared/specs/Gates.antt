@@ -1,3 +1,4 @@
+-- Source: own.
 -- Gates that a submit has to pass, and the process that a pass holds at each: what is denied, and what a call leaves held. A desk
 -- tells a list of gates, since one may stand behind another, and a pass as many of what it holds.
 use Rattle.std.specs.Prelude.{◌≡◌, ℕ, zero, suc, ◌==◌, if◌then◌else◌, List, [], ◌∷◌, Option, Some, None}

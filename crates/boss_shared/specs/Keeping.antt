@@ -1,3 +1,4 @@
+-- Source: own.
 -- A value that keeps a machine: what one call makes of it, and for which history it stands.
 use Rattle.std.specs.Prelude.{◌≡◌, Bool, true, false, ◌||◌, ℕ, List, [], ◌∷◌, ◌++◌, take}
 use Rattle.boss_model.specs.declared.event.Event.{Event}

@@ -1,3 +1,4 @@
+-- Source: own.
 -- What a pass has seen of the one history, which of its entries are its own, and what a call or a join makes of it.
 use Rattle.std.specs.Prelude.{◌≡◌, ℕ, Bool, true, if◌then◌else◌, List, [], ◌∷◌, ◌++◌, length, Option, Some}
 use mathlib.Core.List.{IsPrefix}

@@ -1,3 +1,4 @@
+-- Source: own.
 use Rattle.std.specs.Prelude.{◌≡◌, ℕ, ◌+◌, ◌*◌, ◌==◌, ◌<◌, ◌≤◌, ◌^◌, Bool, true, false, List, length, map, nat_lt, slice_index, slice_index_or}
 use Rattle.std.specs.List.{range_with_len}
 use Rattle.boss_slots.specs.Bits.{bit_of}

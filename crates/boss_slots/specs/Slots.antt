@@ -1,3 +1,4 @@
+-- Source: own over ASHRAE 135, clause 19.2 (sixteen entries a point).
 use Rattle.std.specs.Prelude.{ℕ, zero, suc, ◌+◌, ◌++◌, Bool, if◌then◌else◌, List, [], Option, Some, None, slice_index_or}
 use Rattle.std.specs.Option.{option_to_list}
 

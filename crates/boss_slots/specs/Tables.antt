@@ -1,3 +1,4 @@
+-- Source: own.
 use Rattle.std.specs.Prelude.{◌≡◌, ℕ, zero, suc, ◌+◌, ◌*◌, ◌-◌, ◌<◌, ◌≤◌, List, [], length, Option, None, Some, is_some, count_by, slice_index_or}
 use Rattle.std.specs.List.{AllByRecursion}
 use Rattle.boss_array.specs.declared.array.Entry.{Entry}

@@ -1,3 +1,4 @@
+-- Source: own.
 -- A state on its way to a disk.
 use Rattle.std.specs.Prelude.{ℕ, List, [], ◌∷◌, ◌++◌}
 use Rattle.boss_disk.specs.Fronts.{KeepsFront}

@@ -1,3 +1,4 @@
+-- Source: own.
 -- The kind of bytes by their length and the first of them.
 use Rattle.std.specs.Prelude.{ℕ, ◌==◌, nat_le, ◌&&◌, ◌||◌, if◌then◌else◌, List, slice_index_or}
 use Rattle.def_log.specs.declared.kind.DiskKind.{DiskKind}

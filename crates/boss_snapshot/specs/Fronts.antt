@@ -1,3 +1,4 @@
+-- Source: own.
 -- What stands before a kept state, by the bytes of its disk.
 use Rattle.std.specs.Prelude.{◌≡◌, ℕ, ◌+◌, ◌^◌, ◌<◌, ◌≤◌, ◌⊎◌, List, ◌++◌, length, take, drop, slice_index_or}
 use Rattle.std.specs.Int.{w64, from_be_bytes}

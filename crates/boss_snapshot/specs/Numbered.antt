@@ -1,3 +1,4 @@
+-- Source: own.
 -- Notices as a state has them: without their numbers, which go up to the number of notices so far.
 use Rattle.std.specs.Prelude.{ℕ, List, length, Option, Some}
 use Rattle.def_bytes.specs.Fields.{◌>>=◌}

@@ -1,3 +1,4 @@
+-- Source: own.
 -- When a kept state is read, and why it is not.
 use Rattle.std.specs.Prelude.{◌≡◌, ◌≢◌, ℕ, ◌+◌, ◌<◌, ◌≤◌, ◌⊎◌, List, length, Result, Ok, Err}
 use Rattle.def_log.specs.declared.kind.DiskKind.{DiskKind}

@@ -1,3 +1,4 @@
+-- Source: own.
 -- The bytes of a state.
 use Rattle.std.specs.Prelude.{◌≡◌, ℕ, true, List}
 use Rattle.boss_model.specs.State.{Persistent}

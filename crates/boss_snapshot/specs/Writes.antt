@@ -1,3 +1,4 @@
+-- Source: own.
 -- What stands on a disk that a state is written to.
 use Rattle.std.specs.Prelude.{◌≡◌, ◌≢◌, ℕ, ◌≤◌, ◌⊎◌, List, [], ◌∷◌, ◌++◌, length}
 use Rattle.std.specs.Int.{w64}

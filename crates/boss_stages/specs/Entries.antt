@@ -1,3 +1,4 @@
+-- Source: own.
 -- The list of transactions as it stands in memory: one that is forgotten leaves its number.
 use Rattle.std.specs.Prelude.{ℕ, ◌<◌, Bool, true, false, List, [], ◌∷◌, Option, Some, None}
 use Rattle.boss_stages.specs.declared.entry.Entry.{Entry}

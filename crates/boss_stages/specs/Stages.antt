@@ -1,3 +1,5 @@
+-- Source: BOSS (Dawson-Haggerty et al., NSDI 2013), transaction manager (states of a transaction: it runs, reverts,
+-- is done); the list of the done own.
 use Rattle.std.specs.Prelude.{ℕ, ◌-◌, ◌==◌, nat_lt, Bool, false, not, ◌&&◌, if◌then◌else◌, List, [], ◌∷◌, ◌++◌, length, map, filter, find, take, Option, Some, None, is_none, option_and_then, pos, ◌≤ℤ◌, unsigned_abs}
 use Rattle.std.specs.List.{list_any}
 use Rattle.std.specs.Option.{option_map_or}
@@ -104,7 +106,7 @@ is_reverting txn point stages = option_map_or (λ kept. list_any (λ other. othe
 abbrev pub changed : ℕ → (Tracked → Tracked) → List Tracked → List Tracked
 changed txn change all = map (λ kept. if number kept == txn then change kept else kept) all
 
--- of all that became done, those before the last 1,024
+-- of the done ones that are kept, those that are before the last 1,024
 abbrev pub dropped : List ℕ → List ℕ
 dropped done = take (length done - done_kept) done
 
@@ -112,7 +114,7 @@ dropped done = take (length done - done_kept) done
 abbrev pub without : List ℕ → List Tracked → List Tracked
 without gone all = filter (λ kept. not (list_any (λ txn. txn == number kept) gone)) all
 
--- one more is done: the numbers of the last 1,024 are kept, and the transactions before those are gone
+-- one more is done: at most 1,024 numbers are kept, the last ones, and the transactions of the others are gone
 abbrev pub finished : ℕ → Stages → Stages
 finished txn stages = record stages {
   kept = without (dropped (stages.done ++ txn ∷ [])) stages.kept;

@@ -15,8 +15,8 @@ use circular_buffer::HeapCircularBuffer;
 use std::alloc::Global;
 use std::marker::Model;
 
-/// What is kept of transactions: of all that are not done, and of the last 1,024 that became done. A transaction goes
-/// from stage to stage as in BOSS (Dawson-Haggerty et al., NSDI 2013): it runs, it reverts, and it is done.
+/// What is kept of transactions: of all that are not done, and of at most 1,024 that are, the last that became done. A
+/// transaction goes from stage to stage as in BOSS (Dawson-Haggerty et al., NSDI 2013): it runs, it reverts, and it is done.
 #[derive(Drop)]
 pub struct Stages {
     transactions: TransactionList,
@@ -175,7 +175,7 @@ impl Stages {
         self.transactions.find(txn)
     }
 
-    /// One more transaction is done, of which nothing is left. The one that became done 1,024 before it is forgotten. The answer is
+    /// One more transaction is done, of which nothing is left. Where 1,024 are kept, the first of them is forgotten. The answer is
     /// whether it is still kept: whether it was not that one.
     fn finish(&mut self, txn: Txn) -> bool
         requires { is_over (kept_as txn self.old.kept) ≡ true }

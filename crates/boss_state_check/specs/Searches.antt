@@ -1,3 +1,4 @@
+-- Source: own.
 -- What is looked for in lists that rise, and whether they do.
 use Rattle.std.specs.Prelude.{ℕ, ◌==◌, Bool, false, not, ◌&&◌, List, [], ◌∷◌, drop, find, Option}
 use Rattle.std.specs.List.{list_all, zip}

@@ -1,3 +1,4 @@
+-- Source: own.
 -- The tests of one item each, as the code makes them. What the types of the code see to, as that a number fits its bits, is
 -- among them.
 use Rattle.std.specs.Prelude.{ℕ, ◌+◌, ◌-◌, ◌^◌, ◌==◌, pos, nat_eq, nat_lt, nat_le, Bool, true, false, not, ◌&&◌, ◌||◌, List, [], ◌∷◌, length, Option, Some, None, is_some, is_none}

@@ -1,3 +1,4 @@
+-- Source: own.
 -- The test of a whole state, in the order in which the code makes it: what is searched by halves is found to rise first.
 use Rattle.std.specs.Prelude.{nat_le, Bool, ◌&&◌, List, length}
 use Rattle.std.specs.List.{list_all}

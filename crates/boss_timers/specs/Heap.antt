@@ -1,3 +1,4 @@
+-- Source: a binary heap (Williams, CACM 7(6), 1964); the index by slot own.
 use Rattle.std.specs.Prelude.{◌≡◌, ◌≢◌, ℕ, zero, suc, ◌+◌, ◌*◌, ◌<◌, ◌≤◌, ◌^◌, List, [], ◌∷◌, length, map, Option, Some, None, slice_index_or}
 use Rattle.boss_timers.specs.declared.entry.Entry.{Entry}
 

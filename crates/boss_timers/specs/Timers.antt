@@ -1,3 +1,4 @@
+-- Source: own over a binary heap (Williams, CACM 7(6), 1964).
 use Rattle.std.specs.Prelude.{◌≡◌, ℕ, ◌<◌, ◌≤◌, ◌^◌, List, length, Option, Some, None, is_some, count_by, slice_index_or}
 use Rattle.boss_timers.specs.declared.entry.Entry.{Entry}
 use Rattle.boss_timers.specs.Heap.{IsHeap, IsIndexed, entries_of, times, weight_at}

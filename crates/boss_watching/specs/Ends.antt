@@ -1,3 +1,4 @@
+-- Source: own.
 -- Why a connection is watched for no longer.
 use Rattle.std.specs.Prelude.{◌≡◌, ℕ, ◌<◌, Bool, true, List, length}
 use Rattle.boss_outside.specs.Counts.{Rose}

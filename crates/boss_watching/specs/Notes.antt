@@ -1,3 +1,4 @@
+-- Source: own.
 -- The notices that a process was sent, and those that an answer has.
 use Rattle.std.specs.Prelude.{◌≡◌, ℕ, ◌+◌, ◌≤◌, ◌<◌, Bool, true, false, List, [], ◌∷◌}
 use Rattle.std.specs.List.{flat_map}

@@ -1,3 +1,4 @@
+-- Source: own.
 -- Turns in a row without a notice, each of which pauses.
 use Rattle.std.specs.Prelude.{◌≡◌, ◌⊎◌, ℕ, ◌+◌, ◌<◌, Bool, true, false, if◌then◌else◌, List, [], ◌∷◌, ◌++◌}
 use Rattle.def_history.specs.declared.entry.Entry.{Entry}

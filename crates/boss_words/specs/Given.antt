@@ -1,3 +1,4 @@
+-- Source: own.
 use Rattle.std.specs.Prelude.{◌≡◌, Option, Some, None, Result, Ok, Err}
 use Rattle.boss_words.specs.declared.read.WordsRefusal.{WordsRefusal}
 use Rattle.boss_words.specs.declared.read.WordsRefusal.TheVariants.{Usage, NoMemory}

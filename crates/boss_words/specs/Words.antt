@@ -1,3 +1,4 @@
+-- Source: own.
 -- The table of words. No word is an option, and the number of words is exactly the row's.
 use Rattle.std.specs.Prelude.{ℕ, Bool, nat_le, ◌&&◌, if◌then◌else◌, List, [], ◌∷◌, length, map, codes, Option, Some, None, String, string_bytes}
 use Rattle.std.specs.Option.{option_and_then}

@@ -1,3 +1,4 @@
+-- Source: own.
 -- The entries that a pass of a desk made.
 use Rattle.std.specs.Prelude.{List}
 use Rattle.def_history.specs.declared.entry.Entry.{Entry}

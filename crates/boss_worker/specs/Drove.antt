@@ -1,3 +1,4 @@
+-- Source: own.
 -- What the worker of a driver added to the history, and the calls of its devices.
 use Rattle.std.specs.Prelude.{◌≡◌, ℕ, ◌<◌, ◌≤◌, Bool, true, List, [], ◌++◌, length}
 use Rattle.boss_model.specs.Catalogue.{actuators, Catalogue}

@@ -1,3 +1,4 @@
+-- Source: own.
 -- How the workers that serve no connection ended.
 use Rattle.std.specs.Prelude.{◌≡◌, ℕ, ◌<◌, ◌==◌, Bool, true, false, ◌||◌, List, [], ◌∷◌, length}
 use Rattle.std.specs.List.{AllByRecursion}

@@ -1,3 +1,4 @@
+-- Source: own.
 -- What the works of a server say of the entries of their lanes.
 use Rattle.std.specs.Prelude.{◌⊎◌, ℕ, Bool, true, false, List}
 use Rattle.boss_model.specs.Catalogue.{actuators, Catalogue}

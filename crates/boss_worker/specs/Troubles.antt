@@ -1,3 +1,4 @@
+-- Source: own.
 -- What went wrong at the workers of a server, and what counts say of it.
 use Rattle.std.specs.Prelude.{◌≡◌, ℕ, ◌<◌, Bool, true, false, ◌||◌}
 use Rattle.boss_outside.specs.Counts.{Rose}

@@ -1,3 +1,4 @@
+-- Source: own.
 -- What a worker left when it ended.
 use Rattle.std.specs.Prelude.{◌≡◌, ℕ, suc, ◌+◌, ◌*◌, ◌<◌, ◌^◌, Bool, true, false, List, length}
 use Rattle.std.specs.List.{AllByRecursion}

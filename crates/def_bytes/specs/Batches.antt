@@ -1,3 +1,4 @@
+-- Source: own.
 -- The events of one record.
 use Rattle.std.specs.Prelude.{◌≡◌, ℕ, ◌≤◌, true, List, length, flat_map}
 use Rattle.std.specs.List.{AllByRecursion}

@@ -1,3 +1,4 @@
+-- Source: own.
 -- An event as bytes: a tag, the moment, and what the act has.
 use Rattle.std.specs.Prelude.{ℕ, ◌+◌, nat_lt, nat_le, ◌==◌, ℤ, Bool, true, ◌&&◌, if◌then◌else◌, List, ◌++◌, Option, Some, None}
 use Rattle.std.specs.Int.{w16, w32, w64}

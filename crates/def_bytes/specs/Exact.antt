@@ -1,3 +1,4 @@
+-- Source: own.
 -- What is read is spelled so, and what is spelled so is read.
 use Rattle.std.specs.Prelude.{◌≡◌, ℕ, ◌<◌, ◌≤◌, true, List, ◌++◌, length, get_or, Option, Some}
 use Rattle.def_bytes.specs.Fields.{Field, Variants}

@@ -1,3 +1,4 @@
+-- Source: own.
 -- The fields that events and states share.
 use Rattle.std.specs.Prelude.{ℕ, ◌-◌, ◌*◌, ◌^◌, nat_lt, nat_le, ◌==◌, ℤ, pos, negsuc, true, if◌then◌else◌, List, [], Option, Some, None}
 use Rattle.std.specs.Int.{Width, w32, w64, byte_len, cast_signed, cast_unsigned}

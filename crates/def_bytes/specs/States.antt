@@ -1,3 +1,4 @@
+-- Source: own.
 -- A state as bytes: what outlasts a stop, in one order.
 use Rattle.std.specs.Prelude.{ℕ, ◌+◌, ◌-◌, nat_le, ◌==◌, ℤ, Bool, true, ◌&&◌, if◌then◌else◌, List, [], ◌∷◌, length, map, Option, Some, None}
 use Rattle.std.specs.Int.{w16, w32, w64}

@@ -1,3 +1,4 @@
+-- Source: own.
 -- The tag that an event's bytes begin with, by its act. Those from 8 on have the process's number for the request; they came with
 -- version 2.
 use Rattle.std.specs.Prelude.{ℕ}

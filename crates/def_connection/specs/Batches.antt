@@ -1,3 +1,4 @@
+-- Source: own.
 -- Several requests that are held, called together, and answered in order.
 use Rattle.std.specs.Prelude.{◌≡◌, ℕ, Bool, true, List, [], ◌∷◌, ◌++◌}
 use Rattle.boss_model.specs.declared.command.Command.{Command}

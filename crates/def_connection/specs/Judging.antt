@@ -1,3 +1,4 @@
+-- Source: own.
 -- Which submits of a talk are denied, by the name of the process that its session has.
 use Rattle.std.specs.Prelude.{◌≡◌, ℕ, List, [], ◌∷◌, Option, Some, None}
 use Rattle.std.specs.List.{AllByRecursion}

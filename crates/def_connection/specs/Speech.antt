@@ -1,3 +1,4 @@
+-- Source: own.
 -- What is said on a connection: lines, how they are read, and the replies to them.
 use Rattle.std.specs.Prelude.{◌≡◌, ℕ, Bool, true, false, ◌||◌, List, [], ◌∷◌, ◌++◌, Option, Some, None}
 use Rattle.boss_model.specs.declared.answer.Answer.{Answer}

@@ -1,3 +1,4 @@
+-- Source: own.
 -- The talk on one connection: as long as it goes on, where it stops, and as a whole.
 use Rattle.std.specs.Prelude.{◌≡◌, ◌⊎◌, ℕ, ◌≤◌, nat_lt, length, Bool, true, false, ◌||◌, not, List, [], ◌++◌, map, filter, if◌then◌else◌, Option, None}
 use Rattle.std.specs.List.{AllByRecursion, list_any}

@@ -1,3 +1,4 @@
+-- Source: own.
 -- The notices of a process, told on a connection that watches it.
 use Rattle.std.specs.Prelude.{◌≡◌, ℕ, ◌≤◌, Bool, false, List, [], ◌∷◌, ◌++◌, map, length, Some}
 use Rattle.boss_model.specs.declared.answer.Answer.{Answer}

@@ -1,3 +1,4 @@
+-- Source: own.
 -- What one disk stands for: a front, and behind it records of events, each effective in the state before it.
 use Rattle.std.specs.Prelude.{◌≡◌, ◌⊎◌, ℕ, ◌+◌, List, ◌∷◌, ◌++◌, length, map, flat_map, Some}
 use Rattle.std.specs.List.{AllByRecursion}

@@ -1,3 +1,4 @@
+-- Source: own.
 -- Where a disk in force is damaged.
 use Rattle.std.specs.Prelude.{◌≡◌, ℕ, List, ◌∷◌, ◌++◌, length, map}
 use Rattle.boss_model.specs.declared.event.Event.{Event}

@@ -1,3 +1,4 @@
+-- Source: own.
 -- What stands on a disk before its first gate.
 use Rattle.std.specs.Prelude.{◌≡◌, ◌≢◌, ◌⊎◌, ℕ, ◌^◌, ◌<◌, ◌≤◌, true, List, ◌∷◌, ◌++◌, length}
 use Rattle.std.specs.Int.{w64}

@@ -1,3 +1,4 @@
+-- Source: own.
 -- What a pair of disks stands for: what the disk in force does.
 use Rattle.std.specs.Prelude.{◌≡◌, ◌⊎◌, ℕ, ◌≤◌, List, [], ◌∷◌, length, Some}
 use Rattle.boss_model.specs.declared.event.Event.{Event}

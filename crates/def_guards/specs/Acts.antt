@@ -1,3 +1,4 @@
+-- Source: own (how a worker keeps minimum times).
 -- What becomes of a want that is due: it is written, or held.
 use Rattle.std.specs.Prelude.{◌≡◌, ℕ, ℤ, ◌+◌, max, Bool, true, false, if◌then◌else◌, ◌==◌, List, [], ◌∷◌, ◌++◌, Option, Some, None, slice_index_or, slice_set}
 use Rattle.boss_model.specs.declared.answer.Answer.{Answer}

@@ -1,3 +1,4 @@
+-- Source: own.
 -- The wants that turns were given.
 use Rattle.std.specs.Prelude.{◌≡◌, ◌⊎◌, List, [], ◌∷◌, Some}
 use Rattle.def_guards.specs.declared.guard.Due.{Due}

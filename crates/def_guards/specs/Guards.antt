@@ -1,3 +1,5 @@
+-- Source: ASHRAE 135, clause 19.2 (minimum on and off times); that levels 1 to 5 go before them follows from slot 6,
+-- which stands there for them.
 -- What is kept of a point, and when a want of it may be written.
 use Rattle.std.specs.Prelude.{ℕ, ◌-◌, ◌==◌, ℤ, pos, nat_abs, nat_le, Bool, true, false, not, ◌&&◌, ◌||◌, if◌then◌else◌, Option, Some, None, List, map}
 use Rattle.std.specs.List.{list_any}

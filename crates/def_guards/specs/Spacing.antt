@@ -1,3 +1,5 @@
+-- Source: ASHRAE 135, clause 19.2 (minimum on and off times: a value stays for its time, unless a higher priority
+-- wants another).
 -- The writes to one point, and that it keeps each value for its minimum time.
 use Rattle.std.specs.Prelude.{◌≡◌, ◌⊎◌, ℕ, ◌-◌, ◌≤◌, ℤ, ◌==◌, Bool, true, false, if◌then◌else◌, List, [], ◌∷◌, ◌++◌}
 use Rattle.std.specs.List.{AllByRecursion}

@@ -1,3 +1,4 @@
+-- Source: own.
 -- The turns of a guarded worker, and what an end may leave of a last one.
 use Rattle.std.specs.Prelude.{◌≡◌, ℕ, suc, Bool, false, ◌||◌, if◌then◌else◌, List, [], ◌∷◌, Option}
 use Rattle.def_guards.specs.declared.guard.Guard.{Guard}

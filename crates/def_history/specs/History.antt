@@ -1,3 +1,4 @@
+-- Source: own.
 -- A history of the machine: what was done, in order, and at its end maybe the mark of a call whose disk failed.
 use Rattle.std.specs.Prelude.{◌≡◌, ℕ, ◌≤◌, Bool, true, false, ◌||◌, List, [], ◌∷◌, Option, Some, None}
 use Rattle.std.specs.List.{AllByRecursion}

@@ -1,3 +1,4 @@
+-- Source: own.
 -- What one call adds to a history, by its outcome.
 use Rattle.std.specs.Prelude.{ℕ, Bool, true, false, List, [], ◌∷◌, ◌++◌, Option, Some, None}
 use Rattle.boss_model.specs.declared.answer.Answer.{Answer}

@@ -1,3 +1,4 @@
+-- Source: own.
 -- That a process's number is made once: in a history, and where the machine is opened again and again.
 use Rattle.std.specs.Prelude.{◌≡◌, ◌⊎◌, ℕ, List, [], ◌∷◌}
 use Rattle.boss_model.specs.declared.answer.Answer.{Answer}

@@ -1,3 +1,4 @@
+-- Source: own.
 -- Devices that are handed to workers, one driver's to each, and come back.
 use Rattle.std.specs.Prelude.{◌≡◌, ℕ, suc, List, [], ◌∷◌, ◌++◌, map}
 use Rattle.boss_model.specs.DeviceCall.{DeviceCall}

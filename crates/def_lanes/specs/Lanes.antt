@@ -1,3 +1,4 @@
+-- Source: own.
 -- Lanes: each entry of a history belongs to a session, to a driver or to time, and each of these to one worker of a server.
 use Rattle.std.specs.Prelude.{ℕ, zero, suc, ◌==◌, Bool, true, false, List, filter}
 use Rattle.boss_model.specs.declared.command.Command.{Command}

@@ -1,3 +1,4 @@
+-- Source: own.
 -- What a worker adds to the one history, what it left in the end, and how two such parts are joined.
 use Rattle.std.specs.Prelude.{◌≡◌, ℕ, Bool, false, not, List, [], ◌++◌}
 use Rattle.std.specs.List.{AllByRecursion}

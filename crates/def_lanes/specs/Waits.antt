@@ -1,3 +1,4 @@
+-- Source: own.
 -- The pauses of workers, as a waiter noted them.
 use Rattle.std.specs.Prelude.{◌≡◌, ℕ, zero, suc, ◌+◌, Bool, List, Some, slice_get}
 use Rattle.std.specs.List.{AllByRecursion}

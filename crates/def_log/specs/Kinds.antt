@@ -1,3 +1,4 @@
+-- Source: own.
 -- The kind of a disk by its bytes, and which disk of a pair is in force.
 use Rattle.std.specs.Prelude.{ℕ, ◌+◌, ◌^◌, ◌%◌, ◌==◌, nat_le, Bool, ◌&&◌, ◌||◌, if◌then◌else◌, List, length, take, drop, codes, bytes_eq, slice_index_or}
 use Rattle.std.specs.Int.{w64, from_be_bytes}

@@ -1,3 +1,4 @@
+-- Source: own.
 -- A log of records behind a front. At a gate that is 1 stand a length, a record of so many bytes, and the next gate; a gate
 -- that is not 1 is shut, and what stands behind it means nothing.
 use Rattle.std.specs.Prelude.{◌≡◌, ◌≢◌, ◌⊎◌, ℕ, ◌≤◌, List, [], ◌∷◌, ◌++◌, length}

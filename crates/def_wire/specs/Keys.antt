@@ -1,3 +1,5 @@
+-- Source: RFC 8259 (JSON) (objects, numbers); keys and bounds own; what a write is made of (priority, lease,
+-- reversion, error policy): BOSS.
 -- What stands under a key of a JSON object; none where it is missing, of another kind, or out of the bounds given here. Of
 -- equal keys the last counts.
 use Rattle.std.specs.Prelude.{ℕ, ◌-◌, ℤ, pos, int_le, unsigned_abs, nat_le, Bool, ◌&&◌, if◌then◌else◌, List, [], ◌∷◌, length, codes, bytes_eq, Option, Some, None, option_map}

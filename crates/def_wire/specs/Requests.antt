@@ -1,3 +1,4 @@
+-- Source: RFC 8259 (JSON); what a line asks own.
 -- What a line asks, or why it is refused.
 use Rattle.std.specs.Prelude.{ℕ, ◌+◌, if◌then◌else◌, List, [], ◌∷◌, codes, bytes_eq, Option, Some, None, option_map}
 use Rattle.std.specs.Str.{is_utf8}

@@ -1,3 +1,4 @@
+-- Source: own.
 -- A script: lines that are answered one after another, and the writes to devices that they leave.
 use Rattle.std.specs.Prelude.{ℕ, zero, suc, ℤ, Bool, true, false, ◌||◌, nat_lt, if◌then◌else◌, List, [], ◌∷◌, ◌++◌, fold, length, Option, Some, None}
 use Rattle.std.specs.Option.{option_to_list}

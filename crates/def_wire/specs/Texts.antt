@@ -1,3 +1,4 @@
+-- Source: RFC 8259 (JSON); keys and words own.
 -- What is written: answers and notices as JSON objects without spaces, and what a script tells of the writes to devices.
 use Rattle.std.specs.Prelude.{ℕ, ℤ, List, [], ◌∷◌, ◌++◌, map, Bool, if◌then◌else◌, codes, decimal, slice_get, slice_index_or}
 use Rattle.std.specs.Fmt.{signed_decimal}

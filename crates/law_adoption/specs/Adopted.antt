@@ -1,3 +1,4 @@
+-- Source: own.
 -- What becomes of what outlasts a stop when its points are renumbered.
 use Rattle.std.specs.Prelude.{ℕ, Bool, true, if◌then◌else◌, List, [], ◌∷◌, map, filter, Option}
 use Rattle.std.specs.List.{list_all}

@@ -1,3 +1,4 @@
+-- Source: own; the default: ASHRAE 135, clause 19.2 (Relinquish_Default).
 -- What an adoption leaves of a target.
 use Rattle.std.specs.Prelude.{◌≡◌, ℤ}
 use Rattle.boss_model.specs.declared.answer.Basis.{Basis}

@@ -1,3 +1,4 @@
+-- Source: own.
 -- When a state cannot be adopted: a removed point is in use, or a point takes a value no more.
 use Rattle.std.specs.Prelude.{◌≡◌, ℕ, Bool, true, false, not, ◌&&◌, List, ◌++◌, map, filter, flat_map, Option}
 use Rattle.std.specs.List.{AllByRecursion, list_all}

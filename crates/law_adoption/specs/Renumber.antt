@@ -1,3 +1,4 @@
+-- Source: own.
 -- Points of a catalogue as points of another one.
 use Rattle.std.specs.Prelude.{◌≡◌, ℕ, ◌<◌, Bool, Option, Some, is_some, slice_get, unwrap_or}
 use Rattle.std.specs.Option.{option_and_then}

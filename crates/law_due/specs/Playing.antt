@@ -1,3 +1,4 @@
+-- Source: own.
 use Rattle.std.specs.Prelude.{ℕ, ◌≤◌, ◌^◌, nat_lt, nat_le, ◌&&◌, max, List, length, fold, filter}
 use Rattle.std.specs.List.{AllByRecursion}
 use Rattle.boss_model.specs.declared.command.Step.{Step}

@@ -1,3 +1,4 @@
+-- Source: own.
 -- Whether a command changes what outlasts a stop, as one knows who does it: from its answer, and from a few numbers.
 use Rattle.std.specs.Prelude.{ℕ, ◌+◌, ◌==◌, nat_lt, ℤ, unsigned_abs, Bool, true, false, not, ◌&&◌, ◌||◌, List, Option, Some, None, is_none, slice_get}
 use Rattle.std.specs.Option.{option_map_or}

@@ -1,3 +1,4 @@
+-- Source: own.
 -- Whether an act is refused, asked of a persistent part before time passes, so that a refused act leaves it as it is.
 use Rattle.std.specs.Prelude.{ℕ, ◌==◌, nat_lt, Bool, true, false, not, ◌&&◌, ◌||◌, List, find, Option, Some, None, is_some, is_none}
 use Rattle.std.specs.Option.{option_map_or}

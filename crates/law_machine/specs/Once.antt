@@ -1,3 +1,4 @@
+-- Source: own.
 -- Requests that a process numbers.
 use Rattle.std.specs.Prelude.{◌≡◌, ℕ, ◌≤◌, Some}
 use Rattle.std.specs.Option.{option_map_or}

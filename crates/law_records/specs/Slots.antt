@@ -1,3 +1,4 @@
+-- Source: own.
 -- The slots of a transaction's parts, and the leases that hold them.
 use Rattle.std.specs.Prelude.{ℕ, ◌<◌, ◌≤◌, ◌==◌, nat_lt, Bool, ◌&&◌, List, map, filter, filter_map, Option, is_none}
 use Rattle.std.specs.Option.{option_map}

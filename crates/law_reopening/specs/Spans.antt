@@ -1,3 +1,4 @@
+-- Source: own.
 -- A pair of disks between one opening and the next.
 use Rattle.std.specs.Prelude.{ℕ, List, [], ◌∷◌}
 use Rattle.def_history.specs.declared.entry.Entry.{Entry}

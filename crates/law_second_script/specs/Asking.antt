@@ -1,3 +1,5 @@
+-- Source: own; the questions: ASHRAE 135, clause 19.2 (Present_Value, Priority_Array), BOSS (states of a
+-- transaction).
 -- Scripts that only ask: their rows are questions, and between them devices are written and take what they are given.
 use Rattle.std.specs.Prelude.{◌≡◌, ℕ, max, Bool, true, false, ◌||◌, if◌then◌else◌, List, [], ◌∷◌}
 use Rattle.std.specs.List.{AllByRecursion}

@@ -1,3 +1,4 @@
+-- Source: own; levels: ASHRAE 135, clause 19.2.
 -- The ranges of the numbers that outlast a stop, in events and in persistent parts.
 use Rattle.std.specs.Prelude.{◌≡◌, ℕ, ◌+◌, ◌-◌, ◌*◌, ◌^◌, ◌<◌, ◌≤◌, ℤ, pos, negsuc, true, List, length, Option, Some, None}
 use Rattle.std.specs.List.{AllByRecursion}

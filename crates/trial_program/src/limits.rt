@@ -92,7 +92,7 @@ fn there_are_256_processes(rt: HostRuntime) {
     script.expect(&rt, alloc, "257 processes", 0);
 }
 
-/// A done transaction is known until 1,024 later ones are done.
+/// Of transactions that are done at most 1,024 are known, the last ones.
 #[test]
 fn done_transactions_are_kept_for_a_while(rt: HostRuntime) {
     let alloc = rt.alloc();
