@@ -350,8 +350,8 @@ def watch(address: str, process: str, first: int = 1, patience: float = 60.0) ->
 
 class Watch(Iterator[Notice]):
     """The Notices of a process as they come, without an end, until it is closed; over lost connections it goes on after the last one.
-    A number is left out where so many came meanwhile that it is no longer kept: the last 1,024 are. It takes one of the server's
-    workers for itself as long as it runs.
+    A number is left out where it is no longer kept: at most 1,024 are, the last ones. It takes one of the server's workers for itself as
+    long as it runs.
 
     `patience` is for how many seconds it connects anew before it raises Unanswered; `float("inf")` is for ever. UnknownHost for a host
     that was never found, ValueError for an address that is none, Malformed for a name that is none; the last two come from `watch`

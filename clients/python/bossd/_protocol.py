@@ -126,7 +126,7 @@ class BadReversion(Refused):
 
 
 class UnknownTransaction(Refused):
-    """No transaction of this number is kept; of those that are done the last 1,024 are."""
+    """No transaction of this number is kept; of those that are done at most 1,024 are, the last ones."""
 
 
 class NotYours(Refused):
