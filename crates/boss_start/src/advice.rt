@@ -47,7 +47,7 @@ fn sentence(
     }
     if status == Status::JOURNAL {
         return format!(in alloc;
-            "the journal {journal} was refused, as its line says; name this catalogue's journal, or a new one"
+            "the journal {journal} was refused, as its line says; name this catalogue's journal, adopt it where the catalogue changed, or name a new one"
         );
     }
     if status == Status::ADOPTION {
