@@ -1,6 +1,6 @@
 -- Source: own.
 -- What is said of an adoption: when a state is adopted, why it is not, what is left of the value, and when a fault is told.
-use Rattle.std.specs.Prelude.{◌≡◌, Bool, true, false, Option, None, Result, Ok, Err}
+use Rattle.std.specs.Prelude.{◌≡◌, Bool, true, false, None, Result, Ok, Err}
 use Rattle.boss_adopting.specs.Adopts.{Adopts}
 use Rattle.boss_adopting.specs.declared.refusal.AdoptRefusal.{AdoptRefusal}
 use Rattle.boss_adopting.specs.declared.refusal.AdoptRefusal.TheVariants as refusal
