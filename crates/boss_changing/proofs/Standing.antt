@@ -33,8 +33,17 @@ module _ {D : Type 0} {g : disk.Ghosts D} where
       (λ i. (of_plant i, under i))
       (words.changes_left old.disks new.disks old.engine.plant (lasting old) plant digest d told (stays new.disks.journal.disk told) (stays new.disks.spare told) run)
 
-  -- the same of an engine that was made for it
-  pub prepared_changes : (old new : Durable D g) (catalogue : Catalogue) (digest given : List ℕ) (d : Persistent) (prepared : Prepared) → IsRestored catalogue d prepared →
-      given ≡ digest → changes old new prepared.engine.plant given prepared.engine.state.persistent → changes old new (actuators catalogue) digest d
-  prepared_changes old new catalogue digest given d prepared is under run =
+  -- where nothing changes
+  pub keeps_holds : (durable : Durable D g) (old_plant plant : List Actuator) (old_digest digest : List ℕ) (d : Persistent) → g.tells →
+      durable.engine.plant ≡ old_plant → durable.disks.digest ≡ old_digest → ((disk : D) → g.tells → IsImage (g.story disk).window (g.reads disk)) →
+      (before : List Event) → keeps durable before →
+      OpensEither old_plant old_digest (lasting durable) plant digest d (g.reads (first_disk durable.disks)) (g.reads (second_disk durable.disks))
+  keeps_holds durable old_plant plant old_digest digest d told of_plant under stays before held =
+      changes_holds durable durable old_plant plant old_digest digest d told of_plant under stays (keeps_changes durable plant digest d before held)
+
+  -- where it changes to an engine that was made for it
+  pub prepared_changes : (old new : Durable D g) (catalogue : Catalogue) (d : Persistent) (prepared : Prepared) → IsRestored catalogue d prepared →
+      (given digest : List ℕ) → given ≡ digest → changes old new prepared.engine.plant given prepared.engine.state.persistent →
+      changes old new (actuators catalogue) digest d
+  prepared_changes old new catalogue d prepared is given digest under run =
       subst (λ (q : List Actuator × (List ℕ × State)). changes old new q.0 q.1.0 q.1.1.persistent) (λ i. (is.plant_is i, (under i, is.state_is i))) run
