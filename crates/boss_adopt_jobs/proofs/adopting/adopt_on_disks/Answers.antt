@@ -1,11 +1,16 @@
-use Rattle.std.proofs.Common.{◌≡◌, refl, inl, inr, ap, sym, ◌∙◌, subst}
+use Rattle.std.proofs.Common.{◌≡◌, refl, inl, inr, ap, sym, ◌∙◌, subst, Ok, Err, IfErr}
 use Rattle.boss_disk.specs.Window.{settled}
+use Rattle.boss_model.specs.Catalogue.{actuators}
 use Rattle.boss_outside.specs.Counts.{Rose}
+use Rattle.boss_opening.specs.Checks.{CheckCause}
+use Rattle.boss_opening.specs.declared.checking.Checked.TheVariants.{New, Found}
+use Rattle.boss_opening.specs.Opens.{digest_of, OpenRefuses}
 use Rattle.boss_pair_find.specs.Two.{counts}
 use Rattle.boss_jobs.specs.Jobs.{TellsLine}
 use Rattle.boss_jobs.specs.Journals.{on_disks}
 use Rattle.boss_jobs.proofs.Refusals.{both, told-so}
 use Rattle.boss_jobs.proofs.StandingLemmas.{same-stands}
+use Rattle.boss_adopt_jobs.proofs.Checking.{is-new, no-fault, not-new}
 use Rattle.boss_adopt_jobs.proofs.Following.{opened-so}
 use Rattle.boss_adopt_jobs.proofs.adopting.adopt_on_disks.Goals as goal
 
@@ -13,12 +18,17 @@ use Rattle.boss_adopt_jobs.proofs.adopting.adopt_on_disks.Goals as goal
 
 pub returns-in-Ok-New : goal.returns-in-Ok-New
 returns-in-Ok-New g c =
-    let checked = rw c.in-Ok-New.field-0-is at c.in-Ok-New.ensures in
+    let d = g.D.Disk in
+    let checked = c.check-found.ensures in
+    let disks = c.check-found.result.0 in
+    let answer = c.check-found.result.1 in
+    let one = rw c.in-Ok-New.is at c.in-Ok-New.field-0-is in
+    let is : answer ≡ Ok New = c.in-Ok-New.is ∙ ap Ok one in
     inr (inr (inl (record {
-      new_pair = checked.tells;
+      new_pair = λ told. is-new answer (actuators c.args.old.now) (digest_of c.args.old.now) (d.reads c.args.first) (d.reads c.args.second) is (checked.tells told);
       tells = subst (λ line. TellsLine g.K.Sink line 0 c.args.sink.now c.say-status.new.sink c.say-status.result.0) c.new_line.ensures c.say-status.ensures;
       holds = λ told. (checked.first_reads told, checked.second_reads told);
-      faults = ap both checked.cause;
+      faults = ap both (no-fault answer New (counts (d.faults c.args.first) (d.faults c.args.second)) (counts (d.faults disks.0) (d.faults disks.1)) is checked.cause);
     })))
 
 -- it is not
@@ -26,12 +36,18 @@ returns-in-Ok-New g c =
 pub returns-in-Ok-Found : goal.returns-in-Ok-Found
 returns-in-Ok-Found g c =
     let d = g.D.Disk in
-    let checked = rw c.in-Ok-Found.field-0-is at c.in-Ok-Found.ensures in
-    let disks = c.check-disks.result.0 in
+    let arm = c.in-Ok-Found in
+    let checked = c.check-found.ensures in
+    let disks = c.check-found.result.0 in
+    let answer = c.check-found.result.1 in
+    let found = Found arm.field-0-0 arm.field-0-1 arm.field-0-2 arm.field-0-3 in
+    let one = rw arm.is at arm.field-0-is in
+    let is : answer ≡ Ok found = arm.is ∙ ap Ok one in
     let was = on_disks d (c.args.first, c.args.second) in
     let mid = on_disks d disks in
     let now = on_disks d c.open_and_adopt.result.0 in
-    let same : mid.faults ≡ was.faults = ap both checked.cause in
+    let same : mid.faults ≡ was.faults =
+    ap both (no-fault answer found (counts (d.faults c.args.first) (d.faults c.args.second)) (counts (d.faults disks.0) (d.faults disks.1)) is checked.cause) in
     opened-so was now mid now g.K.Sink c.args.old.now c.args.new.now c.args.sink.now c.open_and_adopt.new.sink c.open_and_adopt.result.1.0
     (record {
       tells = λ tells. tells;
@@ -44,20 +60,24 @@ returns-in-Ok-Found g c =
       rose = λ rose. subst (λ n. Rose n now.faults) same rose;
       stood = λ stood. stood ∙ same;
     })
-    (λ told is. (checked.tells told).not_new is) c.open_and_adopt.ensures
+    (λ told. not-new answer (actuators c.args.old.now) (digest_of c.args.old.now) (d.reads c.args.first) (d.reads c.args.second)
+    arm.field-0-0 arm.field-0-1 arm.field-0-2 arm.field-0-3 is (checked.tells told)) c.open_and_adopt.ensures
 
 -- it is refused
 
 pub returns-in-Err : goal.returns-in-Err
 returns-in-Err g c =
     let d = g.D.Disk in
-    let disks = c.check-disks.result.0 in
+    let checked = c.check-found.ensures in
+    let disks = c.check-found.result.0 in
     let was = on_disks d (c.args.first, c.args.second) in
     let now = on_disks d disks in
-    let it = told-so g.K.Sink c.args.old.now was now c.args.sink.now c.say_journal-status.new.sink c.say_journal-status.result.0
-    (counts (d.faults c.args.first) (d.faults c.args.second)) (counts (d.faults disks.0) (d.faults disks.1)) refl refl c.in-Err.refusal
-    c.in-Err.ensures.refuses (λ tells _. (c.in-Err.ensures.first_reads tells, c.in-Err.ensures.second_reads tells)) c.say_journal-status.ensures c.in-Err.ensures.cause in
+    let before = counts (d.faults c.args.first) (d.faults c.args.second) in
+    let after = counts (d.faults disks.0) (d.faults disks.1) in
+    let it = told-so g.K.Sink c.args.old.now was now c.args.sink.now c.say_journal-status.new.sink c.say_journal-status.result.0 before after refl refl c.in-Err.refusal
+    (λ told. subst (λ r. IfErr r (OpenRefuses (actuators c.args.old.now) (digest_of c.args.old.now) (d.reads c.args.first) (d.reads c.args.second))) c.in-Err.is (checked.refuses told))
+    (λ told _. (checked.first_reads told, checked.second_reads told)) c.say_journal-status.ensures (subst (CheckCause before after) c.in-Err.is checked.cause) in
     elim it [
-      | inl none ↦ inl (none, λ told _. same-stands c.args.old.now was now (c.in-Err.ensures.first_reads told, c.in-Err.ensures.second_reads told))
+      | inl none ↦ inl (none, λ told _. same-stands c.args.old.now was now (checked.first_reads told, checked.second_reads told))
       | inr refused ↦ inr (inl refused)
     ]
