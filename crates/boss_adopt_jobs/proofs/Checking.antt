@@ -1,5 +1,5 @@
 -- What a check told, by its answer.
-use Rattle.std.proofs.Common.{◌≡◌, ℕ, List, Result, Ok, Err, IfOk, subst}
+use Rattle.std.proofs.Common.{◌≡◌, ℕ, List, Result, Ok, IfOk, subst}
 use Rattle.boss_model.specs.declared.state.Actuator.{Actuator}
 use Rattle.boss_disk_pair.specs.Causes.{Counts}
 use Rattle.boss_pair_find.specs.declared.refusal.DurableRefusal.{DurableRefusal}

@@ -1,5 +1,5 @@
 -- What comes of a journal that was opened, by the answer of the adoption and by what its disks hold once they are back.
-use Rattle.std.proofs.Common.{◌≡◌, ◌≢◌, ◌⊎◌, inl, inr, true, false, ℕ, ◌<◌, List, length, refl, sym, ap, subst, ◌∙◌, Err}
+use Rattle.std.proofs.Common.{◌≡◌, ◌≢◌, inl, inr, true, false, ℕ, ◌<◌, List, length, sym, ap, subst, ◌∙◌}
 use Rattle.boss_model.specs.Catalogue.{Catalogue, actuators}
 use Rattle.boss_model.specs.declared.event.Event.{Event}
 use Rattle.boss_model.specs.declared.state.Actuator.{Actuator}
@@ -25,10 +25,10 @@ use Rattle.boss_changing.specs.declared.fault.AdoptFault.TheVariants as fault
 use Rattle.boss_journal_lines.specs.Adoption.{adopted_line}
 use Rattle.boss_jobs.specs.Jobs.{TellsLine}
 use Rattle.boss_jobs.specs.Journals.{on_disks, Pair}
-use Rattle.boss_jobs.proofs.OpenedLemmas.{many-events, same-state, some-events, within-last}
+use Rattle.boss_jobs.proofs.OpenedLemmas.{many-events, some-events, within-last}
 use Rattle.boss_jobs.proofs.Refusals.{both, one-rose}
 use Rattle.boss_jobs.proofs.RunLemmas.{one-as, opens-as}
-use Rattle.boss_adopt_jobs.specs.Adoptions.{Adopted, ComesTo, OpensUnder, taken_over}
+use Rattle.boss_adopt_jobs.specs.Adoptions.{ComesTo, OpensUnder, taken_over}
 use Rattle.boss_adopt_jobs.specs.Telling.{TellsFault}
 
 -- ---- answers apart
@@ -43,6 +43,9 @@ lack-differs : fault.NoMemory ≢ fault.DiskFault
 lack-differs e = absurd cc
 
 -- ---- disks that came back of an engine
+
+one-state : (plant : List Actuator) (digest : List ℕ) (d : Persistent) (first second : List ℕ) → OpensToOne plant digest d d first second → OpensTo plant digest d first second
+one-state plant digest d first second it = elim it [ inl one ↦ one | inr other ↦ other ]
 
 module _ {D : Type 0} (d : disk.Ghosts D) where
   -- those of a value at rest open to what lasts of it, and others to what they may leave
@@ -64,7 +67,7 @@ module _ {D : Type 0} (d : disk.Ghosts D) where
       leaves durable (lasting durable) (lasting durable) → durable.engine.plant ≡ plant → durable.disks.digest ≡ digest → lasting durable ≡ to →
       d.tells → OpensTo plant digest to (d.reads disks.0) (d.reads disks.1)
   to-lasting durable disks plant digest to closed left plant_is digest_is to_is told =
-      same-state plant digest to to (d.reads disks.0) (d.reads disks.1) refl
+      one-state plant digest to (d.reads disks.0) (d.reads disks.1)
       (one-as durable.engine.plant plant durable.disks.digest digest (lasting durable) to (lasting durable) to (d.reads disks.0) (d.reads disks.1)
       plant_is digest_is to_is to_is (closed.left told (lasting durable) (lasting durable) left))
 
@@ -73,10 +76,10 @@ module _ {D K : Type 0} (d : disk.Ghosts D) (k : sink.Ghosts K) (old new : Catal
     (held : (any : List Event) → counted (length any) ≡ durable.disks.events → keeps durable any)
     (left : leaves durable (lasting durable) (lasting durable))
     (before after : K) (status : ℕ) where
-  number : ℕ
+  abbrev number : ℕ
   number = durable.disks.events
 
-  any : List Event
+  abbrev any : List Event
   any = some-events number
 
   kept : keeps durable any

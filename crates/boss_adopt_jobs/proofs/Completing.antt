@@ -1,6 +1,6 @@
 -- The job, by how it ended.
 use Rattle.std.proofs.Common.{◌≡◌, ◌≢◌, ◌⊎◌, inl, inr, ℕ, List, [], ◌∷◌, Option, Some, None, Err, subst}
-use Rattle.boss_model.specs.Catalogue.{Catalogue, actuators}
+use Rattle.boss_model.specs.Catalogue.{Catalogue}
 use Rattle.boss_model.specs.State.{Persistent}
 use Rattle.boss_outside.specs.Counts.{Rose}
 use Rattle.boss_outside.specs.declared.actuators.Actuators as actuators_of

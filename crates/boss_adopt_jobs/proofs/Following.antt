@@ -1,7 +1,6 @@
 -- What is said of an adoption over one pair is said of another that follows it.
-use Rattle.std.proofs.Common.{◌≡◌, inl, inr, ℕ, List, sym, ◌∙◌, refl}
+use Rattle.std.proofs.Common.{◌≡◌, inl, inr, ℕ, sym}
 use Rattle.boss_model.specs.Catalogue.{Catalogue, actuators}
-use Rattle.boss_model.specs.Limits.{last_number}
 use Rattle.boss_model.specs.State.{Persistent}
 use Rattle.boss_outside.specs.Counts.{Rose}
 use Rattle.boss_outside.specs.declared.sink.Sink as sink
@@ -9,7 +8,7 @@ use Rattle.def_disk_pair.specs.Pairs.{OpensCleanly}
 use Rattle.boss_disk_pair.specs.Images.{OpensEither, OpensTo}
 use Rattle.boss_pair_find.specs.Holds.{IsNewPair}
 use Rattle.boss_opening.specs.Opens.{digest_of, OpenedAt}
-use Rattle.boss_jobs.specs.Journals.{HoldSame, Pair}
+use Rattle.boss_jobs.specs.Journals.{Pair}
 use Rattle.boss_jobs.proofs.Lifting.{Follows, holds-so, none-so, refused-so, same-two, stands-so}
 use Rattle.boss_adopt_jobs.specs.Adoptions.{AdoptsOver, ComesTo, taken_over}
 use Rattle.boss_adopt_jobs.specs.Openings.{OpensToAdopt}

@@ -1,12 +1,12 @@
 -- Two catalogues that were loaded, one after the other, by the answers of each.
-use Rattle.std.proofs.Common.{◌≡◌, ◌⊎◌, inl, inr, ℕ, List, [], ◌∷◌, ◌++◌, Result, Ok, Err, refl, sym, ap, subst, ◌∙◌, append_assoc, append-nil}
+use Rattle.std.proofs.Common.{◌≡◌, inl, inr, ℕ, List, [], ◌∷◌, ◌++◌, Ok, Err, refl, sym, ap, subst, ◌∙◌, append_assoc, append-nil}
 use Rattle.boss_model.specs.Catalogue.{Catalogue}
 use Rattle.boss_files.specs.declared.files.Files as files
 use Rattle.boss_jobs.specs.declared.catalogue.Unusable.{Unusable}
 use Rattle.boss_jobs.specs.declared.catalogue.Unusable.TheVariants as unusable
 use Rattle.boss_jobs.specs.Journals.{AsksFront}
 use Rattle.boss_jobs.specs.Loads.{AsksFor, FaultOnly, Loads}
-use Rattle.boss_jobs.proofs.KeptLemmas.{more-asked, none-asked, one-asked}
+use Rattle.boss_jobs.proofs.KeptLemmas.{more-asked, one-asked}
 use Rattle.boss_adopt_jobs.specs.declared.catalogues.Change.{Change}
 use Rattle.boss_adopt_jobs.specs.Loads.{AsksBoth, BothCause, LoadsBoth, Spelling}
 
@@ -38,8 +38,8 @@ module _ (one other : List ℕ) (old mid new : List (List ℕ)) where
   pub asks-second : (why : Unusable) → mid ≡ old ++ one ∷ [] → AsksFor other mid new (Err why) → AsksFront (one ∷ other ∷ []) old new
   asks-second why first second = more-asked one (other ∷ []) old mid new first (asked-first other [] mid new why second)
 
-  pub asks-first : (why : Unusable) → AsksFor one old new (Err why) → AsksFront (one ∷ other ∷ []) old new
-  asks-first why first = asked-first one (other ∷ []) old new why first
+pub asks-first : (one other : List ℕ) (old new : List (List ℕ)) (why : Unusable) → AsksFor one old new (Err why) → AsksFront (one ∷ other ∷ []) old new
+asks-first one other old new why first = asked-first one (other ∷ []) old new why first
 
 -- ---- what was loaded
 
@@ -61,3 +61,6 @@ pub cause-first : (before now : ℕ) (why : Unusable) → FaultOnly before now (
 cause-first before now (unusable.Refused refusal) it = it
 cause-first before now unusable.FileFault it = it
 cause-first before now unusable.NoMemory it = it
+
+pub cause-second : (before mid now : ℕ) (why : Unusable) → mid ≡ before → FaultOnly mid now (Err why) → BothCause before now (Err why)
+cause-second before mid now why same it = cause-first before now why (subst (λ n. FaultOnly n now (Err why)) same it)

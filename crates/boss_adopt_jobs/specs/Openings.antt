@@ -1,6 +1,6 @@
 -- Source: own.
 -- What is said on the way of a journal that is not new.
-use Rattle.std.specs.Prelude.{◌≡◌, ◌⊎◌, ℕ}
+use Rattle.std.specs.Prelude.{◌⊎◌, ℕ}
 use Rattle.boss_model.specs.Catalogue.{Catalogue, actuators}
 use Rattle.boss_model.specs.State.{State}
 use Rattle.boss_outside.specs.declared.sink.Sink as sink

@@ -1,4 +1,3 @@
-ghost use Rattle.std.specs.Prelude.{◌≡◌};
 ghost use Rattle.boss_adopt_jobs.specs.Telling.{TellsFault, TellsRefusal};
 
 use boss_adopting::AdoptRefusal;

@@ -1,4 +1,4 @@
-use Rattle.std.proofs.Common.{◌≡◌, refl, inl, inr, ap, sym, ◌∙◌, subst, Ok, Err, IfErr}
+use Rattle.std.proofs.Common.{◌≡◌, refl, inl, inr, ap, sym, ◌∙◌, subst, Ok, IfErr}
 use Rattle.boss_disk.specs.Window.{settled}
 use Rattle.boss_model.specs.Catalogue.{actuators}
 use Rattle.boss_outside.specs.Counts.{Rose}
@@ -19,9 +19,9 @@ use Rattle.boss_adopt_jobs.proofs.adopting.adopt_on_disks.Goals as goal
 pub returns-in-Ok-New : goal.returns-in-Ok-New
 returns-in-Ok-New g c =
     let d = g.D.Disk in
-    let checked = c.check-found.ensures in
-    let disks = c.check-found.result.0 in
-    let answer = c.check-found.result.1 in
+    let checked = c.check-disks.ensures in
+    let disks = c.check-disks.result.0 in
+    let answer = c.check-disks.result.1 in
     let one = rw c.in-Ok-New.is at c.in-Ok-New.field-0-is in
     let is : answer ≡ Ok New = c.in-Ok-New.is ∙ ap Ok one in
     inr (inr (inl (record {
@@ -37,9 +37,9 @@ pub returns-in-Ok-Found : goal.returns-in-Ok-Found
 returns-in-Ok-Found g c =
     let d = g.D.Disk in
     let arm = c.in-Ok-Found in
-    let checked = c.check-found.ensures in
-    let disks = c.check-found.result.0 in
-    let answer = c.check-found.result.1 in
+    let checked = c.check-disks.ensures in
+    let disks = c.check-disks.result.0 in
+    let answer = c.check-disks.result.1 in
     let found = Found arm.field-0-0 arm.field-0-1 arm.field-0-2 arm.field-0-3 in
     let one = rw arm.is at arm.field-0-is in
     let is : answer ≡ Ok found = arm.is ∙ ap Ok one in
@@ -68,8 +68,8 @@ returns-in-Ok-Found g c =
 pub returns-in-Err : goal.returns-in-Err
 returns-in-Err g c =
     let d = g.D.Disk in
-    let checked = c.check-found.ensures in
-    let disks = c.check-found.result.0 in
+    let checked = c.check-disks.ensures in
+    let disks = c.check-disks.result.0 in
     let was = on_disks d (c.args.first, c.args.second) in
     let now = on_disks d disks in
     let before = counts (d.faults c.args.first) (d.faults c.args.second) in

@@ -1,4 +1,4 @@
-use Rattle.std.proofs.Common.{◌≡◌, refl, inl, inr, ap, sym, ◌∙◌, subst}
+use Rattle.std.proofs.Common.{◌≡◌, refl, inl, inr, ap, ◌∙◌, subst}
 use Rattle.boss_pair_find.specs.Two.{counts}
 use Rattle.boss_outside.specs.Counts.{Rose}
 use Rattle.boss_jobs.specs.Journals.{on_disks}

@@ -1,6 +1,6 @@
-use Rattle.std.proofs.Common.{◌≡◌, ℕ, List, Some, None, Option, Ok, Err, refl, sym, ap, subst, ◌∙◌}
-use Rattle.boss_jobs.specs.Loads.{FaultOnly, Loads}
-use Rattle.boss_adopt_jobs.proofs.Loading.{asks-first, asks-second, asks-whole, cause-first, first-refused, second-refused}
+use Rattle.std.proofs.Common.{Ok, Err, subst}
+use Rattle.boss_jobs.specs.Loads.{Loads}
+use Rattle.boss_adopt_jobs.proofs.Loading.{asks-first, asks-second, asks-whole, cause-first, cause-second, first-refused, second-refused}
 use Rattle.boss_adopt_jobs.proofs.catalogues.load_both.Goals as goal
 
 -- ---- both can be used
@@ -13,7 +13,7 @@ returns-in-Ok-load-clause-loads g c = (
 
 pub returns-in-Ok-load-clause-asks : goal.returns-in-Ok-load-clause-asks
 returns-in-Ok-load-clause-asks g c tells =
-    asks-whole c.args.old_name.now c.args.new_name.now _ _ _ _ (c.in-Ok.ensures.asks tells) (c.in-Ok-load.ensures.asks tells)
+    asks-whole c.args.old_name.now c.args.new_name.now _ _ _ (record { old = c.in-Ok.old; new = c.in-Ok-load.new }) (c.in-Ok.ensures.asks tells) (c.in-Ok-load.ensures.asks tells)
 
 -- ---- the new one is refused
 
@@ -28,7 +28,7 @@ returns-in-Err-load-clause-asks g c tells =
 
 pub returns-in-Err-load-clause-cause : goal.returns-in-Err-load-clause-cause
 returns-in-Err-load-clause-cause g c =
-    cause-first _ _ c.in-Err-load.unusable (subst (λ n. FaultOnly n _ (Err c.in-Err-load.unusable)) c.in-Ok.ensures.cause c.in-Err-load.ensures.cause)
+    cause-second _ _ _ c.in-Err-load.unusable c.in-Ok.ensures.cause c.in-Err-load.ensures.cause
 
 -- ---- the old one is
 
@@ -37,7 +37,7 @@ returns-in-Err-clause-loads g c =
     first-refused g.F.Files c.args.devices c.args.files.now c.args.old_name.now c.args.new_name.now c.in-Err.unusable c.in-Err.ensures.loads
 
 pub returns-in-Err-clause-asks : goal.returns-in-Err-clause-asks
-returns-in-Err-clause-asks g c tells = asks-first c.args.old_name.now c.args.new_name.now _ _ _ c.in-Err.unusable (c.in-Err.ensures.asks tells)
+returns-in-Err-clause-asks g c tells = asks-first c.args.old_name.now c.args.new_name.now _ _ c.in-Err.unusable (c.in-Err.ensures.asks tells)
 
 pub returns-in-Err-clause-cause : goal.returns-in-Err-clause-cause
 returns-in-Err-clause-cause g c = cause-first _ _ c.in-Err.unusable c.in-Err.ensures.cause

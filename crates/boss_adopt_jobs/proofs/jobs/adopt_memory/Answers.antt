@@ -1,4 +1,4 @@
-use Rattle.std.proofs.Common.{◌≡◌, [], ◌∷◌, Ok, Err, inl, inr, refl, subst, vec_len, rules, unwrap_or, ap}
+use Rattle.std.proofs.Common.{◌≡◌, [], Ok, Err, inl, inr, refl, subst, vec_len, rules, unwrap_or, ap}
 use Rattle.boss_jobs.specs.Jobs.{TellsLine, world}
 use Rattle.boss_jobs.specs.declared.catalogue.Unusable.TheVariants as unusable
 use Rattle.boss_adopt_jobs.specs.Loads.{LoadsBoth}
