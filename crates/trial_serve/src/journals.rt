@@ -1,11 +1,13 @@
 //! Servers over a journal on two disks in memory, one after another: what each connection is answered, and the journal's bytes
-//! afterwards.
+//! afterwards; and a server whose disk fails.
 
 use crate::connections::Talk;
 use crate::rows::PLAIN;
 use crate::stage::{Pair, Setting, run_on_disks};
 use boss_disk::MemoryDisk;
+use boss_manager::check_on_disks;
 use boss_model::{Items, NoMemory};
+use boss_outside::BytesSink;
 use boss_points::Catalogue;
 use std::alloc::Global;
 use std::test::Fail;
@@ -15,25 +17,28 @@ use trial_parts::THREE_POINTS;
 struct Row {
     shows: &'static str,
     settings: &'static [Setting],
-    /// The number of the first disk's call that fails, counted from 1 over all of them; 0 is none.
-    disk_fails: u64,
     told: &'static str,
-    /// What the first disk has behind its heading of 41 bytes.
+    /// What the first disk has behind its heading.
     log: &'static [&'static [u8]],
 }
-
-/// Its first read fails.
-const LOST_ATTACH: Talk = Talk {
-    text: r#"{"op":"attach","process":"a"}
-"#,
-    fails: 1,
-};
 
 /// Three requests in one piece.
 const HOLD_AND_READ: Talk = Talk {
     text: r#"{"op":"attach","process":"a"}
 {"op":"submit","writes":[{"point":"ahu1.damper","value":45000,"priority":8,"lease":60000}]}
 {"op":"read","point":"ahu1.damper"}
+"#,
+    fails: 0,
+};
+
+/// The same, and what comes next is lost.
+const LOST_HOLDER: Talk = Talk {
+    fails: 2,
+    ..HOLD_AND_READ
+};
+
+const ATTACH_B: Talk = Talk {
+    text: r#"{"op":"attach","process":"b"}
 "#,
     fails: 0,
 };
@@ -50,6 +55,9 @@ const AGAIN: Setting = Setting {
     ..PLAIN
 };
 
+/// The heading of a journal, before the digest of its catalogue.
+const HEADING: &[u8] = b"BOSSJRNL\x02";
+
 /// An open gate, 42 bytes: the attach of `a` at 1,000, and behind it a submit by process 0, which aborts, of the damper at 45 for a
 /// minute, at priority 8.
 const HELD: &[u8] =
@@ -59,11 +67,11 @@ const HELD: &[u8] =
 const HELD_BY_NUMBER: &[u8] =
     b"\x01\0\0\0\x32\x01\0\0\0\0\0\0\x03\xe8\x01a\x08\0\0\0\0\0\0\x03\xe8\0\0\0\0\0\0\0\0\0\x05\0\x01\0\0\0\0\0\0\0\0\0\0\xaf\xc8\x08\0\0\xea\x60\0";
 
-/// An open gate, 11 bytes: the attach alone.
-const ATTACHED: &[u8] = b"\x01\0\0\0\x0b\x01\0\0\0\0\0\0\x03\xe8\x01a";
-
 /// An open gate, 11 bytes: process 0 is lost at 1,000.
 const LOST: &[u8] = b"\x01\0\0\0\x0b\x05\0\0\0\0\0\0\x03\xe8\0\0";
+
+/// An open gate, 11 bytes: the attach of `b` at 1,000.
+const ATTACHED_B: &[u8] = b"\x01\0\0\0\x0b\x01\0\0\0\0\0\0\x03\xe8\x01b";
 
 /// A gate that is shut.
 const SHUT: &[u8] = b"\0";
@@ -76,7 +84,6 @@ const ROWS: &[Row] = &[
             workers: &[&[HOLD_AND_READ]],
             ..PLAIN
         }],
-        disk_fails: 0,
         told: r#"session 1
 {"ok":"attached","process":"a","next":1}
 {"ok":"accepted","txn":1,"until":61000}
@@ -88,32 +95,31 @@ status 0
 "#,
         log: &[HELD, LOST, SHUT],
     },
-    // The second connection's first read fails: it is told nothing, and holds no process whose loss could be noted.
+    // The first connection's second read fails, which is kept as its end is. A process without a lease is lost without an event.
     Row {
         shows: "of two connections one is lost",
         settings: &[Setting {
-            workers: &[&[HOLD_AND_READ, LOST_ATTACH]],
+            workers: &[&[LOST_HOLDER, ATTACH_B]],
             ..PLAIN
         }],
-        disk_fails: 0,
         told: r#"session 1
 {"ok":"attached","process":"a","next":1}
 {"ok":"accepted","txn":1,"until":61000}
 {"ok":"read","point":"ahu1.damper","value":45000,"from":"lease","priority":8,"txn":1,"mark":"pending"}
 session 2
+{"ok":"attached","process":"b","next":1}
 pauses 0
 pauses 1 closed
-events 3 now 1000 leases 0 pending 0
+events 4 now 1000 leases 0 pending 0
 status 0
 "#,
-        log: &[HELD, LOST, SHUT],
+        log: &[HELD, LOST, ATTACHED_B, SHUT],
     },
     // The second server knows the number: the answer is that of the first, though the lease is over, and nothing is written. Its attach
-    // is an event of a process that is known by its name, so it is none of the log.
+    // is of a process that is known by its name, so it is no event.
     Row {
         shows: "a numbered submit that is sent again behind an opening is made once",
         settings: &[AGAIN, AGAIN],
-        disk_fails: 0,
         told: r#"session 1
 {"ok":"attached","process":"a","next":1}
 {"ok":"accepted","txn":1,"until":61000}
@@ -133,7 +139,7 @@ status 0
     },
 ];
 
-/// Two empty disks, of which the first fails the call of this number.
+/// Two empty disks, of which the first fails the call of this number, counted from 1; 0 is none.
 fn empty_disks(alloc: Global, fails: u64) -> Result<Pair, NoMemory> {
     let mut calls = Items::new(alloc);
     calls.try_push(fails)?;
@@ -142,15 +148,13 @@ fn empty_disks(alloc: Global, fails: u64) -> Result<Pair, NoMemory> {
     Ok((first, second))
 }
 
-/// What stands behind the heading of a disk, or nothing where there is no heading.
-fn log_of(bytes: &[u8]) -> &[u8] {
-    bytes.get(41..).unwrap_or(&[])
-}
-
-fn joined(alloc: Global, parts: &[&[u8]]) -> Result<Vec<u8>, NoMemory> {
+/// The journal of this catalogue with this log.
+fn journal(alloc: Global, catalogue: &Catalogue, log: &[&[u8]]) -> Result<Vec<u8>, NoMemory> {
     let mut bytes = Vec::new(alloc);
-    for part in parts {
-        bytes.extend_from_slice(part)?;
+    bytes.extend_from_slice(HEADING)?;
+    bytes.extend_from_slice(&catalogue.digest())?;
+    for record in log {
+        bytes.extend_from_slice(record)?;
     }
     Ok(bytes)
 }
@@ -160,7 +164,7 @@ fn servers_over_a_journal(rt: HostRuntime) -> Result<(), Fail> {
     let alloc = rt.alloc();
     let catalogue = Catalogue::read(alloc, THREE_POINTS.as_bytes())?;
     for row in ROWS {
-        let mut disks = empty_disks(alloc, row.disk_fails)?;
+        let mut disks = empty_disks(alloc, 0)?;
         let mut told = String::new(alloc);
         for setting in row.settings {
             let (text, left) = run_on_disks(&rt, alloc, &catalogue, setting, disks)?;
@@ -168,9 +172,161 @@ fn servers_over_a_journal(rt: HostRuntime) -> Result<(), Fail> {
             disks = left;
         }
         assert_eq!(rt; told.as_str(), row.told, "{}", row.shows);
-        let bytes = disks.0.into_bytes();
-        let wanted = joined(alloc, row.log)?;
-        assert!(rt; log_of(bytes.slice()) == wanted.as_slice(), "{}", row.shows);
+        let (first, second) = disks;
+        let wanted = journal(alloc, &catalogue, row.log)?;
+        assert!(rt;
+            first.into_bytes().slice() == wanted.as_slice(),
+            "{}",
+            row.shows
+        );
+        assert!(rt; second.into_bytes().slice().is_empty(), "{}", row.shows);
     }
+    Ok(())
+}
+
+/// A worker with a connection behind another.
+const TWO: Setting = Setting {
+    workers: &[&[HOLD_AND_READ, ATTACH_B]],
+    ..PLAIN
+};
+
+/// What a server tells whose disk failed, and what a check of the journal may tell then: that what failed was not done, or that it was.
+struct Broken {
+    told: &'static str,
+    held: [&'static str; 2],
+}
+
+/// The disk fails as the journal is opened; as the first connection's requests are kept; as its loss is; as the second connection's attach
+/// is; or not at all. A connection that comes behind the one that met the fault is not taken, and time meets a disk that failed before.
+const BROKEN: [Broken; 5] = [
+    Broken {
+        told: "status 5\n",
+        held: ["journal new\n", "events 0 now 0 leases 0 pending 0\n"],
+    },
+    Broken {
+        told: r#"session 1
+{"error":"stopped"}
+pauses 0
+pauses 0
+status 5
+"#,
+        held: [
+            "events 0 now 0 leases 0 pending 0\n",
+            "events 2 now 1000 leases 1 pending 0\n",
+        ],
+    },
+    Broken {
+        told: r#"session 1
+{"ok":"attached","process":"a","next":1}
+{"ok":"accepted","txn":1,"until":61000}
+{"ok":"read","point":"ahu1.damper","value":45000,"from":"lease","priority":8,"txn":1,"mark":"pending"}
+pauses 0
+pauses 0
+status 5
+"#,
+        held: [
+            "events 2 now 1000 leases 1 pending 0\n",
+            "events 3 now 1000 leases 0 pending 0\n",
+        ],
+    },
+    Broken {
+        told: r#"session 1
+{"ok":"attached","process":"a","next":1}
+{"ok":"accepted","txn":1,"until":61000}
+{"ok":"read","point":"ahu1.damper","value":45000,"from":"lease","priority":8,"txn":1,"mark":"pending"}
+session 2
+{"error":"stopped"}
+pauses 0
+pauses 0
+status 5
+"#,
+        held: [
+            "events 3 now 1000 leases 0 pending 0\n",
+            "events 4 now 1000 leases 0 pending 0\n",
+        ],
+    },
+    Broken {
+        told: r#"session 1
+{"ok":"attached","process":"a","next":1}
+{"ok":"accepted","txn":1,"until":61000}
+{"ok":"read","point":"ahu1.damper","value":45000,"from":"lease","priority":8,"txn":1,"mark":"pending"}
+session 2
+{"ok":"attached","process":"b","next":1}
+pauses 0
+pauses 1 closed
+events 4 now 1000 leases 0 pending 0
+status 0
+"#,
+        held: [
+            "events 4 now 1000 leases 0 pending 0\n",
+            "events 4 now 1000 leases 0 pending 0\n",
+        ],
+    },
+];
+
+/// More calls than the server makes of its first disk.
+const MANY: u64 = 60;
+
+/// The place of what is told among those that may be.
+fn place_of(told: &str) -> Option<usize> {
+    for place in 0..5usize {
+        if BROKEN[place].told == told {
+            return Some(place);
+        }
+    }
+    None
+}
+
+/// What a check tells of what a crash may leave of two disks: what was not synced is lost for 0, and stays for 1.
+fn checked(
+    alloc: Global,
+    catalogue: &Catalogue,
+    disks: &Pair,
+    pick: u64,
+) -> Result<BytesSink, NoMemory> {
+    let first = disks.0.image(alloc, pick)?;
+    let second = disks.1.image(alloc, pick)?;
+    let mut sink = BytesSink::new(alloc, Items::new(alloc))?;
+    let _disks = check_on_disks(alloc, catalogue, first, second, &mut sink);
+    Ok(sink)
+}
+
+/// Whether a crash may leave only what this row has.
+fn may_be_left(
+    alloc: Global,
+    catalogue: &Catalogue,
+    disks: &Pair,
+    held: &[&str; 2],
+) -> Result<bool, NoMemory> {
+    for pick in 0..2u64 {
+        let sink = checked(alloc, catalogue, disks, pick)?;
+        let told = sink.taken();
+        if told != held[0].as_bytes() && told != held[1].as_bytes() {
+            return Ok(false);
+        }
+    }
+    Ok(true)
+}
+
+/// Each call of the disk fails in turn, and none of what may be told is missing.
+#[test]
+fn behind_a_disk_that_failed_no_connection_is_taken(rt: HostRuntime) -> Result<(), Fail> {
+    let alloc = rt.alloc();
+    let catalogue = Catalogue::read(alloc, THREE_POINTS.as_bytes())?;
+    let mut place: usize = 0;
+    for call in 1..MANY {
+        let disks = empty_disks(alloc, call)?;
+        let (told, left) = run_on_disks(&rt, alloc, &catalogue, &TWO, disks)?;
+        let Some(next) = place_of(told.as_str()) else {
+            return Err(told.into());
+        };
+        assert!(rt; place <= next && next - place <= 1);
+        place = next;
+        assert!(rt;
+            may_be_left(alloc, &catalogue, &left, &BROKEN[place].held)?,
+            "call {call}"
+        );
+    }
+    assert_eq!(rt; place, 4);
     Ok(())
 }
