@@ -65,6 +65,8 @@ struct Talk {
     lines: &'static [&'static str],
     /// How many bytes without a line end come behind the lines.
     rest: usize,
+    /// The lines that come behind these, of which the first begins with them.
+    behind: &'static [&'static str],
     piece: Piece,
     moments: &'static [u32],
     fails: Fails,
@@ -78,6 +80,7 @@ const ONE_PIECE: Talk = Talk {
     shows: "one piece",
     lines: &[ATTACH, SUBMIT, READ],
     rest: 0,
+    behind: &[],
     piece: Piece::Whole,
     moments: &[1000],
     fails: NONE_FAILS,
@@ -238,6 +241,21 @@ const OTHER_LINES: &[Talk] = &[
             TOO_LONG,
             "TooLong; bytes left: 0; a is free",
             "15 at 1000",
+        ],
+        ..ONE_PIECE
+    },
+    Talk {
+        shows: "behind a line that is too long nothing more is read, and nothing is said",
+        lines: &[READ],
+        rest: 65_536,
+        behind: &["", READ],
+        counts: true,
+        told: &[
+            FREE,
+            TOO_LONG,
+            "TooLong; bytes left: 37; a is free",
+            "1 at 1000",
+            "writes: 2",
         ],
         ..ONE_PIECE
     },
@@ -655,6 +673,7 @@ fn input(alloc: Global, talk: &Talk) -> Result<String, AllocError> {
     for _ in 0..talk.rest {
         text.push('x')?;
     }
+    text.push_str(joined(alloc, talk.behind)?.as_str())?;
     Ok(text)
 }
 

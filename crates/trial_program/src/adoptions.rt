@@ -1,45 +1,10 @@
 //! A changed catalogue that is adopted or refused, by the program's words: one journal over several runs.
 
-ghost use Rattle.std.specs.Prelude.{IsTrue};
-ghost use Rattle.boss_files.specs.Shelf.{have_distinct_names};
-
 use crate::outside::*;
-use boss_files::MemoryFiles;
-use boss_model::Items;
+use crate::runs::{expect_rows, shelf_of_catalogues};
 use std::alloc::Global;
 use std::process::Abort;
-use std::sync::Wait;
-use std::thread::Threads;
-use trial_parts::THREE_POINTS;
 
-/// The three points, with the lamp on by default, without the fan, and with a valve.
-const WITH_VALVE: &str = "drivers=['field']
-point=[
-{name='ahu1.damper',driver='field',kind='analog',min=0,max=100000,default=20000},
-{name='lamp',driver='field',kind='binary',default=1},
-{name='valve',driver='field',kind='analog',min=0,max=100,default=10}]
-";
-
-/// The three points without the damper.
-const WITHOUT_DAMPER: &str = "drivers=['field']
-point=[
-{name='lamp',driver='field',kind='binary',default=0},
-{name='fan',driver='field',kind='multi',states=3,default=1}]
-";
-
-/// The three points, where the damper opens less far.
-const NARROW: &str = "drivers=['field']
-point=[
-{name='ahu1.damper',driver='field',kind='analog',min=0,max=40000,default=20000},
-{name='lamp',driver='field',kind='binary',default=0},
-{name='fan',driver='field',kind='multi',states=3,default=1}]
-";
-
-/// A catalogue that is none.
-const BROKEN: &str = "drivers=['field']\npoint=3\n";
-
-/// What each row shows, and its runs over the same files: the words behind `$`, the lines of the input behind `>`, the lines of the
-/// output, and the status.
 const ROWS: &str = r#"
 == a lease goes on, and the points that are added or changed have their defaults
 $ script three j
@@ -157,75 +122,51 @@ usage
 status 2
 "#;
 
-/// Runs the program once on these files, and gives all that it tells as a text of a row.
-fn told_of<R: Abort + Threads + Wait + Sync>(
-    rt: &R,
-    alloc: Global,
-    files: &mut MemoryFiles,
-    words: &str,
-    lines: &str,
-) -> String {
-    let mut input = String::new(alloc);
-    for line in lines.split('\n') {
-        if let Some(asked) = line.strip_prefix("> ") {
-            writeln!(input, "{asked}").expect(rt, "memory");
-        }
-    }
-    let mut text = String::new(alloc);
-    let ran = run_on(rt, alloc, files, words, input.as_str(), NONE_FAILS);
-    let output = str::from_utf8(ran.sink.taken()).expect(rt, "a text");
-    text.push_str(output).expect(rt, "memory");
-    writeln!(text, "status {}", ran.status.0).expect(rt, "memory");
-    text
+#[test]
+fn catalogues_are_adopted_or_refused(rt: HostRuntime) {
+    expect_rows(&rt, rt.alloc(), ROWS);
 }
 
-/// What the lines of a run are to tell, without its input.
-fn output_of(rt: &impl Abort, alloc: Global, lines: &str) -> String {
-    let mut output = String::new(alloc);
-    for line in lines.split('\n') {
-        if !line.is_empty() && !line.starts_with("> ") {
-            writeln!(output, "{line}").expect(rt, "memory");
-        }
-    }
-    output
-}
+/// A lease that goes on under the new catalogue.
+const HOLD: &str = r#"{"op":"attach","process":"a"}
+{"at":1000,"op":"submit","writes":[{"point":"ahu1.damper","value":45000,"priority":8,"lease":60000}]}
+"#;
 
-fn expect_row<R: Abort + Threads + Wait + Sync>(rt: &R, alloc: Global, row: &str) {
-    let (shows, runs) = row.split_once("\n$ ").expect(rt, "what it shows");
-    let contents = catalogues(rt, alloc);
-    let mut files = MemoryFiles::new(alloc, contents, Items::new(alloc)).expect(rt, "memory");
-    for run in runs.split("\n$ ") {
-        let (words, lines) = run.split_once('\n').expect(rt, "what it tells");
-        let told = told_of(rt, alloc, &mut files, words, lines);
-        let wanted = output_of(rt, alloc, lines);
-        assert_eq!(rt; told.as_str(), wanted.as_str(), "{shows}: {words}");
-    }
-}
+/// The second file of the journal then: generation 1 under the new catalogue, whose digest begins behind byte 9, two events before the
+/// state, and the state, whose one point has the number that it had.
+const ADOPTED: &[&[u8]] = &[
+    b"BOSSSNAP\x02",
+    b"\xea\xdc\x84\x8d\xa1\x33\x05\xe3\x55\x49\x57\x4e\xeb\xc2\x96\x75\xc3\x9e\xaa\x34\x18\x66\x93\x89\xe7\xab\x21\x50\xbf\x57\x22\x0d",
+    b"\0\0\0\0\0\0\0\x01\0\0\0\0\0\0\0\x02\0\0\0\0\0\0\0\x60",
+    b"\0\0\0\0\0\0\x03\xe8\0\0\0\0\0\0\0\x02\0\x01\x01a\0\0\0\0\0\0\0\0\0\0\0",
+    b"\0\0\0\x01\0\0\0\0\0\0\0\x01\0\0\0\x01\0\0\0\0\x08\0\0\0",
+    b"\0\0\0\x01\0\0\0\0\0\0\0\x01\0\0\0\0\0\0\x08\0\0\0\0\0\0\xaf\xc8\0\0\0\0\0\0\xee\x48\0\0\0\0\0\0",
+    b"\0",
+];
 
-/// The catalogues, each under its name, and no journal.
-fn catalogues(rt: &impl Abort, alloc: Global) -> Items<(Items<u8>, Items<u8>)>
-    ensures { IsTrue (have_distinct_names result) }
-{
-    let mut files = Vec::new(alloc);
-    let three = (bytes(rt, alloc, "three"), bytes(rt, alloc, THREE_POINTS));
-    files.push(three).expect(rt, "memory");
-    let valve = (bytes(rt, alloc, "valve"), bytes(rt, alloc, WITH_VALVE));
-    files.push(valve).expect(rt, "memory");
-    let without_damper = (
-        bytes(rt, alloc, "no-damper"),
-        bytes(rt, alloc, WITHOUT_DAMPER),
-    );
-    files.push(without_damper).expect(rt, "memory");
-    let narrow = (bytes(rt, alloc, "narrow"), bytes(rt, alloc, NARROW));
-    files.push(narrow).expect(rt, "memory");
-    let broken = (bytes(rt, alloc, "broken"), bytes(rt, alloc, BROKEN));
-    files.push(broken).expect(rt, "memory");
-    Items::from_vec(files)
+fn joined(rt: &impl Abort, alloc: Global, parts: &[&[u8]]) -> Vec<u8> {
+    let mut bytes = Vec::new(alloc);
+    for part in parts {
+        bytes.extend_from_slice(part).expect(rt, "memory");
+    }
+    bytes
 }
 
 #[test]
-fn catalogues_are_adopted_or_refused(rt: HostRuntime) {
-    for row in ROWS.split("\n== ").skip(1) {
-        expect_row(&rt, rt.alloc(), row);
-    }
+fn an_adopted_state_has_its_bytes(rt: HostRuntime) {
+    let alloc = rt.alloc();
+    let mut files = shelf_of_catalogues(&rt, alloc);
+    run_on(&rt, alloc, &mut files, "script three j", HOLD, NONE_FAILS);
+    run_on(
+        &rt,
+        alloc,
+        &mut files,
+        "adopt three valve j",
+        "",
+        NONE_FAILS,
+    );
+    let wanted = joined(&rt, alloc, ADOPTED);
+    assert_eq!(&rt; wanted.len(), 162);
+    assert!(&rt; files.bytes_under("j.b") == Some(wanted.as_slice()));
+    assert_eq!(&rt; files.bytes_under("j").expect(&rt, "a file").len(), 94);
 }

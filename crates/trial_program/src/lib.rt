@@ -1,5 +1,5 @@
-//! Trials of the whole transaction manager: worked scripts, byte for byte, the statuses of runs that end early, plans and rules that are refused, catalogues that are adopted,
-//! generated loads, and the bounds of what is kept.
+//! Trials of the whole transaction manager: worked scripts, byte for byte, the statuses of runs that end early, plans and rules that are refused, journals that are checked,
+//! catalogues that are adopted, generated loads, and the bounds of what is kept.
 #![tactic(auto)]
 
 #[cfg(test)]
@@ -7,7 +7,11 @@ mod adoptions;
 #[cfg(test)]
 mod endings;
 #[cfg(test)]
+mod journals;
+#[cfg(test)]
 mod limits;
+#[cfg(test)]
+mod made;
 #[cfg(test)]
 mod outside;
 #[cfg(test)]
@@ -15,4 +19,8 @@ mod plans;
 #[cfg(test)]
 mod rules;
 #[cfg(test)]
+mod runs;
+#[cfg(test)]
 mod scripts;
+#[cfg(test)]
+mod shorter_lists;

@@ -145,6 +145,37 @@ fn each_kind_has_its_bytes(rt: HostRuntime) -> Result<(), Fail> {
     Ok(())
 }
 
+/// The longest event: a numbered submit by process 0, which aborts, of 32 writes, each with eight steps.
+fn longest(alloc: Global) -> Result<Vec<u8>, Fail> {
+    let mut bytes = Vec::new(alloc);
+    bytes.extend_from_slice(b"\x08\0\0\0\0\0\0\x03\xe8\0\0\0\0\0\0\0\0\0\x05\0\x20")?;
+    for point in 0..32u32 {
+        bytes.extend_from_slice(&point.to_be_bytes())?;
+        bytes.extend_from_slice(b"\0\0\0\0\0\0\xaf\xc8\x08\0\0\xea\x60\x08")?;
+        for _ in 0..8 {
+            bytes.extend_from_slice(b"\0\0\0\0\0\0\x75\x30\0\0\x13\x88")?;
+        }
+    }
+    Ok(bytes)
+}
+
+#[test]
+fn the_longest_event_has_3669_bytes(rt: HostRuntime) -> Result<(), Fail> {
+    let alloc = rt.alloc();
+    let bytes = longest(alloc)?;
+    assert_eq!(rt; bytes.len(), 3_669);
+    let Some((event, used)) = read_event(alloc, &bytes)? else {
+        return Err("no event".into());
+    };
+    assert_eq!(rt; used, 3_669);
+    let mut record = Buffer::new(alloc, 4_096)?;
+    let (command, effect) = step_of(event);
+    write_event(&mut record, &command, &effect);
+    assert!(rt; record.bytes() == bytes.as_slice());
+    assert!(rt; are_none(alloc, &bytes[..3_668])?);
+    Ok(())
+}
+
 #[test]
 fn other_bytes_are_no_event(rt: HostRuntime) -> Result<(), Fail> {
     let alloc = rt.alloc();

@@ -57,6 +57,22 @@ pub fn journal(
 
 /// The disk of the state behind the attach and the submit: generation 1, two events before it, and a shut gate. 162 bytes.
 pub fn kept(rt: &impl Abort, alloc: Global) -> Vec<u8> {
-    let numbers: &[u8] = b"\0\0\0\0\0\0\0\x01\0\0\0\0\0\0\0\x02\0\0\0\0\0\0\0\x60";
-    joined(rt, alloc, &[b"BOSSSNAP\x02", DIGEST, numbers, STATE, SHUT])
+    kept_as(rt, alloc, DIGEST, 1)
+}
+
+/// The same in another generation, under a catalogue of this digest.
+pub fn kept_as(rt: &impl Abort, alloc: Global, digest: &[u8; 32], generation: u64) -> Vec<u8> {
+    let numbers: &[u8] = b"\0\0\0\0\0\0\0\x02\0\0\0\0\0\0\0\x60";
+    joined(
+        rt,
+        alloc,
+        &[
+            b"BOSSSNAP\x02",
+            digest,
+            &generation.to_be_bytes(),
+            numbers,
+            STATE,
+            SHUT,
+        ],
+    )
 }

@@ -1,7 +1,9 @@
 //! Trials of journals on a pair of disks in memory: what scripts leave there and go on from, disks that stop or fail at each of their
-//! calls, pairs that are refused, several commands as one record, and a log that is begun anew.
+//! calls, pairs that are refused, several commands as one record, a log that is begun anew, and a catalogue that is adopted.
 #![tactic(auto)]
 
+#[cfg(test)]
+mod adoption_stops;
 #[cfg(test)]
 mod bytes;
 #[cfg(test)]

@@ -31,7 +31,14 @@ pub enum Trouble {
 pub fn three_points(rt: &impl Abort, alloc: Global) -> Catalogue
     ensures { HasDevices 1 (actuators result) }
 {
-    let catalogue = Catalogue::read(alloc, THREE_POINTS.as_bytes()).expect(rt, "a catalogue");
+    one_driver(rt, alloc, THREE_POINTS)
+}
+
+/// The points of a text, all of them on its first driver.
+pub fn one_driver(rt: &impl Abort, alloc: Global, text: &str) -> Catalogue
+    ensures { HasDevices 1 (actuators result) }
+{
+    let catalogue = Catalogue::read(alloc, text.as_bytes()).expect(rt, "a catalogue");
     for place in 0..catalogue.count() {
         if is_elsewhere(catalogue.point(PointId(place))) {
             rt.panic("a second driver");

@@ -12,8 +12,8 @@ use std::alloc::Global;
 
 /// A connection: what it sends, and the number of its read that fails, from 1; 0 is none.
 #[derive(Clone, Copy)]
-pub struct Talk {
-    pub text: &'static str,
+pub struct Talk<'a> {
+    pub text: &'a str,
     pub fails: u64,
 }
 

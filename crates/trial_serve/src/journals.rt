@@ -1,6 +1,8 @@
 //! Servers over a journal on two disks in memory, one after another: what each connection is answered, and the journal's bytes
 //! afterwards; and a server whose disk fails.
 
+ghost use Rattle.std.specs.Prelude.{◌<◌, IfSome};
+
 use crate::connections::Talk;
 use crate::rows::PLAIN;
 use crate::stage::{Pair, Setting, run_on_disks};
@@ -16,14 +18,14 @@ use trial_parts::THREE_POINTS;
 /// Servers one after another over the same two disks, and what comes of them.
 struct Row {
     shows: &'static str,
-    settings: &'static [Setting],
+    settings: &'static [Setting<'static>],
     told: &'static str,
     /// What the first disk has behind its heading.
     log: &'static [&'static [u8]],
 }
 
 /// Three requests in one piece.
-const HOLD_AND_READ: Talk = Talk {
+const HOLD_AND_READ: Talk<'static> = Talk {
     text: r#"{"op":"attach","process":"a"}
 {"op":"submit","writes":[{"point":"ahu1.damper","value":45000,"priority":8,"lease":60000}]}
 {"op":"read","point":"ahu1.damper"}
@@ -32,25 +34,25 @@ const HOLD_AND_READ: Talk = Talk {
 };
 
 /// The same, and what comes next is lost.
-const LOST_HOLDER: Talk = Talk {
+const LOST_HOLDER: Talk<'static> = Talk {
     fails: 2,
     ..HOLD_AND_READ
 };
 
-const ATTACH_B: Talk = Talk {
+const ATTACH_B: Talk<'static> = Talk {
     text: r#"{"op":"attach","process":"b"}
 "#,
     fails: 0,
 };
 
-const NUMBERED: Talk = Talk {
+const NUMBERED: Talk<'static> = Talk {
     text: r#"{"op":"attach","process":"a"}
 {"op":"submit","seq":5,"writes":[{"point":"ahu1.damper","value":45000,"priority":8,"lease":60000}]}
 "#,
     fails: 0,
 };
 
-const AGAIN: Setting = Setting {
+const AGAIN: Setting<'static> = Setting {
     workers: &[&[NUMBERED]],
     ..PLAIN
 };
@@ -68,13 +70,13 @@ const HELD_BY_NUMBER: &[u8] =
     b"\x01\0\0\0\x32\x01\0\0\0\0\0\0\x03\xe8\x01a\x08\0\0\0\0\0\0\x03\xe8\0\0\0\0\0\0\0\0\0\x05\0\x01\0\0\0\0\0\0\0\0\0\0\xaf\xc8\x08\0\0\xea\x60\0";
 
 /// An open gate, 11 bytes: process 0 is lost at 1,000.
-const LOST: &[u8] = b"\x01\0\0\0\x0b\x05\0\0\0\0\0\0\x03\xe8\0\0";
+pub const LOST: &[u8] = b"\x01\0\0\0\x0b\x05\0\0\0\0\0\0\x03\xe8\0\0";
 
 /// An open gate, 11 bytes: the attach of `b` at 1,000.
 const ATTACHED_B: &[u8] = b"\x01\0\0\0\x0b\x01\0\0\0\0\0\0\x03\xe8\x01b";
 
 /// A gate that is shut.
-const SHUT: &[u8] = b"\0";
+pub const SHUT: &[u8] = b"\0";
 
 /// Three requests that come in one piece are done as one record, of the two that change something; the end of the session is another.
 const ROWS: &[Row] = &[
@@ -140,7 +142,7 @@ status 0
 ];
 
 /// Two empty disks, of which the first fails the call of this number, counted from 1; 0 is none.
-fn empty_disks(alloc: Global, fails: u64) -> Result<Pair, NoMemory> {
+pub fn empty_disks(alloc: Global, fails: u64) -> Result<Pair, NoMemory> {
     let mut calls = Items::new(alloc);
     calls.try_push(fails)?;
     let first = MemoryDisk::new(alloc, Items::new(alloc), calls)?;
@@ -149,7 +151,7 @@ fn empty_disks(alloc: Global, fails: u64) -> Result<Pair, NoMemory> {
 }
 
 /// The journal of this catalogue with this log.
-fn journal(alloc: Global, catalogue: &Catalogue, log: &[&[u8]]) -> Result<Vec<u8>, NoMemory> {
+pub fn journal(alloc: Global, catalogue: &Catalogue, log: &[&[u8]]) -> Result<Vec<u8>, NoMemory> {
     let mut bytes = Vec::new(alloc);
     bytes.extend_from_slice(HEADING)?;
     bytes.extend_from_slice(&catalogue.digest())?;
@@ -185,7 +187,7 @@ fn servers_over_a_journal(rt: HostRuntime) -> Result<(), Fail> {
 }
 
 /// A worker with a connection behind another.
-const TWO: Setting = Setting {
+const TWO: Setting<'static> = Setting {
     workers: &[&[HOLD_AND_READ, ATTACH_B]],
     ..PLAIN
 };
@@ -268,7 +270,9 @@ status 0
 const MANY: u64 = 60;
 
 /// The place of what is told among those that may be.
-fn place_of(told: &str) -> Option<usize> {
+fn place_of(told: &str) -> Option<usize>
+    ensures { IfSome result (λ place. place < 5) }
+{
     for place in 0..5usize {
         if BROKEN[place].told == told {
             return Some(place);

@@ -15,6 +15,8 @@ mod journals;
 #[cfg(test)]
 mod listening;
 #[cfg(test)]
+mod longest;
+#[cfg(test)]
 mod rows;
 #[cfg(test)]
 mod socket;

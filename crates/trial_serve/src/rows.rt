@@ -9,12 +9,12 @@ use trial_parts::THREE_POINTS;
 /// A server and what comes of it.
 struct Row {
     shows: &'static str,
-    setting: Setting,
+    setting: Setting<'static>,
     told: &'static str,
 }
 
 /// A server at the moment 1,000, whose worker of time is told to end at its first pause.
-pub const PLAIN: Setting = Setting {
+pub const PLAIN: Setting<'static> = Setting {
     workers: &[],
     moments: &[1_000],
     clock_fails: 0,
@@ -26,33 +26,33 @@ pub const PLAIN: Setting = Setting {
     sink_fails: 0,
 };
 
-const ATTACH_A: Talk = Talk {
+const ATTACH_A: Talk<'static> = Talk {
     text: r#"{"op":"attach","process":"a"}
 "#,
     fails: 0,
 };
 
-const ATTACH_B: Talk = Talk {
+const ATTACH_B: Talk<'static> = Talk {
     text: r#"{"op":"attach","process":"b"}
 "#,
     fails: 0,
 };
 
-const LOOK: Talk = Talk {
+const LOOK: Talk<'static> = Talk {
     text: r#"{"op":"attach","process":"a"}
 {"op":"read","point":"lamp"}
 "#,
     fails: 0,
 };
 
-const HOLD: Talk = Talk {
+const HOLD: Talk<'static> = Talk {
     text: r#"{"op":"attach","process":"a"}
 {"op":"submit","writes":[{"point":"ahu1.damper","value":45000,"priority":8,"lease":60000}]}
 "#,
     fails: 0,
 };
 
-const HOLD_AND_REVERT: Talk = Talk {
+const HOLD_AND_REVERT: Talk<'static> = Talk {
     text: r#"{"op":"attach","process":"a"}
 {"op":"submit","writes":[{"point":"ahu1.damper","value":45000,"priority":8,"lease":60000,"revert":[[30000,5000]]}]}
 "#,
@@ -60,7 +60,7 @@ const HOLD_AND_REVERT: Talk = Talk {
 };
 
 /// The last submit has a write that may be made, and then one that may not.
-const JUDGED: Talk = Talk {
+const JUDGED: Talk<'static> = Talk {
     text: r#"{"op":"attach","process":"a"}
 {"op":"submit","writes":[{"point":"ahu1.damper","value":45000,"priority":8,"lease":60000}]}
 {"op":"submit","writes":[{"point":"ahu1.damper","value":45000,"priority":7,"lease":60000}]}
@@ -71,7 +71,7 @@ const JUDGED: Talk = Talk {
     fails: 0,
 };
 
-const WATCH: Talk = Talk {
+const WATCH: Talk<'static> = Talk {
     text: r#"{"op":"watch","process":"a","from":1}
 "#,
     fails: 0,

@@ -18,9 +18,9 @@ use std::thread::Threads;
 
 /// What a server is run on. The numbers of calls that fail are counted from 1; 0 is none.
 #[derive(Clone, Copy)]
-pub struct Setting {
+pub struct Setting<'a> {
     /// The connections of each worker, in order.
-    pub workers: &'static [&'static [Talk]],
+    pub workers: &'a [&'a [Talk<'a>]],
     /// What the clock gives, in each of its parts.
     pub moments: &'static [u32],
     pub clock_fails: u64,

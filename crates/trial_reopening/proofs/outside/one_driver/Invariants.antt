@@ -1,7 +1,7 @@
 use Rattle.std.proofs.Common.{◌≡◌, drop}
 use Rattle.std.specs.List.{position_from}
 use Rattle.boss_jobs.specs.Programs.{lacks_device}
-use Rattle.trial_reopening.proofs.outside.three_points.Given as goal
+use Rattle.trial_reopening.proofs.outside.one_driver.Given as goal
 
 -- no point so far is behind another driver
 abbrev pub invariant-loop-place : goal.invariant-loop-place

@@ -5,7 +5,7 @@ use Rattle.boss_model.specs.Catalogue.{Point}
 use Rattle.boss_points.specs.Seen.{seen}
 use Rattle.boss_jobs.specs.Programs.{lacks_device}
 use Rattle.boss_jobs.proofs.Places.{all-have, position-here}
-use Rattle.trial_reopening.proofs.outside.three_points.Goals as goal
+use Rattle.trial_reopening.proofs.outside.one_driver.Goals as goal
 
 pub loop-place-preserved : goal.loop-place-preserved
 loop-place-preserved g c =
