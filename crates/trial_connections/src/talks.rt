@@ -249,11 +249,12 @@ const OTHER_LINES: &[Talk] = &[
         lines: &[READ],
         rest: 65_536,
         behind: &["", READ],
+        piece: Piece::Line,
         counts: true,
         told: &[
             FREE,
             TOO_LONG,
-            "TooLong; bytes left: 37; a is free",
+            "TooLong; bytes left: 36; a is free",
             "1 at 1000",
             "writes: 2",
         ],
