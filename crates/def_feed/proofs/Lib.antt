@@ -1,0 +1,2 @@
+pub mod FeedRows
+pub mod FollowerRows

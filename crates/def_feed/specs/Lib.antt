@@ -1,0 +1,4 @@
+pub mod Items
+pub mod Feeds
+pub mod Followers
+pub mod Histories
