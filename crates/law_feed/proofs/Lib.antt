@@ -1,0 +1,4 @@
+pub mod OneItem
+pub mod OneOutcome
+pub mod Fronts
+pub mod ItemSteps
