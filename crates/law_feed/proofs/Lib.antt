@@ -2,3 +2,5 @@ pub mod OneItem
 pub mod OneOutcome
 pub mod Fronts
 pub mod ItemSteps
+pub mod EventsFollowed
+pub mod PartsFollowed
