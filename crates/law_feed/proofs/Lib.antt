@@ -4,3 +4,4 @@ pub mod Fronts
 pub mod ItemSteps
 pub mod EventsFollowed
 pub mod PartsFollowed
+pub mod Followed
