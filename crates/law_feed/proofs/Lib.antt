@@ -5,3 +5,4 @@ pub mod ItemSteps
 pub mod EventsFollowed
 pub mod PartsFollowed
 pub mod Followed
+pub mod Laws
