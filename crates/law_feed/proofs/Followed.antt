@@ -96,7 +96,7 @@ module _ (plant : List Actuator) (limits : IsPlant plant) (history : List Event)
       cond-true (nat_le before last_number && nat_le (length text) largest_state) _ _ small
       ∙ cond-true (nat_le before c) _ _ (le-leb before c known)
       ∙ ap (λ place. On (record { lasting = d; count = c; place = place }))
-          (cond-false (length text == 0) _ _ (ne_eqb (length text) 0 (λ none. absurd (omega (arith, some)))) ∙ ap Passing (omega arith))
+      (cond-false (length text == 0) _ _ (ne_eqb (length text) 0 (λ none. absurd (omega (arith, some)))) ∙ ap Passing (omega arith))
 
   takes : c < before → of_state (between d c) before (length text) ≡ On (taking-at plant d c text base before is-state [])
   takes new =

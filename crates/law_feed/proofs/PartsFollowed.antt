@@ -106,14 +106,14 @@ module _ (plant : List Actuator) (d : Persistent) (c : ℕ) (text : List ℕ) wh
         let left : length text - length done - length piece ≡ length text - length (done ++ piece) = omega (arith, length-append done piece) in
         cond-true (is_due (length text - length done) piece) _ _ (eq-eqb _ _ due)
         ∙ ap (λ place. On (record { lasting = d; count = c; place = place }))
-            (cond-false ((length text - length done - length piece) == 0) _ _ (ne_eqb _ _ (λ none. absurd (omega arith))) ∙ ap Passing left);
+        (cond-false ((length text - length done - length piece) == 0) _ _ (ne_eqb _ _ (λ none. absurd (omega arith))) ∙ ap Passing left);
     last = λ done piece is due. (
       On (between d c),
       (let all : length text ≡ length done + length piece = ap length is ∙ length-append done piece in
-      cond-true (is_due (length text - length done) piece) _ _ (eq-eqb _ _ due)
-      ∙ ap (λ place. On (record { lasting = d; count = c; place = place }))
+          cond-true (is_due (length text - length done) piece) _ _ (eq-eqb _ _ due)
+          ∙ ap (λ place. On (record { lasting = d; count = c; place = place }))
           (cond-true ((length text - length done - length piece) == 0) _ _ (eq-eqb _ _ (omega arith)))),
-      λ number lines outcome rest. rest
+      λ number lines outcome rest. rest,
     );
   }
 
@@ -132,7 +132,7 @@ module _ (plant : List Actuator) (d : Persistent) (c : ℕ) (text : List ℕ) wh
       last = λ done piece is due. (
         Whole many (done ++ piece),
         (cond-true (is_due (length text - length done) piece) _ _ (eq-eqb _ _ due)
-        ∙ cond-true (length (done ++ piece) == length text) _ _ (eq-eqb _ _ (ap length (sym is)))),
-        λ number lines outcome rest. inl (base, subst (λ bytes. IsState plant bytes base) is state, rest)
+            ∙ cond-true (length (done ++ piece) == length text) _ _ (eq-eqb _ _ (ap length (sym is)))),
+        λ number lines outcome rest. inl (base, subst (λ bytes. IsState plant bytes base) is state, rest),
       );
     }
