@@ -1,5 +1,5 @@
 -- The events of a feed are followed: those that are known are passed over, and each other one is next.
-use Rattle.std.proofs.Common.{◌≡◌, ℕ, ◌+◌, ◌<◌, ◌≤◌, max, nat_lt, nat_le, true, cond, List, [], ◌∷◌, ◌++◌, length, map, drop, Some, inl, inr, refl, sym, ap, ◌∙◌, subst, arith, append_assoc, length-append}
+use Rattle.std.proofs.Common.{◌≡◌, ℕ, ◌+◌, ◌≤◌, max, nat_lt, nat_le, true, List, [], ◌∷◌, ◌++◌, length, map, drop, inl, inr, refl, sym, ap, ◌∙◌, subst, arith, append_assoc, length-append}
 use Rattle.std.specs.List.{AllByRecursion}
 use Rattle.std.specs.Prelude.{slice_index_or}
 use Rattle.std.proofs.lemmas.Bool.{cases_lt, cond-true, cond-false, lt-ltb, le-ltb, le-leb, lt-leb}
@@ -9,12 +9,12 @@ use Rattle.boss_model.specs.Limits.{last_number}
 use Rattle.boss_model.specs.State.{Persistent}
 use Rattle.def_bytes.specs.Events.{event}
 use Rattle.def_bytes.specs.Exact.{IsBytes}
-use Rattle.def_feed.specs.Items.{Item, EventLine, item_text, IsItem}
+use Rattle.def_feed.specs.Items.{Item, EventLine, item_text}
 use Rattle.def_feed.specs.Feeds.{event_items}
-use Rattle.def_feed.specs.Followers.{Follower, between, Step, On, Fault, Gap, Next, step_of, of_event, Through, Follows}
+use Rattle.def_feed.specs.Followers.{Follower, between, On, Next, of_event, Through, Follows}
 use Rattle.def_feed.specs.Histories.{IsAfter, IsHistory, whole_since}
 use Rattle.law_feed.proofs.Fronts.{one-more, at-front}
-use Rattle.law_feed.proofs.ItemSteps.{IsShort, line-steps}
+use Rattle.law_feed.proofs.ItemSteps.{line-steps}
 
 -- What comes of the items that were read, where `start` events were known at first and this is the last number that was wholly
 -- read: all of them are gone through.

@@ -1,7 +1,7 @@
 -- A feed of one's own history is followed: its state, where one is told, and its events.
-use Rattle.std.proofs.Common.{◌≡◌, ℕ, zero, suc, ◌+◌, ◌-◌, ◌^◌, ◌<◌, ◌≤◌, max, nat_lt, nat_le, ◌==◌, true, ◌&&◌, cond, List, [], ◌∷◌, ◌++◌, length, map, take, drop, Some, inl, inr, refl, sym, ap, ◌∙◌, subst, arith, length-take}
+use Rattle.std.proofs.Common.{◌≡◌, ℕ, ◌+◌, ◌^◌, ◌<◌, ◌≤◌, max, nat_lt, nat_le, ◌==◌, true, ◌&&◌, List, [], ◌∷◌, ◌++◌, length, map, take, drop, inl, inr, refl, sym, ap, ◌∙◌, subst, arith, length-take}
 use Rattle.std.proofs.lemmas.Bool.{cases_lt, and_from, cond-true, cond-false, lt-ltb, le-ltb, le-leb, lt-leb, ne_eqb}
-use Rattle.std.proofs.lemmas.List.{take-append-drop, take_at, take-map}
+use Rattle.std.proofs.lemmas.List.{take-append-drop}
 use Rattle.law_time.proofs.Orders.{each-map}
 use Rattle.boss_model.specs.declared.event.Event.{Event}
 use Rattle.boss_model.specs.declared.state.Actuator.{Actuator}
@@ -21,7 +21,7 @@ use Rattle.law_bytes.proofs.OfStates.{a-state}
 use Rattle.law_bytes.proofs.Sizes.{sound-size, some-bytes}
 use Rattle.def_feed.specs.Items.{Item, StateLine, PartLine, item_text}
 use Rattle.def_feed.specs.Feeds.{pieces, state_items, event_items, feed_items}
-use Rattle.def_feed.specs.Followers.{Place, Between, Passing, Follower, between, Step, On, largest_state, passing, taking, of_state, IsState, Outcome, Through, OnStep, Follows}
+use Rattle.def_feed.specs.Followers.{Passing, between, On, largest_state, of_state, IsState, Through}
 use Rattle.def_feed.specs.Histories.{IsAfter, IsHistory, IsOf, whole_since, last_whole}
 use Rattle.law_feed.proofs.EventsFollowed.{Ends, at-rest, first-item, other-items, events-followed}
 use Rattle.law_feed.proofs.ItemSteps.{line-steps}

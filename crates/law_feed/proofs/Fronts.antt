@@ -1,7 +1,7 @@
 -- The states that the fronts of a history lead to.
-use Rattle.std.proofs.Common.{◌≡◌, ℕ, suc, ◌+◌, ◌≤◌, true, List, [], ◌∷◌, ◌++◌, length, take, drop, Option, Some, None, refl, sym, ap, ◌∙◌, subst, arith, append_assoc, length-append}
+use Rattle.std.proofs.Common.{◌≡◌, ℕ, ◌+◌, List, [], ◌∷◌, ◌++◌, length, take, Option, Some, None, refl, sym, ap, ◌∙◌, arith, append_assoc, length-append}
 use Rattle.std.specs.List.{fold, AllByRecursion}
-use Rattle.std.proofs.lemmas.List.{take_at, take-append-drop}
+use Rattle.std.proofs.lemmas.List.{take_at}
 use Rattle.std.proofs.lemmas.List.Folds.{fold_stays}
 use Rattle.std.proofs.lemmas.List.Sums.{fold-append}
 use Rattle.boss_model.specs.declared.event.Event.{Event}
@@ -9,7 +9,6 @@ use Rattle.boss_model.specs.declared.state.Actuator.{Actuator}
 use Rattle.boss_model.specs.Acts.{replay, replay_next}
 use Rattle.boss_model.specs.Run.{replay_all}
 use Rattle.boss_model.specs.State.{Persistent, first_persistent}
-use Rattle.def_bytes.specs.Events.{event}
 use Rattle.def_feed.specs.Histories.{IsAfter, IsHistory}
 
 module _ (plant : List Actuator) where

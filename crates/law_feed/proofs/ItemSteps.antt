@@ -1,7 +1,7 @@
 -- A line that is an item's text has the step of that item.
-use Rattle.std.proofs.Common.{◌≡◌, ℕ, ◌+◌, ◌*◌, ◌^◌, ◌<◌, ◌≤◌, nat_le, Bool, true, false, List, [], ◌∷◌, ◌++◌, length, Some, refl, sym, ap, subst, arith, length-append}
+use Rattle.std.proofs.Common.{◌≡◌, ℕ, ◌+◌, ◌*◌, ◌≤◌, nat_le, Bool, true, false, List, ◌∷◌, length, Some, refl, sym, subst, arith, length-append}
 use Rattle.std.specs.Fmt.{decimal}
-use Rattle.std.specs.Prelude.{codes, MatchBool}
+use Rattle.std.specs.Prelude.{MatchBool}
 use Rattle.std.proofs.lemmas.Bool.{le-leb}
 use Rattle.std.proofs.lemmas.Fmt.{length-decimal-le}
 use Rattle.hex.specs.Hex.{encode_lower, lower_digits}
@@ -10,8 +10,8 @@ use Rattle.boss_model.specs.declared.state.Actuator.{Actuator}
 use Rattle.boss_model.specs.Limits.{longest_line}
 use Rattle.boss_model.specs.Lines.{is_blank}
 use Rattle.def_feed.specs.Feeds.{longest_part}
-use Rattle.def_feed.specs.Items.{Item, StateLine, PartLine, EventLine, item_text, IsItem, IsNumber, Reads}
-use Rattle.def_feed.specs.Followers.{Follower, Step, step_of, OnRead, OnStep, Outcome, Follows}
+use Rattle.def_feed.specs.Items.{Item, StateLine, PartLine, EventLine, item_text, IsItem, IsNumber}
+use Rattle.def_feed.specs.Followers.{Follower, Step, step_of, OnStep, Outcome, Follows}
 
 -- few bytes stand in one line
 abbrev pub IsShort : Item → Type 0

@@ -1,5 +1,5 @@
 -- A follower makes one thing of lines.
-use Rattle.std.proofs.Common.{◌≡◌, ◌⊎◌, inl, inr, ℕ, ◌+◌, nat_le, Bool, true, false, List, [], ◌∷◌, ◌++◌, length, Option, Some, None, refl, sym, ap, ◌∙◌, subst}
+use Rattle.std.proofs.Common.{◌≡◌, inl, inr, ℕ, ◌+◌, nat_le, Bool, true, false, List, [], ◌∷◌, ◌++◌, length, Option, Some, None, sym, ap, ◌∙◌, subst}
 use Rattle.std.specs.Prelude.{MatchBool}
 use Rattle.boss_model.specs.declared.state.Actuator.{Actuator}
 use Rattle.boss_model.specs.Acts.{replay}
@@ -11,8 +11,8 @@ use Rattle.def_bytes.specs.States.{state}
 use Rattle.def_bytes.proofs.Exact.{one-spelling}
 use Rattle.def_bytes.proofs.OfEvents.{event_spelled}
 use Rattle.def_bytes.proofs.OfStates.{state_spelled}
-use Rattle.def_feed.specs.Items.{Item, Reads}
-use Rattle.def_feed.specs.Followers.{Follower, between, Step, On, Fault, Gap, Next, Whole, step_of, IsEvent, IsState, Outcome, BadLine, Late, TooLong, Through, IfAny, OnStep, OnRead, Follows}
+use Rattle.def_feed.specs.Items.{Item}
+use Rattle.def_feed.specs.Followers.{Follower, between, Step, On, Fault, Gap, Next, Whole, step_of, IsEvent, IsState, Outcome, BadLine, TooLong, IfAny, OnStep, OnRead, Follows}
 use Rattle.law_feed.proofs.OneItem.{one-item}
 
 -- ---- what bytes lead to

@@ -1,17 +1,17 @@
 -- The parts of a state are followed: they are passed over, or the state is taken with the last of them.
-use Rattle.std.proofs.Common.{◌≡◌, ℕ, zero, suc, ◌+◌, ◌-◌, ◌<◌, ◌≤◌, max, min, nat_lt, nat_le, ◌==◌, true, cond, List, [], ◌∷◌, ◌++◌, length, map, take, drop, Some, inl, inr, refl, sym, ap, ◌∙◌, subst, arith, append_assoc, append-nil, length-append, length-take, length-drop}
-use Rattle.std.proofs.lemmas.Bool.{cases_lt, cond-true, cond-false, lt-ltb, le-ltb, le-leb, lt-leb, eq-eqb, ne_eqb}
+use Rattle.std.proofs.Common.{◌≡◌, ℕ, zero, suc, ◌+◌, ◌-◌, ◌≤◌, max, min, nat_le, ◌==◌, List, [], ◌∷◌, ◌++◌, length, map, take, drop, inl, sym, ap, ◌∙◌, subst, arith, append_assoc, append-nil, length-append, length-take, length-drop}
+use Rattle.std.proofs.lemmas.Bool.{cond-true, cond-false, le-leb, lt-leb, eq-eqb, ne_eqb}
 use Rattle.std.proofs.lemmas.List.{take-append-drop}
 use Rattle.boss_model.specs.declared.event.Event.{Event}
 use Rattle.boss_model.specs.declared.state.Actuator.{Actuator}
 use Rattle.boss_model.specs.State.{Persistent}
 use Rattle.def_bytes.specs.Exact.{IsBytes}
-use Rattle.def_feed.specs.Items.{Item, PartLine, item_text, IsItem}
+use Rattle.def_feed.specs.Items.{Item, PartLine, item_text}
 use Rattle.def_feed.specs.Feeds.{longest_part, pieces}
-use Rattle.def_feed.specs.Followers.{Place, Between, Passing, Taking, Follower, between, Step, On, Fault, Whole, step_of, is_due, passing, taking, IsState, Outcome, Through, OnStep, Follows}
+use Rattle.def_feed.specs.Followers.{Passing, Taking, Follower, between, Step, On, Whole, step_of, is_due, IsState, Outcome, Through, OnStep, Follows}
 use Rattle.def_feed.specs.Histories.{IsAfter, whole_since}
 use Rattle.law_bytes.proofs.Texts.{no-bytes, one-more}
-use Rattle.law_feed.proofs.EventsFollowed.{Ends, at-rest, first-item, other-items, none-of-none}
+use Rattle.law_feed.proofs.EventsFollowed.{Ends, at-rest, first-item, other-items}
 use Rattle.law_feed.proofs.ItemSteps.{line-steps}
 
 -- ---- bytes of a part
