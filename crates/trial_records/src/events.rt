@@ -172,7 +172,8 @@ fn the_longest_event_has_3669_bytes(rt: HostRuntime) -> Result<(), Fail> {
     let (command, effect) = step_of(event);
     write_event(&mut record, &command, &effect);
     assert!(rt; record.bytes() == bytes.as_slice());
-    assert!(rt; are_none(alloc, &bytes[..3_668])?);
+    let shorter = bytes.len().min(3_668);
+    assert!(rt; are_none(alloc, &bytes[..shorter])?);
     Ok(())
 }
 
