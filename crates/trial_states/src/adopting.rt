@@ -98,12 +98,12 @@ fn notices(alloc: Global, places: Places) -> Result<Items<Notice>, NoMemory> {
 }
 
 /// A transaction of these writes.
-fn transaction(txn: u64, owner: u16, parts: Vec<KeptPart>) -> KeptTxn {
+fn transaction(txn: u64, owner: u16, parts: Items<KeptPart>) -> KeptTxn {
     KeptTxn {
         txn: Txn(txn),
         owner: ProcId(owner),
         policy: Policy::Abort,
-        parts: Items::from_vec(parts),
+        parts,
     }
 }
 
@@ -119,13 +119,17 @@ fn part(point: PointId, priority: u8, end: Option<(Cause, u64)>) -> KeptPart {
 /// One with two leases, one with two reversions under way, and one that is done.
 fn records(alloc: Global, places: Places) -> Result<Items<KeptTxn>, NoMemory> {
     let mut txns = Items::new(alloc);
-    let held = vec![in alloc; part(places.damper, 8, None), part(places.lamp, 9, None)]?;
+    let mut held = Items::new(alloc);
+    held.try_push(part(places.damper, 8, None))?;
+    held.try_push(part(places.lamp, 9, None))?;
     txns.try_push(transaction(1, 0, held))?;
-    let over = Some((Cause::Expired, 2_000));
-    let reverting = vec![in alloc; part(places.damper, 5, over), part(places.lamp, 5, over)]?;
+    let mut reverting = Items::new(alloc);
+    reverting.try_push(part(places.damper, 5, Some((Cause::Expired, 2_000))))?;
+    reverting.try_push(part(places.lamp, 5, Some((Cause::Expired, 2_000))))?;
     txns.try_push(transaction(2, 1, reverting))?;
     if let Some(fan) = places.fan {
-        let past = vec![in alloc; part(fan, 8, Some((Cause::Cancelled, 1_500)))]?;
+        let mut past = Items::new(alloc);
+        past.try_push(part(fan, 8, Some((Cause::Cancelled, 1_500))))?;
         txns.try_push(transaction(3, 1, past))?;
     }
     Ok(txns)
@@ -276,21 +280,38 @@ fn what_is_done_goes_with_its_point(rt: HostRuntime) -> Result<(), Fail> {
     Ok(())
 }
 
+/// Whether this is the name of the damper.
+fn is_damper(name: &Name) -> bool {
+    name.bytes() == b"ahu1.damper".as_slice()
+}
+
+/// Whether the answer is that the damper is in use.
+fn is_in_use(answer: &Option<Result<Kept, AdoptRefusal>>) -> bool {
+    match answer {
+        Some(Err(AdoptRefusal::InUse { name })) => is_damper(name),
+        _ => false,
+    }
+}
+
+/// Whether the answer is that the damper is unfit.
+fn is_unfit(answer: &Option<Result<Kept, AdoptRefusal>>) -> bool {
+    match answer {
+        Some(Err(AdoptRefusal::Unfit { name })) => is_damper(name),
+        _ => false,
+    }
+}
+
 #[test]
 fn a_state_that_holds_a_point_is_refused(rt: HostRuntime) -> Result<(), Fail> {
     let alloc = rt.alloc();
     let old = read(alloc, OLD)?;
     let kept = state(alloc, FIRST)?;
-    let in_use = match adopted(alloc, &old, &read(alloc, WITHOUT)?, &kept)? {
-        Some(Err(AdoptRefusal::InUse { name })) => name.bytes() == b"ahu1.damper".as_slice(),
-        _ => false,
-    };
-    assert!(rt; in_use);
-    let unfit = match adopted(alloc, &old, &read(alloc, NARROW)?, &kept)? {
-        Some(Err(AdoptRefusal::Unfit { name })) => name.bytes() == b"ahu1.damper".as_slice(),
-        _ => false,
-    };
-    assert!(rt; unfit);
+    let without = read(alloc, WITHOUT)?;
+    let answer = adopted(alloc, &old, &without, &kept)?;
+    assert!(rt; is_in_use(&answer));
+    let narrow = read(alloc, NARROW)?;
+    let answer = adopted(alloc, &old, &narrow, &kept)?;
+    assert!(rt; is_unfit(&answer));
     Ok(())
 }
 
