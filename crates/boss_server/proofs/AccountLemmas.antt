@@ -58,6 +58,7 @@ module _ {A : Type 0} (calls : A → List DeviceCall) (whole : A → Type 0) (te
       };
       whole = account.together.whole;
       uncut = account.together.uncut;
+      flagged = account.together.flagged;
       host_count = subst (λ count. RoseWhere flags.host count hosted') host_same account.together.host_count;
       clock_count = λ sound. subst (λ count. RoseWhere flags.clock count ticked') clock_same (account.together.clock_count sound);
       broken = account.together.broken;

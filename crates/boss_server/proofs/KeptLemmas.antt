@@ -9,6 +9,7 @@ use Rattle.boss_shared.specs.Keeping.{IsHeld}
 use Rattle.boss_outside_server.specs.Hosts.{Served}
 use Rattle.boss_worker.specs.declared.flags.Flags.{Flags}
 use Rattle.boss_worker.specs.Troubles.{IsQuiet}
+use Rattle.boss_worker.proofs.FlagLemmas.{flagged-more}
 use Rattle.boss_server.specs.Accounts.{Account}
 use Rattle.boss_server.specs.Kept.{Ran}
 
@@ -34,6 +35,7 @@ module _ {A : Type 0} (calls : A → List DeviceCall) (whole : A → Type 0) (te
           part = account.together.part;
           whole = λ all accepted calm. account.together.whole all accepted (sound calm);
           uncut = λ calm. account.together.uncut (quiet calm);
+          flagged = flagged-more flags (told_flags stopped flags) (λ raised. same ∙ account.together.broken raised) (λ is. is) (λ is. is) account.works account.together.flagged;
           host_count = account.together.host_count;
           clock_count = λ calm. account.together.clock_count (sound calm);
           broken = λ raised. sym same ∙ raised;

@@ -13,7 +13,8 @@ use Rattle.boss_lock.specs.Places.{IsLonger}
 use Rattle.boss_outside_server.specs.Hosts.{Served}
 use Rattle.boss_worker.specs.declared.flags.Flags.{Flags}
 use Rattle.boss_worker.specs.Troubles.{no_flags, both_flags, IsQuiet, Counts}
-use Rattle.boss_worker.specs.Visits.{IsUncut, AreUncut, Left}
+use Rattle.boss_worker.specs.Visits.{IsUncut, IsFlagged, Left}
+use Rattle.boss_worker.proofs.FlagLemmas.{flagged-more}
 use Rattle.boss_server.specs.Together.{RoseWhere, Together}
 use Rattle.boss_server.proofs.DeskJoins.{broken-longer}
 
@@ -23,6 +24,14 @@ quiet-both flags others quiet =
     let clock = or_parts flags.clock others.clock quiet.clock in
     let memory = or_parts flags.memory others.memory quiet.memory in
     (record { disk = disk.0; clock = clock.0; memory = memory.0 }, record { disk = disk.1; clock = clock.1; memory = memory.1 })
+
+-- what one flag says is said of both
+or-first : (flag other : Bool) → flag ≡ true → (flag || other) ≡ true
+or-first flag other is = ap (λ b. b || other) is
+
+or-second : (flag other : Bool) → other ≡ true → (flag || other) ≡ true
+or-second true other is = refl
+or-second false other is = is
 
 rose-then : (flag other : Bool) (before between now part : ℕ) → RoseWhere flag before between → Counts other part → Joins between part now → RoseWhere (flag || other) before now
 rose-then true true before between now part first counts joins = let more : Rose between now = joins.failed counts in omega (arith, first, more)
@@ -42,6 +51,7 @@ module _ (terms : Terms) where
     part = part-nothing terms 0 0 own served given none;
     whole = λ all accepted sound. refl;
     uncut = λ quiet. tt;
+    flagged = tt;
     host_count = refl;
     clock_count = λ sound. refl;
     broken = λ is. absurd (let no : false ≡ true = is in cc);
@@ -67,6 +77,9 @@ module _ (terms : Terms) where
             ap length (served_in-append works others) ∙ length-append (served_in works) (served_in others) in
             omega (arith, sum, first, then, left.each);
         uncut = λ quiet. let both = quiet-both flags more quiet in each-append IsUncut works others (together.uncut both.0) (left.uncut both.1);
+        flagged = each-append (IsFlagged (both_flags flags more)) works others
+            (flagged-more flags (both_flags flags more) (or-first flags.disk more.disk) (or-first flags.clock more.clock) (or-first flags.memory more.memory) works together.flagged)
+            (flagged-more more (both_flags flags more) (or-second flags.disk more.disk) (or-second flags.clock more.clock) (or-second flags.memory more.memory) others left.flagged);
         host_count = rose-then flags.host more.host hosted hosted' hosted'' faults together.host_count left.hosted host_joins;
         clock_count = λ sound. let both = or_parts flags.disk more.disk sound in
             rose-then flags.clock more.clock ticked ticked' ticked'' misses (together.clock_count both.0) (left.ticked both.1) clock_joins;

@@ -9,7 +9,7 @@ use Rattle.def_lanes.specs.Works.{Work, served_in}
 use Rattle.boss_outside_server.specs.Hosts.{Served}
 use Rattle.boss_worker.specs.declared.flags.Flags.{Flags}
 use Rattle.boss_worker.specs.Troubles.{IsQuiet}
-use Rattle.boss_worker.specs.Visits.{AreUncut}
+use Rattle.boss_worker.specs.Visits.{AreUncut, AreFlagged}
 
 -- a count rose exactly where the flag stands
 abbrev pub RoseWhere : Bool → ℕ → ℕ → Type 0
@@ -23,6 +23,7 @@ pub record Together (terms : Terms) (n shares : ℕ) (works : List Work) (own se
   pub part : Part terms 0 n works own served served' given given'
   pub whole : unrun ≡ false → flags.host ≡ false → flags.disk ≡ false → length (served_in works) ≡ shares
   pub uncut : IsQuiet flags → AreUncut works
+  pub flagged : AreFlagged flags works
   pub host_count : RoseWhere flags.host hosted hosted'
   pub clock_count : flags.disk ≡ false → RoseWhere flags.clock ticked ticked'
   pub broken : flags.disk ≡ true → is_broken seen ≡ true

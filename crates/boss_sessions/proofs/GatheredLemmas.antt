@@ -4,22 +4,16 @@ use Rattle.std.proofs.lemmas.List.{length-append, map-append}
 use Rattle.std.proofs.lemmas.List.Elements.{filter-append}
 use Rattle.boss_model.specs.declared.command.Command.{Command}
 use Rattle.boss_model.specs.Lines.{is_blank}
+use Rattle.def_connection.proofs.Lasting.{later-append, later-true}
 use Rattle.def_connection.specs.Batches.{AreAsked}
+use Rattle.def_connection.specs.Losing.{spoken_of}
 use Rattle.def_connection.specs.Speech.{Reading, is_later}
 use Rattle.boss_sessions.specs.declared.heard.Heard.{Heard}
 use Rattle.boss_sessions.specs.declared.heard.Heard.TheVariants.{Requests, Refused, Unread, Watch, Untimed, Limit, Finish, TooLong, ReadFault}
-use Rattle.boss_sessions.specs.Gathered.{spoken_of, IsBehind, Gathered, HeardEnd, GoesOn}
+use Rattle.boss_sessions.specs.Gathered.{IsBehind, Gathered, HeardEnd, GoesOn}
 use Rattle.boss_sessions.specs.Places.{Place, Advances, IsOpen, IsAtStop, SourceCause}
 use Rattle.boss_sessions.specs.Requests.{Hears, ClockCause}
 use Rattle.boss_sessions.proofs.PlaceLemmas.{advances-then, spoken-line}
-
-pub later-true : {X : Type 0} (xs : List X) → is_later true xs ≡ true
-later-true [] = refl
-later-true (x ∷ xs) = refl
-
-pub later-append : {X : Type 0} (later : Bool) (xs ys : List X) → is_later later (xs ++ ys) ≡ is_later (is_later later xs) ys
-later-append later [] ys = refl
-later-append later (x ∷ xs) ys = sym (later-true ys)
 
 pub asked-append : (reading : Bool → List ℕ → Reading) (later : Bool) (lines others : List (List ℕ)) (calls more : List (Command × ℕ)) → AreAsked reading later lines calls →
     AreAsked reading (is_later later lines) others more → AreAsked reading later (lines ++ others) (calls ++ more)
@@ -89,7 +83,7 @@ module _ (reading : Bool → List ℕ → Reading) (heeds ticks : Type 0) where
   gathered-line later later' calls calls' given given' old new line (Watch name from) is shows advances hears =
       gathered-behind later later' calls calls' given given' old new line (Watch name from) is hears.3.0 hears.3.1 (sym (spoken-line line shows)) advances (line, refl, hears.0, hears.1, hears.2)
   gathered-line later later' calls calls' given given' old new line Untimed is shows advances hears =
-      gathered-behind later later' calls calls' given given' old new line Untimed is hears.0 hears.1 (sym (spoken-line line shows)) advances (line, refl)
+      gathered-behind later later' calls calls' given given' old new line Untimed is hears.2.0 hears.2.1 (sym (spoken-line line shows)) advances (line, refl, (hears.0, hears.1))
   gathered-line later later' calls calls' given given' old new line Limit is shows advances hears = absurd hears
   gathered-line later later' calls calls' given given' old new line Finish is shows advances hears = absurd hears
   gathered-line later later' calls calls' given given' old new line TooLong is shows advances hears = absurd hears
@@ -162,7 +156,7 @@ module _ (reading : Bool → List ℕ → Reading) (heeds ticks : Type 0) where
   line-one later line calls calls' given given' (Refused why) hears = omega (arith, ap length hears.1.0)
   line-one later line calls calls' given given' Unread hears = omega (arith, ap length hears.0)
   line-one later line calls calls' given given' (Watch name from) hears = omega (arith, ap length hears.3.0)
-  line-one later line calls calls' given given' Untimed hears = omega (arith, ap length hears.0)
+  line-one later line calls calls' given given' Untimed hears = omega (arith, ap length hears.2.0)
   line-one later line calls calls' given given' Limit hears = absurd hears
   line-one later line calls calls' given given' Finish hears = absurd hears
   line-one later line calls calls' given given' TooLong hears = absurd hears

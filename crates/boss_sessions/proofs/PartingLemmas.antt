@@ -16,7 +16,7 @@ use Rattle.boss_sessions.specs.Places.{Place}
 use Rattle.def_lanes.proofs.Choices.{deeds-append}
 use Rattle.boss_shared.specs.Calls.{is_stopped}
 use Rattle.def_connection.specs.Speech.{of_answer, of_memory, of_stop, of_denial, Speech, Exchange, unread, refused, called, attaches_by, attached_in, deeds_in, parting_of}
-use Rattle.def_connection.specs.Talks.{standing}
+use Rattle.def_connection.specs.Talks.{standing, is_unparted}
 use Rattle.boss_sessions.specs.declared.end.SessionEnd.{SessionEnd}
 use Rattle.boss_sessions.specs.declared.end.SessionEnd.TheVariants as end
 use Rattle.boss_sessions.specs.Connected.{Connected}
@@ -105,19 +105,14 @@ parting-deeds session moment own own' came.DiskFault is = ap deeds is ∙ deeds-
 parting-deeds session moment own own' came.NoMemory is = ap deeds is ∙ deeds-append own []
 parting-deeds session moment own own' (came.Denied index rule) is = ap deeds is ∙ deeds-append own []
 
-parts-same : (outcome : Outcome) (broken : Bool) (e e' : SessionEnd) → LeavesBy outcome broken e e' → (e' ≡ e) ⊎ (is_stop_end e' ≡ true)
-parts-same (came.Done given) broken e e' leaves = inl leaves.0
-parts-same came.Stopped broken e e' leaves = inr (ap is_stop_end leaves.0)
-parts-same came.DiskFault broken e e' leaves = inr (ap is_stop_end leaves.0)
+-- the session ended as it had, or the disk has failed
+parts-same : (outcome : Outcome) (broken : Bool) (e e' : SessionEnd) → LeavesBy outcome broken e e' →
+    ((e' ≡ e) × (is_unparted true (answer_in outcome) ≡ false)) ⊎ ((is_stop_end e' ≡ true) × (is_unparted true (answer_in outcome) ≡ true))
+parts-same (came.Done given) broken e e' leaves = inl (leaves.0, refl)
+parts-same came.Stopped broken e e' leaves = inr (ap is_stop_end leaves.0, refl)
+parts-same came.DiskFault broken e e' leaves = inr (ap is_stop_end leaves.0, refl)
 parts-same came.NoMemory broken e e' leaves = absurd leaves
 parts-same (came.Denied index rule) broken e e' leaves = absurd leaves
-
-parts-stop : (outcome : Outcome) (broken : Bool) (e e' : SessionEnd) → LeavesBy outcome broken e e' → answer_in outcome ≡ None → is_stop_end e' ≡ true
-parts-stop (came.Done given) broken e e' leaves none = cc
-parts-stop came.Stopped broken e e' leaves none = ap is_stop_end leaves.0
-parts-stop came.DiskFault broken e e' leaves none = ap is_stop_end leaves.0
-parts-stop came.NoMemory broken e e' leaves none = absurd leaves
-parts-stop (came.Denied index rule) broken e e' leaves none = absurd leaves
 
 -- ---- the end where an attach was accepted
 
@@ -171,7 +166,7 @@ module _ (speech : Speech) (number : ℕ) (heeds tells ticks : Type 0) (place pl
       Connected speech number heeds tells ticks place.left place'.left (standing own taken faults given false 0) (standing own' taken' faults' given' false 0) e
   connected-whole apart = connected-of speech number heeds tells ticks place place' (standing own taken faults given false 0) (named (standing own' taken' faults' given' attached' last') name')
       (standing own' taken' faults' given' false 0) None e e empty count refl refl refl anew (sym (append-nil (deeds own'))) refl refl refl (λ is. refl)
-      (λ is none. absurd (let other : true ≡ false = sym is ∙ apart in cc)) (inl refl)
+      (inl (refl, apart))
 
   pub fails-whole : attached' ≡ false → FailsLast number own own' e
   fails-whole apart = fails-where number own own' e (λ is more grew among.
@@ -184,7 +179,9 @@ module _ (speech : Speech) (number : ℕ) (heeds tells ticks : Type 0) (place pl
       Connected speech number heeds tells ticks place.left place'.left (standing own taken faults given false 0) (standing own'' taken' faults' given' false 0) e'
   connected-parted own'' was broken e' is parts = connected-of speech number heeds tells ticks place place' (standing own taken faults given false 0) (named (standing own' taken' faults' given' attached' last') name')
       (standing own'' taken' faults' given' false 0) (answer_in parts.outcome) e e' empty count refl refl refl anew (parting-deeds number last' own' own'' parts.outcome parts.grew) refl refl refl
-      (λ no. absurd (let other : true ≡ false = sym is ∙ no in cc)) (λ yes none. parts-stop parts.outcome broken e e' parts.leaves none) (parts-same parts.outcome broken e e' parts.leaves)
+      (λ no. absurd (let other : true ≡ false = sym is ∙ no in cc))
+      (subst (λ t. ((e' ≡ e) × (is_unparted t (answer_in parts.outcome) ≡ false)) ⊎ ((is_stop_end e' ≡ true) × (is_unparted t (answer_in parts.outcome) ≡ true))) (sym is)
+      (parts-same parts.outcome broken e e' parts.leaves))
 
 -- ---- the call that tells it
 

@@ -27,7 +27,7 @@ module _ (ticks : Type 0) (command : Command) (calls calls' : List (Command Ã— â
   holds-hears reading later line (Refused why) is holds = absurd holds
   holds-hears reading later line Unread is holds = holds
   holds-hears reading later line (Watch name from) is holds = absurd holds
-  holds-hears reading later line Untimed is holds = holds
+  holds-hears reading later line Untimed is holds = (command, is, holds)
   holds-hears reading later line Limit is holds = absurd holds
   holds-hears reading later line Finish is holds = absurd holds
   holds-hears reading later line TooLong is holds = absurd holds

@@ -1,5 +1,5 @@
 -- Commands that were called together, and several such calls.
-use Rattle.std.proofs.Common.{◌≡◌, ℕ, ◌+◌, ◌≤◌, Bool, true, false, ◌||◌, List, [], ◌∷◌, ◌++◌, length, map, drop, Option, Some, None, Result, Ok, Err, refl, ap, sym, ◌∙◌, subst, append-nil, arith}
+use Rattle.std.proofs.Common.{◌≡◌, inl, inr, ℕ, ◌+◌, ◌≤◌, Bool, true, false, ◌||◌, List, [], ◌∷◌, ◌++◌, length, map, drop, Option, Some, None, Result, Ok, Err, refl, ap, sym, ◌∙◌, subst, append-nil, arith}
 use Rattle.std.proofs.lemmas.List.{length-append, length-drop}
 use Rattle.boss_model.specs.declared.answer.Answer.{Answer}
 use Rattle.boss_model.specs.declared.command.Command.{Command}
@@ -13,7 +13,9 @@ use Rattle.boss_shared.specs.Calls.{RestFits}
 use Rattle.boss_shared.specs.Gates.{AllowedAll, NextJudged}
 use Rattle.boss_shared.specs.Passes.{FailsBy}
 use Rattle.def_connection.specs.Batches.{deeds_by, texts_by}
-use Rattle.def_connection.specs.Speech.{Reply, of_answer, of_memory, of_stop, of_denial, Speech}
+use Rattle.def_connection.specs.Speech.{Reply, of_answer, of_memory, of_stop, of_denial, Speech, is_stop}
+use Rattle.def_connection.specs.Stopping.{last_is, is_undone}
+use Rattle.def_connection.proofs.Lasting.{last_is-append, last_is-behind, last_is-none, last_is-others}
 use Rattle.def_connection.specs.Talks.{Told}
 use Rattle.def_connection.proofs.Telling.{went-on, told-whole, told-behind}
 use Rattle.boss_sessions.specs.declared.halt.Halt.{Halt}
@@ -70,38 +72,55 @@ some-replied calls done count (Some (Denied index rule)) (Ok fine) some fits is 
 some-replied calls done count (Some (Denied index rule)) (Err failed) some fits is = cc
 
 module _ (speech : Speech) (session : ℕ) (tells : Type 0) (calls : List (Command × ℕ)) where
-  comes-of : {T E : Type 0} (answers : List Answer) (rest : Option Outcome) (told : Result T E) (done : ℕ) (old new : Voice) → IsRest rest → length answers ≡ done →
+  -- the answers, and one more reply, which ends the turn or not
+  answers-end : (test : Reply → Bool) (answers : List Answer) (last : Reply) → last_is test false (map of_answer answers ++ last ∷ []) ≡ test last
+  answers-end test answers last = last_is-append test false (map of_answer answers) (last ∷ [])
+
+  answers-calm : (answers : List Answer) → last_is is_stop false (map of_answer answers ++ []) ≡ false
+  answers-calm answers = ap (last_is is_stop false) (append-nil (map of_answer answers)) ∙ last_is-none is_stop (map of_answer answers) (answers-go answers)
+
+  comes-of : {T E : Type 0} (answers : List Answer) (rest : Option Outcome) (told : Result T E) (done : ℕ) (old new : Voice) → RestFits calls done rest → length answers ≡ done →
       FailsBy (is_broken old.seen) (is_broken new.seen) rest → (tells → Writes old.taken new.taken (texts_by speech (replies_of answers rest)) told) → HasCause old.faults new.faults told →
       Comes speech session tells calls (replies_of answers rest) old new (turned rest done told)
-  comes-of answers None (Ok fine) done old new is many failed writes cause = record {
+  comes-of answers None (Ok fine) done old new fits many failed writes cause = record {
     counts = omega (arith, many, length-answers answers []);
     all_told = writes;
     calm = cause.fine;
     going = going-append (map of_answer answers) [] (answers-go answers) tt;
     whole = λ broken. absurd (let no : true ≡ false = sym broken ∙ failed in cc);
   }
-  comes-of answers None (Err why) done old new is many failed writes cause =
-      (replies-once answers None, (cause.failed, λ broken. absurd (let no : true ≡ false = sym broken ∙ failed in cc)))
-  comes-of answers (Some (Done answer)) told done old new is many failed writes cause = absurd is
-  comes-of answers (Some Stopped) told done old new is many failed writes cause = (replies-once answers (Some Stopped), failed)
-  comes-of answers (Some DiskFault) told done old new is many failed writes cause = (replies-once answers (Some DiskFault), failed)
-  comes-of answers (Some NoMemory) (Ok fine) done old new is many failed writes cause = record {
+  comes-of answers None (Err why) done old new fits many failed writes cause = (
+    replies-once answers None,
+    (cause.failed, λ broken. absurd (let no : true ≡ false = sym broken ∙ failed in cc)),
+    (answers-calm answers, inl (omega (arith, many, fits, length-answers answers []))),
+  )
+  comes-of answers (Some (Done answer)) told done old new fits many failed writes cause = absurd fits
+  comes-of answers (Some Stopped) told done old new fits many failed writes cause = (replies-once answers (Some Stopped), failed, answers-end is_stop answers of_stop)
+  comes-of answers (Some DiskFault) told done old new fits many failed writes cause = (replies-once answers (Some DiskFault), failed, answers-end is_stop answers of_stop)
+  comes-of answers (Some NoMemory) (Ok fine) done old new fits many failed writes cause = record {
     counts = omega (arith, many, length-answers answers (of_memory ∷ []));
     all_told = writes;
     calm = cause.fine;
     going = going-append (map of_answer answers) (of_memory ∷ []) (answers-go answers) (refl, tt);
     whole = λ broken. absurd (let no : true ≡ false = sym broken ∙ failed in cc);
   }
-  comes-of answers (Some NoMemory) (Err why) done old new is many failed writes cause =
-      (replies-once answers (Some NoMemory), (cause.failed, λ broken. absurd (let no : true ≡ false = sym broken ∙ failed in cc)))
-  comes-of answers (Some (Denied index rule)) (Ok fine) done old new is many failed writes cause = record {
+  comes-of answers (Some NoMemory) (Err why) done old new fits many failed writes cause = (
+    replies-once answers (Some NoMemory),
+    (cause.failed, λ broken. absurd (let no : true ≡ false = sym broken ∙ failed in cc)),
+    (answers-end is_stop answers of_memory, inr (answers-end is_undone answers of_memory)),
+  )
+  comes-of answers (Some (Denied index rule)) (Ok fine) done old new fits many failed writes cause = record {
     counts = omega (arith, many, length-answers answers (of_denial index rule ∷ []));
     all_told = writes;
     calm = cause.fine;
     going = going-append (map of_answer answers) (of_denial index rule ∷ []) (answers-go answers) (refl, tt);
     whole = failed;
   }
-  comes-of answers (Some (Denied index rule)) (Err why) done old new is many failed writes cause = (replies-once answers (Some (Denied index rule)), (cause.failed, failed))
+  comes-of answers (Some (Denied index rule)) (Err why) done old new fits many failed writes cause = (
+    replies-once answers (Some (Denied index rule)),
+    (cause.failed, failed),
+    (answers-end is_stop answers (of_denial index rule), inr (answers-end is_undone answers (of_denial index rule))),
+  )
 
   pub turn-replied : {T E : Type 0} (answers : List Answer) (rest : Option Outcome) (told : Result T E) (done : ℕ) (old new : Voice) → IsRest rest → RestFits calls done rest →
       length answers ≡ done → deeds new.own ≡ deeds old.own ++ done_by session calls answers → FailsBy (is_broken old.seen) (is_broken new.seen) rest →
@@ -115,7 +134,7 @@ module _ (speech : Speech) (session : ℕ) (tells : Type 0) (calls : List (Comma
     told = λ told-now. told-writes old.taken new.taken (texts_by speech (replies_of answers rest)) old.faults new.faults told (writes told-now) cause;
     attached_is = attached ∙ ap (λ b. old.attached || b) (sym (attached-replies calls answers rest));
     judged = judged-replies speech.denies session calls answers rest old.held new.held is allowed (subst (λ n. NextJudged speech.denies new.held session calls n rest) (sym many) next);
-    comes = comes-of answers rest told done old new is many failed writes cause;
+    comes = comes-of answers rest told done old new fits many failed writes cause;
   }
 
 -- ---- several calls
@@ -140,9 +159,9 @@ module _ (speech : Speech) (session : ℕ) (tells : Type 0) where
     comes = record { counts = refl; all_told = λ told-now. sym (append-nil v.taken); calm = refl; going = tt; whole = λ broken. broken };
   }
 
-  comes-then : (calls : List (Command × ℕ)) (a b c : Voice) (xs ys : List Reply) (n : ℕ) (r : Result ℕ Halt) → Goes speech session tells calls xs a b n →
+  comes-then : (calls : List (Command × ℕ)) (a b c : Voice) (xs ys : List Reply) (n : ℕ) (r : Result ℕ Halt) → n ≤ length calls → Goes speech session tells calls xs a b n →
       Comes speech session tells (drop n calls) ys b c r → Comes speech session tells calls (xs ++ ys) a c (plus n r)
-  comes-then calls a b c xs ys n (Ok m) one other = record {
+  comes-then calls a b c xs ys n (Ok m) low one other = record {
     counts = omega (arith, one.counts, other.counts, length-append xs ys);
     all_told = λ told-now. went-on a.taken b.taken c.taken (texts_by speech xs) (texts_by speech ys) (one.all_told told-now) (other.all_told told-now)
         ∙ ap (λ list. a.taken ++ list) (sym (texts-append speech xs ys));
@@ -150,10 +169,19 @@ module _ (speech : Speech) (session : ℕ) (tells : Type 0) where
     going = going-append xs ys one.going other.going;
     whole = λ broken. one.whole (other.whole broken);
   }
-  comes-then calls a b c xs ys n (Err halt.Stopped) one other = (once-append xs ys one.going other.0, other.1)
-  comes-then calls a b c xs ys n (Err halt.DiskFault) one other = (once-append xs ys one.going other.0, other.1)
-  comes-then calls a b c xs ys n (Err halt.WriteFault) one other =
-      (once-append xs ys one.going other.0, (subst (λ f. Rose f c.faults) one.calm other.1.0, λ broken. one.whole (other.1.1 broken)))
+  comes-then calls a b c xs ys n (Err halt.Stopped) low one other = (once-append xs ys one.going other.0, other.1, last_is-behind is_stop false xs ys other.2)
+  comes-then calls a b c xs ys n (Err halt.DiskFault) low one other = (once-append xs ys one.going other.0, other.1, last_is-behind is_stop false xs ys other.2)
+  comes-then calls a b c xs ys n (Err halt.WriteFault) low one other = (
+    once-append xs ys one.going other.0,
+    (subst (λ f. Rose f c.faults) one.calm other.1.0, λ broken. one.whole (other.1.1 broken)),
+    (
+      last_is-others is_stop xs ys one.going ∙ other.2.0,
+      elim other.2.1 [
+        | inl all ↦ inl (omega (arith, all, one.counts, low, length-append xs ys, length-drop n calls))
+        | inr undone ↦ inr (last_is-behind is_undone false xs ys undone)
+      ],
+    ),
+  )
 
   pub replied-then : (calls : List (Command × ℕ)) (a b c : Voice) (n : ℕ) (r : Result ℕ Halt) → n ≤ length calls → Replied speech session tells calls a b (Ok n) →
       Replied speech session tells (drop n calls) b c r → Replied speech session tells calls a c (plus n r)
@@ -172,5 +200,5 @@ module _ (speech : Speech) (session : ℕ) (tells : Type 0) where
             ∙ ap (λ rest. (a.attached || attached_by calls one.replies) || attached_by rest other.replies) here ∙ attached-then a.attached calls one.replies other.replies;
         judged = judged-then speech.denies session calls one.replies other.replies a.held b.held c.held one.judged
             (subst (λ cs. JudgedBy speech.denies session cs other.replies b.held c.held) here other.judged);
-        comes = comes-then calls a b c one.replies other.replies n r one.comes other.comes;
+        comes = comes-then calls a b c one.replies other.replies n r low one.comes other.comes;
       }

@@ -2,7 +2,9 @@
 -- Why a session ends.
 use Rattle.std.specs.Prelude.{◌≡◌, ℕ, Bool, true, false, List, [], Option, Some, None, Result, Ok, Err}
 use Rattle.boss_outside.specs.Counts.{Rose}
+use Rattle.def_lanes.specs.Works.{Cut, not_cut, by_disk, by_clock, by_memory}
 use Rattle.def_connection.specs.Speech.{of_memory, Speech}
+use Rattle.def_connection.specs.Stopping.{Stop, finish, watching, read_fault, write_fault, clock_fault, long_line, long_untold, limit, disk, nothing}
 use Rattle.boss_sessions.specs.declared.heard.Heard.{Heard}
 use Rattle.boss_sessions.specs.declared.heard.Heard.TheVariants as heard
 use Rattle.boss_sessions.specs.declared.halt.Halt.{Halt}
@@ -46,13 +48,26 @@ is_stop_end Stopped = true
 is_stop_end DiskFault = true
 is_stop_end other = false
 
+-- the end by why the talk stopped, where the disk has not failed
+abbrev pub end_for : Stop → SessionEnd
+end_for finish = End
+end_for (watching name from) = Watch name from
+end_for read_fault = ReadFault
+end_for write_fault = WriteFault
+end_for clock_fault = ClockFault
+end_for long_line = TooLong
+end_for long_untold = WriteFault
+end_for limit = Limit
+end_for disk = Stopped
+end_for nothing = NoMemory
+
 -- the connection was cut off: it ended because of what it has in common with others, or before it began
-abbrev pub is_cut : SessionEnd → Bool
-is_cut ClockFault = true
-is_cut Stopped = true
-is_cut DiskFault = true
-is_cut NoMemory = true
-is_cut other = false
+abbrev pub cut_of : SessionEnd → Cut
+cut_of ClockFault = by_clock
+cut_of Stopped = by_disk
+cut_of DiskFault = by_disk
+cut_of NoMemory = by_memory
+cut_of other = not_cut
 
 abbrev pub is_watch : SessionEnd → Bool
 is_watch (Watch name from) = true

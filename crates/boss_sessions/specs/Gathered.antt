@@ -1,17 +1,13 @@
 -- Source: own.
 -- Requests that are held, and what came behind them.
-use Rattle.std.specs.Prelude.{◌≡◌, ℕ, ◌<◌, ◌≤◌, Bool, false, not, List, [], ◌∷◌, ◌++◌, map, filter}
+use Rattle.std.specs.Prelude.{◌≡◌, ℕ, ◌<◌, ◌≤◌, Bool, false, List, [], ◌∷◌, ◌++◌, map}
 use Rattle.boss_model.specs.declared.command.Command.{Command}
-use Rattle.boss_model.specs.Lines.{is_blank}
 use Rattle.def_connection.specs.Batches.{AreAsked}
-use Rattle.def_connection.specs.Speech.{Reading, watches, refuses, is_later}
+use Rattle.def_connection.specs.Losing.{spoken_of}
+use Rattle.def_connection.specs.Speech.{Reading, asks, watches, refuses, is_later}
 use Rattle.boss_sessions.specs.declared.heard.Heard.{Heard}
 use Rattle.boss_sessions.specs.declared.heard.Heard.TheVariants.{Requests, Refused, Unread, Watch, Untimed}
 use Rattle.boss_sessions.specs.Places.{Place, Advances, IsOpen, IsAtStop}
-
--- the lines that are not passed over
-abbrev pub spoken_of : List (List ℕ) → List (List ℕ)
-spoken_of all = filter (λ line. not (is_blank line)) all
 
 -- the line that came behind the requests, which has no request that is held
 abbrev pub IsBehind : (Bool → List ℕ → Reading) → Bool → List (List ℕ) → Heard → Type 0
@@ -19,7 +15,7 @@ IsBehind reading later behind Requests = behind ≡ []
 IsBehind reading later behind (Refused why) = (line : List ℕ) × (behind ≡ line ∷ []) × (reading later line ≡ refuses why)
 IsBehind reading later behind Unread = (line : List ℕ) × (behind ≡ line ∷ [])
 IsBehind reading later behind (Watch name from) = (line : List ℕ) × (behind ≡ line ∷ []) × (reading later line ≡ watches name from) × (later ≡ false) × (1 ≤ from)
-IsBehind reading later behind Untimed = (line : List ℕ) × (behind ≡ line ∷ [])
+IsBehind reading later behind Untimed = (line : List ℕ) × (behind ≡ line ∷ []) × ((command : Command) × (reading later line ≡ asks command))
 IsBehind reading later behind other = behind ≡ []
 
 -- lines were taken: those of the requests that are held, each at a moment that the clock gave, and what came behind them

@@ -1,12 +1,14 @@
 -- Source: own.
 -- How far the lines of a connection were taken.
-use Rattle.std.specs.Prelude.{◌≡◌, ℕ, ◌+◌, List, [], ◌∷◌, ◌++◌, length, Option, Some, None}
-use Rattle.boss_model.specs.Lines.{lines}
+use Rattle.std.specs.Prelude.{◌≡◌, ℕ, ◌+◌, ◌≤◌, false, List, [], ◌∷◌, ◌++◌, length, Option, Some, None}
+use Rattle.std.specs.List.{AllByRecursion}
+use Rattle.boss_model.specs.Lines.{lines, whole_lines}
 use Rattle.boss_outside.specs.Counts.{Rose}
 use Rattle.boss_lines.specs.declared.reader.Next.{Next}
 use Rattle.boss_lines.specs.declared.reader.Next.TheVariants as next
 use Rattle.boss_lines.specs.Lines.{StopsAt}
-use Rattle.boss_lines.specs.Window.{IsTooLong}
+use Rattle.boss_lines.specs.Window.{IsTooLong, NoLineEnd}
+use Rattle.def_connection.specs.Losing.{is_too_long}
 use Rattle.boss_sessions.specs.declared.hearing.Hearing.{Hearing}
 use Rattle.boss_sessions.specs.declared.heard.Heard.{Heard}
 use Rattle.boss_sessions.specs.declared.heard.Heard.TheVariants.{Limit, Finish, TooLong, ReadFault}
@@ -26,16 +28,17 @@ place_of hearing left = record { ahead = hearing.reader.ahead; stopped = hearing
 abbrev pub to_come : Place → List ℕ
 to_come place = place.ahead ++ place.left
 
--- These lines were taken of the front of the bytes, and the rest is still to come. Unless the source has told its end, whatever
--- stands behind that front has the lines that follow.
+-- These lines were taken of the front of the bytes, and the rest is still to come. Unless the source has told its end, each has its
+-- line end, and whatever stands behind that front has the lines that follow.
 pub record Takes (bytes : List ℕ) (all : List (List ℕ)) (rest : List ℕ) (stopped : Option Next) : Type 0 where
   pub front : List ℕ
   pub split : bytes ≡ front ++ rest
   pub given : lines bytes ≡ all ++ lines rest
-  pub going : ¬ (stopped ≡ Some next.Finish) → (more : List ℕ) → lines (front ++ more) ≡ all ++ lines more
+  pub going : ¬ (stopped ≡ Some next.Finish) → (more : List ℕ) → (lines (front ++ more) ≡ all ++ lines more) × (whole_lines (front ++ more) ≡ all ++ whole_lines more)
 
 pub record Advances (heeds : Type 0) (all : List (List ℕ)) (old new : Place) : Type 0 where
   pub counted : old.lines ≡ new.lines + length all
+  pub short : AllByRecursion (λ line. is_too_long line ≡ false) all
   pub takes : heeds → Takes (to_come old) all (to_come new) new.stopped
   pub over : old.stopped ≡ Some next.Finish → new.stopped ≡ Some next.Finish
   -- where the source has told its end nothing is to come
@@ -51,12 +54,12 @@ abbrev pub taken_by : List ℕ → Option Heard → List (List ℕ)
 taken_by line None = line ∷ []
 taken_by line (Some heard) = []
 
--- how it stands where no line came
+-- how it stands where no line came: only at the limit no more may be taken
 abbrev pub IsAtStop : Type 0 → Place → Heard → Type 0
 IsAtStop heeds place Limit = place.lines ≡ 0
-IsAtStop heeds place Finish = (place.ahead ≡ []) × (heeds → place.left ≡ [])
-IsAtStop heeds place TooLong = IsTooLong place.ahead
-IsAtStop heeds place ReadFault = Unit {0}
+IsAtStop heeds place Finish = (1 ≤ place.lines) × (place.ahead ≡ []) × (heeds → place.left ≡ [])
+IsAtStop heeds place TooLong = (1 ≤ place.lines) × IsTooLong place.ahead
+IsAtStop heeds place ReadFault = (1 ≤ place.lines) × NoLineEnd (length place.ahead) place.ahead × (place.stopped ≡ Some next.ReadFault)
 IsAtStop heeds place other = ⊥
 
 abbrev pub StopsFor : Type 0 → Place → Option Heard → Type 0

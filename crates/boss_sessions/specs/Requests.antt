@@ -31,7 +31,7 @@ Hears reading ticks later line calls calls' given given' (Refused why) = (readin
 Hears reading ticks later line calls calls' given given' Unread = HoldsNone ticks calls calls' given given'
 Hears reading ticks later line calls calls' given given' (Watch name from) =
     (reading later line ≡ watches name from) × (later ≡ false) × (1 ≤ from) × HoldsNone ticks calls calls' given given'
-Hears reading ticks later line calls calls' given given' Untimed = HoldsNone ticks calls calls' given given'
+Hears reading ticks later line calls calls' given given' Untimed = (command : Command) × (reading later line ≡ asks command) × HoldsNone ticks calls calls' given given'
 Hears reading ticks later line calls calls' given given' other = ⊥
 
 -- the clock failed exactly where its count rose

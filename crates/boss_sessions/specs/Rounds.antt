@@ -1,15 +1,16 @@
 -- Source: own.
 -- A session line by line: as far as it goes on, and where it ends.
-use Rattle.std.specs.Prelude.{◌≡◌, ℕ, ◌≤◌, Bool, true, false, List, [], ◌∷◌, Option, Some, None, vec_capacity}
+use Rattle.std.specs.Prelude.{◌≡◌, ℕ, ◌≤◌, Bool, false, List, Option, Some, None, vec_capacity}
 use Rattle.boss_model.specs.Limits.{last_moment}
-use Rattle.boss_lines.specs.Window.{IsTooLong}
-use Rattle.boss_sessions.specs.Gathered.{spoken_of}
-use Rattle.boss_sessions.specs.Places.{Place, Advances, IsOpen}
+use Rattle.boss_sessions.specs.Ends.{end_for, is_stop_end}
+use Rattle.boss_sessions.specs.Places.{Place, Advances, IsAtStop, IsOpen}
 use Rattle.boss_sessions.specs.Replies.{reply_room}
-use Rattle.def_connection.specs.Speech.{Speech, watches, is_later}
-use Rattle.def_connection.specs.Talks.{Standing, Goes, Stops, end_text}
+use Rattle.def_connection.specs.Losing.{spoken_of}
+use Rattle.def_connection.specs.Speech.{Speech, is_later}
+use Rattle.def_connection.specs.Stopping.{Stop, finish, read_fault, long_line, long_untold, limit, nothing, is_disk}
+use Rattle.def_connection.specs.Talks.{Standing, Goes, Stops}
 use Rattle.boss_sessions.specs.declared.end.SessionEnd.{SessionEnd}
-use Rattle.boss_sessions.specs.declared.end.SessionEnd.TheVariants.{End, Watch, TooLong, Limit}
+use Rattle.boss_sessions.specs.declared.heard.Heard.TheVariants.{Limit, Finish, TooLong, ReadFault}
 use Rattle.boss_sessions.specs.declared.session.Session.{Session}
 
 -- a session's room, and its last moment
@@ -22,45 +23,33 @@ pub record HasRoom (session : Session) : Type 0 where
 abbrev pub named : Standing → Option (List ℕ) → Standing
 named standing name = record standing { name = name }
 
+-- how the lines stand by why the talk stopped
+abbrev pub EndsAt : Type 0 → Place → Stop → Type 0
+EndsAt heeds place finish = IsAtStop heeds place Finish
+EndsAt heeds place read_fault = IsAtStop heeds place ReadFault
+EndsAt heeds place long_line = IsAtStop heeds place TooLong
+EndsAt heeds place long_untold = IsAtStop heeds place TooLong
+EndsAt heeds place limit = IsAtStop heeds place Limit
+EndsAt heeds place nothing = ⊥
+EndsAt heeds place other = Unit {0}
+
 module _ (speech : Speech) (number : ℕ) (heeds tells ticks : Type 0) where
-  -- the first line asks to watch, and it has no reply
-  pub record AsksToWatch (later : Bool) (heard rest : List (List ℕ)) (long : Bool) (name : List ℕ) (from : ℕ) : Type 0 where
-    pub line : List ℕ
-    pub lines : heard ≡ line ∷ []
-    pub unanswered : rest ≡ heard
-    pub short : long ≡ false
-    pub reads : speech.reading later line ≡ watches name from
-    pub first : later ≡ false
-    pub counted : 1 ≤ from
-
-  -- what an end says of the lines
-  abbrev pub EndsAt : Place → Bool → List (List ℕ) → List (List ℕ) → Bool → SessionEnd → Type 0
-  EndsAt place later heard rest long End = (rest ≡ []) × (place.ahead ≡ []) × (heeds → place.left ≡ [])
-  EndsAt place later heard rest long (Watch name from) = AsksToWatch later heard rest long name from
-  EndsAt place later heard rest long TooLong = long ≡ true
-  EndsAt place later heard rest long Limit = place.lines ≡ 0
-  EndsAt place later heard rest long other = Unit {0}
-
-  -- lines were heard and answered, up to the end, behind which only one that is too long is told so
+  -- lines were taken and answered, up to the end
   pub record Ended (later : Bool) (place place' : Place) (old new : Standing) (end : SessionEnd) : Type 0 where
-    pub heard : List (List ℕ)
-    pub all : List (List ℕ)
-    pub spoken : heard ≡ spoken_of all
-    pub advances : Advances heeds all place place'
-    pub rest : List (List ℕ)
-    pub long : Bool
-    pub stops : Stops speech number tells ticks later heard rest (end_text speech long) old new
-    pub long_line : long ≡ true → IsTooLong place'.ahead
-    pub ends : EndsAt place' later heard rest long end
+    pub taken : List (List ℕ)
+    pub stop : Stop
+    pub advances : Advances heeds taken place place'
+    pub stops : Stops speech number tells ticks later (spoken_of taken) stop old new
+    pub at : EndsAt heeds place' stop
+    pub broken : is_stop_end end ≡ is_disk stop
+    pub end_is : is_stop_end end ≡ false → end ≡ end_for stop
 
-  -- lines were heard and answered, and more may come
+  -- lines were taken and answered, and more may come
   pub record GoesOn (later later' : Bool) (place place' : Place) (old new : Standing) : Type 0 where
-    pub heard : List (List ℕ)
-    pub all : List (List ℕ)
-    pub spoken : heard ≡ spoken_of all
-    pub advances : Advances heeds all place place'
-    pub later_is : later' ≡ is_later later heard
-    pub goes : Goes speech number tells ticks later heard old new
+    pub taken : List (List ℕ)
+    pub advances : Advances heeds taken place place'
+    pub later_is : later' ≡ is_later later (spoken_of taken)
+    pub goes : Goes speech number tells ticks later (spoken_of taken) old new
 
   abbrev pub Rounded : Bool → Bool → Place → Place → Standing → Standing → Option SessionEnd → Type 0
   Rounded later later' place place' old new None = GoesOn later later' place place' old new × IsOpen heeds place'

@@ -1,6 +1,6 @@
 -- Source: own.
 -- The replies to several commands that are called together.
-use Rattle.std.specs.Prelude.{◌≡◌, ℕ, ◌+◌, ◌≤◌, Bool, true, false, ◌||◌, List, [], ◌∷◌, ◌++◌, length, map, Option, Some, None, Result, Ok, Err}
+use Rattle.std.specs.Prelude.{◌≡◌, ◌⊎◌, ℕ, ◌+◌, ◌≤◌, Bool, true, false, ◌||◌, List, [], ◌∷◌, ◌++◌, length, map, Option, Some, None, Result, Ok, Err}
 use Rattle.std.specs.List.{AllByRecursion}
 use Rattle.boss_model.specs.declared.answer.Answer.{Answer}
 use Rattle.boss_model.specs.declared.command.Command.{Command}
@@ -12,6 +12,7 @@ use Rattle.def_history.specs.History.{deeds, is_broken}
 use Rattle.boss_outside.specs.Counts.{Rose}
 use Rattle.def_connection.specs.Batches.{deeds_by, texts_by}
 use Rattle.def_connection.specs.Speech.{Reply, of_answer, of_memory, of_stop, of_denial, Speech, attaches_by, is_stop}
+use Rattle.def_connection.specs.Stopping.{last_is, is_undone}
 use Rattle.def_connection.specs.Talks.{Told}
 use Rattle.boss_shared.specs.Gates.{Holding}
 use Rattle.boss_sessions.specs.Holding.{JudgedBy}
@@ -106,9 +107,15 @@ module _ (speech : Speech) (session : ℕ) (tells : Type 0) (calls : List (Comma
   HaltCause old new halt.DiskFault = is_broken new.seen ≡ true
   HaltCause old new halt.WriteFault = Rose old.faults new.faults × (is_broken new.seen ≡ true → is_broken old.seen ≡ true)
 
+  -- the last reply tells that the disk has failed, and no other; a write failed behind the last command, or one that was not done
+  abbrev pub HaltsAt : List Reply → Halt → Type 0
+  HaltsAt replies halt.Stopped = last_is is_stop false replies ≡ true
+  HaltsAt replies halt.DiskFault = last_is is_stop false replies ≡ true
+  HaltsAt replies halt.WriteFault = (last_is is_stop false replies ≡ false) × ((length replies ≡ length calls) ⊎ (last_is is_undone false replies ≡ true))
+
   abbrev pub Comes : List Reply → Voice → Voice → Result ℕ Halt → Type 0
   Comes replies old new (Ok count) = Goes replies old new count
-  Comes replies old new (Err why) = StopsOnce replies × HaltCause old new why
+  Comes replies old new (Err why) = StopsOnce replies × HaltCause old new why × HaltsAt replies why
 
   -- commands were called in order, as many as there are replies, and a front of these was told
   pub record Replied (old new : Voice) (result : Result ℕ Halt) : Type 0 where

@@ -31,6 +31,12 @@ use std::alloc::Global;
 /// Requests that have come together are done in one call. Where an attach was accepted, the last call tells that the process is
 /// lost, at the last moment that the clock gave, and where it is not answered, its outcome is the end: Stopped where the disk had
 /// failed before it, also in a call of this session, and DiskFault where it failed in it.
+///
+/// Of the lines that were taken few have no reply: the one that asks to watch; the one at which the clock failed; those behind the
+/// reply that the disk has failed, which is the last and comes there alone; and where a write failed, requests that are held behind
+/// one that was not done, and one line behind them. Where a read failed, a piece without a line end is no line. No line is taken
+/// behind one that is too long, which is told so, or behind the 2^32nd. The clock is read once for each request. Where there was no
+/// memory to begin, nothing is read, done or told.
 pub fn serve_connection<G: Desk, S: Source, K: Sink, C: Clock>(
     alloc: Global,
     desk: &G,

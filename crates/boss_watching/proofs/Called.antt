@@ -1,10 +1,10 @@
 -- Where a connection was watched, a call at least was answered.
-use Rattle.std.proofs.Common.{◌≡◌, ℕ, ◌+◌, ◌<◌, ◌≤◌, List, [], ◌∷◌, ◌++◌, length, ap, arith, length-append}
+use Rattle.std.proofs.Common.{◌≡◌, ℕ, ◌+◌, ◌<◌, ◌≤◌, true, false, List, [], ◌∷◌, ◌++◌, length, ap, arith, length-append}
 use Rattle.def_history.specs.declared.entry.Entry.{Entry}
 use Rattle.def_history.specs.History.{deeds}
 use Rattle.boss_watching.specs.declared.end.WatchEnd.{WatchEnd}
 use Rattle.boss_watching.specs.declared.end.WatchEnd.TheVariants.{Idle, Closed, WriteFault, ClockFault, Stopped, DiskFault, NoMemory}
-use Rattle.boss_watching.specs.Ends.{HasCalled, IsCall, IsCut}
+use Rattle.boss_watching.specs.Ends.{is_unanswered_end, HasCalled, IsCall, IsCut}
 use Rattle.boss_watching.specs.Turns.{quiet_in, Lasts}
 
 pub grown-longer : (old new more : List Entry) → deeds new ≡ deeds old ++ more → length (deeds new) ≡ length (deeds old) + length more
@@ -46,6 +46,16 @@ called-behind idle old mid new ClockFault longer called = tt
 called-behind idle old mid new Stopped longer called = tt
 called-behind idle old mid new DiskFault longer called = tt
 called-behind idle old mid new NoMemory longer called = tt
+
+-- where the desk ended it the last call had no answer
+pub unanswered-call : (end : WatchEnd) (unused : List ℕ) → IsCall end → is_unanswered_end end ≡ false → unused ≡ []
+unanswered-call Idle unused call answered = absurd call
+unanswered-call Closed unused call answered = absurd call
+unanswered-call WriteFault unused call answered = absurd call
+unanswered-call ClockFault unused call answered = absurd call
+unanswered-call Stopped unused call answered = absurd (let no : true ≡ false = answered in cc)
+unanswered-call DiskFault unused call answered = absurd (let no : true ≡ false = answered in cc)
+unanswered-call NoMemory unused call answered = absurd (let no : true ≡ false = answered in cc)
 
 -- where the desk ended it nothing is claimed
 pub called-call : (end : WatchEnd) (old new : List Entry) → IsCall end → HasCalled 0 old new end

@@ -1,6 +1,6 @@
 -- Source: own.
 -- Why a connection is watched for no longer.
-use Rattle.std.specs.Prelude.{◌≡◌, ℕ, ◌<◌, Bool, true, List, length}
+use Rattle.std.specs.Prelude.{◌≡◌, ℕ, ◌<◌, Bool, true, false, List, length}
 use Rattle.boss_outside.specs.Counts.{Rose}
 use Rattle.def_history.specs.declared.entry.Entry.{Entry}
 use Rattle.def_history.specs.History.{deeds, is_broken}
@@ -47,6 +47,13 @@ pub record Lasted (idle : ℕ) (old new : List Entry) (pausing : Type 0) (pauses
   pub quiet : ℕ
   pub lasts : Lasts idle 0 quiet old new pausing pauses pauses'
   pub is_idle : IdleCause idle quiet end
+
+-- the last call had no answer: the disk has failed, or there was no memory for it
+abbrev pub is_unanswered_end : WatchEnd → Bool
+is_unanswered_end Stopped = true
+is_unanswered_end DiskFault = true
+is_unanswered_end NoMemory = true
+is_unanswered_end other = false
 
 -- what a call of the desk may end it by
 abbrev pub IsCall : WatchEnd → Type 0

@@ -5,7 +5,7 @@ ghost use Rattle.boss_lock.specs.Places.{entries_at};
 ghost use Rattle.def_history.specs.History.{run};
 ghost use Rattle.def_connection.specs.Talks.{standing};
 ghost use Rattle.def_connection.specs.Watching.{Watched, Watches};
-ghost use Rattle.boss_watching.specs.Ends.{ClockCause, CloseCause, DiskCause, HasCalled, Lasted, WriteCause};
+ghost use Rattle.boss_watching.specs.Ends.{is_unanswered_end, ClockCause, CloseCause, DiskCause, HasCalled, Lasted, WriteCause};
 ghost use Rattle.boss_watching.specs.Notes.{GoesOn, notes, sent};
 ghost use Rattle.boss_watching.specs.Turns.{Lasts};
 
@@ -50,7 +50,7 @@ pub fn await_notices<G: Desk, K: Sink, C: Clock, W: Waiter>(
         (sent name.now (run (G.plant desk.now) (G.seen pass.new) (G.opening desk.now)))) }
     ensures calm { IfOk result (λ next. C.faults clock.new ≡ C.faults clock.old) }
     ensures open { IfOk result (λ next. W.closes waiter.new ≡ W.closes waiter.old) }
-    ensures watched { IfErr result (λ end. Watched (notes catalogue.now) session name.now K.tells C.tells from
+    ensures watched { IfErr result (λ end. Watched (notes catalogue.now) session name.now K.tells C.tells (is_unanswered_end end) from
         (standing (entries_at (G.seen pass.old) (G.mine pass.old)) (K.taken sink.old) (K.faults sink.old) (C.given clock.old) false 0)
         (standing (entries_at (G.seen pass.new) (G.mine pass.new)) (K.taken sink.new) (K.faults sink.new) (C.given clock.new) false 0)) }
     ensures lasted { IfErr result (Lasted idle (entries_at (G.seen pass.old) (G.mine pass.old)) (entries_at (G.seen pass.new) (G.mine pass.new))

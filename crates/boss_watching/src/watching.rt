@@ -3,7 +3,7 @@ ghost use Rattle.boss_model.specs.Catalogue.{actuators};
 ghost use Rattle.boss_lock.specs.Places.{entries_at};
 ghost use Rattle.def_connection.specs.Talks.{standing};
 ghost use Rattle.def_connection.specs.Watching.{Watched};
-ghost use Rattle.boss_watching.specs.Ends.{ClockCause, CloseCause, DiskCause, HasCalled, Lasted, WriteCause};
+ghost use Rattle.boss_watching.specs.Ends.{is_unanswered_end, ClockCause, CloseCause, DiskCause, HasCalled, Lasted, WriteCause};
 ghost use Rattle.boss_watching.specs.Notes.{notes};
 
 use crate::WatchEnd;
@@ -38,7 +38,7 @@ pub fn watch_connection<G: Desk, K: Sink, C: Clock, W: Waiter>(
     ensures own { G.owns desk.now pass.new }
     ensures parts { G.parts pass.new ≡ G.parts pass.old }
     ensures held { G.held pass.new ≡ G.held pass.old }
-    ensures watched { Watched (notes catalogue.now) session name.now K.tells C.tells from
+    ensures watched { Watched (notes catalogue.now) session name.now K.tells C.tells (is_unanswered_end result) from
         (standing (entries_at (G.seen pass.old) (G.mine pass.old)) (K.taken sink.old) (K.faults sink.old) (C.given clock.old) false 0)
         (standing (entries_at (G.seen pass.new) (G.mine pass.new)) (K.taken sink.new) (K.faults sink.new) (C.given clock.new) false 0) }
     ensures lasted { Lasted idle (entries_at (G.seen pass.old) (G.mine pass.old)) (entries_at (G.seen pass.new) (G.mine pass.new))

@@ -1,5 +1,5 @@
 -- What the worker of a driver did, whether it kept minimum times or not.
-use Rattle.std.proofs.Common.{◌≡◌, ℕ, ◌+◌, ◌<◌, ◌≤◌, Bool, true, false, List, [], ◌∷◌, ◌++◌, length, length-append, refl, ap, sym, ◌∙◌, subst, arith}
+use Rattle.std.proofs.Common.{◌≡◌, ℕ, ◌+◌, ◌≤◌, Bool, true, false, List, [], ◌∷◌, ◌++◌, length, length-append, ap, sym, ◌∙◌, subst, arith}
 use Rattle.boss_model.specs.Catalogue.{actuators, Catalogue}
 use Rattle.boss_model.specs.DeviceCall.{DeviceCall}
 use Rattle.boss_model.specs.State.{State}
@@ -12,7 +12,6 @@ use Rattle.boss_lock.specs.Places.{entries_at}
 use Rattle.boss_shared.specs.Passes.{IsPassOf}
 use Rattle.boss_expiry.specs.declared.end.WorkEnd.{WorkEnd}
 use Rattle.boss_expiry.specs.Ends.{EndCause}
-use Rattle.boss_drive.specs.Drives.{IsDriveOf}
 use Rattle.boss_drive.specs.Driving.{Stand, Driven, made_by, left_by}
 use Rattle.boss_drive.proofs.Laning.{driven-added}
 use Rattle.def_guards.specs.declared.guard.Guard.{Guard}
@@ -21,11 +20,9 @@ use Rattle.def_guards.specs.Guards.{guards_of, is_guarded}
 use Rattle.def_guards.specs.Turns.{Turn as GuardTurn, after_turn, after_turns}
 use Rattle.boss_guard.specs.declared.end.GuardEnd.{GuardEnd}
 use Rattle.boss_guard.specs.declared.end.GuardEnd.TheVariants as guard
-use Rattle.boss_guard.specs.GuardDrives.{IsGuardOf}
 use Rattle.boss_guard.specs.Guarding.{Guarded, GuardCause, GuardClock, Turned, start}
 use Rattle.boss_guard.specs.Making.{made_by_acts, made_in_turns, left_by as left_by_guard}
 use Rattle.boss_guard.proofs.LaneOfGuards.{guarded_adds}
-use Rattle.boss_worker.specs.declared.trouble.Trouble.{Trouble}
 use Rattle.boss_worker.specs.declared.trouble.Trouble.TheVariants.{Disk, Memory}
 use Rattle.boss_worker.specs.Drove.{Drove, WasTold}
 use Rattle.boss_worker.specs.Saying.{IsDriven}

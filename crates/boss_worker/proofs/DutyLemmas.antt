@@ -52,7 +52,7 @@ module _ (catalogue : Catalogue) (gates : List Gate) (workers number : ℕ) (hee
   pub left-time : number ≡ workers → Expired own own' clocking given given' pausing pauses pauses' most end →
       Left true (terms_of catalogue gates workers heeds tells hosting clocking pausing) number 0 (beat pauses' closed ∷ []) own' seen [] [] [] given' 0 0 misses' (flags_after (trouble_of_work end) flags)
   left-time owned expired = left-one (terms_of catalogue gates workers heeds tells hosting clocking pausing) number (beat pauses' closed) own own' seen given given' misses misses' flags (trouble_of_work end)
-      (expired-added (actuators catalogue) clocking pausing own own' given given' pauses pauses' most end expired no_pause) (ap deeds empty) no_moment no_miss unmarked refl tt owned
+      (expired-added (actuators catalogue) clocking pausing own own' given given' pauses pauses' most end expired no_pause) (ap deeds empty) no_moment no_miss unmarked refl tt tt owned
       (clock-worked end misses misses' clock) (λ is. broken-worked end seen pausing closed before now cause is)
 
 module _ (catalogue : Catalogue) (gates : List Gate) (workers number : ℕ) (heeds tells hosting clocking recording pausing : Type 0) (old new : Stand) (seen : List Entry) (misses misses' pauses : ℕ)
@@ -61,7 +61,7 @@ module _ (catalogue : Catalogue) (gates : List Gate) (workers number : ℕ) (hee
   pub left-driven : number ≡ workers + 1 + driver →
       Left true (terms_of catalogue gates workers heeds tells hosting clocking pausing) number 0 (drive driver drove.calls pauses closed ∷ []) new.own seen [] [] [] new.given 0 0 misses' (flags_after trouble flags)
   left-driven owned = left-one (terms_of catalogue gates workers heeds tells hosting clocking pausing) number (drive driver drove.calls pauses closed) old.own new.own seen old.given new.given misses misses' flags trouble
-      drove.added (ap deeds empty) no_moment no_miss unmarked refl tt owned clock broken
+      drove.added (ap deeds empty) no_moment no_miss unmarked refl tt tt owned clock broken
 
   pub driven-ended : (most : ℕ) → last_number ≤ most → WasTold old.own new.own pausing closed most trouble → IsQuiet (flags_after trouble flags) → pausing →
       length (done_in (actuators catalogue) (of_driver driver) new.own) < last_number → closed ≡ true

@@ -13,9 +13,9 @@ use Rattle.boss_outside_server.specs.Hosts.{Served}
 use Rattle.boss_worker.specs.declared.flags.Flags.{Flags}
 use Rattle.boss_worker.specs.declared.trouble.Trouble.{Trouble}
 use Rattle.boss_worker.specs.declared.trouble.Trouble.TheVariants.{Nothing, Disk, Clock, Memory}
-use Rattle.boss_worker.specs.Troubles.{no_flags, flags_after, failed_host, is_trouble, ClockTrouble, Counts}
-use Rattle.boss_worker.specs.Visits.{IsUncut, SoFar, Left}
-use Rattle.boss_worker.proofs.FlagLemmas.{host-after, quiet-after}
+use Rattle.boss_worker.specs.Troubles.{no_flags, flags_after, failed_host, cut_by, ClockTrouble, Counts}
+use Rattle.boss_worker.specs.Visits.{IsUncut, IsFlagged, SoFar, Left}
+use Rattle.boss_worker.proofs.FlagLemmas.{flagged-after, flagged-more, host-after, marked-after, quiet-after}
 
 module _ (terms : Terms) (number : ℕ) where
   pub so-far-first : (own : List Entry) (served : List Served) (given : List ℕ) (handed next : ℕ) (flags : Flags) → deeds own ≡ [] → handed ≡ 0 → next ≡ 1 + number →
@@ -26,29 +26,51 @@ module _ (terms : Terms) (number : ℕ) where
     next_is = rw no_handed (omega (arith, first));
     before = tt;
     uncut = λ quiet. tt;
+    flagged = tt;
   }
 
   pub so-far-more : (works : List Work) (own own' : List Entry) (served served' served'' : List Served) (given given' given'' : List ℕ) (handed handed' next later : ℕ) (flags : Flags)
       (trouble : Trouble) (one : Served) → SoFar terms number works own served served' given given' handed next flags →
-      Added terms.plant (of_session one.session) (terms.says (visit one (is_trouble trouble))) terms.clocking own own' given' given'' →
+      Added terms.plant (of_session one.session) (terms.says (visit one (cut_by trouble))) terms.clocking own own' given' given'' →
       (terms.hosting → served'' ≡ served' ++ one ∷ []) → one.session ≡ next → number < terms.workers → handed' ≡ handed + 1 → later ≡ next + terms.workers →
-      SoFar terms number (works ++ visit one (is_trouble trouble) ∷ []) own' served served'' given given'' handed' later (flags_after trouble flags)
+      SoFar terms number (works ++ visit one (cut_by trouble) ∷ []) own' served served'' given given'' handed' later (flags_after trouble flags)
   so-far-more works own own' served served' served'' given given' given'' handed handed' next later flags trouble one so_far added back is low one_more further =
-      let owned = owner-session terms.workers number handed one (is_trouble trouble) low (is ∙ so_far.next_is) in
-      let grown : length (served_in (works ++ visit one (is_trouble trouble) ∷ [])) ≡ length (served_in works) + 1 =
-      ap length (served_in-append works (visit one (is_trouble trouble) ∷ [])) ∙ length-append (served_in works) (one ∷ []) in
+      let owned = owner-session terms.workers number handed one (cut_by trouble) low (is ∙ so_far.next_is) in
+      let grown : length (served_in (works ++ visit one (cut_by trouble) ∷ [])) ≡ length (served_in works) + 1 =
+      ap length (served_in-append works (visit one (cut_by trouble) ∷ [])) ∙ length-append (served_in works) (one ∷ []) in
       record {
-        part = part-more terms number (suc number) works (visit one (is_trouble trouble)) own own' served served' served'' given given' given'' so_far.part added
+        part = part-more terms number (suc number) works (visit one (cut_by trouble)) own own' served served' served'' given given' given'' so_far.part added
             (omega (arith, owned)) (omega (arith, owned)) (subst (λ s. AllByRecursion (λ work. ¬ (lane_of_work work ≡ of_session s)) works) (sym is) (before-absent next works so_far.before)) back;
         each = omega (arith, grown, so_far.each, one_more);
         next_is = next-turn (so_far.next_is);
-        before = before-more next later works one (is_trouble trouble) so_far.before is (omega (arith, further, low));
+        before = before-more next later works one (cut_by trouble) so_far.before is (omega (arith, further, low));
         uncut = λ quiet. let both = quiet-after trouble flags quiet in
-            each-append IsUncut works (visit one (is_trouble trouble) ∷ []) (so_far.uncut both.0) (both.1, tt);
+            each-append IsUncut works (visit one (cut_by trouble) ∷ []) (so_far.uncut both.0) (both.1, tt);
+        flagged = each-append (IsFlagged (flags_after trouble flags)) works (visit one (cut_by trouble) ∷ []) (flagged-after trouble flags works so_far.flagged) (marked-after trouble flags, tt);
       }
     where
       next-turn : next ≡ 1 + number + terms.workers * handed → later ≡ 1 + number + terms.workers * handed'
       next-turn here = rw one_more (omega (arith, further, here))
+
+  -- an accept that handed nothing out
+  pub so-far-same : (works : List Work) (own : List Entry) (served served' served'' : List Served) (given given' : List ℕ) (handed handed' next : ℕ) (flags : Flags) →
+      SoFar terms number works own served served' given given' handed next flags → (terms.hosting → served'' ≡ served') → handed' ≡ handed →
+      SoFar terms number works own served served'' given given' handed' next flags
+  so-far-same works own served served' served'' given given' handed handed' next flags so_far stays same = record {
+    part = record {
+      agreed = so_far.part.agreed;
+      of_them = so_far.part.of_them;
+      came_back = λ told. stays told ∙ so_far.part.came_back told;
+      gains = so_far.part.gains;
+      gave = so_far.part.gave;
+      timed = so_far.part.timed;
+    };
+    each = so_far.each ∙ sym same;
+    next_is = so_far.next_is ∙ ap (λ n. 1 + number + terms.workers * n) (sym same);
+    before = so_far.before;
+    uncut = so_far.uncut;
+    flagged = so_far.flagged;
+  }
 
   -- where the work ends
   module _ (share : ℕ) (works : List Work) (own seen : List Entry) (served served' : List Served) (given given' : List ℕ) (handed next host_faults clock_faults : ℕ) (flags : Flags)
@@ -60,6 +82,7 @@ module _ (terms : Terms) (number : ℕ) where
       each = so_far.each;
       whole = λ ran hosted sound. all;
       uncut = so_far.uncut;
+      flagged = so_far.flagged;
       hosted = subst (λ flag. Counts flag host_faults) (sym no_host) calm;
       ticked = λ sound. ticked;
       broken = λ broke. absurd (let no : true ≡ false = sym broke ∙ no_disk in cc);
@@ -72,6 +95,7 @@ module _ (terms : Terms) (number : ℕ) where
       each = so_far.each;
       whole = λ ran hosted sound. absurd (let no : true ≡ false = hosted in cc);
       uncut = λ quiet. so_far.uncut (record { disk = quiet.disk; clock = quiet.clock; memory = quiet.memory });
+      flagged = flagged-more flags (failed_host flags) (λ is. is) (λ is. is) (λ is. is) works so_far.flagged;
       hosted = rose;
       ticked = λ sound. ticked;
       broken = λ broke. absurd (let no : true ≡ false = sym broke ∙ no_disk in cc);
@@ -84,6 +108,7 @@ module _ (terms : Terms) (number : ℕ) where
       each = so_far.each;
       whole = λ ran hosted sound. absurd (let no : true ≡ false = sym disk ∙ sound in cc);
       uncut = so_far.uncut;
+      flagged = so_far.flagged;
       hosted = subst (λ flag. Counts flag host_faults) (sym no_host) calm;
       ticked = λ sound. absurd (let no : true ≡ false = sym disk ∙ sound in cc);
       broken = λ flag. broke;
@@ -110,6 +135,7 @@ left-fresh ran terms number share works own seen served served' given given' han
   each = left.each;
   whole = left.whole;
   uncut = left.uncut;
+  flagged = left.flagged;
   hosted = left.hosted;
   ticked = left.ticked;
   broken = left.broken;
@@ -124,6 +150,7 @@ left-nothing terms number share own seen served given handed host_faults clock_f
   each = sym no_handed;
   whole = λ ran. absurd (let no : false ≡ true = ran in cc);
   uncut = λ quiet. tt;
+  flagged = tt;
   hosted = subst (λ (f : Flags). Counts f.host host_faults) (sym unmarked) no_fault;
   ticked = λ sound. subst (λ (f : Flags). Counts f.clock clock_faults) (sym unmarked) no_miss;
   broken = λ is. absurd (let no : false ≡ true = ap (λ (f : Flags). f.disk) (sym unmarked) ∙ is in cc);
@@ -132,15 +159,16 @@ left-nothing terms number share own seen served given handed host_faults clock_f
 -- a worker that serves no connection left one work
 pub left-one : (terms : Terms) (number : ℕ) (work : Work) (own own' seen : List Entry) (given given' : List ℕ) (misses misses' : ℕ) (flags : Flags) (trouble : Trouble) →
     Added terms.plant (lane_of_work work) (terms.says work) terms.clocking own own' given given' → deeds own ≡ [] → (terms.clocking → given ≡ []) → misses ≡ 0 → flags ≡ no_flags →
-    served_by work ≡ [] → IsUncut work → number ≡ owner terms.workers work → ClockTrouble misses misses' trouble → (trouble ≡ Disk → is_broken seen ≡ true) →
+    served_by work ≡ [] → IsUncut work → IsFlagged (flags_after trouble flags) work → number ≡ owner terms.workers work → ClockTrouble misses misses' trouble → (trouble ≡ Disk → is_broken seen ≡ true) →
     Left true terms number 0 (work ∷ []) own' seen [] [] [] given' 0 0 misses' (flags_after trouble flags)
-left-one terms number work own own' seen given given' misses misses' flags trouble added empty no_moment no_miss unmarked serves uncut owned cause broken = record {
+left-one terms number work own own' seen given given' misses misses' flags trouble added empty no_moment no_miss unmarked serves uncut flagged owned cause broken = record {
   part = part-fresh terms number (suc number) (work ∷ []) own' [] [] given given'
       (part-more terms number (suc number) [] work own own' [] [] [] given given given' (part-nothing terms number (suc number) own [] given empty) added
       (omega (arith, owned)) (omega (arith, owned)) tt (λ told. sym serves)) (λ told. refl) no_moment;
   each = ap (λ list. length (list ++ [])) serves;
   whole = λ ran accepted sound. refl;
   uncut = λ quiet. (uncut, tt);
+  flagged = (flagged, tt);
   hosted = subst (λ flag. Counts flag 0) (sym (host-after trouble flags ∙ ap (λ (f : Flags). f.host) unmarked)) refl;
   ticked = λ sound. counted trouble cause sound;
   broken = λ is. raised trouble refl is;

@@ -1,5 +1,5 @@
 -- What a connection added, by how it was served, or watched.
-use Rattle.std.proofs.Common.{◌≡◌, inl, inr, ℕ, ◌<◌, Bool, true, false, List, [], ◌++◌, length, Some, refl, ap, sym, ◌∙◌, subst, arith}
+use Rattle.std.proofs.Common.{◌≡◌, inl, inr, ℕ, ◌<◌, Bool, false, List, [], ◌++◌, length, Some, refl, ap, sym, ◌∙◌, subst, arith}
 use Rattle.std.proofs.lemmas.List.{append-nil}
 use Rattle.boss_model.specs.declared.answer.Answer.{Answer}
 use Rattle.boss_model.specs.Catalogue.{actuators, Catalogue}
@@ -7,27 +7,30 @@ use Rattle.def_history.specs.declared.entry.Entry.{Entry}
 use Rattle.def_history.specs.History.{deeds}
 use Rattle.def_lanes.specs.Lanes.{of_session}
 use Rattle.def_lanes.specs.Parts.{Added}
+use Rattle.def_lanes.specs.Works.{not_cut, by_disk, by_clock, by_memory}
 use Rattle.def_lanes.proofs.Adding.{added-nothing, added-says, added-then}
 use Rattle.boss_outside_server.specs.Hosts.{Served}
 use Rattle.def_connection.specs.Speech.{Speech}
-use Rattle.def_connection.specs.Talks.{Told, standing, Exchanged, Talked, IsEnded, IsTalkOf, spoken}
-use Rattle.def_connection.specs.Watching.{notes_in, Watched, Noticed, IsWatchOf}
-use Rattle.def_connection.proofs.OfSession.{talk-added, talk-silent, watch-added}
+use Rattle.def_connection.specs.Losing.{spoken_of, Lost}
+use Rattle.def_connection.specs.Stopping.{Stop, watching}
+use Rattle.def_connection.specs.Talks.{Told, standing, Exchanged, Talked, IsEnded, IsTalkOf}
+use Rattle.def_connection.specs.Watching.{notes_in, is_unanswered, Watched, Noticed, IsWatchOf}
+use Rattle.def_connection.proofs.OfSession.{talk-added, talk-silent, watch-added, watch-line}
 use Rattle.boss_shared.specs.Gates.{Gate}
 use Rattle.boss_sessions.specs.Speaking.{speech_of}
 use Rattle.boss_sessions.specs.declared.end.SessionEnd.{SessionEnd}
 use Rattle.boss_sessions.specs.declared.end.SessionEnd.TheVariants as session
-use Rattle.boss_sessions.specs.Connected.{Connected, Lost}
-use Rattle.boss_sessions.specs.Ends.{is_cut, is_stop_end, is_watch, ReadCause, WriteCause}
-use Rattle.boss_sessions.proofs.EndedLemmas.{has-ended}
+use Rattle.boss_sessions.specs.Connected.{Connected}
+use Rattle.boss_sessions.specs.Ends.{cut_of, is_stop_end, is_watch, ReadCause, WriteCause}
+use Rattle.boss_sessions.proofs.EndedLemmas.{has-ended, watch-stop}
 use Rattle.boss_watching.specs.declared.end.WatchEnd.{WatchEnd}
 use Rattle.boss_watching.specs.declared.end.WatchEnd.TheVariants as watch
-use Rattle.boss_watching.specs.Ends.{HasCalled}
+use Rattle.boss_watching.specs.Ends.{is_unanswered_end, HasCalled}
 use Rattle.boss_watching.specs.Notes.{notes}
 use Rattle.boss_worker.specs.Saying.{IsVisit}
-use Rattle.boss_worker.specs.Troubles.{trouble_of, trouble_of_watch, is_trouble}
+use Rattle.boss_worker.specs.Troubles.{trouble_of, trouble_of_watch, cut_by}
 
-cut-trouble : (end : SessionEnd) → is_trouble (trouble_of end) ≡ is_cut end
+cut-trouble : (end : SessionEnd) → cut_by (trouble_of end) ≡ cut_of end
 cut-trouble session.End = refl
 cut-trouble (session.Watch name from) = refl
 cut-trouble session.ReadFault = refl
@@ -39,35 +42,45 @@ cut-trouble session.Stopped = refl
 cut-trouble session.DiskFault = refl
 cut-trouble session.NoMemory = refl
 
--- what was said is said from the beginning of a connection on
-exchanged-fresh : (speech : Speech) (session : ℕ) (tells : Type 0) (heard lines rest : List (List ℕ)) (long broken : Bool) (before taken : List ℕ) (count faults : ℕ) (entries : List Entry) (moments : List ℕ) →
-    heard ≡ lines → before ≡ [] → count ≡ 0 → Exchanged speech session tells heard rest long broken before taken count faults entries moments →
-    Exchanged speech session tells lines rest long broken [] taken 0 faults entries moments
-exchanged-fresh speech session tells heard lines rest long broken before taken count faults entries moments spoken_are empty quiet is =
-    subst (λ n. Exchanged speech session tells lines rest long broken [] taken n faults entries moments) quiet
-    (subst (λ bytes. Exchanged speech session tells lines rest long broken bytes taken count faults entries moments) empty
-    (subst (λ all. Exchanged speech session tells all rest long broken before taken count faults entries moments) spoken_are is))
+-- what cut a watched connection off is why its last call had no answer
+unanswered-trouble : (end : WatchEnd) → is_unanswered_end end ≡ is_unanswered (cut_by (trouble_of_watch end))
+unanswered-trouble watch.Idle = refl
+unanswered-trouble watch.Closed = refl
+unanswered-trouble watch.WriteFault = refl
+unanswered-trouble watch.ClockFault = refl
+unanswered-trouble watch.Stopped = refl
+unanswered-trouble watch.DiskFault = refl
+unanswered-trouble watch.NoMemory = refl
 
-noticed-fresh : (notes_of : Answer → List ℕ) (session : ℕ) (name : List ℕ) (tells : Type 0) (from : ℕ) (before taken : List ℕ) (count faults : ℕ) (entries : List Entry) (moments : List ℕ) →
-    (tells → before ≡ []) → count ≡ 0 → Noticed notes_of session name tells from before taken count faults entries moments → Noticed notes_of session name tells from [] taken 0 faults entries moments
-noticed-fresh notes_of session name tells from before taken count faults entries moments empty quiet is = record {
+-- what was said is said from the beginning of a connection on
+exchanged-fresh : (speech : Speech) (session : ℕ) (tells : Type 0) (heard : List (List ℕ)) (stop : Stop) (broken : Bool) (before taken : List ℕ) (count faults : ℕ) (entries : List Entry) (moments : List ℕ) →
+    before ≡ [] → count ≡ 0 → Exchanged speech session tells heard stop broken before taken count faults entries moments →
+    Exchanged speech session tells heard stop broken [] taken 0 faults entries moments
+exchanged-fresh speech session tells heard stop broken before taken count faults entries moments empty quiet is =
+    subst (λ n. Exchanged speech session tells heard stop broken [] taken n faults entries moments) quiet
+    (subst (λ bytes. Exchanged speech session tells heard stop broken bytes taken count faults entries moments) empty is)
+
+noticed-fresh : (notes_of : Answer → List ℕ) (session : ℕ) (name : List ℕ) (tells : Type 0) (unanswered : Bool) (from : ℕ) (before taken : List ℕ) (count faults : ℕ) (entries : List Entry) (moments : List ℕ) →
+    (tells → before ≡ []) → count ≡ 0 → Noticed notes_of session name tells unanswered from before taken count faults entries moments → Noticed notes_of session name tells unanswered from [] taken 0 faults entries moments
+noticed-fresh notes_of session name tells unanswered from before taken count faults entries moments empty quiet is = record {
   turns = is.turns;
   unused = is.unused;
   few = is.few;
+  used = is.used;
   all_entries = is.all_entries;
   all_moments = is.all_moments;
   told = λ told. subst (λ n. Told [] taken n faults (notes_in notes_of is.turns)) quiet (subst (λ bytes. Told bytes taken count faults (notes_in notes_of is.turns)) (empty told) (is.told told));
 }
 
 -- unless the connection was cut off a call was answered, and so there is an entry
-called-longer : (idle : ℕ) (old new : List Entry) (end : WatchEnd) → 0 < idle → HasCalled idle old new end → is_trouble (trouble_of_watch end) ≡ false → length (deeds old) < length (deeds new)
+called-longer : (idle : ℕ) (old new : List Entry) (end : WatchEnd) → 0 < idle → HasCalled idle old new end → cut_by (trouble_of_watch end) ≡ not_cut → length (deeds old) < length (deeds new)
 called-longer idle old new watch.Idle some called whole = called some
 called-longer idle old new watch.Closed some called whole = called
 called-longer idle old new watch.WriteFault some called whole = called
-called-longer idle old new watch.ClockFault some called whole = absurd (let no : true ≡ false = whole in cc)
-called-longer idle old new watch.Stopped some called whole = absurd (let no : true ≡ false = whole in cc)
-called-longer idle old new watch.DiskFault some called whole = absurd (let no : true ≡ false = whole in cc)
-called-longer idle old new watch.NoMemory some called whole = absurd (let no : true ≡ false = whole in cc)
+called-longer idle old new watch.ClockFault some called whole = absurd (let no : by_clock ≡ not_cut = whole in cc)
+called-longer idle old new watch.Stopped some called whole = absurd (let no : by_disk ≡ not_cut = whole in cc)
+called-longer idle old new watch.DiskFault some called whole = absurd (let no : by_disk ≡ not_cut = whole in cc)
+called-longer idle old new watch.NoMemory some called whole = absurd (let no : by_memory ≡ not_cut = whole in cc)
 
 longer-some : (old new more : List Entry) → new ≡ old ++ more → length old < length new → ¬ (more ≡ [])
 longer-some old new more grew longer none = let same : length new ≡ length old = ap length (grew ∙ ap (λ rest. old ++ rest) none ∙ append-nil old) in omega (arith, same)
@@ -78,78 +91,87 @@ module _ (catalogue : Catalogue) (gates : List Gate) (heeds tells ticks : Type 0
   pub talk-visit : (reads : ℕ) (end : SessionEnd) →
       Connected (speech_of catalogue gates) served.session heeds tells ticks bytes served.left (standing own before count given false 0) (standing own' served.taken served.write_faults given' false 0) end →
       reads ≡ 0 → ReadCause reads served.read_faults (Some end) → WriteCause count served.write_faults (Some end) → is_watch end ≡ false →
-      Added (actuators catalogue) (of_session served.session) (λ entries. heeds → IsVisit catalogue gates tells served (is_trouble (trouble_of end)) entries) ticks own own' given given'
+      Added (actuators catalogue) (of_session served.session) (λ entries. heeds → IsVisit catalogue gates tells served (cut_by (trouble_of end)) entries) ticks own own' given given'
   talk-visit reads end connected unread read write watched =
       added-says (actuators catalogue) (of_session served.session) ticks
-      (λ more. (moments : List ℕ) × Exchanged (speech_of catalogue gates) served.session tells connected.heard connected.rest connected.long (is_stop_end end) before served.taken count served.write_faults more moments)
-      (λ entries. heeds → IsVisit catalogue gates tells served (is_trouble (trouble_of end)) entries)
+      (λ more. (moments : List ℕ) × Exchanged (speech_of catalogue gates) served.session tells (spoken_of connected.taken) connected.stop (is_stop_end end) before served.taken count served.write_faults more moments)
+      (λ entries. heeds → IsVisit catalogue gates tells served (cut_by (trouble_of end)) entries)
       (λ more said told. inl (talk-of more said.0 said.1 told)) own own' given given'
-      (talk-added (actuators catalogue) (speech_of catalogue gates) served.session tells ticks some connected.heard connected.rest connected.long (is_stop_end end)
+      (talk-added (actuators catalogue) (speech_of catalogue gates) served.session tells ticks some (spoken_of connected.taken) connected.stop (is_stop_end end)
       (standing own before count given false 0) (standing own' served.taken served.write_faults given' false 0) connected.talked)
     where
       talk-of : (more : List Entry) (moments : List ℕ) →
-          Exchanged (speech_of catalogue gates) served.session tells connected.heard connected.rest connected.long (is_stop_end end) before served.taken count served.write_faults more moments →
-          heeds → IsTalkOf (speech_of catalogue gates) tells served (is_trouble (trouble_of end)) more
+          Exchanged (speech_of catalogue gates) served.session tells (spoken_of connected.taken) connected.stop (is_stop_end end) before served.taken count served.write_faults more moments →
+          heeds → IsTalkOf (speech_of catalogue gates) tells served (cut_by (trouble_of end)) more
       talk-of more moments said told =
-          let lost : Lost served.held served.left connected.heard connected.rest connected.long end =
-          subst (λ b. Lost b served.left connected.heard connected.rest connected.long end) (sym (held told)) (connected.lost told) in
+          let lost : Lost served.held served.left connected.taken connected.stop =
+          subst (λ b. Lost b served.left connected.taken connected.stop) (sym (held told)) (connected.lost told) in
           record {
-            lost = lost.lost;
-            rest = connected.rest;
-            long = connected.long;
+            taken = connected.taken;
+            stop = connected.stop;
             broken = is_stop_end end;
             moments = moments;
-            ended = subst (λ cut. IsEnded served lost.lost connected.rest connected.long (is_stop_end end) cut) (sym (cut-trouble end))
-                (has-ended served connected.heard connected.rest connected.long end lost
+            ended = subst (λ cut. IsEnded served connected.taken connected.stop (is_stop_end end) cut) (sym (cut-trouble end))
+                (has-ended served connected.taken connected.stop end lost connected.end_is
                 (subst (λ n. ReadCause n served.read_faults (Some end)) unread read)
                 (subst (λ n. WriteCause n served.write_faults (Some end)) quiet write) watched);
-            exchanged = exchanged-fresh (speech_of catalogue gates) served.session tells connected.heard (spoken lost.lost) connected.rest connected.long (is_stop_end end) before served.taken count served.write_faults
-                more moments lost.heard_are empty quiet said;
+            exchanged = exchanged-fresh (speech_of catalogue gates) served.session tells (spoken_of connected.taken) connected.stop (is_stop_end end) before served.taken count served.write_faults
+                more moments empty quiet said;
           }
+
+  -- the talk stopped since its first line asked to watch
+  talked-watch : (mid : List Entry) (between : List ℕ) (counted : ℕ) (gave : List ℕ) (name : List ℕ) (from : ℕ) →
+      (connected : Connected (speech_of catalogue gates) served.session heeds tells ticks bytes served.left (standing own before count given false 0) (standing mid between counted gave false 0) (session.Watch name from)) →
+      Talked (speech_of catalogue gates) served.session tells ticks (spoken_of connected.taken) (watching name from) false (standing own before count given false 0) (standing mid between counted gave false 0)
+  talked-watch mid between counted gave name from connected =
+      subst (λ stop. Talked (speech_of catalogue gates) served.session tells ticks (spoken_of connected.taken) stop false (standing own before count given false 0) (standing mid between counted gave false 0))
+      (watch-stop name from connected.stop (connected.end_is refl)) connected.talked
 
   -- a connection whose first line asked to watch, and which then did
   pub watch-visit : (mid : List Entry) (between : List ℕ) (counted : ℕ) (gave : List ℕ) (name : List ℕ) (from idle : ℕ) (end : WatchEnd) →
       (connected : Connected (speech_of catalogue gates) served.session heeds tells ticks bytes served.left (standing own before count given false 0) (standing mid between counted gave false 0) (session.Watch name from)) →
-      counted ≡ count → Watched (notes catalogue) served.session name tells ticks from (standing mid between counted gave false 0) (standing own' served.taken served.write_faults given' false 0) →
+      counted ≡ count → Watched (notes catalogue) served.session name tells ticks (is_unanswered_end end) from (standing mid between counted gave false 0) (standing own' served.taken served.write_faults given' false 0) →
       0 < idle → HasCalled idle mid own' end →
-      Added (actuators catalogue) (of_session served.session) (λ entries. heeds → IsVisit catalogue gates tells served (is_trouble (trouble_of_watch end)) entries) ticks own own' given given'
+      Added (actuators catalogue) (of_session served.session) (λ entries. heeds → IsVisit catalogue gates tells served (cut_by (trouble_of_watch end)) entries) ticks own own' given given'
   watch-visit mid between counted gave name from idle end connected calm watched some_turns called =
-      let silent = talk-silent (speech_of catalogue gates) served.session tells ticks connected.heard false (standing own before count given false 0) (standing mid between counted gave false 0)
-      (subst (λ rest. Talked (speech_of catalogue gates) served.session tells ticks connected.heard rest false false (standing own before count given false 0) (standing mid between counted gave false 0)) connected.asked.unanswered
-      (subst (λ long. Talked (speech_of catalogue gates) served.session tells ticks connected.heard connected.rest long false (standing own before count given false 0) (standing mid between counted gave false 0)) connected.asked.short connected.talked)) in
+      let silent = talk-silent (speech_of catalogue gates) served.session tells ticks (spoken_of connected.taken) name from false (standing own before count given false 0)
+      (standing mid between counted gave false 0) (talked-watch mid between counted gave name from connected) in
       added-then (actuators catalogue) (of_session served.session) ticks (λ entries. entries ≡ [])
-      (λ more. (deeds own' ≡ deeds mid ++ more) × ((moments : List ℕ) × Noticed (notes catalogue) served.session name tells from between served.taken counted served.write_faults more moments))
-      (λ entries. heeds → IsVisit catalogue gates tells served (is_trouble (trouble_of_watch end)) entries)
+      (λ more. (deeds own' ≡ deeds mid ++ more) × ((moments : List ℕ) × Noticed (notes catalogue) served.session name tells (is_unanswered_end end) from between served.taken counted served.write_faults more moments))
+      (λ entries. heeds → IsVisit catalogue gates tells served (cut_by (trouble_of_watch end)) entries)
       (λ none more nothing said told. inr (watch-of silent.1 (none ++ more) more (ap (λ front. front ++ more) nothing) said.0 said.1.0 said.1.1 told))
       own mid own' given gave given'
       (added-nothing (actuators catalogue) (of_session served.session) ticks (λ entries. entries ≡ []) own mid given gave connected.talked.moments silent.0 refl connected.talked.gave)
-      (grown (watch-added (actuators catalogue) (speech_of catalogue gates) served.session tells ticks some (notes catalogue) name from (standing mid between counted gave false 0)
+      (grown (watch-added (actuators catalogue) (speech_of catalogue gates) served.session tells ticks some (notes catalogue) (is_unanswered_end end) name from (standing mid between counted gave false 0)
       (standing own' served.taken served.write_faults given' false 0) watched))
     where
       watch-of : (tells → between ≡ before) → (all more : List Entry) → all ≡ more → deeds own' ≡ deeds mid ++ more → (moments : List ℕ) →
-          Noticed (notes catalogue) served.session name tells from between served.taken counted served.write_faults more moments → heeds →
-          IsWatchOf (speech_of catalogue gates) (notes catalogue) tells served (is_trouble (trouble_of_watch end)) all
+          Noticed (notes catalogue) served.session name tells (is_unanswered_end end) from between served.taken counted served.write_faults more moments → heeds →
+          IsWatchOf (speech_of catalogue gates) (notes catalogue) tells served (cut_by (trouble_of_watch end)) all
       watch-of same all more is grew moments noticed told =
-          let lost = connected.lost told in
+          let is_watching = watch-stop name from connected.stop (connected.end_is refl) in
+          let lost : Lost served.held served.left connected.taken (watching name from) =
+          subst (λ stop. Lost served.held served.left connected.taken stop) is_watching (subst (λ b. Lost b served.left connected.taken connected.stop) (sym (held told)) (connected.lost told)) in
+          let first = watch-line (speech_of catalogue gates) (spoken_of connected.taken) name from _ _ _ (talked-watch mid between counted gave name from connected).exchanged.leaves in
           record {
-            lost = lost.lost;
-            taken = held told ∙ lost.split;
-            line = connected.asked.line;
-            rest = connected.asked.others;
-            lines = sym lost.heard_are ∙ connected.asked.heard_are;
             name = name;
             from = from;
-            asked = connected.asked.reads;
+            taken = connected.taken;
+            lost = lost;
+            line = first.0;
+            lines = first.1;
+            asked = first.2;
             some = λ whole none. longer-some (deeds mid) (deeds own') more grew (called-longer idle mid own' end some_turns called whole) (sym is ∙ none);
             moments = moments;
-            noticed = subst (λ entries. Noticed (notes catalogue) served.session name tells from [] served.taken 0 served.write_faults entries moments) (sym is)
-                (noticed-fresh (notes catalogue) served.session name tells from between served.taken counted served.write_faults more moments (λ t. same t ∙ empty) (calm ∙ quiet) noticed);
+            noticed = subst (λ entries. Noticed (notes catalogue) served.session name tells (is_unanswered (cut_by (trouble_of_watch end))) from [] served.taken 0 served.write_faults entries moments) (sym is)
+                (subst (λ un. Noticed (notes catalogue) served.session name tells un from [] served.taken 0 served.write_faults more moments) (unanswered-trouble end)
+                (noticed-fresh (notes catalogue) served.session name tells (is_unanswered_end end) from between served.taken counted served.write_faults more moments (λ t. same t ∙ empty) (calm ∙ quiet) noticed));
           }
 
       grown : Added (actuators catalogue) (of_session served.session)
-          (λ more. (moments : List ℕ) × Noticed (notes catalogue) served.session name tells from between served.taken counted served.write_faults more moments) ticks mid own' gave given' →
+          (λ more. (moments : List ℕ) × Noticed (notes catalogue) served.session name tells (is_unanswered_end end) from between served.taken counted served.write_faults more moments) ticks mid own' gave given' →
           Added (actuators catalogue) (of_session served.session)
-          (λ more. (deeds own' ≡ deeds mid ++ more) × ((moments : List ℕ) × Noticed (notes catalogue) served.session name tells from between served.taken counted served.write_faults more moments)) ticks mid own' gave given'
+          (λ more. (deeds own' ≡ deeds mid ++ more) × ((moments : List ℕ) × Noticed (notes catalogue) served.session name tells (is_unanswered_end end) from between served.taken counted served.write_faults more moments)) ticks mid own' gave given'
       grown added = record {
         more = added.more;
         grew = added.grew;

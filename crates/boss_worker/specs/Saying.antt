@@ -6,7 +6,7 @@ use Rattle.boss_model.specs.DeviceCall.{DeviceCall}
 use Rattle.def_history.specs.declared.entry.Entry.{Entry}
 use Rattle.boss_outside_server.specs.Hosts.{Served}
 use Rattle.def_lanes.specs.Parts.{Terms}
-use Rattle.def_lanes.specs.Works.{Work, visit, beat, drive}
+use Rattle.def_lanes.specs.Works.{Cut, Work, visit, beat, drive}
 use Rattle.def_connection.specs.Talks.{IsTalkOf}
 use Rattle.def_connection.specs.Watching.{IsWatchOf}
 use Rattle.boss_shared.specs.Gates.{Gate}
@@ -18,7 +18,7 @@ use Rattle.def_guards.specs.Guards.{is_guarded}
 use Rattle.boss_guard.specs.GuardDrives.{IsGuardOf}
 
 -- a connection agrees with these entries: they are a talk, or what was watched
-abbrev pub IsVisit : Catalogue → List Gate → Type 0 → Served → Bool → List Entry → Type 0
+abbrev pub IsVisit : Catalogue → List Gate → Type 0 → Served → Cut → List Entry → Type 0
 IsVisit catalogue gates tells served cut entries =
     IsTalkOf (speech_of catalogue gates) tells served cut entries ⊎ IsWatchOf (speech_of catalogue gates) (notes catalogue) tells served cut entries
 

@@ -3,6 +3,7 @@
 use Rattle.std.specs.Prelude.{◌≡◌, ℕ, ◌<◌, Bool, true, false, ◌||◌}
 use Rattle.boss_outside.specs.Counts.{Rose}
 use Rattle.boss_sessions.specs.declared.end.SessionEnd.{SessionEnd}
+use Rattle.def_lanes.specs.Works.{Cut, not_cut, by_disk, by_clock, by_memory}
 use Rattle.boss_sessions.specs.declared.end.SessionEnd.TheVariants as session
 use Rattle.boss_expiry.specs.declared.end.WorkEnd.{WorkEnd}
 use Rattle.boss_expiry.specs.declared.end.WorkEnd.TheVariants as work
@@ -40,10 +41,12 @@ abbrev pub trouble_of_guard : GuardEnd → Trouble
 trouble_of_guard (guard.Worked end) = trouble_of_work end
 trouble_of_guard guard.NoMemory = Memory
 
--- the connection was cut off
-abbrev pub is_trouble : Trouble → Bool
-is_trouble Nothing = false
-is_trouble other = true
+-- what a connection was cut off by
+abbrev pub cut_by : Trouble → Cut
+cut_by Nothing = not_cut
+cut_by Disk = by_disk
+cut_by Clock = by_clock
+cut_by Memory = by_memory
 
 -- ---- flags
 

@@ -5,7 +5,7 @@ use Rattle.std.specs.List.{AllByRecursion}
 use Rattle.def_history.specs.declared.entry.Entry.{Entry}
 use Rattle.def_history.specs.History.{is_broken}
 use Rattle.def_lanes.specs.Parts.{Terms, Part}
-use Rattle.def_lanes.specs.Works.{Work, visit, beat, drive, AreBefore, served_in}
+use Rattle.def_lanes.specs.Works.{Cut, not_cut, by_disk, by_clock, by_memory, Work, visit, beat, drive, AreBefore, served_in}
 use Rattle.boss_outside_server.specs.Hosts.{Served}
 use Rattle.boss_outside_server.specs.declared.host.Host as host
 use Rattle.boss_worker.specs.declared.flags.Flags.{Flags}
@@ -13,12 +13,27 @@ use Rattle.boss_worker.specs.Troubles.{IsQuiet, Counts}
 
 -- no connection was cut off
 abbrev pub IsUncut : Work → Type 0
-IsUncut (visit served cut) = cut ≡ false
+IsUncut (visit served cut) = cut ≡ not_cut
 IsUncut (beat pauses closed) = Unit {0}
 IsUncut (drive driver calls pauses closed) = Unit {0}
 
 abbrev pub AreUncut : List Work → Type 0
 AreUncut works = AllByRecursion IsUncut works
+
+-- the flag stands of what a connection was cut off by
+abbrev pub IsMarked : Flags → Cut → Type 0
+IsMarked flags not_cut = Unit {0}
+IsMarked flags by_disk = flags.disk ≡ true
+IsMarked flags by_clock = flags.clock ≡ true
+IsMarked flags by_memory = flags.memory ≡ true
+
+abbrev pub IsFlagged : Flags → Work → Type 0
+IsFlagged flags (visit served cut) = IsMarked flags cut
+IsFlagged flags (beat pauses closed) = Unit {0}
+IsFlagged flags (drive driver calls pauses closed) = Unit {0}
+
+abbrev pub AreFlagged : Flags → List Work → Type 0
+AreFlagged flags works = AllByRecursion (IsFlagged flags) works
 
 -- a part of a host before it handed out a connection
 module _ {H In Out : Type 0} (h : host.Ghosts H In Out) where
@@ -38,6 +53,7 @@ pub record SoFar (terms : Terms) (number : ℕ) (works : List Work) (own : List 
   pub next_is : next ≡ 1 + number + terms.workers * handed
   pub before : AreBefore next works
   pub uncut : IsQuiet flags → AreUncut works
+  pub flagged : AreFlagged flags works
 
 -- what a worker left: its works agree with its own entries; each connection that it was handed was given back, and those are as
 -- many as it was to serve unless an accept failed, the disk has, or it did not run; and the flags have their causes in its own
@@ -48,6 +64,7 @@ pub record Left (ran : Bool) (terms : Terms) (number share : ℕ) (works : List 
   pub each : length (served_in works) ≡ handed
   pub whole : ran ≡ true → flags.host ≡ false → flags.disk ≡ false → handed ≡ share
   pub uncut : IsQuiet flags → AreUncut works
+  pub flagged : AreFlagged flags works
   pub hosted : Counts flags.host host_faults
   pub ticked : flags.disk ≡ false → Counts flags.clock clock_faults
   pub broken : flags.disk ≡ true → is_broken seen ≡ true

@@ -8,7 +8,7 @@ ghost use Rattle.boss_sessions.specs.Holding.{Holds, LeavesOthers};
 ghost use Rattle.boss_worker.specs.declared.trouble.Trouble.TheVariants.{Disk};
 ghost use Rattle.boss_worker.specs.Desks.{own_of};
 ghost use Rattle.boss_worker.specs.Saying.{IsVisit};
-ghost use Rattle.boss_worker.specs.Troubles.{is_trouble, ClockTrouble};
+ghost use Rattle.boss_worker.specs.Troubles.{cut_by, ClockTrouble};
 
 use crate::Trouble;
 use crate::trouble::{session_trouble, watch_trouble};
@@ -42,7 +42,7 @@ pub(crate) fn attend<G: Desk, S: Source, K: Sink, C: Clock, W: Waiter>(
     ensures own { G.owns desk.now pass.new }
     ensures parts { G.parts pass.new ≡ G.parts pass.old }
     ensures added { Added (actuators catalogue.now) (of_session session)
-        (λ entries. S.tells → IsVisit catalogue.now (G.denies desk.now) K.tells (served_of S.Source K.Sink session input.new output.new) (is_trouble result) entries)
+        (λ entries. S.tells → IsVisit catalogue.now (G.denies desk.now) K.tells (served_of S.Source K.Sink session input.new output.new) (cut_by result) entries)
         C.tells (own_of G.Desk pass.old) (own_of G.Desk pass.new) (C.given clock.old) (C.given clock.new) }
     ensures others { LeavesOthers (G.denies desk.now) session (G.held pass.old) (G.held pass.new) }
     ensures clocked { ClockTrouble (C.faults clock.old) (C.faults clock.new) result }

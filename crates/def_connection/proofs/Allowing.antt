@@ -1,11 +1,12 @@
 -- What is done was allowed: no gate denied it.
-use Rattle.std.proofs.Common.{◌≡◌, ℕ, Bool, List, [], ◌∷◌, ◌++◌, Option, Some, None, refl, sym, ◌∙◌, subst}
+use Rattle.std.proofs.Common.{◌≡◌, ℕ, Bool, List, [], ◌∷◌, ◌++◌, Option, Some, None, refl, sym, subst}
 use Rattle.boss_model.specs.declared.answer.Answer.{Answer}
 use Rattle.boss_model.specs.declared.command.Command.{Command}
 use Rattle.boss_model.specs.declared.command.Command.TheVariants as command
 use Rattle.def_history.specs.declared.entry.Entry.{Entry}
 use Rattle.def_connection.specs.Judging.{denied_for, or_denied, name_by, AreJudged, IsAllowed, AreAllowed}
 use Rattle.def_connection.specs.Speech.{of_answer, of_memory, of_stop, of_denial, Gate, Speech, Exchange, unread, refused, called, deeds_in, parting_of, last_or}
+use Rattle.def_connection.specs.Stopping.{Stop}
 use Rattle.def_connection.specs.Talks.{Exchanged}
 
 or-none : (first second : Option (ℕ × ℕ)) → or_denied first second ≡ None → (first ≡ None) × (second ≡ None)
@@ -49,9 +50,9 @@ talk-allowed gates name session (called line asked moment of_memory ∷ talk) be
 talk-allowed gates name session (called line asked moment of_stop ∷ talk) behind judged then = talk-allowed gates name session talk behind judged.1 then
 talk-allowed gates name session (called line asked moment (of_denial index rule) ∷ talk) behind judged then = talk-allowed gates name session talk behind judged.1 then
 
-pub exchanged-allowed : (speech : Speech) (session : ℕ) (tells : Type 0) (heard rest : List (List ℕ)) (long broken : Bool) (old new : List ℕ) (before now : ℕ) (entries : List Entry) (moments : List ℕ) →
-    Exchanged speech session tells heard rest long broken old new before now entries moments → AreAllowed speech.denies None entries
-exchanged-allowed speech session tells heard rest long broken old new before now entries moments is =
+pub exchanged-allowed : (speech : Speech) (session : ℕ) (tells : Type 0) (heard : List (List ℕ)) (stop : Stop) (broken : Bool) (old new : List ℕ) (before now : ℕ) (entries : List Entry) (moments : List ℕ) →
+    Exchanged speech session tells heard stop broken old new before now entries moments → AreAllowed speech.denies None entries
+exchanged-allowed speech session tells heard stop broken old new before now entries moments is =
     subst (AreAllowed speech.denies None) (sym is.all_entries)
     (talk-allowed speech.denies None session is.talk (parting_of session (last_or 0 moments) is.parting) is.judged
     (λ later. parting-allowed speech.denies later session (last_or 0 moments) is.parting))

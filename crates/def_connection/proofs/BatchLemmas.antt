@@ -1,11 +1,12 @@
 -- The exchanges of a batch.
-use Rattle.std.proofs.Common.{◌≡◌, ℕ, ◌≤◌, Bool, true, List, [], ◌∷◌, ◌++◌, length, map, drop, refl, ap, arith}
+use Rattle.std.proofs.Common.{◌≡◌, ℕ, ◌≤◌, Bool, true, List, [], ◌∷◌, ◌++◌, length, map, drop, refl, ap, subst, arith}
 use Rattle.boss_model.specs.declared.answer.Answer.{Answer}
 use Rattle.boss_model.specs.declared.command.Command.{Command}
 use Rattle.def_history.specs.declared.entry.Entry.TheVariants.{Did}
 use Rattle.def_history.specs.Made.{done_by}
 use Rattle.def_connection.specs.Batches.{AreAsked, batch, deeds_by, texts_by}
-use Rattle.def_connection.specs.Speech.{Reading, Reply, of_answer, Speech, line_in, AreRead, text_in, deeds_in, moments_in, entry_of}
+use Rattle.def_connection.specs.Speech.{Reading, Reply, of_answer, Speech, line_in, AreRead, is_later, text_in, deeds_in, moments_in, entry_of}
+use Rattle.def_connection.proofs.Lasting.{later-true}
 
 module _ (reading : Bool → List ℕ → Reading) where
   pub batch-lines : (later : Bool) (lines : List (List ℕ)) (calls : List (Command × ℕ)) (replies : List Reply) → AreAsked reading later lines calls →
@@ -23,6 +24,17 @@ module _ (reading : Bool → List ℕ → Reading) where
   batch-reads later (line ∷ lines) [] replies asked = tt
   batch-reads later (line ∷ lines) (call ∷ calls) [] asked = tt
   batch-reads later (line ∷ lines) (call ∷ calls) (reply ∷ replies) asked = (asked.0, batch-reads true lines calls replies asked.1)
+
+  -- what is not replied to is asked for
+  pub batch-asked : (later : Bool) (lines : List (List ℕ)) (calls : List (Command × ℕ)) (replies : List Reply) → AreAsked reading later lines calls →
+      AreAsked reading (is_later later (batch lines calls replies)) (drop (length replies) lines) (drop (length replies) calls)
+  batch-asked later [] [] [] asked = tt
+  batch-asked later [] [] (reply ∷ replies) asked = tt
+  batch-asked later [] (call ∷ calls) replies asked = absurd asked
+  batch-asked later (line ∷ lines) [] replies asked = absurd asked
+  batch-asked later (line ∷ lines) (call ∷ calls) [] asked = asked
+  batch-asked later (line ∷ lines) (call ∷ calls) (reply ∷ replies) asked =
+      subst (λ b. AreAsked reading b (drop (length replies) lines) (drop (length replies) calls)) (later-true (batch lines calls replies)) (batch-asked true lines calls replies asked.1)
 
   pub batch-deeds : (session : ℕ) (later : Bool) (lines : List (List ℕ)) (calls : List (Command × ℕ)) (replies : List Reply) → AreAsked reading later lines calls →
       deeds_in session (batch lines calls replies) ≡ deeds_by session calls replies

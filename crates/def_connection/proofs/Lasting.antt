@@ -3,6 +3,7 @@ use Rattle.std.proofs.Common.{◌≡◌, ℕ, Bool, true, false, ◌||◌, List,
 use Rattle.std.specs.List.{AllByRecursion}
 use Rattle.def_connection.specs.Judging.{name_of, name_in, AreJudged}
 use Rattle.def_connection.specs.Speech.{Gate, Reading, Speech, Exchange, AreRead, is_later, text_of, text_in, deeds_of, deeds_in, moments_of, moments_in, last_or, attaches, attached_in, is_end, EndsOnce}
+use Rattle.def_connection.specs.Stopping.{last_is}
 
 pub reads-append : (reading : Bool → List ℕ → Reading) (later : Bool) (xs ys : List Exchange) → AreRead reading later xs → AreRead reading (is_later later xs) ys →
     AreRead reading later (xs ++ ys)
@@ -52,3 +53,34 @@ name-append name (x ∷ xs) ys = name-append (name_of name x) xs ys
 pub judged-append : (gates : List Gate) (name : Option (List ℕ)) (xs ys : List Exchange) → AreJudged gates name xs → AreJudged gates (name_in name xs) ys → AreJudged gates name (xs ++ ys)
 judged-append gates name [] ys first then = then
 judged-append gates name (x ∷ xs) ys first then = (first.0, judged-append gates (name_of name x) xs ys first.1 then)
+
+-- ---- what comes later, and the last
+
+pub later-true : {X : Type 0} (xs : List X) → is_later true xs ≡ true
+later-true [] = refl
+later-true (x ∷ xs) = refl
+
+pub later-append : {X : Type 0} (later : Bool) (xs ys : List X) → is_later later (xs ++ ys) ≡ is_later (is_later later xs) ys
+later-append later [] ys = refl
+later-append later (x ∷ xs) ys = sym (later-true ys)
+
+pub first-alone : {X : Type 0} (later : Bool) (xs : List X) → is_later later xs ≡ false → (xs ≡ []) × (later ≡ false)
+first-alone later [] is = (refl, is)
+first-alone later (x ∷ xs) is = absurd (let no : true ≡ false = is in cc)
+
+pub last_is-append : {X : Type 0} (test : X → Bool) (before : Bool) (xs ys : List X) → last_is test before (xs ++ ys) ≡ last_is test (last_is test before xs) ys
+last_is-append test before [] ys = refl
+last_is-append test before (x ∷ xs) ys = last_is-append test (test x) xs ys
+
+-- a last one that is such is, whatever came before
+pub last_is-behind : {X : Type 0} (test : X → Bool) (before : Bool) (xs ys : List X) → last_is test false ys ≡ true → last_is test before (xs ++ ys) ≡ true
+last_is-behind test before xs [] is = absurd (let no : false ≡ true = is in cc)
+last_is-behind test before xs (y ∷ ys) is = last_is-append test before xs (y ∷ ys) ∙ is
+
+pub last_is-none : {X : Type 0} (test : X → Bool) (xs : List X) → AllByRecursion (λ x. test x ≡ false) xs → last_is test false xs ≡ false
+last_is-none test [] none = refl
+last_is-none test (x ∷ xs) none = ap (λ b. last_is test b xs) none.0 ∙ last_is-none test xs none.1
+
+-- behind such as are not, the last is that of the others
+pub last_is-others : {X : Type 0} (test : X → Bool) (xs ys : List X) → AllByRecursion (λ x. test x ≡ false) xs → last_is test false (xs ++ ys) ≡ last_is test false ys
+last_is-others test xs ys none = last_is-append test false xs ys ∙ ap (λ b. last_is test b ys) (last_is-none test xs none)

@@ -1,8 +1,8 @@
 -- What a connection adds is all of its session, and at moments that its clock gave.
-use Rattle.std.proofs.Common.{◌≡◌, ℕ, zero, suc, ◌<◌, Bool, true, false, List, [], ◌∷◌, ◌++◌, length, map, Option, Some, None, refl, ap, sym, ◌∙◌, subst, arith}
+use Rattle.std.proofs.Common.{◌≡◌, ℕ, zero, suc, ◌<◌, Bool, true, false, List, [], ◌∷◌, ◌++◌, map, Option, Some, None, refl, ap, sym, ◌∙◌, subst, arith}
 use Rattle.std.specs.List.{AllByRecursion}
 use Rattle.std.proofs.lemmas.Bool.Decides.{nat_tests}
-use Rattle.std.proofs.lemmas.List.{append-nil, length-append}
+use Rattle.std.proofs.lemmas.List.{append-nil}
 use Rattle.boss_model.specs.declared.answer.Answer.{Answer}
 use Rattle.boss_model.specs.declared.command.Command.{Command}
 use Rattle.boss_model.specs.declared.command.Command.TheVariants as command
@@ -13,12 +13,16 @@ use Rattle.def_history.specs.declared.entry.Entry.TheVariants.{Did}
 use Rattle.def_history.specs.History.{deeds}
 use Rattle.def_lanes.specs.Lanes.{of_session, lane_of}
 use Rattle.def_lanes.specs.Parts.{AreTimed, Added}
+use Rattle.def_lanes.specs.Works.{Cut, not_cut}
 use Rattle.def_lanes.proofs.Lists.{each-append}
 use Rattle.def_lanes.proofs.Moments.{both-timed, one-timed, timed-front, timed-behind, timed-next}
 use Rattle.boss_outside_server.specs.Hosts.{Served}
-use Rattle.def_connection.specs.Speech.{Reply, of_answer, of_memory, of_stop, of_denial, Speech, watches, Exchange, unread, refused, called, line_in, text_in, deeds_of, deeds_in, moments_of, moments_in, last_or, attached_in, parting_of, entry_of}
-use Rattle.def_connection.specs.Talks.{Told, Standing, Talked, Exchanged, IsEnded, IsTalkOf, spoken}
-use Rattle.def_connection.specs.Watching.{Watched, Noticed, watched_in, next_from, most_watched, IsWatchOf}
+use Rattle.def_connection.specs.Speech.{Reply, of_answer, of_memory, of_stop, of_denial, Speech, watches, Exchange, unread, refused, called, line_in, is_later, text_in, deeds_of, deeds_in, moments_of, moments_in, last_or, attached_in, parting_of, entry_of}
+use Rattle.def_connection.specs.Losing.{spoken_of, Lost}
+use Rattle.def_connection.specs.Stopping.{Stop, watching, Leaves, moments_with}
+use Rattle.def_connection.specs.Talks.{Told, Standing, Talked, Exchanged, IsEnded, IsTalkOf}
+use Rattle.def_connection.specs.Watching.{Watched, Noticed, watched_in, next_from, most_watched, is_unanswered, IsWatchOf}
+use Rattle.def_connection.proofs.Lasting.{first-alone}
 
 -- ---- lanes
 
@@ -95,39 +99,40 @@ watch-timed session name from (turn ∷ turns) = timed-next session turn.0 (comm
 -- ---- what a connection adds
 
 module _ (plant : List Actuator) (speech : Speech) (session : ℕ) (tells ticks : Type 0) (some : 0 < session) where
-  exchanged-lane : (heard rest : List (List ℕ)) (long broken : Bool) (old new : List ℕ) (before now : ℕ) (entries : List Entry) (moments : List ℕ) →
-      Exchanged speech session tells heard rest long broken old new before now entries moments → AllByRecursion (λ entry. lane_of plant entry ≡ of_session session) entries
-  exchanged-lane heard rest long broken old new before now entries moments is = subst (AllByRecursion (λ entry. lane_of plant entry ≡ of_session session)) (sym is.all_entries)
+  exchanged-lane : (heard : List (List ℕ)) (stop : Stop) (broken : Bool) (old new : List ℕ) (before now : ℕ) (entries : List Entry) (moments : List ℕ) →
+      Exchanged speech session tells heard stop broken old new before now entries moments → AllByRecursion (λ entry. lane_of plant entry ≡ of_session session) entries
+  exchanged-lane heard stop broken old new before now entries moments is = subst (AllByRecursion (λ entry. lane_of plant entry ≡ of_session session)) (sym is.all_entries)
       (each-append (λ entry. lane_of plant entry ≡ of_session session) (deeds_in session is.talk) _
       (talk-lane plant session is.talk some) (parting-lane plant session _ is.parting some))
 
-  exchanged-timed : (heard rest : List (List ℕ)) (long broken : Bool) (old new : List ℕ) (before now : ℕ) (entries : List Entry) (moments : List ℕ) →
-      Exchanged speech session tells heard rest long broken old new before now entries moments → AreTimed moments entries
-  exchanged-timed heard rest long broken old new before now entries moments is =
+  exchanged-timed : (heard : List (List ℕ)) (stop : Stop) (broken : Bool) (old new : List ℕ) (before now : ℕ) (entries : List Entry) (moments : List ℕ) →
+      Exchanged speech session tells heard stop broken old new before now entries moments → AreTimed moments entries
+  exchanged-timed heard stop broken old new before now entries moments is =
+      let unused : List ℕ = map (λ call. call.1) is.uncalled in
       subst (λ given. AreTimed given entries) (sym is.all_moments)
-      (subst (AreTimed (moments_in is.talk ++ is.unused)) (sym (is.all_entries ∙ ap (λ given. deeds_in session is.talk ++ parting_of session (last_or 0 given) is.parting) is.all_moments))
-      (both-timed (moments_in is.talk ++ is.unused) (deeds_in session is.talk) (parting_of session (last_or 0 (moments_in is.talk ++ is.unused)) is.parting)
-      (timed-front (moments_in is.talk) is.unused (deeds_in session is.talk) (talk-timed session is.talk))
-      (parting-timed session is.talk is.unused is.parting (attached_in is.talk) refl is.unattached)))
+      (subst (AreTimed (moments_with is.talk is.uncalled)) (sym (is.all_entries ∙ ap (λ given. deeds_in session is.talk ++ parting_of session (last_or 0 given) is.parting) is.all_moments))
+      (both-timed (moments_with is.talk is.uncalled) (deeds_in session is.talk) (parting_of session (last_or 0 (moments_with is.talk is.uncalled)) is.parting)
+      (timed-front (moments_in is.talk) unused (deeds_in session is.talk) (talk-timed session is.talk))
+      (parting-timed session is.talk unused is.parting (attached_in is.talk) refl is.unattached)))
 
   -- a talk adds to its session's lane, and says of what it added what an exchange says
-  pub talk-added : (heard rest : List (List ℕ)) (long broken : Bool) (old new : Standing) → Talked speech session tells ticks heard rest long broken old new →
-      Added plant (of_session session) (λ more. (moments : List ℕ) × Exchanged speech session tells heard rest long broken old.taken new.taken old.faults new.faults more moments) ticks
+  pub talk-added : (heard : List (List ℕ)) (stop : Stop) (broken : Bool) (old new : Standing) → Talked speech session tells ticks heard stop broken old new →
+      Added plant (of_session session) (λ more. (moments : List ℕ) × Exchanged speech session tells heard stop broken old.taken new.taken old.faults new.faults more moments) ticks
       old.own new.own old.given new.given
-  talk-added heard rest long broken old new talked = record {
+  talk-added heard stop broken old new talked = record {
     more = talked.more;
     grew = talked.grew;
-    of_lane = exchanged-lane heard rest long broken old.taken new.taken old.faults new.faults talked.more talked.moments talked.exchanged;
+    of_lane = exchanged-lane heard stop broken old.taken new.taken old.faults new.faults talked.more talked.moments talked.exchanged;
     agrees = (talked.moments, talked.exchanged);
     gains = talked.moments;
     gave = talked.gave;
-    timed = λ told. exchanged-timed heard rest long broken old.taken new.taken old.faults new.faults talked.more talked.moments talked.exchanged;
+    timed = λ told. exchanged-timed heard stop broken old.taken new.taken old.faults new.faults talked.more talked.moments talked.exchanged;
   }
 
-  pub watch-added : (notes : Answer → List ℕ) (name : List ℕ) (from : ℕ) (old new : Standing) → Watched notes session name tells ticks from old new →
-      Added plant (of_session session) (λ more. (moments : List ℕ) × Noticed notes session name tells from old.taken new.taken old.faults new.faults more moments) ticks
+  pub watch-added : (notes : Answer → List ℕ) (unanswered : Bool) (name : List ℕ) (from : ℕ) (old new : Standing) → Watched notes session name tells ticks unanswered from old new →
+      Added plant (of_session session) (λ more. (moments : List ℕ) × Noticed notes session name tells unanswered from old.taken new.taken old.faults new.faults more moments) ticks
       old.own new.own old.given new.given
-  watch-added notes name from old new watched = record {
+  watch-added notes unanswered name from old new watched = record {
     more = watched.more;
     grew = watched.grew;
     of_lane = subst (AllByRecursion (λ entry. lane_of plant entry ≡ of_session session)) (sym watched.noticed.all_entries) (watch-lane plant session name from watched.noticed.turns some);
@@ -140,20 +145,19 @@ module _ (plant : List Actuator) (speech : Speech) (session : ℕ) (tells ticks 
   }
 
 -- an ended connection agrees with what was added for it
-pub talk-agrees : (plant : List Actuator) (speech : Speech) (tells ticks : Type 0) (served : Served) (lost : List ℕ) (rest : List (List ℕ)) (long broken cut : Bool) (old new : Standing) →
-    0 < served.session → Talked speech served.session tells ticks (spoken lost) rest long broken old new → old.taken ≡ [] → old.faults ≡ 0 → new.taken ≡ served.taken →
-    new.faults ≡ served.write_faults → IsEnded served lost rest long broken cut →
+pub talk-agrees : (plant : List Actuator) (speech : Speech) (tells ticks : Type 0) (served : Served) (taken_are : List (List ℕ)) (stop : Stop) (broken : Bool) (cut : Cut) (old new : Standing) →
+    0 < served.session → Talked speech served.session tells ticks (spoken_of taken_are) stop broken old new → old.taken ≡ [] → old.faults ≡ 0 → new.taken ≡ served.taken →
+    new.faults ≡ served.write_faults → IsEnded served taken_are stop broken cut →
     Added plant (of_session served.session) (IsTalkOf speech tells served cut) ticks old.own new.own old.given new.given
-talk-agrees plant speech tells ticks served lost rest long broken cut old new some talked empty quiet taken faults ended =
-    let added = talk-added plant speech served.session tells ticks some (spoken lost) rest long broken old new talked in
+talk-agrees plant speech tells ticks served taken_are stop broken cut old new some talked empty quiet taken faults ended =
+    let added = talk-added plant speech served.session tells ticks some (spoken_of taken_are) stop broken old new talked in
     record {
       more = added.more;
       grew = added.grew;
       of_lane = added.of_lane;
       agrees = record {
-        lost = lost;
-        rest = rest;
-        long = long;
+        taken = taken_are;
+        stop = stop;
         broken = broken;
         moments = added.agrees.0;
         ended = ended;
@@ -165,31 +169,30 @@ talk-agrees plant speech tells ticks served lost rest long broken cut old new so
     }
   where
     moved : (a a' b b' : List ℕ) (f f' g g' : ℕ) → a ≡ a' → b ≡ b' → f ≡ f' → g ≡ g' → (entries : List Entry) (moments : List ℕ) →
-        Exchanged speech served.session tells (spoken lost) rest long broken a b f g entries moments → Exchanged speech served.session tells (spoken lost) rest long broken a' b' f' g' entries moments
+        Exchanged speech served.session tells (spoken_of taken_are) stop broken a b f g entries moments → Exchanged speech served.session tells (spoken_of taken_are) stop broken a' b' f' g' entries moments
     moved a a' b b' f f' g g' p q r s entries moments is =
-        subst (λ x. Exchanged speech served.session tells (spoken lost) rest long broken a' b' f' x entries moments) s
-        (subst (λ x. Exchanged speech served.session tells (spoken lost) rest long broken a' b' x g entries moments) r
-        (subst (λ x. Exchanged speech served.session tells (spoken lost) rest long broken a' x f g entries moments) q
-        (subst (λ x. Exchanged speech served.session tells (spoken lost) rest long broken x b f g entries moments) p is)))
+        subst (λ x. Exchanged speech served.session tells (spoken_of taken_are) stop broken a' b' f' x entries moments) s
+        (subst (λ x. Exchanged speech served.session tells (spoken_of taken_are) stop broken a' b' x g entries moments) r
+        (subst (λ x. Exchanged speech served.session tells (spoken_of taken_are) stop broken a' x f g entries moments) q
+        (subst (λ x. Exchanged speech served.session tells (spoken_of taken_are) stop broken x b f g entries moments) p is)))
 
-pub watch-agrees : (plant : List Actuator) (speech : Speech) (notes : Answer → List ℕ) (tells ticks : Type 0) (served : Served) (lost line : List ℕ) (rest : List (List ℕ)) (name : List ℕ) (from : ℕ) (cut : Bool) (old new : Standing) →
-    0 < served.session → Watched notes served.session name tells ticks from old new → spoken lost ≡ line ∷ rest → speech.reading false line ≡ watches name from →
-    old.taken ≡ [] → old.faults ≡ 0 → new.taken ≡ served.taken → new.faults ≡ served.write_faults → served.held ≡ lost ++ served.left →
-    (cut ≡ false → ¬ (deeds new.own ≡ deeds old.own)) → Added plant (of_session served.session) (IsWatchOf speech notes tells served cut) ticks old.own new.own old.given new.given
-watch-agrees plant speech notes tells ticks served lost line rest name from cut old new some watched heard asked empty quiet taken faults held answered =
-    let added = watch-added plant speech served.session tells ticks some notes name from old new watched in
+pub watch-agrees : (plant : List Actuator) (speech : Speech) (notes : Answer → List ℕ) (tells ticks : Type 0) (served : Served) (taken_are : List (List ℕ)) (line : List ℕ) (name : List ℕ) (from : ℕ) (cut : Cut) (old new : Standing) →
+    0 < served.session → Watched notes served.session name tells ticks (is_unanswered cut) from old new → spoken_of taken_are ≡ line ∷ [] → speech.reading false line ≡ watches name from →
+    old.taken ≡ [] → old.faults ≡ 0 → new.taken ≡ served.taken → new.faults ≡ served.write_faults → Lost served.held served.left taken_are (watching name from) →
+    (cut ≡ not_cut → ¬ (deeds new.own ≡ deeds old.own)) → Added plant (of_session served.session) (IsWatchOf speech notes tells served cut) ticks old.own new.own old.given new.given
+watch-agrees plant speech notes tells ticks served taken_are line name from cut old new some watched heard asked empty quiet taken faults lost answered =
+    let added = watch-added plant speech served.session tells ticks some notes (is_unanswered cut) name from old new watched in
     record {
       more = added.more;
       grew = added.grew;
       of_lane = added.of_lane;
       agrees = record {
-        lost = lost;
-        taken = held;
-        line = line;
-        rest = rest;
-        lines = heard;
         name = name;
         from = from;
+        taken = taken_are;
+        lost = lost;
+        line = line;
+        lines = heard;
         asked = asked;
         some = λ whole none. answered whole (added.grew ∙ ap (λ more. deeds old.own ++ more) none ∙ append-nil (deeds old.own));
         moments = added.agrees.0;
@@ -201,23 +204,30 @@ watch-agrees plant speech notes tells ticks served lost line rest name from cut 
     }
   where
     moved : (a a' b b' : List ℕ) (f f' g g' : ℕ) → a ≡ a' → b ≡ b' → f ≡ f' → g ≡ g' → (entries : List Entry) (moments : List ℕ) →
-        Noticed notes served.session name tells from a b f g entries moments → Noticed notes served.session name tells from a' b' f' g' entries moments
+        Noticed notes served.session name tells (is_unanswered cut) from a b f g entries moments → Noticed notes served.session name tells (is_unanswered cut) from a' b' f' g' entries moments
     moved a a' b b' f f' g g' p q r s entries moments is =
-        subst (λ x. Noticed notes served.session name tells from a' b' f' x entries moments) s
-        (subst (λ x. Noticed notes served.session name tells from a' b' x g entries moments) r
-        (subst (λ x. Noticed notes served.session name tells from a' x f g entries moments) q
-        (subst (λ x. Noticed notes served.session name tells from x b f g entries moments) p is)))
+        subst (λ x. Noticed notes served.session name tells (is_unanswered cut) from a' b' f' x entries moments) s
+        (subst (λ x. Noticed notes served.session name tells (is_unanswered cut) from a' b' x g entries moments) r
+        (subst (λ x. Noticed notes served.session name tells (is_unanswered cut) from a' x f g entries moments) q
+        (subst (λ x. Noticed notes served.session name tells (is_unanswered cut) from x b f g entries moments) p is)))
 
--- a talk in which no line has a reply adds nothing, and says no more than its end
-no-talk : (talk : List Exchange) (heard : List (List ℕ)) → heard ≡ map line_in talk ++ heard → talk ≡ []
-no-talk [] heard is = refl
-no-talk (exchange ∷ talk) heard is = absurd (omega (arith, ap length is, length-append (map line_in talk) heard))
+-- the one line that was taken where the first one asks to watch
+pub watch-line : (speech : Speech) (heard : List (List ℕ)) (name : List ℕ) (from : ℕ) (failed : Type 0) (talk : List Exchange) (uncalled : List (Command × ℕ)) →
+    Leaves speech false heard (watching name from) failed talk uncalled → (line : List ℕ) × (heard ≡ line ∷ []) × (speech.reading false line ≡ watches name from)
+watch-line speech heard name from failed talk uncalled is =
+    let unheld = first-alone (is_later false talk) is.held is.behind_is.3 in
+    let silent = first-alone false talk unheld.1 in (
+      is.behind_is.0,
+      is.lines ∙ ap (λ front. map line_in front ++ (is.held ++ is.behind)) silent.0 ∙ ap (λ front. front ++ is.behind) unheld.0 ∙ is.behind_is.1,
+      ap (λ later. speech.reading later is.behind_is.0) (sym is.behind_is.3) ∙ is.behind_is.2,
+    )
 
-pub talk-silent : (speech : Speech) (session : ℕ) (tells ticks : Type 0) (heard : List (List ℕ)) (broken : Bool) (old new : Standing) →
-    Talked speech session tells ticks heard heard false broken old new → (deeds new.own ≡ deeds old.own) × (tells → new.taken ≡ old.taken)
-talk-silent speech session tells ticks heard broken old new talked =
+-- a talk whose first line asks to watch adds nothing, and says nothing
+pub talk-silent : (speech : Speech) (session : ℕ) (tells ticks : Type 0) (heard : List (List ℕ)) (name : List ℕ) (from : ℕ) (broken : Bool) (old new : Standing) →
+    Talked speech session tells ticks heard (watching name from) broken old new → (deeds new.own ≡ deeds old.own) × (tells → new.taken ≡ old.taken)
+talk-silent speech session tells ticks heard name from broken old new talked =
     let is = talked.exchanged in
-    let silent : is.talk ≡ [] = no-talk is.talk heard is.lines in
+    let silent : is.talk ≡ [] = (first-alone false is.talk (first-alone (is_later false is.talk) is.leaves.held is.leaves.behind_is.3).1).0 in
     let alone : is.parting ≡ None = is.unattached (ap attached_in silent) in
     let nothing : talked.more ≡ [] = is.all_entries ∙ ap (λ talk. deeds_in session talk ++ parting_of session (last_or 0 talked.moments) is.parting) silent ∙ ap (parting_of session (last_or 0 talked.moments)) alone in (
       talked.grew ∙ ap (λ more. deeds old.own ++ more) nothing ∙ append-nil (deeds old.own),

@@ -1,17 +1,20 @@
 -- A talk goes on, stops, and is a whole.
-use Rattle.std.proofs.Common.{◌≡◌, ℕ, Bool, true, false, ◌||◌, List, [], ◌∷◌, ◌++◌, length, map, drop, Option, None, ◌≤◌, refl, ap, sym, ◌∙◌, subst, arith, append_assoc}
+use Rattle.std.proofs.Common.{◌≡◌, inl, inr, ℕ, Bool, true, false, ◌||◌, List, [], ◌∷◌, ◌++◌, length, map, drop, Option, None, ◌<◌, ◌≤◌, refl, ap, sym, ◌∙◌, subst, arith, append_assoc}
 use Rattle.std.specs.List.{AllByRecursion}
 use Rattle.std.proofs.lemmas.List.{append-nil, map-append}
 use Rattle.boss_model.specs.declared.answer.Answer.{Answer}
 use Rattle.boss_model.specs.declared.command.Command.{Command}
+use Rattle.boss_model.specs.Limits.{most_held}
 use Rattle.def_history.specs.declared.entry.Entry.{Entry}
 use Rattle.def_history.specs.History.{deeds}
+use Rattle.boss_outside.specs.Counts.{Rose}
 use Rattle.def_connection.specs.Batches.{AreAsked, batch, deeds_by, texts_by}
 use Rattle.def_connection.specs.Judging.{AreJudged, name_in}
 use Rattle.def_connection.specs.Speech.{Reply, Speech, Exchange, line_in, AreRead, is_later, text_in, deeds_in, moments_in, last_or, attached_in, parting_of, is_stop, is_end, EndsOnce}
-use Rattle.def_connection.specs.Talks.{Told, Standing, Goes, Stops, Talked, end_text}
-use Rattle.def_connection.proofs.BatchLemmas.{batch-lines, batch-reads, batch-deeds, batch-text, batch-moments}
-use Rattle.def_connection.proofs.Lasting.{reads-append, text-append, deeds_in-append, moments-append, last-append, attached-then, ends-append, judged-append, name-append}
+use Rattle.def_connection.specs.Stopping.{Stop, finish, watching, read_fault, write_fault, clock_fault, long_line, long_untold, limit, disk, nothing, is_disk, end_text, last_is, is_passed, BreaksOff, HeldAt, BehindAt, Leaves, moments_with}
+use Rattle.def_connection.specs.Talks.{Told, Standing, Goes, Stops, Talked, is_unparted}
+use Rattle.def_connection.proofs.BatchLemmas.{batch-lines, batch-reads, batch-asked, batch-deeds, batch-text, batch-moments}
+use Rattle.def_connection.proofs.Lasting.{reads-append, text-append, deeds_in-append, moments-append, last-append, attached-then, ends-append, judged-append, name-append, later-append, last_is-behind, last_is-others}
 use Rattle.def_connection.proofs.Telling.{went-on, told-behind}
 
 or-false : (b : Bool) → b ≡ (b || false)
@@ -21,6 +24,43 @@ or-false false = refl
 later-lines : (later : Bool) (talk : List Exchange) → is_later later (map line_in talk) ≡ is_later later talk
 later-lines later [] = refl
 later-lines later (x ∷ talk) = refl
+
+-- ---- requests that are held, and the line behind them
+
+-- more was said before
+held-later : (stop : Stop) (failed failed' : Type 0) (before talk : List Exchange) (uncalled : List (Command × ℕ)) → (failed → failed') → HeldAt stop failed talk uncalled →
+    HeldAt stop failed' (before ++ talk) uncalled
+held-later stop failed failed' before talk uncalled fails held = by stop held
+  where
+    breaks : BreaksOff failed talk uncalled → BreaksOff failed' (before ++ talk) uncalled
+    breaks off = elim off [ inl none ↦ inl none | inr left ↦ inr (fails left.0, last_is-behind is_passed false before talk left.1) ]
+
+    by : (stop : Stop) → HeldAt stop failed talk uncalled → HeldAt stop failed' (before ++ talk) uncalled
+    by finish is = is
+    by (watching name from) is = is
+    by read_fault is = is
+    by write_fault is = breaks is
+    by clock_fault is = breaks is
+    by long_line is = is
+    by long_untold is = is
+    by limit is = is
+    by disk is = tt
+    by nothing is = is
+
+pub some-held : 0 < most_held
+some-held = let sixteen : most_held ≡ 16 = refl in omega (arith, sixteen)
+
+held-none : (stop : Stop) (failed : Type 0) (talk : List Exchange) → HeldAt stop failed talk []
+held-none finish failed talk = refl
+held-none (watching name from) failed talk = refl
+held-none read_fault failed talk = refl
+held-none write_fault failed talk = inl refl
+held-none clock_fault failed talk = inl refl
+held-none long_line failed talk = refl
+held-none long_untold failed talk = refl
+held-none limit failed talk = refl
+held-none disk failed talk = tt
+held-none nothing failed talk = refl
 
 module _ (speech : Speech) (session : ℕ) (tells ticks : Type 0) where
   pub goes-nothing : (later : Bool) (s : Standing) → Goes speech session tells ticks later [] s s
@@ -76,44 +116,72 @@ module _ (speech : Speech) (session : ℕ) (tells ticks : Type 0) where
       each-on [] ys first then = then
       each-on (x ∷ xs) ys first then = (first.0, each-on xs ys first.1 then)
 
-  pub stops-then : (later : Bool) (xs ys rest : List (List ℕ)) (behind : List ℕ) (a b c : Standing) → Goes speech session tells ticks later xs a b →
-      Stops speech session tells ticks (is_later later xs) ys rest behind b c → Stops speech session tells ticks later (xs ++ ys) rest behind a c
-  stops-then later xs ys rest behind a b c one other = record {
+  -- what is left behind another part
+  leaves-then : (later : Bool) (xs ys : List (List ℕ)) (stop : Stop) (failed failed' : Type 0) (talk more : List Exchange) (uncalled : List (Command × ℕ)) → xs ≡ map line_in talk →
+      AreRead speech.reading later talk → AllByRecursion (λ exchange. is_end exchange ≡ false) talk → (failed → failed') → Leaves speech (is_later later xs) ys stop failed more uncalled →
+      Leaves speech later (xs ++ ys) stop failed' (talk ++ more) uncalled
+  leaves-then later xs ys stop failed failed' talk more uncalled lines reads going fails other =
+      let here : is_later (is_later later xs) more ≡ is_later later (talk ++ more) =
+      ap (λ b. is_later b more) (ap (is_later later) lines ∙ later-lines later talk) ∙ sym (later-append later talk more) in
+      record {
+        held = other.held;
+        behind = other.behind;
+        lines = ap (λ front. front ++ ys) lines ∙ ap (λ rest. map line_in talk ++ rest) other.lines
+            ∙ sym (append_assoc (map line_in talk) (map line_in more) (other.held ++ other.behind)) ∙ ap (λ front. front ++ (other.held ++ other.behind)) (sym (map-append line_in talk more));
+        reads = reads-then later xs talk more lines reads other.reads;
+        ends = ends-append talk more going other.ends;
+        stopped = last_is-others is_end talk more going ∙ other.stopped;
+        asked = subst (λ b. AreAsked speech.reading b other.held uncalled) here other.asked;
+        kept = held-later stop failed failed' talk more uncalled fails other.kept;
+        few = other.few;
+        behind_is = subst (λ b. BehindAt speech.reading (is_later b other.held) stop other.behind) here other.behind_is;
+      }
+
+  pub stops-then : (later : Bool) (xs ys : List (List ℕ)) (stop : Stop) (a b c : Standing) → Goes speech session tells ticks later xs a b →
+      Stops speech session tells ticks (is_later later xs) ys stop b c → Stops speech session tells ticks later (xs ++ ys) stop a c
+  stops-then later xs ys stop a b c one other = record {
     talk = one.talk ++ other.talk;
-    unused = other.unused;
-    lines = ap (λ front. front ++ ys) one.lines ∙ ap (λ more. map line_in one.talk ++ more) other.lines
-        ∙ sym (append_assoc (map line_in one.talk) (map line_in other.talk) rest) ∙ ap (λ front. front ++ rest) (sym (map-append line_in one.talk other.talk));
-    reads = reads-then later xs one.talk other.talk one.lines one.reads other.reads;
-    ends = ends-append one.talk other.talk one.goes_on other.ends;
+    uncalled = other.uncalled;
+    leaves = leaves-then later xs ys stop (Rose b.faults c.faults) (Rose a.faults c.faults) one.talk other.talk other.uncalled one.lines one.reads one.goes_on
+        (λ rose. subst (λ n. Rose n c.faults) one.calm rose) other.leaves;
     grew = went-on (deeds a.own) (deeds b.own) (deeds c.own) (deeds_in session one.talk) (deeds_in session other.talk) one.grew other.grew
         ∙ ap (λ list. deeds a.own ++ list) (sym (deeds_in-append session one.talk other.talk));
     told = λ told. subst (Told a.taken c.taken a.faults c.faults)
-        (sym (append_assoc (text_in speech one.talk) (text_in speech other.talk) behind) ∙ ap (λ front. front ++ behind) (sym (text-append speech one.talk other.talk)))
-        (told-behind a.taken b.taken c.taken a.faults b.faults c.faults (text_in speech one.talk) (text_in speech other.talk ++ behind) (one.told told) one.calm (other.told told));
-    gave = λ told. went-on a.given b.given c.given (moments_in one.talk) (moments_in other.talk ++ other.unused) (one.gave told) (other.gave told)
-        ∙ ap (λ list. a.given ++ list) (moments-then one.talk other.talk other.unused);
+        (sym (append_assoc (text_in speech one.talk) (text_in speech other.talk) (end_text speech stop)) ∙ ap (λ front. front ++ end_text speech stop) (sym (text-append speech one.talk other.talk)))
+        (told-behind a.taken b.taken c.taken a.faults b.faults c.faults (text_in speech one.talk) (text_in speech other.talk ++ end_text speech stop) (one.told told) one.calm (other.told told));
+    gave = λ told. went-on a.given b.given c.given (moments_in one.talk) (moments_with other.talk other.uncalled) (one.gave told) (other.gave told)
+        ∙ ap (λ list. a.given ++ list) (moments-then one.talk other.talk other.uncalled);
     attached = other.attached ∙ ap (λ before. before || attached_in other.talk) one.attached ∙ attached-then a.attached one.talk other.talk;
-    last = other.last ∙ ap (λ moment. last_or moment (moments_in other.talk ++ other.unused)) one.last
-        ∙ sym (last-append a.last (moments_in one.talk) (moments_in other.talk ++ other.unused)) ∙ ap (last_or a.last) (moments-then one.talk other.talk other.unused);
+    last = other.last ∙ ap (λ moment. last_or moment (moments_with other.talk other.uncalled)) one.last
+        ∙ sym (last-append a.last (moments_in one.talk) (moments_with other.talk other.uncalled)) ∙ ap (last_or a.last) (moments-then one.talk other.talk other.uncalled);
     judged = judged-then a.name b.name one.talk other.talk one.name one.judged other.judged;
   }
     where
-      moments-then : (xs ys : List Exchange) (unused : List ℕ) → moments_in xs ++ (moments_in ys ++ unused) ≡ moments_in (xs ++ ys) ++ unused
-      moments-then xs ys unused = sym (append_assoc (moments_in xs) (moments_in ys) unused) ∙ ap (λ front. front ++ unused) (sym (moments-append xs ys))
+      moments-then : (xs ys : List Exchange) (uncalled : List (Command × ℕ)) → moments_in xs ++ moments_with ys uncalled ≡ moments_with (xs ++ ys) uncalled
+      moments-then xs ys uncalled = sym (append_assoc (moments_in xs) (moments_in ys) (map (λ call. call.1) uncalled)) ∙ ap (λ front. front ++ map (λ call. call.1) uncalled) (sym (moments-append xs ys))
 
   -- nothing more has a reply
-  pub stops-here : (later : Bool) (rest : List (List ℕ)) (behind unused : List ℕ) (b c : Standing) → deeds c.own ≡ deeds b.own →
-      (tells → Told b.taken c.taken b.faults c.faults behind) → (ticks → c.given ≡ b.given ++ unused) → c.attached ≡ b.attached → c.last ≡ last_or b.last unused →
-      Stops speech session tells ticks later rest rest behind b c
-  stops-here later rest behind unused b c same told gave attached last = record {
+  pub stops-here : (later : Bool) (behind : List (List ℕ)) (stop : Stop) (b c : Standing) → BehindAt speech.reading later stop behind → is_disk stop ≡ false → deeds c.own ≡ deeds b.own →
+      (tells → Told b.taken c.taken b.faults c.faults (end_text speech stop)) → (ticks → c.given ≡ b.given) → c.attached ≡ b.attached → c.last ≡ b.last →
+      Stops speech session tells ticks later behind stop b c
+  stops-here later behind stop b c is calm same told gave attached last = record {
     talk = [];
-    unused = unused;
-    lines = refl;
-    reads = tt;
-    ends = tt;
+    uncalled = [];
+    leaves = record {
+      held = [];
+      behind = behind;
+      lines = refl;
+      reads = tt;
+      ends = tt;
+      stopped = sym calm;
+      asked = tt;
+      kept = held-none stop (Rose b.faults c.faults) [];
+      few = some-held;
+      behind_is = is;
+    };
     grew = same ∙ sym (append-nil (deeds b.own));
     told = told;
-    gave = gave;
+    gave = λ told-now. gave told-now ∙ sym (append-nil b.given);
     attached = attached ∙ or-false b.attached;
     last = last;
     judged = tt;
@@ -171,50 +239,64 @@ module _ (speech : Speech) (session : ℕ) (tells ticks : Type 0) where
       each-going (line ∷ lines) (call ∷ calls) [] going = tt
       each-going (line ∷ lines) (call ∷ calls) (reply ∷ replies) going = (going.0, each-going lines calls replies going.1)
 
-  -- a batch in which the talk stops: the lines behind the replies, and those behind the batch, have none
-  pub stops-batch : (later : Bool) (lines more : List (List ℕ)) (calls : List (Command × ℕ)) (replies : List Reply) (a b : Standing) → AreAsked speech.reading later lines calls →
-      length replies ≤ length calls → EndsOnce (batch lines calls replies) → deeds b.own ≡ deeds a.own ++ deeds_by session calls replies →
+  -- a batch in which the talk stops: the lines behind the replies, and one behind the batch, have none
+  pub stops-batch : (later : Bool) (lines behind : List (List ℕ)) (calls : List (Command × ℕ)) (replies : List Reply) (stop : Stop) (a b : Standing) →
+      AreAsked speech.reading later lines calls → length replies ≤ length calls → EndsOnce (batch lines calls replies) → last_is is_end false (batch lines calls replies) ≡ is_disk stop →
+      HeldAt stop (Rose a.faults b.faults) (batch lines calls replies) (drop (length replies) calls) → length (drop (length replies) calls) < most_held → BehindAt speech.reading (is_later later lines) stop behind → end_text speech stop ≡ [] →
+      deeds b.own ≡ deeds a.own ++ deeds_by session calls replies →
       (tells → Told a.taken b.taken a.faults b.faults (texts_by speech replies)) → (ticks → b.given ≡ a.given ++ map (λ call. call.1) calls) →
       b.attached ≡ (a.attached || attached_in (batch lines calls replies)) → b.last ≡ last_or a.last (map (λ call. call.1) calls) →
-      AreJudged speech.denies a.name (batch lines calls replies) →
-      Stops speech session tells ticks later (lines ++ more) (drop (length replies) lines ++ more) [] a b
-  stops-batch later lines more calls replies a b asked few ends grew told gave attached last judged = record {
-    talk = batch lines calls replies;
-    unused = map (λ call. call.1) (drop (length replies) calls);
-    lines = ap (λ front. front ++ more) (batch-lines speech.reading later lines calls replies asked few) ∙ append_assoc (map line_in (batch lines calls replies)) (drop (length replies) lines) more;
-    reads = batch-reads speech.reading later lines calls replies asked;
-    ends = ends;
-    grew = grew ∙ ap (λ list. deeds a.own ++ list) (sym (batch-deeds speech.reading session later lines calls replies asked));
-    told = λ told-now. subst (Told a.taken b.taken a.faults b.faults) (sym (append-nil (text_in speech (batch lines calls replies)) ∙ batch-text speech.reading speech later lines calls replies asked few)) (told told-now);
-    gave = λ told-now. gave told-now ∙ ap (λ list. a.given ++ list) (batch-moments speech.reading later lines calls replies asked);
-    attached = attached;
-    last = last ∙ ap (last_or a.last) (batch-moments speech.reading later lines calls replies asked);
-    judged = judged;
-  }
+      AreJudged speech.denies a.name (batch lines calls replies) → Stops speech session tells ticks later (lines ++ behind) stop a b
+  stops-batch later lines behind calls replies stop a b asked few ends stopped kept unheld is silent grew told gave attached last judged =
+      let front : List Exchange = batch lines calls replies in
+      let split : lines ≡ map line_in front ++ drop (length replies) lines = batch-lines speech.reading later lines calls replies asked few in
+      let here : is_later later lines ≡ is_later (is_later later front) (drop (length replies) lines) =
+      ap (is_later later) split ∙ later-append later (map line_in front) (drop (length replies) lines) ∙ ap (λ b. is_later b (drop (length replies) lines)) (later-lines later front) in
+      record {
+        talk = front;
+        uncalled = drop (length replies) calls;
+        leaves = record {
+          held = drop (length replies) lines;
+          behind = behind;
+          lines = ap (λ start. start ++ behind) split ∙ append_assoc (map line_in front) (drop (length replies) lines) behind;
+          reads = batch-reads speech.reading later lines calls replies asked;
+          ends = ends;
+          stopped = stopped;
+          asked = batch-asked speech.reading later lines calls replies asked;
+          kept = kept;
+          few = unheld;
+          behind_is = subst (λ b. BehindAt speech.reading b stop behind) here is;
+        };
+        grew = grew ∙ ap (λ list. deeds a.own ++ list) (sym (batch-deeds speech.reading session later lines calls replies asked));
+        told = λ told-now. subst (Told a.taken b.taken a.faults b.faults)
+            (sym (ap (λ text. text_in speech front ++ text) silent ∙ append-nil (text_in speech front) ∙ batch-text speech.reading speech later lines calls replies asked few)) (told told-now);
+        gave = λ told-now. gave told-now ∙ ap (λ list. a.given ++ list) (batch-moments speech.reading later lines calls replies asked);
+        attached = attached;
+        last = last ∙ ap (last_or a.last) (batch-moments speech.reading later lines calls replies asked);
+        judged = judged;
+      }
 
   -- a whole talk, once the process is told to be lost
-  pub talked-of : (heard rest : List (List ℕ)) (long broken : Bool) (a b : Standing) (own : List Entry) (parting : Option Answer) →
-      Stops speech session tells ticks false heard rest (end_text speech long) a b → a.attached ≡ false → a.last ≡ 0 → a.name ≡ None → deeds own ≡ deeds b.own ++ parting_of session b.last parting →
-      (b.attached ≡ false → parting ≡ None) → (b.attached ≡ true → parting ≡ None → broken ≡ true) → Talked speech session tells ticks heard rest long broken a (record b { own = own })
-  talked-of heard rest long broken a b own parting stops fresh first anonymous parts unattached parted =
+  pub talked-of : (heard : List (List ℕ)) (stop : Stop) (broken : Bool) (a b : Standing) (own : List Entry) (parting : Option Answer) →
+      Stops speech session tells ticks false heard stop a b → a.attached ≡ false → a.last ≡ 0 → a.name ≡ None → deeds own ≡ deeds b.own ++ parting_of session b.last parting →
+      (b.attached ≡ false → parting ≡ None) → broken ≡ (is_disk stop || is_unparted b.attached parting) → Talked speech session tells ticks heard stop broken a (record b { own = own })
+  talked-of heard stop broken a b own parting stops fresh first anonymous parts unattached is =
       let attached : b.attached ≡ attached_in stops.talk = stops.attached ∙ ap (λ before. before || attached_in stops.talk) fresh in
-      let last : b.last ≡ last_or 0 (moments_in stops.talk ++ stops.unused) = stops.last ∙ ap (λ moment. last_or moment (moments_in stops.talk ++ stops.unused)) first in
+      let last : b.last ≡ last_or 0 (moments_with stops.talk stops.uncalled) = stops.last ∙ ap (λ moment. last_or moment (moments_with stops.talk stops.uncalled)) first in
       record {
         more = deeds_in session stops.talk ++ parting_of session b.last parting;
-        moments = moments_in stops.talk ++ stops.unused;
+        moments = moments_with stops.talk stops.uncalled;
         grew = went-on (deeds a.own) (deeds b.own) (deeds own) (deeds_in session stops.talk) (parting_of session b.last parting) stops.grew parts;
         gave = stops.gave;
         exchanged = record {
           talk = stops.talk;
-          unused = stops.unused;
+          uncalled = stops.uncalled;
           parting = parting;
-          lines = stops.lines;
-          reads = stops.reads;
-          ends = stops.ends;
+          leaves = stops.leaves;
           all_moments = refl;
           all_entries = ap (λ moment. deeds_in session stops.talk ++ parting_of session moment parting) last;
           unattached = λ no. unattached (attached ∙ no);
-          parted = λ yes none. parted (attached ∙ yes) none;
+          broken_is = is ∙ ap (λ b. is_disk stop || is_unparted b parting) attached;
           told = stops.told;
           judged = subst (λ name. AreJudged speech.denies name stops.talk) anonymous stops.judged;
         };

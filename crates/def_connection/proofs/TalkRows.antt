@@ -1,5 +1,5 @@
 -- Talks line by line: how they are read, their entries, texts and moments, and how they end.
-use Rattle.std.proofs.Common.{◌≡◌, ℕ, Bool, false, true, List, [], ◌∷◌, Some, None, refl}
+use Rattle.std.proofs.Common.{◌≡◌, ℕ, Bool, false, true, List, [], ◌∷◌, Some, None, refl, lit<}
 use Rattle.boss_model.specs.declared.answer.Answer.{Answer}
 use Rattle.boss_model.specs.declared.answer.Answer.TheVariants as answer
 use Rattle.boss_model.specs.declared.answer.Refusal.TheVariants as refusal
@@ -9,7 +9,9 @@ use Rattle.boss_model.specs.declared.command.Policy.TheVariants as policy
 use Rattle.def_history.specs.declared.entry.Entry.TheVariants.{Did}
 use Rattle.def_connection.specs.Batches.{batch, deeds_by}
 use Rattle.def_connection.specs.Judging.{AreJudged, denied_for, name_in}
-use Rattle.def_connection.specs.Speech.{Reading, asks, watches, refuses, Reply, of_answer, of_memory, of_stop, of_denial, Gate, Speech, Exchange, unread, refused, called, AreRead, text_in, deeds_in, moments_in, last_or, attached_in, parting_of, EndsOnce}
+use Rattle.def_connection.specs.Speech.{Reading, asks, watches, refuses, Reply, of_answer, of_memory, of_stop, of_denial, Gate, Speech, Exchange, unread, refused, called, AreRead, text_in, deeds_in, moments_in, last_or, attached_in, parting_of, is_end, EndsOnce}
+use Rattle.def_connection.specs.Stopping.{disk, read_fault, finish, is_disk, last_is, is_passed}
+use Rattle.def_connection.specs.Losing.{LostAt, spoken_of}
 use Rattle.def_connection.specs.Watching.{watched_in}
 
 abbrev name : List ℕ
@@ -90,6 +92,10 @@ parting-row = refl
 stop-row : EndsOnce talk
 stop-row = ((λ is. cc), ((λ is. cc), ((λ is. cc), ((λ is. cc), ((λ is. cc), ((λ is. refl), tt))))))
 
+-- that the disk has failed is told in the last reply
+stopped-row : last_is is_end false talk ≡ is_disk disk
+stopped-row = refl
+
 -- three calls of which two have a reply
 batch-row : batch (one ∷ two ∷ two ∷ []) ((attach, 10) ∷ (status, 20) ∷ (status, 30) ∷ []) (of_answer held ∷ of_stop ∷ [])
     ≡ called one attach 10 (of_answer held) ∷ called two status 20 of_stop ∷ []
@@ -131,3 +137,24 @@ foremost-row = refl
 -- a command that is no submit is denied by none
 other-row : denied_for (gate ∷ []) (Some name) status ≡ None
 other-row = refl
+
+-- the last command was denied, so requests may be left behind it where a write failed
+passed-row : last_is is_passed false denied_talk ≡ true
+passed-row = refl
+
+-- ---- bytes that were lost
+
+-- a line, a blank one, and a piece without a line end
+abbrev bytes : List ℕ
+bytes = 65 ∷ 10 ∷ 32 ∷ 10 ∷ 66 ∷ []
+
+-- at the end of the input the piece is a line
+finish-row : LostAt bytes [] ((65 ∷ []) ∷ (32 ∷ []) ∷ (66 ∷ []) ∷ []) [] finish
+finish-row = (refl, refl, lit< tt)
+
+-- where a read failed it is not
+read-row-of-bytes : LostAt bytes (67 ∷ []) ((65 ∷ []) ∷ (32 ∷ []) ∷ []) ((66 ∷ []) ∷ []) read_fault
+read-row-of-bytes = (refl, lit< tt)
+
+spoken-row : spoken_of ((65 ∷ []) ∷ (32 ∷ []) ∷ []) ≡ (65 ∷ []) ∷ []
+spoken-row = refl

@@ -1,5 +1,5 @@
 -- Watching goes on, and ends.
-use Rattle.std.proofs.Common.{◌≡◌, ℕ, ◌≤◌, List, [], ◌∷◌, ◌++◌, length, map, refl, ap, sym, ◌∙◌, subst, append_assoc, Some}
+use Rattle.std.proofs.Common.{◌≡◌, ℕ, ◌≤◌, Bool, false, List, [], ◌∷◌, ◌++◌, length, map, refl, ap, sym, ◌∙◌, subst, append_assoc, Some}
 use Rattle.std.proofs.lemmas.List.{append-nil, map-append}
 use Rattle.boss_model.specs.declared.answer.Answer.{Answer}
 use Rattle.boss_model.specs.declared.command.Command.TheVariants as command
@@ -48,10 +48,10 @@ module _ (notes : Answer → List ℕ) (session : ℕ) (name : List ℕ) (tells 
   }
 
   -- the last turns, of which a front was told, and a last moment that had no call
-  pub watched-of : (from mid : ℕ) (a b c : Standing) (turns : List (ℕ × Answer)) (unused : List ℕ) → Watches notes session name tells ticks from mid a b → length unused ≤ 1 →
+  pub watched-of : (unanswered : Bool) (from mid : ℕ) (a b c : Standing) (turns : List (ℕ × Answer)) (unused : List ℕ) → Watches notes session name tells ticks from mid a b → length unused ≤ 1 → (unanswered ≡ false → unused ≡ []) →
       deeds c.own ≡ deeds b.own ++ watched_in session name mid turns → (tells → Told b.taken c.taken b.faults c.faults (notes_in notes turns)) →
-      (ticks → c.given ≡ b.given ++ (map (λ turn. turn.0) turns ++ unused)) → Watched notes session name tells ticks from a c
-  watched-of from mid a b c turns unused one few grew told gave = record {
+      (ticks → c.given ≡ b.given ++ (map (λ turn. turn.0) turns ++ unused)) → Watched notes session name tells ticks unanswered from a c
+  watched-of unanswered from mid a b c turns unused one few used grew told gave = record {
     more = watched_in session name from (one.turns ++ turns);
     moments = map (λ turn. turn.0) (one.turns ++ turns) ++ unused;
     grew = went-on (deeds a.own) (deeds b.own) (deeds c.own) (watched_in session name from one.turns) (watched_in session name mid turns) one.grew grew
@@ -62,6 +62,7 @@ module _ (notes : Answer → List ℕ) (session : ℕ) (name : List ℕ) (tells 
       turns = one.turns ++ turns;
       unused = unused;
       few = few;
+      used = used;
       all_entries = refl;
       all_moments = refl;
       told = λ told-now. subst (Told a.taken c.taken a.faults c.faults) (sym (notes-append notes one.turns turns))

@@ -1,17 +1,19 @@
 -- Source: own.
 -- The talk on one connection: as long as it goes on, where it stops, and as a whole.
-use Rattle.std.specs.Prelude.{◌≡◌, ◌⊎◌, ℕ, ◌≤◌, nat_lt, length, Bool, true, false, ◌||◌, not, List, [], ◌++◌, map, filter, if◌then◌else◌, Option, None}
-use Rattle.std.specs.List.{AllByRecursion, list_any}
+use Rattle.std.specs.Prelude.{◌≡◌, ℕ, ◌<◌, Bool, true, false, ◌||◌, List, [], ◌++◌, map, Option, Some, None}
+use Rattle.std.specs.List.{AllByRecursion}
 use Rattle.boss_model.specs.declared.answer.Answer.{Answer}
-use Rattle.boss_model.specs.Limits.{longest_line, most_lines}
-use Rattle.boss_model.specs.Lines.{lines, is_blank}
+use Rattle.boss_model.specs.declared.command.Command.{Command}
 use Rattle.def_history.specs.declared.entry.Entry.{Entry}
 use Rattle.def_history.specs.History.{deeds}
 use Rattle.boss_outside.specs.Counts.{Rose}
 use Rattle.boss_outside.specs.Streams.{TakesFront}
 use Rattle.boss_outside_server.specs.Hosts.{Served}
+use Rattle.def_lanes.specs.Works.{Cut, not_cut, by_disk, by_clock, by_memory}
 use Rattle.def_connection.specs.Judging.{AreJudged, name_in}
-use Rattle.def_connection.specs.Speech.{Speech, Exchange, line_in, AreRead, text_in, deeds_in, moments_in, last_or, attached_in, parting_of, is_end, EndsOnce}
+use Rattle.def_connection.specs.Losing.{spoken_of, Lost}
+use Rattle.def_connection.specs.Speech.{Speech, Exchange, line_in, AreRead, text_in, deeds_in, moments_in, last_or, attached_in, parting_of, is_end}
+use Rattle.def_connection.specs.Stopping.{Stop, finish, read_fault, write_fault, clock_fault, long_line, long_untold, limit, disk, nothing, is_disk, end_text, Leaves, moments_with}
 
 -- a sink took a front of the text, and all of it unless its count of faults rose
 pub record Told (old new : List ℕ) (before now : ℕ) (text : List ℕ) : Type 0 where
@@ -49,74 +51,91 @@ module _ (speech : Speech) (session : ℕ) (tells ticks : Type 0) where
     pub judged : AreJudged speech.denies old.name talk
     pub name : new.name ≡ name_in old.name talk
 
-  -- these lines were heard; the last ones have no reply, nor a call for the last moments; and something is said behind the
-  -- replies
-  pub record Stops (later : Bool) (heard rest : List (List ℕ)) (behind : List ℕ) (old new : Standing) : Type 0 where
+  -- these lines were heard, and the talk stops; the moments are those of the requests that were called, and then of those that were not
+  pub record Stops (later : Bool) (heard : List (List ℕ)) (stop : Stop) (old new : Standing) : Type 0 where
     pub talk : List Exchange
-    pub unused : List ℕ
-    pub lines : heard ≡ map line_in talk ++ rest
-    pub reads : AreRead speech.reading later talk
-    pub ends : EndsOnce talk
+    pub uncalled : List (Command × ℕ)
+    pub leaves : Leaves speech later heard stop (Rose old.faults new.faults) talk uncalled
     pub grew : deeds new.own ≡ deeds old.own ++ deeds_in session talk
-    pub told : tells → Told old.taken new.taken old.faults new.faults (text_in speech talk ++ behind)
-    pub gave : ticks → new.given ≡ old.given ++ (moments_in talk ++ unused)
+    pub told : tells → Told old.taken new.taken old.faults new.faults (text_in speech talk ++ end_text speech stop)
+    pub gave : ticks → new.given ≡ old.given ++ moments_with talk uncalled
     pub attached : new.attached ≡ (old.attached || attached_in talk)
-    pub last : new.last ≡ last_or old.last (moments_in talk ++ unused)
+    pub last : new.last ≡ last_or old.last (moments_with talk uncalled)
     pub judged : AreJudged speech.denies old.name talk
 
--- a line that is too long ends a talk, and is told so
-abbrev pub end_text : Speech → Bool → List ℕ
-end_text speech long = if long then speech.too_long else []
+-- an attach was accepted, and the last call was not answered
+abbrev pub is_unparted : Bool → Option Answer → Bool
+is_unparted attached None = attached
+is_unparted attached (Some given) = false
 
 -- a whole talk, by its entries and moments: one entry for each command that was answered, and at the end, where an attach was
--- accepted, that its process is lost, unless the disk has failed. A submit was denied exactly where a gate denies it
-pub record Exchanged (speech : Speech) (session : ℕ) (tells : Type 0) (heard rest : List (List ℕ)) (long broken : Bool) (old new : List ℕ) (before now : ℕ) (entries : List Entry) (moments : List ℕ) : Type 0 where
+-- accepted, that its process is lost, unless the disk has failed, which is then broken. A submit was denied exactly where a gate
+-- denies it
+pub record Exchanged (speech : Speech) (session : ℕ) (tells : Type 0) (heard : List (List ℕ)) (stop : Stop) (broken : Bool) (old new : List ℕ) (before now : ℕ) (entries : List Entry) (moments : List ℕ) : Type 0 where
   pub talk : List Exchange
-  pub unused : List ℕ
+  pub uncalled : List (Command × ℕ)
   pub parting : Option Answer
-  pub lines : heard ≡ map line_in talk ++ rest
-  pub reads : AreRead speech.reading false talk
-  pub ends : EndsOnce talk
-  pub all_moments : moments ≡ moments_in talk ++ unused
+  pub leaves : Leaves speech false heard stop (Rose before now) talk uncalled
+  pub all_moments : moments ≡ moments_with talk uncalled
   pub all_entries : entries ≡ deeds_in session talk ++ parting_of session (last_or 0 moments) parting
   pub unattached : attached_in talk ≡ false → parting ≡ None
-  pub parted : attached_in talk ≡ true → parting ≡ None → broken ≡ true
-  pub told : tells → Told old new before now (text_in speech talk ++ end_text speech long)
+  pub broken_is : broken ≡ (is_disk stop || is_unparted (attached_in talk) parting)
+  pub told : tells → Told old new before now (text_in speech talk ++ end_text speech stop)
   pub judged : AreJudged speech.denies None talk
 
 -- the same in a pass and of a clock
-pub record Talked (speech : Speech) (session : ℕ) (tells ticks : Type 0) (heard rest : List (List ℕ)) (long broken : Bool) (old new : Standing) : Type 0 where
+pub record Talked (speech : Speech) (session : ℕ) (tells ticks : Type 0) (heard : List (List ℕ)) (stop : Stop) (broken : Bool) (old new : Standing) : Type 0 where
   pub more : List Entry
   pub moments : List ℕ
   pub grew : deeds new.own ≡ deeds old.own ++ more
   pub gave : ticks → new.given ≡ old.given ++ moments
-  pub exchanged : Exchanged speech session tells heard rest long broken old.taken new.taken old.faults new.faults more moments
+  pub exchanged : Exchanged speech session tells heard stop broken old.taken new.taken old.faults new.faults more moments
 
--- the lines that are not passed over
-abbrev pub spoken : List ℕ → List (List ℕ)
-spoken bytes = filter (λ line. not (is_blank line)) (lines bytes)
+-- nothing is left in the input and each line has its reply; or a line was too long; or as many lines came as are taken
+abbrev pub is_whole : Stop → Bool
+is_whole finish = true
+is_whole long_line = true
+is_whole limit = true
+is_whole other = false
 
-abbrev pub is_too_long : List ℕ → Bool
-is_too_long line = nat_lt longest_line (length line)
+-- what cut it off: a disk that failed goes before a clock that did; and there was no memory to begin
+abbrev pub cut_for : Bool → Stop → Cut
+cut_for true stop = by_disk
+cut_for false clock_fault = by_clock
+cut_for false nothing = by_memory
+cut_for false other = not_cut
 
--- nothing is left in the input and each line has its reply; or a line was too long; or as many lines came as are read
-abbrev pub IsWhole : Served → List ℕ → List (List ℕ) → Bool → Type 0
-IsWhole served lost rest long = ((served.left ≡ []) × (rest ≡ [])) ⊎ ((long ≡ true) ⊎ (most_lines ≤ length (lines lost)))
+-- how many of its reads and of its writes failed, unless the disk has
+abbrev pub ReadsAt : Stop → ℕ → Type 0
+ReadsAt read_fault faults = 0 < faults
+ReadsAt write_fault faults = Unit {0}
+ReadsAt long_untold faults = Unit {0}
+ReadsAt disk faults = Unit {0}
+ReadsAt other faults = faults ≡ 0
 
--- how a connection ended, which was cut off or not: where it was not, and no read or write of it failed, it is whole
-pub record IsEnded (served : Served) (lost : List ℕ) (rest : List (List ℕ)) (long broken cut : Bool) : Type 0 where
-  pub taken : served.held ≡ lost ++ served.left
-  pub long_line : long ≡ true → list_any is_too_long (lines lost) ≡ true
-  pub unbroken : cut ≡ false → broken ≡ false
-  pub whole : cut ≡ false → served.read_faults ≡ 0 → served.write_faults ≡ 0 → IsWhole served lost rest long
+abbrev pub WritesAt : Stop → ℕ → Type 0
+WritesAt write_fault faults = 0 < faults
+WritesAt long_untold faults = 0 < faults
+WritesAt clock_fault faults = Unit {0}
+WritesAt disk faults = Unit {0}
+WritesAt other faults = faults ≡ 0
 
--- an ended connection agrees with these entries: they and the bytes that its output took are a whole talk over the bytes that
--- its input lost
-pub record IsTalkOf (speech : Speech) (tells : Type 0) (served : Served) (cut : Bool) (entries : List Entry) : Type 0 where
-  pub lost : List ℕ
-  pub rest : List (List ℕ)
-  pub long : Bool
+-- how a connection ended, by the lines that were taken of its input and why the talk on it stopped: it was cut off where the disk or the
+-- clock failed or there was no memory to begin; else, where no read or write of it failed, it is whole. Where the disk has not failed,
+-- reads and writes of it failed as the stop says
+pub record IsEnded (served : Served) (taken : List (List ℕ)) (stop : Stop) (broken : Bool) (cut : Cut) : Type 0 where
+  pub lost : Lost served.held served.left taken stop
+  pub cut_is : cut ≡ cut_for broken stop
+  pub whole : cut ≡ not_cut → served.read_faults ≡ 0 → served.write_faults ≡ 0 → is_whole stop ≡ true
+  pub reads : broken ≡ false → ReadsAt stop served.read_faults
+  pub writes : broken ≡ false → WritesAt stop served.write_faults
+
+-- an ended connection agrees with these entries: they and the bytes that its output took are a whole talk over the lines that were taken
+-- of its input
+pub record IsTalkOf (speech : Speech) (tells : Type 0) (served : Served) (cut : Cut) (entries : List Entry) : Type 0 where
+  pub taken : List (List ℕ)
+  pub stop : Stop
   pub broken : Bool
   pub moments : List ℕ
-  pub ended : IsEnded served lost rest long broken cut
-  pub exchanged : Exchanged speech served.session tells (spoken lost) rest long broken [] served.taken 0 served.write_faults entries moments
+  pub ended : IsEnded served taken stop broken cut
+  pub exchanged : Exchanged speech served.session tells (spoken_of taken) stop broken [] served.taken 0 served.write_faults entries moments

@@ -1,6 +1,6 @@
 -- Source: own.
 -- The notices of a process, told on a connection that watches it.
-use Rattle.std.specs.Prelude.{◌≡◌, ℕ, ◌≤◌, Bool, false, List, [], ◌∷◌, ◌++◌, map, length, Some}
+use Rattle.std.specs.Prelude.{◌≡◌, ℕ, ◌≤◌, Bool, true, false, List, [], ◌∷◌, ◌++◌, map, length, Some}
 use Rattle.boss_model.specs.declared.answer.Answer.{Answer}
 use Rattle.boss_model.specs.declared.answer.Answer.TheVariants as answer
 use Rattle.boss_model.specs.declared.command.Command.TheVariants as command
@@ -8,8 +8,11 @@ use Rattle.def_history.specs.declared.entry.Entry.{Entry}
 use Rattle.def_history.specs.declared.entry.Entry.TheVariants.{Did}
 use Rattle.def_history.specs.History.{deeds}
 use Rattle.boss_outside_server.specs.Hosts.{Served}
+use Rattle.def_lanes.specs.Works.{Cut, not_cut, by_disk, by_clock, by_memory}
+use Rattle.def_connection.specs.Losing.{spoken_of, Lost}
 use Rattle.def_connection.specs.Speech.{Speech, watches}
-use Rattle.def_connection.specs.Talks.{Told, Standing, spoken}
+use Rattle.def_connection.specs.Stopping.{watching}
+use Rattle.def_connection.specs.Talks.{Told, Standing}
 
 -- in one call at most so many notices are asked for
 abbrev pub most_watched : ℕ
@@ -45,34 +48,41 @@ pub record Watches (notes : Answer → List ℕ) (session : ℕ) (name : List �
   pub calm : new.faults ≡ old.faults
   pub gave : ticks → new.given ≡ old.given ++ map (λ turn. turn.0) turns
 
--- what was watched, by its entries and moments: only a last moment may have no entry
-pub record Noticed (notes : Answer → List ℕ) (session : ℕ) (name : List ℕ) (tells : Type 0) (from : ℕ) (old new : List ℕ) (before now : ℕ) (entries : List Entry) (moments : List ℕ) : Type 0 where
+-- what was watched, by its entries and moments: only a last moment may have no entry, and that only where a call may have had no answer
+pub record Noticed (notes : Answer → List ℕ) (session : ℕ) (name : List ℕ) (tells : Type 0) (unanswered : Bool) (from : ℕ) (old new : List ℕ) (before now : ℕ) (entries : List Entry) (moments : List ℕ) : Type 0 where
   pub turns : List (ℕ × Answer)
   pub unused : List ℕ
   pub few : length unused ≤ 1
+  pub used : unanswered ≡ false → unused ≡ []
   pub all_entries : entries ≡ watched_in session name from turns
   pub all_moments : moments ≡ map (λ turn. turn.0) turns ++ unused
   pub told : tells → Told old new before now (notes_in notes turns)
 
 -- the same in a pass and of a clock
-pub record Watched (notes : Answer → List ℕ) (session : ℕ) (name : List ℕ) (tells ticks : Type 0) (from : ℕ) (old new : Standing) : Type 0 where
+pub record Watched (notes : Answer → List ℕ) (session : ℕ) (name : List ℕ) (tells ticks : Type 0) (unanswered : Bool) (from : ℕ) (old new : Standing) : Type 0 where
   pub more : List Entry
   pub moments : List ℕ
   pub grew : deeds new.own ≡ deeds old.own ++ more
   pub gave : ticks → new.given ≡ old.given ++ moments
-  pub noticed : Noticed notes session name tells from old.taken new.taken old.faults new.faults more moments
+  pub noticed : Noticed notes session name tells unanswered from old.taken new.taken old.faults new.faults more moments
 
--- an ended connection agrees with these entries: its first line that is not passed over asks to watch, they are what was then
--- watched, and its output took the notices. Where it was not cut off, there is an entry
-pub record IsWatchOf (speech : Speech) (notes : Answer → List ℕ) (tells : Type 0) (served : Served) (cut : Bool) (entries : List Entry) : Type 0 where
-  pub lost : List ℕ
-  pub taken : served.held ≡ lost ++ served.left
-  pub line : List ℕ
-  pub rest : List (List ℕ)
-  pub lines : spoken lost ≡ line ∷ rest
+-- a call had no answer since the disk has failed, or since there was no memory for it
+abbrev pub is_unanswered : Cut → Bool
+is_unanswered not_cut = false
+is_unanswered by_disk = true
+is_unanswered by_clock = false
+is_unanswered by_memory = true
+
+-- an ended connection agrees with these entries: the first line of its input that is not passed over asks to watch, and is the last one
+-- that was taken; they are what was then watched, and its output took the notices. Where it was not cut off, there is an entry
+pub record IsWatchOf (speech : Speech) (notes : Answer → List ℕ) (tells : Type 0) (served : Served) (cut : Cut) (entries : List Entry) : Type 0 where
   pub name : List ℕ
   pub from : ℕ
+  pub taken : List (List ℕ)
+  pub lost : Lost served.held served.left taken (watching name from)
+  pub line : List ℕ
+  pub lines : spoken_of taken ≡ line ∷ []
   pub asked : speech.reading false line ≡ watches name from
-  pub some : cut ≡ false → ¬ (entries ≡ [])
+  pub some : cut ≡ not_cut → ¬ (entries ≡ [])
   pub moments : List ℕ
-  pub noticed : Noticed notes served.session name tells from [] served.taken 0 served.write_faults entries moments
+  pub noticed : Noticed notes served.session name tells (is_unanswered cut) from [] served.taken 0 served.write_faults entries moments

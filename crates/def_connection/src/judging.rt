@@ -1,8 +1,10 @@
 ghost use Rattle.std.specs.Prelude.{ℕ, Bool, List, None};
 ghost use Rattle.boss_outside_server.specs.Hosts.{Served};
 ghost use Rattle.def_history.specs.declared.entry.Entry.{Entry};
+ghost use Rattle.def_lanes.specs.Works.{Cut};
 ghost use Rattle.def_connection.specs.Judging.{AreAllowed};
 ghost use Rattle.def_connection.specs.Speech.{Speech};
+ghost use Rattle.def_connection.specs.Stopping.{Stop};
 ghost use Rattle.def_connection.specs.Talks.{Exchanged, IsTalkOf};
 
 use boss_outside::Sink;
@@ -10,9 +12,9 @@ use boss_outside::Sink;
 /// Where a connection's submits are denied exactly as the gates say, each submit that was done is allowed: each gate allows all its
 /// writes to the process that the session had then, by the name of the last attach that was accepted.
 pub fn what_is_done_is_allowed<K: Sink>()
-    ensures talk { (speech : Speech) (session : ℕ) (heard rest : List (List ℕ)) (long broken : Bool) (old new : List ℕ) (before now : ℕ)
-        (entries : List Entry) (moments : List ℕ) → Exchanged speech session K.tells heard rest long broken old new before now entries moments →
+    ensures talk { (speech : Speech) (session : ℕ) (heard : List (List ℕ)) (stop : Stop) (broken : Bool) (old new : List ℕ) (before now : ℕ)
+        (entries : List Entry) (moments : List ℕ) → Exchanged speech session K.tells heard stop broken old new before now entries moments →
         AreAllowed speech.denies None entries }
-    ensures served { (speech : Speech) (served : Served) (cut : Bool) (entries : List Entry) → IsTalkOf speech K.tells served cut entries →
+    ensures served { (speech : Speech) (served : Served) (cut : Cut) (entries : List Entry) → IsTalkOf speech K.tells served cut entries →
         AreAllowed speech.denies None entries }
 {}

@@ -1,4 +1,4 @@
-ghost use Rattle.std.specs.Prelude.{◌≡◌, ℕ, ◌≤◌, List, ◌++◌, length, map};
+ghost use Rattle.std.specs.Prelude.{◌≡◌, ℕ, ◌≤◌, Bool, false, List, [], ◌++◌, length, map};
 ghost use Rattle.def_history.specs.History.{deeds};
 ghost use Rattle.boss_model.specs.declared.answer.Answer.{Answer};
 ghost use Rattle.def_connection.specs.Talks.{Told, Standing};
@@ -14,8 +14,8 @@ pub fn watching_goes_on<K: Sink, C: Clock>()
     ensures then { (notes : Answer → List ℕ) (session : ℕ) (name : List ℕ) (from mid next : ℕ) (a b c : Standing) →
         Watches notes session name K.tells C.tells from mid a b → Watches notes session name K.tells C.tells mid next b c →
         Watches notes session name K.tells C.tells from next a c }
-    ensures ends { (notes : Answer → List ℕ) (session : ℕ) (name : List ℕ) (from mid : ℕ) (a b c : Standing) (turns : List (ℕ × Answer)) (unused : List ℕ) →
-        Watches notes session name K.tells C.tells from mid a b → length unused ≤ 1 → deeds c.own ≡ deeds b.own ++ watched_in session name mid turns →
+    ensures ends { (notes : Answer → List ℕ) (session : ℕ) (name : List ℕ) (unanswered : Bool) (from mid : ℕ) (a b c : Standing) (turns : List (ℕ × Answer))
+        (unused : List ℕ) → Watches notes session name K.tells C.tells from mid a b → length unused ≤ 1 → (unanswered ≡ false → unused ≡ []) → deeds c.own ≡ deeds b.own ++ watched_in session name mid turns →
         (K.tells → Told b.taken c.taken b.faults c.faults (notes_in notes turns)) →
-        (C.tells → c.given ≡ b.given ++ (map (λ turn. turn.0) turns ++ unused)) → Watched notes session name K.tells C.tells from a c }
+        (C.tells → c.given ≡ b.given ++ (map (λ turn. turn.0) turns ++ unused)) → Watched notes session name K.tells C.tells unanswered from a c }
 {}

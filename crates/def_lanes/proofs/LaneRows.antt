@@ -1,5 +1,5 @@
 -- A history of two workers and a failed disk, taken apart lane by lane, and what each part of it is.
-use Rattle.std.proofs.Common.{◌≡◌, ℕ, pos, false, true, List, [], ◌∷◌, refl}
+use Rattle.std.proofs.Common.{◌≡◌, ℕ, pos, true, List, [], ◌∷◌, refl}
 use Rattle.boss_model.specs.declared.answer.Answer.TheVariants as answer
 use Rattle.boss_model.specs.declared.command.Command.TheVariants as command
 use Rattle.boss_model.specs.declared.point.Kind.TheVariants.{Binary}
@@ -9,7 +9,7 @@ use Rattle.def_history.specs.declared.entry.Entry.TheVariants.{Did, Broke}
 use Rattle.boss_outside_server.specs.Hosts.{Served}
 use Rattle.def_lanes.specs.Lanes.{of_session, of_driver, of_time, of_nobody, only, done_in}
 use Rattle.def_lanes.specs.Parts.{is_untimed, AreTimed}
-use Rattle.def_lanes.specs.Works.{visit, beat, drive, owner}
+use Rattle.def_lanes.specs.Works.{not_cut, by_clock, visit, beat, drive, owner}
 
 -- two points, each behind a driver of its own
 abbrev plant : List Actuator
@@ -67,10 +67,10 @@ untimed-row = refl
 abbrev ended : ℕ → Served
 ended session = record { session = session; held = []; left = []; taken = []; read_faults = 0; write_faults = 0 }
 
-owner-row : owner 2 (visit (ended 3) false) ≡ 0
+owner-row : owner 2 (visit (ended 3) not_cut) ≡ 0
 owner-row = refl
 
-next-owner-row : owner 2 (visit (ended 4) false) ≡ 1
+next-owner-row : owner 2 (visit (ended 4) by_clock) ≡ 1
 next-owner-row = refl
 
 time-owner-row : owner 2 (beat 1 true) ≡ 2

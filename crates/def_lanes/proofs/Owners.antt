@@ -1,10 +1,10 @@
 -- Two workers never share a lane: each lane's work is that of one worker.
-use Rattle.std.proofs.Common.{Bool, ◌≡◌, ℕ, ◌+◌, ◌-◌, ◌*◌, ◌%◌, ◌<◌, ◌≤◌, true, List, [], ◌∷◌, ◌++◌, refl, ap, sym, ◌∙◌, arith, append_assoc}
+use Rattle.std.proofs.Common.{◌≡◌, ℕ, ◌+◌, ◌-◌, ◌*◌, ◌%◌, ◌<◌, ◌≤◌, true, List, [], ◌∷◌, ◌++◌, refl, ap, sym, ◌∙◌, arith, append_assoc}
 use Rattle.std.proofs.lemmas.Bool.Decides.{nat_tests}
 use Rattle.std.proofs.lemmas.Nat.{mod-mul-add}
 use Rattle.boss_outside_server.specs.Hosts.{Served}
 use Rattle.def_lanes.specs.Lanes.{Lane, of_session, of_driver, of_time, of_nobody, is_lane}
-use Rattle.def_lanes.specs.Works.{Work, visit, beat, drive, lane_of_work, owner, AreOf, IsBefore, AreBefore, IsAbsent, AreApart, AreStrange, served_by, served_in}
+use Rattle.def_lanes.specs.Works.{Cut, Work, visit, beat, drive, lane_of_work, owner, AreOf, IsBefore, AreBefore, IsAbsent, AreApart, AreStrange, served_by, served_in}
 use Rattle.def_lanes.proofs.Lists.{each-append, each-map, each-turned}
 
 -- ---- lanes are told apart
@@ -47,7 +47,7 @@ same-owner workers (drive driver calls pauses closed) (beat others told) is = ab
 same-owner workers (drive driver calls pauses closed) (drive next made others told) is = let same : driver ≡ next = cc in ap (λ d. workers + 1 + d) same
 
 -- the sessions of a worker for connections: the first one, and then each one behind as many others as there are such workers
-pub owner-session : (workers number turn : ℕ) (served : Served) (cut : Bool) → number < workers → served.session ≡ 1 + number + workers * turn →
+pub owner-session : (workers number turn : ℕ) (served : Served) (cut : Cut) → number < workers → served.session ≡ 1 + number + workers * turn →
     owner workers (visit served cut) ≡ number
 owner-session workers number turn served cut less is =
     let place : served.session - 1 ≡ turn * workers + number = grind (arith) in
@@ -96,7 +96,7 @@ before-later next later less (visit served cut) before = omega arith
 before-later next later less (beat pauses closed) before = before
 before-later next later less (drive driver calls pauses closed) before = before
 
-pub before-more : (next later : ℕ) (works : List Work) (served : Served) (cut : Bool) → AreBefore next works → served.session ≡ next → next < later →
+pub before-more : (next later : ℕ) (works : List Work) (served : Served) (cut : Cut) → AreBefore next works → served.session ≡ next → next < later →
     AreBefore later (works ++ visit served cut ∷ [])
 before-more next later works served cut before is less =
     each-append (IsBefore later) works (visit served cut ∷ []) (each-map (IsBefore next) (IsBefore later) (before-later next later less) works before) (omega arith, tt)

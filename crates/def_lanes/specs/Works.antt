@@ -6,11 +6,17 @@ use Rattle.boss_model.specs.DeviceCall.{DeviceCall}
 use Rattle.boss_outside_server.specs.Hosts.{Served}
 use Rattle.def_lanes.specs.Lanes.{Lane, of_session, of_driver, of_time, is_lane}
 
--- a connection that ended, and whether it was cut off: the clock or the disk failed, or there was no memory to begin; or the
--- pauses of the worker that watches time, and whether the last one told it to end; or those of a worker that drives the devices
--- of a driver, with the calls of its devices
+-- whether a connection was cut off by what it has in common with others: the disk or the clock failed, or there was no memory
+pub data Cut : Type 0 where
+  not_cut : Cut
+  by_disk : Cut
+  by_clock : Cut
+  by_memory : Cut
+
+-- a connection that ended, and whether it was cut off; or the pauses of the worker that watches time, and whether the last one told
+-- it to end; or those of a worker that drives the devices of a driver, with the calls of its devices
 pub data Work : Type 0 where
-  visit : Served → Bool → Work
+  visit : Served → Cut → Work
   beat : ℕ → Bool → Work
   drive : ℕ → List DeviceCall → ℕ → Bool → Work
 
@@ -54,7 +60,7 @@ AreStrange works others = AllByRecursion (λ work. IsAbsent (lane_of_work work) 
 
 -- each has come to its end: no connection was cut off, and each other worker was told to end
 abbrev pub IsWhole : Work → Type 0
-IsWhole (visit served cut) = cut ≡ false
+IsWhole (visit served cut) = cut ≡ not_cut
 IsWhole (beat pauses closed) = closed ≡ true
 IsWhole (drive driver calls pauses closed) = closed ≡ true
 

@@ -64,7 +64,7 @@ returns-in-Err-clause-rounded g c name holds =
       name_in name (batch gathered.waiting calls r.replies),
       judged.1,
       subst (λ e. Ended speech c.args.number g.S.Source.tells g.K.Sink.tells g.C.Clock.tells later place place' a b e) (sym c.end_at.ensures)
-          (round-halted speech c.args.number g.S.Source.tells g.K.Sink.tells g.C.Clock.tells later later' place place' heard c.in-Err.halt calls a b _ _ held held' gathered last r judged.0),
+          (round-halted speech c.args.number g.S.Source.tells g.K.Sink.tells g.C.Clock.tells later later' place place' heard c.in-Err.halt calls a b _ _ held held' gathered last c.gather-heard.ensures.few r judged.0),
     )
 
 pub returns-in-Ok-clause-rounded : goal.returns-in-Ok-clause-rounded

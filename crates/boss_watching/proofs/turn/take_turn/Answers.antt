@@ -3,8 +3,9 @@ use Rattle.std.specs.List.{flat_map}
 use Rattle.boss_model.specs.declared.answer.Answer.TheVariants as answer
 use Rattle.boss_lock.specs.Places.{entries_at}
 use Rattle.def_connection.specs.Talks.{standing, Told}
+use Rattle.boss_watching.specs.Ends.{is_unanswered_end}
 use Rattle.boss_watching.specs.Notes.{is_some_list, note_line, notes}
-use Rattle.boss_watching.proofs.Called.{called-call, one-longer}
+use Rattle.boss_watching.proofs.Called.{called-call, one-longer, unanswered-call}
 use Rattle.boss_watching.proofs.Lines.{err-front, err-rose, err-said, ok-calm, ok-whole}
 use Rattle.boss_watching.proofs.Turning.{adds-turn, told-cut, watched-turn, watched-unused, watches-turn}
 use Rattle.boss_watching.proofs.turn.take_turn.Goals as goal
@@ -12,24 +13,24 @@ use Rattle.boss_watching.proofs.turn.take_turn.Goals as goal
 -- the clock failed
 pub returns-in_default-clause-watched : goal.returns-in_default-clause-watched
 returns-in_default-clause-watched g c =
-    watched-unused (notes c.args.catalogue.now) c.args.session c.args.name.now g.K.Sink.tells g.C.Clock.tells c.args.from
+    watched-unused (notes c.args.catalogue.now) c.args.session c.args.name.now g.K.Sink.tells g.C.Clock.tells false c.args.from
     (standing (entries_at (g.G.Desk.seen c.args.pass.now) (g.G.Desk.mine c.args.pass.now)) (g.K.Sink.taken c.args.sink.now) (g.K.Sink.faults c.args.sink.now) (g.C.Clock.given c.args.clock.now) false 0)
     (standing (entries_at (g.G.Desk.seen c.args.pass.now) (g.G.Desk.mine c.args.pass.now)) (g.K.Sink.taken c.args.sink.now) (g.K.Sink.faults c.args.sink.now) (g.C.Clock.given c.now.new.self) false 0)
-    [] (omega arith) refl (λ tells. refl) (λ ticks. c.in_default.ensures.moments ticks ∙ sym (append-nil (g.C.Clock.given c.args.clock.now)))
+    [] (omega arith) (λ answered. refl) refl (λ tells. refl) (λ ticks. c.in_default.ensures.moments ticks ∙ sym (append-nil (g.C.Clock.given c.args.clock.now)))
 
 -- the call was not answered
 pub returns-in-Err-clause-watched : goal.returns-in-Err-clause-watched
 returns-in-Err-clause-watched g c =
-    watched-unused (notes c.args.catalogue.now) c.args.session c.args.name.now g.K.Sink.tells g.C.Clock.tells c.args.from
+    watched-unused (notes c.args.catalogue.now) c.args.session c.args.name.now g.K.Sink.tells g.C.Clock.tells (is_unanswered_end c.in-Err.end) c.args.from
     (standing (entries_at (g.G.Desk.seen c.args.pass.now) (g.G.Desk.mine c.args.pass.now)) (g.K.Sink.taken c.args.sink.now) (g.K.Sink.faults c.args.sink.now) (g.C.Clock.given c.args.clock.now) false 0)
     (standing (entries_at (g.G.Desk.seen c.ask.new.pass) (g.G.Desk.mine c.ask.new.pass)) (g.K.Sink.taken c.args.sink.now) (g.K.Sink.faults c.args.sink.now) (g.C.Clock.given c.now.new.self) false 0)
-    (c.in-Ok.moment ∷ []) (omega arith) c.in-Err.ensures.cut (λ tells. refl) c.in-Ok.ensures.moments
+    (c.in-Ok.moment ∷ []) (omega arith) (unanswered-call c.in-Err.end (c.in-Ok.moment ∷ []) c.in-Err.ensures.call) c.in-Err.ensures.cut (λ tells. refl) c.in-Ok.ensures.moments
 
 -- a notice was not written
 pub returns-then-is_err-clause-watched : goal.returns-then-is_err-clause-watched
 returns-then-is_err-clause-watched g c =
     let failed = sym c.is_err.ensures.value ∙ c.if-is_err.true in
-    watched-turn (notes c.args.catalogue.now) c.args.session c.args.name.now g.K.Sink.tells g.C.Clock.tells c.args.from
+    watched-turn (notes c.args.catalogue.now) c.args.session c.args.name.now g.K.Sink.tells g.C.Clock.tells false c.args.from
     (standing (entries_at (g.G.Desk.seen c.args.pass.now) (g.G.Desk.mine c.args.pass.now)) (g.K.Sink.taken c.args.sink.now) (g.K.Sink.faults c.args.sink.now) (g.C.Clock.given c.args.clock.now) false 0)
     (standing (entries_at (g.G.Desk.seen c.ask.new.pass) (g.G.Desk.mine c.ask.new.pass)) (g.K.Sink.taken c.tell_notices.new.sink) (g.K.Sink.faults c.tell_notices.new.sink) (g.C.Clock.given c.now.new.self) false 0)
     c.in-Ok.moment (answer.Notices c.in-Ok-ask.ensures.done.0 c.in-Ok-ask.page.next c.in-Ok-ask.page.list) c.in-Ok-ask.ensures.done.1 c.in-Ok.ensures.moments
@@ -50,7 +51,7 @@ returns-then-is_err-clause-added g c =
 pub returns-clause-watches : goal.returns-clause-watches
 returns-clause-watches g c =
     let fine = sym c.is_err.ensures.value ∙ c.if-is_err.false in
-    watches-turn (notes c.args.catalogue.now) c.args.session c.args.name.now g.K.Sink.tells g.C.Clock.tells c.args.from
+    watches-turn (notes c.args.catalogue.now) c.args.session c.args.name.now g.K.Sink.tells g.C.Clock.tells false c.args.from
     (standing (entries_at (g.G.Desk.seen c.args.pass.now) (g.G.Desk.mine c.args.pass.now)) (g.K.Sink.taken c.args.sink.now) (g.K.Sink.faults c.args.sink.now) (g.C.Clock.given c.args.clock.now) false 0)
     (standing (entries_at (g.G.Desk.seen c.ask.new.pass) (g.G.Desk.mine c.ask.new.pass)) (g.K.Sink.taken c.tell_notices.new.sink) (g.K.Sink.faults c.tell_notices.new.sink) (g.C.Clock.given c.now.new.self) false 0)
     c.in-Ok.moment (answer.Notices c.in-Ok-ask.ensures.done.0 c.in-Ok-ask.page.next c.in-Ok-ask.page.list) c.in-Ok-ask.ensures.done.1 c.in-Ok.ensures.moments

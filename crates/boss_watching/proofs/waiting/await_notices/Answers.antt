@@ -3,6 +3,7 @@ use Rattle.boss_lock.specs.Places.{entries_at}
 use Rattle.def_history.specs.History.{run}
 use Rattle.def_connection.specs.Talks.{standing}
 use Rattle.def_connection.proofs.WatchLemmas.{watches-nothing, watches-then}
+use Rattle.boss_watching.specs.Ends.{is_unanswered_end}
 use Rattle.boss_watching.specs.Notes.{GoesOn, notes, sent}
 use Rattle.boss_watching.specs.Turns.{AddsTurn}
 use Rattle.boss_watching.proofs.Called.{called-cut, lasts-called, lasts-longer, one-longer}
@@ -26,7 +27,7 @@ loop-quiet-init g c = record {
 }
 
 pub returns-in-Err-clause-watched : goal.returns-in-Err-clause-watched
-returns-in-Err-clause-watched g c = watched-behind (notes c.args.catalogue.now) c.args.session c.args.name.now g.K.Sink.tells g.C.Clock.tells c.args.from c.loop-quiet.next (standing (entries_at (g.G.Desk.seen c.args.pass.now) (g.G.Desk.mine c.args.pass.now)) (g.K.Sink.taken c.args.sink.now) (g.K.Sink.faults c.args.sink.now) (g.C.Clock.given c.args.clock.now) false 0) (standing (entries_at (g.G.Desk.seen c.loop-quiet.pass) (g.G.Desk.mine c.loop-quiet.pass)) (g.K.Sink.taken c.loop-quiet.sink) (g.K.Sink.faults c.loop-quiet.sink) (g.C.Clock.given c.loop-quiet.clock) false 0) (standing (entries_at (g.G.Desk.seen c.take_turn.new.pass) (g.G.Desk.mine c.take_turn.new.pass)) (g.K.Sink.taken c.take_turn.new.sink) (g.K.Sink.faults c.take_turn.new.sink) (g.C.Clock.given c.take_turn.new.clock) false 0) c.loop-quiet.invariant.watches c.in-Err.ensures.watched
+returns-in-Err-clause-watched g c = watched-behind (notes c.args.catalogue.now) c.args.session c.args.name.now g.K.Sink.tells g.C.Clock.tells (is_unanswered_end c.in-Err.end) c.args.from c.loop-quiet.next (standing (entries_at (g.G.Desk.seen c.args.pass.now) (g.G.Desk.mine c.args.pass.now)) (g.K.Sink.taken c.args.sink.now) (g.K.Sink.faults c.args.sink.now) (g.C.Clock.given c.args.clock.now) false 0) (standing (entries_at (g.G.Desk.seen c.loop-quiet.pass) (g.G.Desk.mine c.loop-quiet.pass)) (g.K.Sink.taken c.loop-quiet.sink) (g.K.Sink.faults c.loop-quiet.sink) (g.C.Clock.given c.loop-quiet.clock) false 0) (standing (entries_at (g.G.Desk.seen c.take_turn.new.pass) (g.G.Desk.mine c.take_turn.new.pass)) (g.K.Sink.taken c.take_turn.new.sink) (g.K.Sink.faults c.take_turn.new.sink) (g.C.Clock.given c.take_turn.new.clock) false 0) c.loop-quiet.invariant.watches c.in-Err.ensures.watched
 
 pub returns-in-Err-clause-lasted : goal.returns-in-Err-clause-lasted
 returns-in-Err-clause-lasted g c = lasted-cut c.args.idle g.W.Waiter.tells c.loop-quiet.quiet (entries_at (g.G.Desk.seen c.args.pass.now) (g.G.Desk.mine c.args.pass.now)) (entries_at (g.G.Desk.seen c.loop-quiet.pass) (g.G.Desk.mine c.loop-quiet.pass)) (entries_at (g.G.Desk.seen c.take_turn.new.pass) (g.G.Desk.mine c.take_turn.new.pass)) (g.W.Waiter.pauses c.args.waiter.now) (g.W.Waiter.pauses c.loop-quiet.waiter) c.in-Err.end
@@ -40,7 +41,7 @@ returns-then-turn-clause-lasts g c = lasts-then c.args.idle g.W.Waiter.tells 0 c
     (lasts-told c.args.idle g.W.Waiter.tells c.loop-quiet.quiet (entries_at (g.G.Desk.seen c.loop-quiet.pass) (g.G.Desk.mine c.loop-quiet.pass)) (entries_at (g.G.Desk.seen c.take_turn.new.pass) (g.G.Desk.mine c.take_turn.new.pass)) (g.W.Waiter.pauses c.loop-quiet.waiter) c.loop-quiet-test.true (subst (λ b. AddsTurn b (entries_at (g.G.Desk.seen c.loop-quiet.pass) (g.G.Desk.mine c.loop-quiet.pass)) (entries_at (g.G.Desk.seen c.take_turn.new.pass) (g.G.Desk.mine c.take_turn.new.pass))) c.if-turn.true c.in-Ok.ensures.adds))
 
 pub returns-then-quiet-idle-clause-watched : goal.returns-then-quiet-idle-clause-watched
-returns-then-quiet-idle-clause-watched g c = watched-whole (notes c.args.catalogue.now) c.args.session c.args.name.now g.K.Sink.tells g.C.Clock.tells c.args.from c.in-Ok.turn.next (standing (entries_at (g.G.Desk.seen c.args.pass.now) (g.G.Desk.mine c.args.pass.now)) (g.K.Sink.taken c.args.sink.now) (g.K.Sink.faults c.args.sink.now) (g.C.Clock.given c.args.clock.now) false 0) (standing (entries_at (g.G.Desk.seen c.take_turn.new.pass) (g.G.Desk.mine c.take_turn.new.pass)) (g.K.Sink.taken c.take_turn.new.sink) (g.K.Sink.faults c.take_turn.new.sink) (g.C.Clock.given c.take_turn.new.clock) false 0)
+returns-then-quiet-idle-clause-watched g c = watched-whole (notes c.args.catalogue.now) c.args.session c.args.name.now g.K.Sink.tells g.C.Clock.tells false c.args.from c.in-Ok.turn.next (standing (entries_at (g.G.Desk.seen c.args.pass.now) (g.G.Desk.mine c.args.pass.now)) (g.K.Sink.taken c.args.sink.now) (g.K.Sink.faults c.args.sink.now) (g.C.Clock.given c.args.clock.now) false 0) (standing (entries_at (g.G.Desk.seen c.take_turn.new.pass) (g.G.Desk.mine c.take_turn.new.pass)) (g.K.Sink.taken c.take_turn.new.sink) (g.K.Sink.faults c.take_turn.new.sink) (g.C.Clock.given c.take_turn.new.clock) false 0)
     (watches-then (notes c.args.catalogue.now) c.args.session c.args.name.now g.K.Sink.tells g.C.Clock.tells c.args.from c.loop-quiet.next c.in-Ok.turn.next (standing (entries_at (g.G.Desk.seen c.args.pass.now) (g.G.Desk.mine c.args.pass.now)) (g.K.Sink.taken c.args.sink.now) (g.K.Sink.faults c.args.sink.now) (g.C.Clock.given c.args.clock.now) false 0) (standing (entries_at (g.G.Desk.seen c.loop-quiet.pass) (g.G.Desk.mine c.loop-quiet.pass)) (g.K.Sink.taken c.loop-quiet.sink) (g.K.Sink.faults c.loop-quiet.sink) (g.C.Clock.given c.loop-quiet.clock) false 0) (standing (entries_at (g.G.Desk.seen c.take_turn.new.pass) (g.G.Desk.mine c.take_turn.new.pass)) (g.K.Sink.taken c.take_turn.new.sink) (g.K.Sink.faults c.take_turn.new.sink) (g.C.Clock.given c.take_turn.new.clock) false 0) c.loop-quiet.invariant.watches c.in-Ok.ensures.watches)
 
 pub returns-then-quiet-idle-clause-lasted : goal.returns-then-quiet-idle-clause-lasted
@@ -53,7 +54,7 @@ returns-then-quiet-idle-clause-lasted g c = record {
 }
 
 pub returns-clause-watched : goal.returns-clause-watched
-returns-clause-watched g c = watched-whole (notes c.args.catalogue.now) c.args.session c.args.name.now g.K.Sink.tells g.C.Clock.tells c.args.from c.loop-quiet.next (standing (entries_at (g.G.Desk.seen c.args.pass.now) (g.G.Desk.mine c.args.pass.now)) (g.K.Sink.taken c.args.sink.now) (g.K.Sink.faults c.args.sink.now) (g.C.Clock.given c.args.clock.now) false 0) (standing (entries_at (g.G.Desk.seen c.loop-quiet.pass) (g.G.Desk.mine c.loop-quiet.pass)) (g.K.Sink.taken c.loop-quiet.sink) (g.K.Sink.faults c.loop-quiet.sink) (g.C.Clock.given c.loop-quiet.clock) false 0) c.loop-quiet.invariant.watches
+returns-clause-watched g c = watched-whole (notes c.args.catalogue.now) c.args.session c.args.name.now g.K.Sink.tells g.C.Clock.tells false c.args.from c.loop-quiet.next (standing (entries_at (g.G.Desk.seen c.args.pass.now) (g.G.Desk.mine c.args.pass.now)) (g.K.Sink.taken c.args.sink.now) (g.K.Sink.faults c.args.sink.now) (g.C.Clock.given c.args.clock.now) false 0) (standing (entries_at (g.G.Desk.seen c.loop-quiet.pass) (g.G.Desk.mine c.loop-quiet.pass)) (g.K.Sink.taken c.loop-quiet.sink) (g.K.Sink.faults c.loop-quiet.sink) (g.C.Clock.given c.loop-quiet.clock) false 0) c.loop-quiet.invariant.watches
 
 pub loop-quiet-preserved : goal.loop-quiet-preserved
 loop-quiet-preserved g c = record {

@@ -1,10 +1,10 @@
-use Rattle.std.proofs.Common.{◌≡◌, ◌∙◌, ap, refl, subst, arith, false}
+use Rattle.std.proofs.Common.{◌≡◌, ◌∙◌, ap, refl, subst, arith, false, true}
 use Rattle.boss_model.specs.Held.{Held}
 use Rattle.boss_lock.specs.Places.{entries_at}
 use Rattle.def_history.specs.History.{run}
 use Rattle.def_connection.specs.Talks.{standing}
 use Rattle.def_connection.proofs.WatchLemmas.{watches-nothing, watches-then}
-use Rattle.boss_watching.specs.Ends.{ClockCause, CloseCause, WriteCause}
+use Rattle.boss_watching.specs.Ends.{is_unanswered_end, ClockCause, CloseCause, WriteCause}
 use Rattle.boss_watching.specs.Notes.{notes, sent}
 use Rattle.boss_watching.proofs.Called.{called-behind, lasts-longer}
 use Rattle.boss_watching.proofs.Ending.{comes-less, lasted-behind, lasts-nothing, lasts-then}
@@ -13,7 +13,7 @@ use Rattle.boss_watching.proofs.watching.watch_connection.Goals as goal
 
 -- nothing could be set up
 pub returns-in_default-clause-watched : goal.returns-in_default-clause-watched
-returns-in_default-clause-watched g c = watched-whole (notes c.args.catalogue.now) c.args.session c.args.name.now g.K.Sink.tells g.C.Clock.tells c.args.from c.args.from (standing (entries_at (g.G.Desk.seen c.args.pass.now) (g.G.Desk.mine c.args.pass.now)) (g.K.Sink.taken c.args.sink.now) (g.K.Sink.faults c.args.sink.now) (g.C.Clock.given c.args.clock.now) false 0) (standing (entries_at (g.G.Desk.seen c.args.pass.now) (g.G.Desk.mine c.args.pass.now)) (g.K.Sink.taken c.args.sink.now) (g.K.Sink.faults c.args.sink.now) (g.C.Clock.given c.args.clock.now) false 0) (watches-nothing (notes c.args.catalogue.now) c.args.session c.args.name.now g.K.Sink.tells g.C.Clock.tells c.args.from (standing (entries_at (g.G.Desk.seen c.args.pass.now) (g.G.Desk.mine c.args.pass.now)) (g.K.Sink.taken c.args.sink.now) (g.K.Sink.faults c.args.sink.now) (g.C.Clock.given c.args.clock.now) false 0))
+returns-in_default-clause-watched g c = watched-whole (notes c.args.catalogue.now) c.args.session c.args.name.now g.K.Sink.tells g.C.Clock.tells true c.args.from c.args.from (standing (entries_at (g.G.Desk.seen c.args.pass.now) (g.G.Desk.mine c.args.pass.now)) (g.K.Sink.taken c.args.sink.now) (g.K.Sink.faults c.args.sink.now) (g.C.Clock.given c.args.clock.now) false 0) (standing (entries_at (g.G.Desk.seen c.args.pass.now) (g.G.Desk.mine c.args.pass.now)) (g.K.Sink.taken c.args.sink.now) (g.K.Sink.faults c.args.sink.now) (g.C.Clock.given c.args.clock.now) false 0) (watches-nothing (notes c.args.catalogue.now) c.args.session c.args.name.now g.K.Sink.tells g.C.Clock.tells c.args.from (standing (entries_at (g.G.Desk.seen c.args.pass.now) (g.G.Desk.mine c.args.pass.now)) (g.K.Sink.taken c.args.sink.now) (g.K.Sink.faults c.args.sink.now) (g.C.Clock.given c.args.clock.now) false 0))
 
 pub returns-in_default-clause-lasted : goal.returns-in_default-clause-lasted
 returns-in_default-clause-lasted g c = record { quiet = 0; lasts = lasts-nothing c.args.idle g.W.Waiter.tells 0 (entries_at (g.G.Desk.seen c.args.pass.now) (g.G.Desk.mine c.args.pass.now)) (g.W.Waiter.pauses c.args.waiter.now); is_idle = tt }
@@ -33,7 +33,7 @@ loop-later-init g c = record {
 }
 
 pub returns-in-Err-clause-watched : goal.returns-in-Err-clause-watched
-returns-in-Err-clause-watched g c = watched-behind (notes c.args.catalogue.now) c.args.session c.args.name.now g.K.Sink.tells g.C.Clock.tells c.args.from c.loop-later.next (standing (entries_at (g.G.Desk.seen c.args.pass.now) (g.G.Desk.mine c.args.pass.now)) (g.K.Sink.taken c.args.sink.now) (g.K.Sink.faults c.args.sink.now) (g.C.Clock.given c.args.clock.now) false 0) (standing (entries_at (g.G.Desk.seen c.loop-later.pass) (g.G.Desk.mine c.loop-later.pass)) (g.K.Sink.taken c.loop-later.sink) (g.K.Sink.faults c.loop-later.sink) (g.C.Clock.given c.loop-later.clock) false 0) (standing (entries_at (g.G.Desk.seen c.await_notices.new.pass) (g.G.Desk.mine c.await_notices.new.pass)) (g.K.Sink.taken c.await_notices.new.sink) (g.K.Sink.faults c.await_notices.new.sink) (g.C.Clock.given c.await_notices.new.clock) false 0) c.loop-later.invariant.watches c.in-Err.ensures.watched
+returns-in-Err-clause-watched g c = watched-behind (notes c.args.catalogue.now) c.args.session c.args.name.now g.K.Sink.tells g.C.Clock.tells (is_unanswered_end c.in-Err.end) c.args.from c.loop-later.next (standing (entries_at (g.G.Desk.seen c.args.pass.now) (g.G.Desk.mine c.args.pass.now)) (g.K.Sink.taken c.args.sink.now) (g.K.Sink.faults c.args.sink.now) (g.C.Clock.given c.args.clock.now) false 0) (standing (entries_at (g.G.Desk.seen c.loop-later.pass) (g.G.Desk.mine c.loop-later.pass)) (g.K.Sink.taken c.loop-later.sink) (g.K.Sink.faults c.loop-later.sink) (g.C.Clock.given c.loop-later.clock) false 0) (standing (entries_at (g.G.Desk.seen c.await_notices.new.pass) (g.G.Desk.mine c.await_notices.new.pass)) (g.K.Sink.taken c.await_notices.new.sink) (g.K.Sink.faults c.await_notices.new.sink) (g.C.Clock.given c.await_notices.new.clock) false 0) c.loop-later.invariant.watches c.in-Err.ensures.watched
 
 pub returns-in-Err-clause-lasted : goal.returns-in-Err-clause-lasted
 returns-in-Err-clause-lasted g c = lasted-behind c.args.idle g.W.Waiter.tells (entries_at (g.G.Desk.seen c.args.pass.now) (g.G.Desk.mine c.args.pass.now)) (entries_at (g.G.Desk.seen c.loop-later.pass) (g.G.Desk.mine c.loop-later.pass)) (entries_at (g.G.Desk.seen c.await_notices.new.pass) (g.G.Desk.mine c.await_notices.new.pass)) (g.W.Waiter.pauses c.args.waiter.now) (g.W.Waiter.pauses c.loop-later.waiter) (g.W.Waiter.pauses c.await_notices.new.waiter) c.in-Err.end

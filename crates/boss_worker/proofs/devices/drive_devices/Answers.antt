@@ -1,9 +1,8 @@
-use Rattle.std.proofs.Common.{refl, sym, ap, subst, ◌∙◌}
+use Rattle.std.proofs.Common.{refl, sym, subst, ◌∙◌}
 use Rattle.boss_lock.specs.Places.{entries_at}
 use Rattle.boss_shared.specs.Passes.{IsPassOf}
 use Rattle.def_guards.specs.Guards.{guards_of}
 use Rattle.boss_drive.specs.Driving.{Stand}
-use Rattle.boss_worker.specs.declared.trouble.Trouble.TheVariants.{Disk}
 use Rattle.boss_worker.specs.Drove.{WasTold}
 use Rattle.boss_worker.specs.Troubles.{ClockTrouble}
 use Rattle.boss_worker.proofs.CauseLemmas.{broken-worked, clock-worked}

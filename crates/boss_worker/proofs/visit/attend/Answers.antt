@@ -7,7 +7,7 @@ use Rattle.boss_outside_server.specs.Hosts.{served_of}
 use Rattle.boss_sessions.specs.Holding.{Holds}
 use Rattle.boss_worker.specs.Desks.{own_of}
 use Rattle.boss_worker.specs.Saying.{IsVisit}
-use Rattle.boss_worker.specs.Troubles.{is_trouble, ClockTrouble}
+use Rattle.boss_worker.specs.Troubles.{cut_by, ClockTrouble}
 use Rattle.boss_worker.proofs.CauseLemmas.{broken-served, broken-watched, clock-served, clock-watched, not-watch}
 use Rattle.boss_worker.proofs.VisitLemmas.{talk-visit, watch-visit}
 use Rattle.boss_worker.proofs.visit.attend.Goals as goal
@@ -15,7 +15,7 @@ use Rattle.boss_worker.proofs.visit.attend.Goals as goal
 pub returns-in-Watch-clause-added : goal.returns-in-Watch-clause-added
 returns-in-Watch-clause-added g c =
     let served = served_of g.S.Source g.K.Sink c.args.session c.serve_connection.new.source c.watch_connection.new.sink in
-    subst (λ trouble. Added (actuators c.args.catalogue.now) (of_session c.args.session) (λ entries. g.S.Source.tells → IsVisit c.args.catalogue.now (g.G.Desk.denies c.args.desk.now) g.K.Sink.tells served (is_trouble trouble) entries)
+    subst (λ trouble. Added (actuators c.args.catalogue.now) (of_session c.args.session) (λ entries. g.S.Source.tells → IsVisit c.args.catalogue.now (g.G.Desk.denies c.args.desk.now) g.K.Sink.tells served (cut_by trouble) entries)
     g.C.Clock.tells (own_of g.G.Desk c.args.pass.now) (own_of g.G.Desk c.watch_connection.new.pass) (g.C.Clock.given c.args.clock.now) (g.C.Clock.given c.watch_connection.new.clock))
     (sym c.watch_trouble.ensures)
     (watch-visit c.args.catalogue.now (g.G.Desk.denies c.args.desk.now) g.S.Source.tells g.K.Sink.tells g.C.Clock.tells served c.requires.some (g.S.Source.left c.args.input.now)
@@ -36,7 +36,7 @@ returns-in-Watch-clause-broken g c = λ is. broken-watched c.watch_connection.re
 pub returns-in_default-clause-added : goal.returns-in_default-clause-added
 returns-in_default-clause-added g c =
     let served = served_of g.S.Source g.K.Sink c.args.session c.serve_connection.new.source c.serve_connection.new.sink in
-    subst (λ trouble. Added (actuators c.args.catalogue.now) (of_session c.args.session) (λ entries. g.S.Source.tells → IsVisit c.args.catalogue.now (g.G.Desk.denies c.args.desk.now) g.K.Sink.tells served (is_trouble trouble) entries)
+    subst (λ trouble. Added (actuators c.args.catalogue.now) (of_session c.args.session) (λ entries. g.S.Source.tells → IsVisit c.args.catalogue.now (g.G.Desk.denies c.args.desk.now) g.K.Sink.tells served (cut_by trouble) entries)
     g.C.Clock.tells (own_of g.G.Desk c.args.pass.now) (own_of g.G.Desk c.serve_connection.new.pass) (g.C.Clock.given c.args.clock.now) (g.C.Clock.given c.serve_connection.new.clock))
     (sym c.session_trouble.ensures)
     (talk-visit c.args.catalogue.now (g.G.Desk.denies c.args.desk.now) g.S.Source.tells g.K.Sink.tells g.C.Clock.tells served c.requires.some (g.S.Source.left c.args.input.now)

@@ -1,14 +1,14 @@
-use Rattle.std.proofs.Common.{◌+◌, [], ◌++◌, ◌∷◌, refl, sym, ap, ◌∙◌, subst, arith}
+use Rattle.std.proofs.Common.{◌+◌, [], ◌++◌, true, ◌∷◌, refl, sym, ap, ◌∙◌, subst, arith}
 use Rattle.def_lanes.specs.Works.{visit}
 use Rattle.boss_outside_server.specs.Hosts.{served_of}
 use Rattle.boss_worker.specs.declared.flags.Flags.{Flags}
 use Rattle.boss_worker.specs.Desks.{own_of}
 use Rattle.boss_worker.specs.Saying.{terms_of}
-use Rattle.boss_worker.specs.Troubles.{is_trouble, flags_after, Counts}
-use Rattle.boss_worker.specs.Visits.{SoFar}
+use Rattle.boss_worker.specs.Troubles.{cut_by, flags_after, Counts}
+use Rattle.boss_worker.specs.Visits.{Left, SoFar}
 use Rattle.boss_worker.proofs.FlagLemmas.{clock-after, disk-after, host-after}
 use Rattle.boss_worker.proofs.HeldLemmas.{earlier-other, free-holds}
-use Rattle.boss_worker.proofs.LeftLemmas.{left-broken, so-far-first, so-far-more}
+use Rattle.boss_worker.proofs.LeftLemmas.{left-broken, left-failed, so-far-first, so-far-more, so-far-same}
 use Rattle.boss_worker.proofs.visits.attend_all.Goals as goal
 
 pub connections-init : goal.connections-init
@@ -43,8 +43,8 @@ connections-preserved g c =
       back = omega (arith, c.give_back.ensures.counts.2, c.in-Conn.ensures.count.2);
       share = c.give_back.ensures.counts.1 ∙ c.accept.ensures.share ∙ inv.share;
       within = omega (arith, c.give_back.ensures.counts.0, c.in-Conn.ensures.count.0, c.in-Conn.ensures.count.1, inv.share);
-      works = inv.works ++ visit one (is_trouble c.attend-trouble.result) ∷ [];
-      so_far = subst (λ f. SoFar (terms_of c.args.server.now.catalogue.now (g.G.Desk.denies c.args.server.now.desk) c.args.server.now.workers g.H.In.Source.tells g.H.Out.Sink.tells g.H.Host.tells g.C.Clock.tells g.W.Waiter.tells) c.args.number (inv.works ++ visit one (is_trouble c.attend-trouble.result) ∷ [])
+      works = inv.works ++ visit one (cut_by c.attend-trouble.result) ∷ [];
+      so_far = subst (λ f. SoFar (terms_of c.args.server.now.catalogue.now (g.G.Desk.denies c.args.server.now.desk) c.args.server.now.workers g.H.In.Source.tells g.H.Out.Sink.tells g.H.Host.tells g.C.Clock.tells g.W.Waiter.tells) c.args.number (inv.works ++ visit one (cut_by c.attend-trouble.result) ∷ [])
           (own_of g.G.Desk c.attend-trouble.new.pass) (g.H.Host.served c.args.host.now) (g.H.Host.served c.give_back.new.self) (g.C.Clock.given c.args.clock.now) (g.C.Clock.given c.attend-trouble.new.clock)
           (g.H.Host.handed c.give_back.new.self) (c.connections.next + c.from-next-in-Conn.result) f) (sym c.after-flags.ensures)
           (so-far-more (terms_of c.args.server.now.catalogue.now (g.G.Desk.denies c.args.server.now.desk) c.args.server.now.workers g.H.In.Source.tells g.H.Out.Sink.tells g.H.Host.tells g.C.Clock.tells g.W.Waiter.tells) c.args.number inv.works
@@ -66,12 +66,12 @@ pub returns-in-Disk-clause-left : goal.returns-in-Disk-clause-left
 returns-in-Disk-clause-left g c =
     let inv = c.connections.invariant in
     let one = served_of g.H.In.Source g.H.Out.Sink c.connections.next c.attend-trouble.new.input c.attend-trouble.new.output in (
-      inv.works ++ visit one (is_trouble c.attend-trouble.result) ∷ [],
-      left-broken (terms_of c.args.server.now.catalogue.now (g.G.Desk.denies c.args.server.now.desk) c.args.server.now.workers g.H.In.Source.tells g.H.Out.Sink.tells g.H.Host.tells g.C.Clock.tells g.W.Waiter.tells) c.args.number (g.H.Host.share c.args.host.now) (inv.works ++ visit one (is_trouble c.attend-trouble.result) ∷ [])
+      inv.works ++ visit one (cut_by c.attend-trouble.result) ∷ [],
+      left-broken (terms_of c.args.server.now.catalogue.now (g.G.Desk.denies c.args.server.now.desk) c.args.server.now.workers g.H.In.Source.tells g.H.Out.Sink.tells g.H.Host.tells g.C.Clock.tells g.W.Waiter.tells) c.args.number (g.H.Host.share c.args.host.now) (inv.works ++ visit one (cut_by c.attend-trouble.result) ∷ [])
           (own_of g.G.Desk c.attend-trouble.new.pass) (g.G.Desk.seen c.attend-trouble.new.pass) (g.H.Host.served c.args.host.now) (g.H.Host.served c.give_back.new.self)
           (g.C.Clock.given c.args.clock.now) (g.C.Clock.given c.attend-trouble.new.clock) (g.H.Host.handed c.give_back.new.self) (c.connections.next + c.args.server.now.workers)
           (g.H.Host.faults c.give_back.new.self) (g.C.Clock.faults c.attend-trouble.new.clock) c.after-flags.result
-          (subst (λ f. SoFar (terms_of c.args.server.now.catalogue.now (g.G.Desk.denies c.args.server.now.desk) c.args.server.now.workers g.H.In.Source.tells g.H.Out.Sink.tells g.H.Host.tells g.C.Clock.tells g.W.Waiter.tells) c.args.number (inv.works ++ visit one (is_trouble c.attend-trouble.result) ∷ [])
+          (subst (λ f. SoFar (terms_of c.args.server.now.catalogue.now (g.G.Desk.denies c.args.server.now.desk) c.args.server.now.workers g.H.In.Source.tells g.H.Out.Sink.tells g.H.Host.tells g.C.Clock.tells g.W.Waiter.tells) c.args.number (inv.works ++ visit one (cut_by c.attend-trouble.result) ∷ [])
           (own_of g.G.Desk c.attend-trouble.new.pass) (g.H.Host.served c.args.host.now) (g.H.Host.served c.give_back.new.self) (g.C.Clock.given c.args.clock.now) (g.C.Clock.given c.attend-trouble.new.clock)
           (g.H.Host.handed c.give_back.new.self) (c.connections.next + c.args.server.now.workers) f) (sym c.after-flags.ensures)
           (so-far-more (terms_of c.args.server.now.catalogue.now (g.G.Desk.denies c.args.server.now.desk) c.args.server.now.workers g.H.In.Source.tells g.H.Out.Sink.tells g.H.Host.tells g.C.Clock.tells g.W.Waiter.tells) c.args.number inv.works
@@ -84,6 +84,24 @@ returns-in-Disk-clause-left g c =
           (c.give_back.ensures.counts.3 ∙ c.in-Conn.ensures.cause ∙ inv.hosted)
           (ap (λ (f : Flags). f.disk) c.after-flags.ensures ∙ ap (λ trouble. (flags_after trouble c.connections.flags).disk) c.in-Disk.is)
           (c.attend-trouble.ensures.broken c.in-Disk.is),
+    )
+
+pub returns-in-Failed-clause-left : goal.returns-in-Failed-clause-left
+returns-in-Failed-clause-left g c =
+    let inv = c.connections.invariant in (
+      inv.works,
+      subst (λ f. Left true (terms_of c.args.server.now.catalogue.now (g.G.Desk.denies c.args.server.now.desk) c.args.server.now.workers g.H.In.Source.tells g.H.Out.Sink.tells g.H.Host.tells g.C.Clock.tells g.W.Waiter.tells) c.args.number (g.H.Host.share c.args.host.now) inv.works
+          (own_of g.G.Desk c.connections.pass) (g.G.Desk.seen c.connections.pass) (g.H.Host.served c.args.host.now) (g.H.Host.served c.accept.new.self)
+          (g.C.Clock.given c.args.clock.now) (g.C.Clock.given c.connections.clock) (g.H.Host.handed c.accept.new.self) (g.H.Host.faults c.accept.new.self) (g.C.Clock.faults c.connections.clock) f)
+          (sym c.with_failed_host.ensures)
+          (left-failed (terms_of c.args.server.now.catalogue.now (g.G.Desk.denies c.args.server.now.desk) c.args.server.now.workers g.H.In.Source.tells g.H.Out.Sink.tells g.H.Host.tells g.C.Clock.tells g.W.Waiter.tells) c.args.number (g.H.Host.share c.args.host.now) inv.works
+          (own_of g.G.Desk c.connections.pass) (g.G.Desk.seen c.connections.pass) (g.H.Host.served c.args.host.now) (g.H.Host.served c.accept.new.self)
+          (g.C.Clock.given c.args.clock.now) (g.C.Clock.given c.connections.clock) (g.H.Host.handed c.accept.new.self) c.connections.next
+          (g.H.Host.faults c.accept.new.self) (g.C.Clock.faults c.connections.clock) c.connections.flags
+          (so-far-same (terms_of c.args.server.now.catalogue.now (g.G.Desk.denies c.args.server.now.desk) c.args.server.now.workers g.H.In.Source.tells g.H.Out.Sink.tells g.H.Host.tells g.C.Clock.tells g.W.Waiter.tells) c.args.number inv.works (own_of g.G.Desk c.connections.pass)
+          (g.H.Host.served c.args.host.now) (g.H.Host.served c.connections.host) (g.H.Host.served c.accept.new.self) (g.C.Clock.given c.args.clock.now) (g.C.Clock.given c.connections.clock)
+          (g.H.Host.handed c.connections.host) (g.H.Host.handed c.accept.new.self) c.connections.next c.connections.flags inv.so_far c.accept.ensures.connections c.in-Failed.ensures.count.1)
+          inv.no_disk (omega (arith, c.in-Failed.ensures.cause)) inv.ticked),
     )
 
 pub attend-trouble-requires-clause-unheld : goal.attend-trouble-requires-clause-unheld

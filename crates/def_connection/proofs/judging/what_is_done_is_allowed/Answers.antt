@@ -3,7 +3,7 @@ use Rattle.def_connection.proofs.Allowing.{exchanged-allowed}
 use Rattle.def_connection.proofs.judging.what_is_done_is_allowed.Goals as goal
 
 pub returns-clause-talk : goal.returns-clause-talk
-returns-clause-talk g c speech session heard rest long broken old new before now entries moments is = exchanged-allowed speech session g.K.Sink.tells heard rest long broken old new before now entries moments is
+returns-clause-talk g c speech session heard stop broken old new before now entries moments is = exchanged-allowed speech session g.K.Sink.tells heard stop broken old new before now entries moments is
 
 pub returns-clause-served : goal.returns-clause-served
-returns-clause-served g c speech served cut entries is = exchanged-allowed speech served.session g.K.Sink.tells _ is.rest is.long is.broken [] served.taken 0 served.write_faults entries is.moments is.exchanged
+returns-clause-served g c speech served cut entries is = exchanged-allowed speech served.session g.K.Sink.tells _ is.stop is.broken [] served.taken 0 served.write_faults entries is.moments is.exchanged

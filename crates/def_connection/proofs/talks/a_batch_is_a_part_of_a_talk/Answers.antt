@@ -5,4 +5,5 @@ pub returns-clause-whole : goal.returns-clause-whole
 returns-clause-whole g c speech session later lines calls replies old new asked all going grew told calm gave attached last judged name = goes-batch speech session g.K.Sink.tells g.C.Clock.tells later lines calls replies old new asked all going grew told calm gave attached last judged name
 
 pub returns-clause-cut : goal.returns-clause-cut
-returns-clause-cut g c speech session later lines more calls replies old new asked few ends grew told gave attached last judged = stops-batch speech session g.K.Sink.tells g.C.Clock.tells later lines more calls replies old new asked few ends grew told gave attached last judged
+returns-clause-cut g c speech session later lines behind calls replies stop old new asked few ends stopped kept unheld is silent grew told gave attached last judged =
+    stops-batch speech session g.K.Sink.tells g.C.Clock.tells later lines behind calls replies stop old new asked few ends stopped kept unheld is silent grew told gave attached last judged

@@ -8,7 +8,7 @@ pub returns-clause-then : goal.returns-clause-then
 returns-clause-then g c speech session later heard others a b d one other = goes-then speech session g.K.Sink.tells g.C.Clock.tells later heard others a b d one other
 
 pub returns-clause-stops : goal.returns-clause-stops
-returns-clause-stops g c speech session later heard others rest behind a b d one other = stops-then speech session g.K.Sink.tells g.C.Clock.tells later heard others rest behind a b d one other
+returns-clause-stops g c speech session later heard others stop a b d one other = stops-then speech session g.K.Sink.tells g.C.Clock.tells later heard others stop a b d one other
 
 pub returns-clause-here : goal.returns-clause-here
-returns-clause-here g c speech session later rest behind unused old new same told gave attached last = stops-here speech session g.K.Sink.tells g.C.Clock.tells later rest behind unused old new same told gave attached last
+returns-clause-here g c speech session later behind stop old new is calm same told gave attached last = stops-here speech session g.K.Sink.tells g.C.Clock.tells later behind stop old new is calm same told gave attached last

@@ -8,4 +8,4 @@ pub returns-clause-then : goal.returns-clause-then
 returns-clause-then g c notes session name from mid next a b d one other = watches-then notes session name g.K.Sink.tells g.C.Clock.tells from mid next a b d one other
 
 pub returns-clause-ends : goal.returns-clause-ends
-returns-clause-ends g c notes session name from mid a b d turns unused one few grew told gave = watched-of notes session name g.K.Sink.tells g.C.Clock.tells from mid a b d turns unused one few grew told gave
+returns-clause-ends g c notes session name unanswered from mid a b d turns unused one few used grew told gave = watched-of notes session name g.K.Sink.tells g.C.Clock.tells unanswered from mid a b d turns unused one few used grew told gave
