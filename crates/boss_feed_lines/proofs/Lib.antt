@@ -1,0 +1,4 @@
+pub mod Blanks
+pub mod Numerals
+pub mod Hexes
+pub mod Lines
