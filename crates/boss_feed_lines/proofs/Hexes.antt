@@ -19,9 +19,6 @@ again text bytes count are is many = ap (λ t. decode_sized t count) is ∙ deco
 abbrev pub Decodes : List ℕ → ℕ → Result Unit FromHexError → List ℕ → Type 0
 Decodes text count answer out = MatchResult (decode_sized text count) (λ bytes. (answer ≡ Ok tt) × (out ≡ bytes)) (λ e. answer ≡ Err e)
 
-ok-is : (xs ys : List ℕ) → ◌≡◌ {A = Result (List ℕ) FromHexError} (Ok xs) (Ok ys) → xs ≡ ys
-ok-is xs ys is = cc
-
 -- the digits of some bytes are read as these
 reads-again : (text some out : List ℕ) (count : ℕ) (answer : Result Unit FromHexError) → count ≡ length text / 2 → AreSome some → text ≡ encode_lower some →
     Decodes text count answer out → (answer ≡ Ok tt) × (out ≡ some)
