@@ -1,4 +1,5 @@
-ghost use Rattle.std.specs.Prelude.{◌≡◌, [], false, IfOk};
+ghost use Rattle.std.specs.Prelude.{◌≡◌, [], IfOk};
+ghost use Rattle.boss_outside_server.specs.Waits.{new_waited};
 
 use boss_model::NoMemory;
 use boss_outside_server::{Waiter, Woke};
@@ -51,9 +52,7 @@ impl<R: time::Clock + Copy> RealWaiter<R> {
 impl<R: time::Clock + Copy> Waiter for RealWaiter<R> {
     ghost tells = { ⊥ };
 
-    ghost pauses = { λ waiter. 0 };
-
-    ghost closed = { λ waiter. false };
+    ghost waited = { λ waiter. new_waited 0 };
 
     ghost closes = { λ waiter. waiter.closes };
 
@@ -73,7 +72,7 @@ impl<R: time::Clock + Copy> Waiter for RealWaiter<R> {
             .store(u64::from(workers), Ordering::SeqCst);
     }
 
-    fn leave(&mut self) {
+    fn leave(&mut self, _connections: u32) {
         self.workers.left.fetch_add(1, Ordering::SeqCst);
     }
 

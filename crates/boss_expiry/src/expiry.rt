@@ -1,5 +1,7 @@
 ghost use Rattle.std.specs.Prelude.{◌≡◌};
+ghost use Rattle.boss_model.specs.Limits.{tick_pause};
 ghost use Rattle.boss_lock.specs.Places.{entries_at};
+ghost use Rattle.def_lanes.specs.Waits.{PausedFor};
 ghost use Rattle.boss_expiry.specs.Ticking.{Expired};
 ghost use Rattle.boss_expiry.specs.Ends.{ClockCause, EndCause};
 
@@ -21,9 +23,10 @@ pub fn expire<G: Desk, C: Clock, W: Waiter>(
     ensures own { G.owns desk.now pass.new }
     ensures parts { G.parts pass.new ≡ G.parts pass.old }
     ensures ticks { Expired (entries_at (G.seen pass.old) (G.mine pass.old)) (entries_at (G.seen pass.new) (G.mine pass.new))
-        C.tells (C.given clock.old) (C.given clock.new) W.tells (W.pauses waiter.old) (W.pauses waiter.new) turns result }
+        C.tells (C.given clock.old) (C.given clock.new) W.tells (W.waited waiter.old).pauses (W.waited waiter.new).pauses turns result }
+    ensures waited { W.tells → PausedFor tick_pause (W.waited waiter.old) (W.waited waiter.new) }
     ensures clock { ClockCause (C.faults clock.old) (C.faults clock.new) result }
-    ensures cause { EndCause (G.seen pass.new) W.tells (W.closed waiter.new) (W.closes waiter.old) (W.closes waiter.new) result }
+    ensures cause { EndCause (G.seen pass.new) W.tells (W.waited waiter.new).closed (W.closes waiter.old) (W.closes waiter.new) result }
 {
     for turn in 0..turns {
         let Ok(moment) = clock.now() else {

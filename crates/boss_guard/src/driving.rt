@@ -1,8 +1,9 @@
 ghost use Rattle.std.specs.Prelude.{◌≡◌, ◌≤◌, length};
 ghost use Rattle.boss_model.specs.Catalogue.{actuators};
-ghost use Rattle.boss_model.specs.Limits.{most_points};
+ghost use Rattle.boss_model.specs.Limits.{drive_pause, most_points};
 ghost use Rattle.boss_lock.specs.Places.{entries_at};
 ghost use Rattle.def_guards.specs.Guards.{guards_of};
+ghost use Rattle.def_lanes.specs.Waits.{PausedFor};
 ghost use Rattle.boss_expiry.specs.Ends.{ClockCause, EndCause};
 ghost use Rattle.boss_guard.specs.Guarding.{Guarded, GuardCause, GuardClock, Turned};
 
@@ -44,9 +45,10 @@ pub fn guarded_drive<G: Desk, A: Actuators, C: Clock, W: Waiter>(
     ensures guarded { Guarded driver (guards_of catalogue.now) C.tells A.tells
         (record { own = entries_at (G.seen pass.old) (G.mine pass.old); given = C.given clock.old; whole = A.whole devices.old; calls = A.calls devices.old })
         (record { own = entries_at (G.seen pass.new) (G.mine pass.new); given = C.given clock.new; whole = A.whole devices.new; calls = A.calls devices.new })
-        W.tells (W.pauses waiter.old) (W.pauses waiter.new) turns result }
+        W.tells (W.waited waiter.old).pauses (W.waited waiter.new).pauses turns result }
+    ensures waited { W.tells → PausedFor drive_pause (W.waited waiter.old) (W.waited waiter.new) }
     ensures clock { GuardClock (C.faults clock.old) (C.faults clock.new) result }
-    ensures cause { GuardCause (G.seen pass.new) W.tells (W.closed waiter.new) (W.closes waiter.old) (W.closes waiter.new) result }
+    ensures cause { GuardCause (G.seen pass.new) W.tells (W.waited waiter.new).closed (W.closes waiter.old) (W.closes waiter.new) result }
 {
     match guards_of(alloc, catalogue) {
         Err(_) => GuardEnd::NoMemory,
@@ -82,9 +84,10 @@ fn take_turns<G: Desk, A: Actuators, C: Clock, W: Waiter>(
     ensures turned { Turned driver guards.old C.tells A.tells
         (record { own = entries_at (G.seen pass.old) (G.mine pass.old); given = C.given clock.old; whole = A.whole devices.old; calls = A.calls devices.old })
         (record { own = entries_at (G.seen pass.new) (G.mine pass.new); given = C.given clock.new; whole = A.whole devices.new; calls = A.calls devices.new })
-        W.tells (W.pauses waiter.old) (W.pauses waiter.new) turns result }
+        W.tells (W.waited waiter.old).pauses (W.waited waiter.new).pauses turns result }
+    ensures waited { W.tells → PausedFor drive_pause (W.waited waiter.old) (W.waited waiter.new) }
     ensures clock { ClockCause (C.faults clock.old) (C.faults clock.new) result }
-    ensures cause { EndCause (G.seen pass.new) W.tells (W.closed waiter.new) (W.closes waiter.old) (W.closes waiter.new) result }
+    ensures cause { EndCause (G.seen pass.new) W.tells (W.waited waiter.new).closed (W.closes waiter.old) (W.closes waiter.new) result }
 {
     let mut now = 0;
     for number in 0..turns {

@@ -1,13 +1,30 @@
 -- Source: own.
-use Rattle.std.specs.Prelude.{◌≡◌, ℕ, ◌+◌, min, Bool, true, false, List, []}
+use Rattle.std.specs.Prelude.{◌≡◌, ℕ, ◌+◌, ◌==◌, min, Bool, true, false, List, [], if◌then◌else◌}
 use Rattle.boss_model.specs.Limits.{last_number}
 use Rattle.boss_outside.specs.Counts.{Rose}
+use Rattle.boss_outside_server.specs.declared.waited.Leaving.{Leaving}
+use Rattle.boss_outside_server.specs.declared.waited.Leaving.TheVariants.{NotYet, Once, Often}
+use Rattle.boss_outside_server.specs.declared.waited.Lengths.{Lengths}
+use Rattle.boss_outside_server.specs.declared.waited.Lengths.TheVariants.{NoPause, Each, Various}
+use Rattle.boss_outside_server.specs.declared.waited.Waited.{Waited}
 use Rattle.boss_outside_server.specs.declared.waiter.Woke.{Woke}
 use Rattle.boss_outside_server.specs.declared.waiter.Woke.TheVariants.{Again, Close}
 
 -- one pause more; the number of pauses stands still at its end
 abbrev pub one_pause_more : ℕ → ℕ
 one_pause_more pauses = min (pauses + 1) last_number
+
+-- how long the pauses were, with one more of so many milliseconds
+abbrev pub lengths_after : Lengths → ℕ → Lengths
+lengths_after NoPause milliseconds = Each milliseconds
+lengths_after (Each all) milliseconds = if all == milliseconds then Each all else Various
+lengths_after Various milliseconds = Various
+
+-- a worker leaves once, and any later time is one too many
+abbrev pub leaving_after : Leaving → ℕ → Leaving
+leaving_after NotYet connections = Once connections
+leaving_after (Once before) connections = Often
+leaving_after Often connections = Often
 
 -- whether the worker is to end
 abbrev pub is_close : Woke → Bool
@@ -19,16 +36,33 @@ abbrev pub CloseCause : ℕ → ℕ → Woke → Type 0
 CloseCause before now Again = now ≡ before
 CloseCause before now Close = Rose before now
 
--- a waiter in memory: the turns that each part has, those that are left to this one, its pauses, whether the last of them
--- said Close, how many did, and the pauses of the parts that were taken back, each with whether its last one said Close
+-- what is noted of a worker: nothing yet, where so many workers are waited for; that so many are; one pause more, and how it
+-- ended; and that the worker leaves, when it has served so many connections
+abbrev pub new_waited : ℕ → Waited
+new_waited expected = record { pauses = 0; lengths = NoPause; closed = false; expected = expected; leaving = NotYet }
+
+abbrev pub expecting : ℕ → Waited → Waited
+expecting workers waited = record waited { expected = workers }
+
+abbrev pub after_pause : ℕ → Woke → Waited → Waited
+after_pause milliseconds woke waited = record waited {
+  pauses = one_pause_more waited.pauses;
+  lengths = lengths_after waited.lengths milliseconds;
+  closed = is_close woke;
+}
+
+abbrev pub after_leave : ℕ → Waited → Waited
+after_leave connections waited = record waited { leaving = leaving_after waited.leaving connections }
+
+-- a waiter in memory: the turns that each part has, those that are left to this one, what it notes of its own worker, how many
+-- of its pauses said Close, and what the parts that were taken back had noted
 pub record Turns : Type 0 where
   pub turns : ℕ
   pub left : ℕ
-  pub pauses : ℕ
-  pub closed : Bool
+  pub waited : Waited
   pub closes : ℕ
-  pub waits : List (ℕ × Bool)
+  pub waits : List Waited
 
--- a waiter before its first pause
-abbrev pub new_turns : ℕ → Turns
-new_turns turns = record { turns = turns; left = turns; pauses = 0; closed = false; closes = 0; waits = [] }
+-- a waiter before its first pause, where so many workers are waited for
+abbrev pub new_turns : ℕ → ℕ → Turns
+new_turns turns expected = record { turns = turns; left = turns; waited = new_waited expected; closes = 0; waits = [] }

@@ -21,6 +21,7 @@ mod running;
 mod spawner;
 mod task;
 mod turn_waiter;
+mod waited;
 mod waiter;
 
 pub use clock::Clock;
@@ -32,4 +33,5 @@ pub use one_of::OneOf;
 pub use spawner::Spawner;
 pub use task::{Ran, Task};
 pub use turn_waiter::TurnWaiter;
+pub use waited::{Leaving, Lengths, Waited};
 pub use waiter::{Waiter, Woke};

@@ -1,15 +1,12 @@
 ghost use Rattle.std.specs.Prelude.{◌≡◌, ◌-◌, ◌==◌, ◌∷◌, ◌++◌, [], map, IfOk};
-ghost use Rattle.boss_outside.specs.Counts.{one_more};
-ghost use Rattle.boss_outside_server.specs.Waits.{one_pause_more, is_close, CloseCause, new_turns};
+ghost use Rattle.boss_outside_server.specs.Waits.{after_leave, after_pause, expecting, is_close, new_turns, CloseCause};
 
 use crate::log::{Log, Room};
+use crate::waited::Waited;
 use crate::{Waiter, Woke};
 use boss_model::NoMemory;
 use std::alloc::Global;
 use std::marker::Model;
-
-/// The number of pauses at which a count of them stands still: `2 ^ 62`.
-const LAST_PAUSE: u64 = 1 << 62;
 
 /// A waiter in memory, which never waits. The first so many pauses say Again, and each later one says Close. Each part has
 /// this number of turns of its own.
@@ -17,12 +14,11 @@ const LAST_PAUSE: u64 = 1 << 62;
 pub struct TurnWaiter {
     turns: u64,
     left: u64,
-    pauses: u64,
-    closed: bool,
+    waited: Waited,
     closes: u64,
-    waits: Log<(u64, bool)>,
+    waits: Log<Waited>,
     /// For its own entry in the waiter that takes it back.
-    room: Room<(u64, bool)>,
+    room: Room<Waited>,
 }
 
 impl Model for TurnWaiter {
@@ -33,8 +29,7 @@ impl Model for TurnWaiter {
     ghost view = { λ w. record {
       turns = w.turns;
       left = w.left;
-      pauses = w.pauses;
-      closed = w.closed;
+      waited = w.waited;
       closes = w.closes;
       waits = w.waits;
     } };
@@ -43,21 +38,27 @@ impl Model for TurnWaiter {
 impl TurnWaiter {
     /// A waiter whose first `turns` pauses say Again.
     pub fn new(alloc: Global, turns: u64) -> Result<TurnWaiter, NoMemory>
-        ensures { IfOk result (λ waiter. waiter ≡ new_turns turns) }
+        ensures { IfOk result (λ waiter. waiter ≡ new_turns turns 0) }
+    {
+        TurnWaiter::expecting(alloc, turns, 0)
+    }
+
+    /// The same, where so many workers are waited for.
+    fn expecting(alloc: Global, turns: u64, workers: u32) -> Result<TurnWaiter, NoMemory>
+        ensures { IfOk result (λ waiter. waiter ≡ new_turns turns workers) }
     {
         Ok(TurnWaiter {
             turns,
             left: turns,
-            pauses: 0,
-            closed: false,
+            waited: Waited::new(workers),
             closes: 0,
             waits: Log::new(),
             room: Room::new(alloc)?,
         })
     }
 
-    /// The pauses of each part that was taken back, and whether its last one said Close.
-    pub fn waits(&self, alloc: Global) -> Result<Vec<&(u64, bool)>, NoMemory>
+    /// What each part that was taken back had noted.
+    pub fn waits(&self, alloc: Global) -> Result<Vec<&Waited>, NoMemory>
         ensures { IfOk result (λ waits. map (λ wait. wait.now) waits.items ≡ self.now.waits) }
     {
         self.waits.entries(alloc)
@@ -67,59 +68,55 @@ impl TurnWaiter {
 impl Waiter for TurnWaiter {
     ghost tells = { Unit {0} };
 
-    ghost pauses = { λ waiter. waiter.pauses };
-
-    ghost closed = { λ waiter. waiter.closed };
+    ghost waited = { λ waiter. waiter.waited };
 
     ghost closes = { λ waiter. waiter.closes };
 
     ghost waits = { λ waiter. waiter.waits };
 
     fn split(&mut self, alloc: Global) -> Result<Self, NoMemory>
-        ensures part { IfOk result (λ part. part ≡ new_turns self.old.turns) }
+        ensures part { IfOk result (λ part. part ≡ new_turns self.old.turns self.old.waited.expected) }
         ensures same { self.new ≡ self.old }
     {
-        TurnWaiter::new(alloc, self.turns)
+        TurnWaiter::expecting(alloc, self.turns, self.waited.expected)
     }
 
-    fn expect(&mut self, _workers: u32)
-        ensures { self.new ≡ self.old }
-    {}
+    fn expect(&mut self, workers: u32)
+        ensures { self.new ≡ record self.old { waited = expecting workers self.old.waited } }
+    {
+        self.waited.expected = workers;
+    }
 
-    fn leave(&mut self)
-        ensures { self.new ≡ self.old }
-    {}
+    fn leave(&mut self, connections: u32)
+        ensures { self.new ≡ record self.old { waited = after_leave connections self.old.waited } }
+    {
+        self.waited = self.waited.after_leave(connections);
+    }
 
-    fn pause(&mut self, _milliseconds: u64) -> Woke
+    fn pause(&mut self, milliseconds: u64) -> Woke
         ensures turn { is_close result ≡ (self.old.left == 0) }
         ensures cause { CloseCause self.old.closes self.new.closes result }
         ensures same { self.new ≡ record self.old {
           left = self.old.left - 1;
-          pauses = one_pause_more self.old.pauses;
-          closed = is_close result;
+          waited = after_pause milliseconds result self.old.waited;
           closes = self.new.closes;
         } }
     {
-        self.pauses = self.pauses.saturating_add(1).min(LAST_PAUSE);
-        self.closed = self.left == 0;
-        if self.closed {
+        let woke = if self.left == 0 {
             self.closes = self.closes.saturating_add(1);
-            return Woke::Close;
-        }
-        self.left -= 1;
-        Woke::Again
+            Woke::Close
+        } else {
+            self.left -= 1;
+            Woke::Again
+        };
+        self.waited = self.waited.after_pause(milliseconds, woke);
+        woke
     }
 
     fn join(&mut self, other: Self)
-        ensures { self.new
-            ≡ record self.old { waits = self.old.waits ++ (other.pauses, other.closed) ∷ [] } }
+        ensures { self.new ≡ record self.old { waits = self.old.waits ++ other.waited ∷ [] } }
     {
-        let TurnWaiter {
-            pauses,
-            closed,
-            room,
-            ..
-        } = other;
-        self.waits.push((pauses, closed), room);
+        let TurnWaiter { waited, room, .. } = other;
+        self.waits.push(waited, room);
     }
 }

@@ -1,5 +1,6 @@
-ghost use Rattle.std.specs.Prelude.{◌≡◌, ℕ, Bool, false, List, [], ◌∷◌, ◌++◌, IfOk};
-ghost use Rattle.boss_outside_server.specs.Waits.{one_pause_more, is_close, CloseCause};
+ghost use Rattle.std.specs.Prelude.{◌≡◌, ℕ, List, [], ◌∷◌, ◌++◌, IfOk};
+ghost use Rattle.boss_outside_server.specs.declared.waited.Waited.{Waited};
+ghost use Rattle.boss_outside_server.specs.Waits.{after_leave, after_pause, expecting, new_waited, CloseCause};
 
 use boss_model::NoMemory;
 use std::alloc::Global;
@@ -15,50 +16,43 @@ pub enum Woke {
 
 /// What a worker waits by between two turns, and by which it learns that it is to end.
 pub trait Waiter: Sized + Drop {
-    /// That the values of this type tell how often they paused. A form in memory does; a real one can't.
+    /// That the values of this type tell how they were used. A form in memory does; a real one can't.
     ghost tells: { Type 0 };
 
-    /// The number of pauses, up to `2 ^ 62`, where it stands still.
-    ghost pauses: { Self → ℕ };
-
-    /// Whether the last pause said Close.
-    ghost closed: { Self → Bool };
+    /// What it notes of its own worker: the pauses and how long they were asked to be, whether the last one said Close, how many
+    /// workers are waited for, and whether the worker has left.
+    ghost waited: { Self → Waited };
 
     /// The number of pauses that said Close, up to `2 ^ 64 - 1`, where it stands still.
     ghost closes: { Self → ℕ };
 
-    /// The pauses of each part that was taken back, and whether its last one said Close.
-    ghost waits: { Self → List (ℕ × Bool) };
+    /// What each part that was taken back had noted.
+    ghost waits: { Self → List Waited };
 
-    /// A part, which has not paused yet.
+    /// A part, which has not paused yet. It was told of as many workers as this one.
     fn split(&mut self, alloc: Global) -> Result<Self, NoMemory>
-        ensures part { tells → IfOk result (λ part. (pauses part ≡ 0) × (closed part ≡ false) × (waits part ≡ [])) }
+        ensures part { tells → IfOk result (λ part. (waited part ≡ new_waited (waited self.old).expected) × (waits part ≡ [])) }
         ensures part_closes { IfOk result (λ part. closes part ≡ 0) }
-        ensures stays { tells → (pauses self.new ≡ pauses self.old) × (closed self.new ≡ closed self.old)
-            × (waits self.new ≡ waits self.old) }
+        ensures stays { tells → (waited self.new ≡ waited self.old) × (waits self.new ≡ waits self.old) }
         ensures closes { closes self.new ≡ closes self.old };
 
-    /// Names the number of workers whose leaving is waited for. It is called before any of them starts.
+    /// Names the number of workers whose leaving is waited for. It is called before any part is made.
     fn expect(&mut self, workers: u32)
-        ensures stays { tells → (pauses self.new ≡ pauses self.old) × (closed self.new ≡ closed self.old)
-            × (waits self.new ≡ waits self.old) }
+        ensures expects { tells → (waited self.new ≡ expecting workers (waited self.old)) × (waits self.new ≡ waits self.old) }
         ensures closes { closes self.new ≡ closes self.old };
 
-    /// One of the expected workers has ended.
-    fn leave(&mut self)
-        ensures stays { tells → (pauses self.new ≡ pauses self.old) × (closed self.new ≡ closed self.old)
-            × (waits self.new ≡ waits self.old) }
+    /// The worker, which is one of those that are waited for, has served so many connections and serves no more.
+    fn leave(&mut self, connections: u32)
+        ensures leaves { tells → (waited self.new ≡ after_leave connections (waited self.old)) × (waits self.new ≡ waits self.old) }
         ensures closes { closes self.new ≡ closes self.old };
 
-    /// Waits for so long, or for less.
+    /// Waits for so many milliseconds, or for less.
     fn pause(&mut self, milliseconds: u64) -> Woke
-        ensures counted { tells → (pauses self.new ≡ one_pause_more (pauses self.old)) × (closed self.new ≡ is_close result)
-            × (waits self.new ≡ waits self.old) }
+        ensures counted { tells → (waited self.new ≡ after_pause milliseconds result (waited self.old)) × (waits self.new ≡ waits self.old) }
         ensures cause { CloseCause (closes self.old) (closes self.new) result };
 
-    /// Takes a part back, and notes its pauses.
+    /// Takes a part back, and keeps what it noted.
     fn join(&mut self, other: Self)
-        ensures noted { tells → (pauses self.new ≡ pauses self.old) × (closed self.new ≡ closed self.old)
-            × (waits self.new ≡ waits self.old ++ (pauses other, closed other) ∷ []) }
+        ensures noted { tells → (waited self.new ≡ waited self.old) × (waits self.new ≡ waits self.old ++ waited other ∷ []) }
         ensures closes { closes self.new ≡ closes self.old };
 }

@@ -1,3 +1,4 @@
+pub mod BackLemmas
 pub mod PreparingLemmas
 pub mod RulingLemmas
 pub mod ServeLemmas

@@ -24,6 +24,7 @@ use Rattle.boss_server.specs.Sites.{gates_of}
 use Rattle.boss_serve_jobs.specs.Preparing.{listed, TakesPlan, TakesRules}
 use Rattle.boss_jobs.specs.Programs.{usable}
 use Rattle.boss_serve_jobs.specs.ServeJobs.{DoesServe, EndsBy, Faults, faults_at, NoneRose, outside_at, ServedCatalogue, ServedFiles, ServerWorld, ServesInMemory, ServesNone}
+use Rattle.boss_serve_jobs.proofs.BackLemmas.{memory-back, over-back, same-back}
 use Rattle.boss_serve_jobs.proofs.PreparingLemmas.{not-refused, one-catalogue, plan-not-refused, rules-not-refused}
 use Rattle.boss_serve_jobs.specs.Serving.{after_write_fault, Outside, Served, ServedFrom, ServesMemory, ServesOver, status_of}
 
@@ -173,6 +174,10 @@ module _ {F D S K A H In Out C W P Runtime : Type 0} (f : files.Ghosts F D) (s :
     did = did;
     source = source;
     asks = asks;
+    came_back = elim did [
+      | inl none ↦ same-back h old.host new.host none.1.host
+      | inr served ↦ over-back k a h i o c w p served.catalogue (gates_of served.catalogue served.given) workers connections (record (outside_at old) { devices = served.devices }) (outside_at new) status _ _ served.serves
+    ];
     others = others;
     causes = elim did [
       | inl none ↦ elim (none-ends none) [ inl ends ↦ inl ends | inr (inl refused) ↦ inr (inl refused) | inr (inr refused) ↦ inr (inr (inr refused)) ]
@@ -197,6 +202,10 @@ module _ {F D S K A H In Out C W P Runtime : Type 0} (f : files.Ghosts F D) (s :
     source = source;
     asks = asks;
     others = others;
+    came_back = elim did [
+      | inl none ↦ same-back h old.host new.host none.1.host
+      | inr served ↦ memory-back k a h i o c w p served.catalogue (gates_of served.catalogue served.given) workers connections (record (outside_at old) { devices = served.devices }) (outside_at new) status served.serves
+    ];
     causes = elim did [ inl none ↦ none-ends none | inr served ↦ inl (memory-causes served) ];
     complete = λ catalogue file tells holds used ruled takes fine. elim did [
       | inl none ↦ none-fine catalogue file tells holds used ruled takes none fine

@@ -79,6 +79,7 @@ module _ {K A H In Out C W P Runtime : Type 0} (k : sink.Ghosts K) (a : actuator
     told = told.0;
     why = ends.why;
     served = ends.served;
+    handed = ends.handed;
     sink = told.1;
     devices = ends.devices;
     clock = ends.clock;

@@ -17,7 +17,7 @@ use Rattle.boss_outside_server.specs.declared.waiter.Waiter as waiter
 use Rattle.boss_pair_find.specs.declared.refusal.DurableRefusal.{DurableRefusal}
 use Rattle.boss_files.specs.Names.{second_name}
 use Rattle.boss_words.specs.declared.job.Job.{Job}
-use Rattle.boss_words.specs.declared.job.Job.TheVariants.{Script, Serve, Check, Adopt, Load}
+use Rattle.boss_words.specs.declared.job.Job.TheVariants.{Script, Serve, Check, Adopt, Feed, Standby, Load}
 use Rattle.boss_serve_jobs.specs.declared.world.World.{World as Given}
 use Rattle.boss_jobs.specs.Jobs.{World, world}
 use Rattle.boss_jobs.specs.Journals.{AsksFront, in_files, IsRefused}
@@ -25,7 +25,7 @@ use Rattle.boss_access.specs.declared.rule.Rule.{Rule}
 use Rattle.boss_server.specs.Sites.{gates_of}
 use Rattle.boss_serve_jobs.specs.Preparing.{AreRuled, AreSet, Comes, listed, Setting, setting, TakesPlan, TakesRules, Unprepared}
 use Rattle.boss_jobs.specs.Programs.{usable}
-use Rattle.boss_serve_jobs.specs.Serving.{Outside, outside, ServesMemory, ServesOver}
+use Rattle.boss_serve_jobs.specs.Serving.{CameBack, Outside, outside, ServesMemory, ServesOver}
 
 -- whether the words ask for a server
 abbrev pub is_serve : Option Job → Bool
@@ -33,6 +33,8 @@ is_serve (Some (Serve catalogue journal address workers connections rules plan))
 is_serve (Some (Script catalogue journal)) = false
 is_serve (Some (Check catalogue journal)) = false
 is_serve (Some (Adopt old new journal)) = false
+is_serve (Some (Feed catalogue journal from)) = false
+is_serve (Some (Standby catalogue journal)) = false
 is_serve (Some (Load count seed)) = false
 is_serve None = false
 
@@ -140,6 +142,8 @@ module _ {F D S K A H In Out C W P Runtime : Type 0} (f : files.Ghosts F D) (s :
       pub source : new.world.source ≡ old.world.source
       -- the catalogue's file is asked for, then those of the rules and the plan, and the journal's two, as far as it comes to that; and no other
       pub asks : f.tells → AsksFront ((name ∷ listed rules ++ listed plan) ++ journal ∷ second_name journal ∷ []) (f.asked old.world.files) (f.asked new.world.files)
+      -- at each status, every connection that was handed out came back
+      pub came_back : CameBack h old.host new.host
       -- no other file changes
       pub others : f.tells → (file : List ℕ) → file ≢ journal → file ≢ second_name journal → f.holds new.world.files file ≡ f.holds old.world.files file
       -- the status has its cause, or tells that the catalogue, the journal, the rules or the plan is refused
@@ -169,6 +173,7 @@ module _ {F D S K A H In Out C W P Runtime : Type 0} (f : files.Ghosts F D) (s :
       -- the catalogue's file is asked for, then those of the rules and the plan, and no other; none changes
       pub asks : f.tells → AsksFront (name ∷ listed rules ++ listed plan) (f.asked old.world.files) (f.asked new.world.files)
       pub others : f.tells → (file : List ℕ) → f.holds new.world.files file ≡ f.holds old.world.files file
+      pub came_back : CameBack h old.host new.host
       pub causes : EndsBy (faults_at old) (faults_at new) status ⊎ (status ≡ 3) ⊎ (status ≡ 16) ⊎ (status ≡ 17)
       pub complete : (catalogue : Catalogue) (file : List ℕ) → f.tells → f.holds old.world.files name ≡ Some file → usable count file ≡ Ok catalogue
           → TakesRules f rules old.world.files → TakesPlan f plan catalogue old.world.files → NoneRose (faults_at old) (faults_at new) → (status ≡ 0) ⊎ (status ≡ 8)

@@ -3,7 +3,8 @@
 use denote.Ref.{MutBor}
 use Rattle.std.specs.declared.alloc.Global.{Global}
 use Rattle.std.specs.declared.vec.Vec.{Vec}
-use Rattle.std.specs.Prelude.{◌≡◌, ◌⊎◌, ℕ, ◌+◌, true, false, nat_eq, Bool, if◌then◌else◌, List, [], ◌++◌, length, take, drop}
+use Rattle.std.specs.Prelude.{◌≡◌, ◌⊎◌, ℕ, ◌+◌, ◌<◌, true, false, nat_eq, Bool, if◌then◌else◌, List, [], ◌++◌, length, take, drop}
+use Rattle.std.specs.List.{AllByRecursion}
 use Rattle.boss_model.specs.Catalogue.{Catalogue, actuators}
 use Rattle.boss_model.specs.declared.event.Event.{Event}
 use Rattle.boss_model.specs.declared.state.Actuator.{Actuator}
@@ -14,6 +15,7 @@ use Rattle.boss_outside.specs.Streams.{TakesFront}
 use Rattle.boss_outside.specs.declared.actuators.Actuators as actuators_of
 use Rattle.boss_outside.specs.declared.sink.Sink as sink
 use Rattle.boss_outside.specs.declared.source.Source as source
+use Rattle.boss_outside_server.specs.Hosts.{Served as Connection}
 use Rattle.boss_outside_server.specs.declared.clock.Clock as clock
 use Rattle.boss_outside_server.specs.declared.host.Host as host
 use Rattle.boss_outside_server.specs.declared.spawner.Spawner as spawner
@@ -26,6 +28,7 @@ use Rattle.boss_worker.specs.declared.flags.Flags.{Flags}
 use Rattle.boss_worker.specs.Saying.{terms_of}
 use Rattle.boss_shared.specs.Gates.{Gate}
 use Rattle.boss_server.specs.Accounts.{Account}
+use Rattle.boss_server.specs.Hosted.{hosted_at, RoseBy}
 use Rattle.boss_server.specs.Kept.{drives_of}
 use Rattle.boss_server.specs.Making.{GainsNoPause, StaysClock, StaysHost}
 use Rattle.boss_server.specs.Together.{RoseWhere}
@@ -102,12 +105,20 @@ module _ {K : Type 0} (k : sink.Ghosts K) where
 -- ---- what it did
 
 module _ {H In Out : Type 0} (h : host.Ghosts H In Out) where
+  -- all connections that the host handed out came back, each as it ended, and none of them has session 0
+  pub record CameBack (old new : H) : Type 0 where
+    pub connections : List Connection
+    pub served : h.tells → h.served new ≡ h.served old ++ connections
+    pub handed : RoseBy (length connections) (h.handed old) (h.handed new)
+    pub numbered : AllByRecursion (λ connection. 0 < connection.session) connections
+
   -- the host could not listen at its address: nothing ran, and nothing was told
   pub record NotBound {K A C W P : Type 0} (log : List Entry) (old new : Outside K A H C W P) (status : ℕ) : Type 0 where
     pub nothing : log ≡ []
     pub told : status ≡ 9
     pub why : Rose (h.faults old.host) (h.faults new.host)
     pub served : h.tells → h.served new.host ≡ h.served old.host
+    pub handed : h.handed new.host ≡ h.handed old.host
     pub sink : new.sink ≡ old.sink
     pub devices : new.devices ≡ old.devices
     pub clock : new.clock ≡ old.clock
@@ -136,7 +147,7 @@ module _ {A H In Out C W P Runtime : Type 0} (a : actuators_of.Ghosts A) (h : ho
     pub listens : StaysHost h old.host bound
     pub account : Account a.calls (λ device. a.tells × a.whole device) (terms_of catalogue gates workers i.tells o.tells h.tells c.tells w.tells) w.tells
         (workers + 1 + drives_of catalogue old.devices) connections log log (h.served bound) (h.served new.host) (c.given old.clock) (c.given new.clock)
-        (h.faults bound) (h.faults new.host) (c.faults old.clock) (c.faults new.clock) (w.waits old.waiter) (w.waits new.waiter)
+        (hosted_at h bound) (hosted_at h new.host) (c.faults old.clock) (c.faults new.clock) (w.waits old.waiter) (w.waits new.waiter)
         (take (drives_of catalogue old.devices) old.devices) (drop (drives_of catalogue old.devices) old.devices) new.devices flags unstarted
     pub started : RoseWhere unstarted (p.faults old.spawner) (p.faults new.spawner)
     pub disk : flags.disk ≡ is_broken log

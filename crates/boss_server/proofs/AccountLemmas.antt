@@ -8,10 +8,13 @@ use Rattle.def_lanes.specs.Works.{Work, served_in}
 use Rattle.boss_outside_server.specs.Hosts.{Served}
 use Rattle.boss_outside_server.specs.declared.clock.Clock as clock
 use Rattle.boss_outside_server.specs.declared.host.Host as host
+use Rattle.boss_outside_server.specs.declared.waited.Waited.{Waited}
 use Rattle.boss_worker.specs.declared.flags.Flags.{Flags}
 use Rattle.boss_server.specs.Accounts.{Account}
+use Rattle.boss_server.specs.Hosted.{Hosted, RoseBy}
 use Rattle.boss_server.specs.Making.{StaysClock, StaysHost, GainsNoPause}
 use Rattle.boss_server.specs.Together.{RoseWhere, Together}
+use Rattle.boss_server.proofs.TogetherLemmas.{rose-both}
 
 pub on-ok : {T E : Type 0} (result : Result T E) (P : Type 0) → OnOk result P → is_err result ≡ false → P
 on-ok (Ok it) P holds fine = holds
@@ -20,13 +23,17 @@ on-ok (Err it) P holds fine = absurd (let no : true ≡ false = fine in cc)
 -- ---- what stays in two steps
 
 pub host-stays : {H In Out : Type 0} (h : host.Ghosts H In Out) (old between new : H) → StaysHost h old between → StaysHost h between new → StaysHost h old new
-host-stays h old between new first then = record { served = λ told. then.served told ∙ first.served told; faults = then.faults ∙ first.faults }
+host-stays h old between new first then = record {
+  served = λ told. then.served told ∙ first.served told;
+  faults = then.faults ∙ first.faults;
+  handed = rose-both 0 0 (h.handed old) (h.handed between) (h.handed new) first.handed then.handed;
+}
 
 pub clock-stays : {C : Type 0} (k : clock.Ghosts C) (old between new : C) → StaysClock k old between → StaysClock k between new → StaysClock k old new
 clock-stays k old between new first then = record { given = λ told. then.given told ∙ first.given told; faults = then.faults ∙ first.faults }
 
-pub gains-from : (pausing : Type 0) (between old new : List (ℕ × Bool)) → (pausing → between ≡ old) → GainsNoPause pausing between new → GainsNoPause pausing old new
-gains-from pausing between old new same gained = record { pairs = gained.pairs; noted = λ told. gained.noted told ∙ ap (λ front. front ++ gained.pairs) (same told); unpaused = gained.unpaused }
+pub gains-from : (pausing : Type 0) (between old new : List Waited) → (pausing → between ≡ old) → GainsNoPause pausing between new → GainsNoPause pausing old new
+gains-from pausing between old new same gained = record { notes = gained.notes; noted = λ told. gained.noted told ∙ ap (λ front. front ++ gained.notes) (same told); unpaused = gained.unpaused }
 
 -- ---- devices that were taken out in front
 
@@ -41,11 +48,11 @@ front-taken count front rest all are left =
 -- ---- an account
 
 module _ {A : Type 0} (calls : A → List DeviceCall) (whole : A → Type 0) (terms : Terms) (pausing : Type 0) (n shares : ℕ) (own seen : List Entry) (flags : Flags) (unrun : Bool) where
-  pub account-from : (served served' first_served : List Served) (given given' first_given : List ℕ) (hosted hosted' first_hosted ticked ticked' first_ticked : ℕ) (waits waits' first_waits : List (ℕ × Bool)) (was others devices : List A) →
+  pub account-from : (served served' first_served : List Served) (given given' first_given : List ℕ) (hosted hosted' first_hosted : Hosted) (ticked ticked' first_ticked : ℕ) (waits waits' first_waits : List Waited) (was others devices : List A) →
       Account calls whole terms pausing n shares own seen served served' given given' hosted hosted' ticked ticked' waits waits' was others devices flags unrun →
-      (terms.hosting → served ≡ first_served) → (terms.clocking → given ≡ first_given) → hosted ≡ first_hosted → ticked ≡ first_ticked → (pausing → waits ≡ first_waits) →
+      (terms.hosting → served ≡ first_served) → (terms.clocking → given ≡ first_given) → hosted.faults ≡ first_hosted.faults → RoseBy 0 first_hosted.handed hosted.handed → ticked ≡ first_ticked → (pausing → waits ≡ first_waits) →
       Account calls whole terms pausing n shares own seen first_served served' first_given given' first_hosted hosted' first_ticked ticked' first_waits waits' was others devices flags unrun
-  account-from served served' first_served given given' first_given hosted hosted' first_hosted ticked ticked' first_ticked waits waits' first_waits was others devices account hosts clocks host_same clock_same paused = record {
+  account-from served served' first_served given given' first_given hosted hosted' first_hosted ticked ticked' first_ticked waits waits' first_waits was others devices account hosts clocks host_same host_stays clock_same paused = record {
     works = account.works;
     together = record {
       part = record {
@@ -56,10 +63,15 @@ module _ {A : Type 0} (calls : A → List DeviceCall) (whole : A → Type 0) (te
         gave = λ told. account.together.part.gave told ∙ ap (λ front. front ++ account.together.part.gains) (clocks told);
         timed = account.together.part.timed;
       };
+      handed =
+          let both : RoseBy (0 + length (served_in account.works)) first_hosted.handed hosted'.handed =
+          rose-both 0 (length (served_in account.works)) first_hosted.handed hosted.handed hosted'.handed host_stays account.together.handed in
+          omega (arith, both);
+      numbered = account.together.numbered;
       whole = account.together.whole;
       uncut = account.together.uncut;
       flagged = account.together.flagged;
-      host_count = subst (λ count. RoseWhere flags.host count hosted') host_same account.together.host_count;
+      host_count = subst (λ count. RoseWhere flags.host count hosted'.faults) host_same account.together.host_count;
       clock_count = λ sound. subst (λ count. RoseWhere flags.clock count ticked') clock_same (account.together.clock_count sound);
       broken = account.together.broken;
     };
@@ -68,10 +80,11 @@ module _ {A : Type 0} (calls : A → List DeviceCall) (whole : A → Type 0) (te
     returned = record {
       drivers = account.returned.drivers;
       back = account.returned.back;
-      pairs = account.returned.pairs;
+      notes = account.returned.notes;
       each = account.returned.each;
       waited = account.returned.waited;
-      noted = λ told. account.returned.noted told ∙ ap (λ front. front ++ account.returned.pairs) (paused told);
+      kept = account.returned.kept;
+      noted = λ told. account.returned.noted told ∙ ap (λ front. front ++ account.returned.notes) (paused told);
       ended = account.returned.ended;
       worked = account.returned.worked;
     };

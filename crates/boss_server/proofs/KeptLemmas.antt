@@ -7,10 +7,12 @@ use Rattle.def_lanes.specs.Parts.{Terms}
 use Rattle.boss_shared.specs.declared.keeper.Keeper as keeper
 use Rattle.boss_shared.specs.Keeping.{IsHeld}
 use Rattle.boss_outside_server.specs.Hosts.{Served}
+use Rattle.boss_outside_server.specs.declared.waited.Waited.{Waited}
 use Rattle.boss_worker.specs.declared.flags.Flags.{Flags}
 use Rattle.boss_worker.specs.Troubles.{IsQuiet}
 use Rattle.boss_worker.proofs.FlagLemmas.{flagged-more}
 use Rattle.boss_server.specs.Accounts.{Account}
+use Rattle.boss_server.specs.Hosted.{Hosted}
 use Rattle.boss_server.specs.Kept.{Ran}
 
 -- the flags, where that of the disk is the keeper's word
@@ -23,7 +25,7 @@ unbroken false stopped broken raised same sound = refl
 unbroken true stopped broken raised same sound = absurd (let no : true ≡ false = sym (raised refl) ∙ sym same ∙ sound in cc)
 
 module _ {A : Type 0} (calls : A → List DeviceCall) (whole : A → Type 0) (terms : Terms) (pausing : Type 0) (n shares : ℕ) (log : List Entry) (served served' : List Served) (given given' : List ℕ)
-    (hosted hosted' ticked ticked' : ℕ) (waits waits' : List (ℕ × Bool)) (was others devices : List A) (flags : Flags) (unrun stopped : Bool) where
+    (hosted hosted' : Hosted) (ticked ticked' : ℕ) (waits waits' : List Waited) (was others devices : List A) (flags : Flags) (unrun stopped : Bool) where
   account-told : Account calls whole terms pausing n shares log log served served' given given' hosted hosted' ticked ticked' waits waits' was others devices flags unrun → stopped ≡ is_broken log →
       Account calls whole terms pausing n shares log log served served' given given' hosted hosted' ticked ticked' waits waits' was others devices (told_flags stopped flags) unrun
   account-told account same =
@@ -33,6 +35,8 @@ module _ {A : Type 0} (calls : A → List DeviceCall) (whole : A → Type 0) (te
         works = account.works;
         together = record {
           part = account.together.part;
+          handed = account.together.handed;
+          numbered = account.together.numbered;
           whole = λ all accepted calm. account.together.whole all accepted (sound calm);
           uncut = λ calm. account.together.uncut (quiet calm);
           flagged = flagged-more flags (told_flags stopped flags) (λ raised. same ∙ account.together.broken raised) (λ is. is) (λ is. is) account.works account.together.flagged;
@@ -45,9 +49,10 @@ module _ {A : Type 0} (calls : A → List DeviceCall) (whole : A → Type 0) (te
         returned = record {
           drivers = account.returned.drivers;
           back = account.returned.back;
-          pairs = account.returned.pairs;
+          notes = account.returned.notes;
           each = account.returned.each;
           waited = account.returned.waited;
+          kept = account.returned.kept;
           noted = account.returned.noted;
           ended = λ calm. account.returned.ended (quiet calm);
           worked = account.returned.worked;

@@ -1,4 +1,4 @@
--- Devices and pauses that come back, worker after worker.
+-- Devices and notes of waiters that come back, worker after worker.
 use Rattle.std.proofs.Common.{◌≡◌, ◌⊎◌, inl, inr, ℕ, suc, ◌+◌, ◌-◌, ◌<◌, ◌≤◌, ◌==◌, ◌||◌, not, Bool, true, false, List, [], ◌∷◌, ◌++◌, length, take, drop, refl, ap, sym, ◌∙◌, subst, arith, length-append, append_assoc}
 use Rattle.std.specs.List.{AllByRecursion, insert}
 use Rattle.std.specs.declared.snapshot.Snapshot.{Snapshot}
@@ -10,12 +10,13 @@ use Rattle.def_history.specs.declared.entry.Entry.{Entry}
 use Rattle.def_lanes.specs.Devices.{DevicesBack}
 use Rattle.def_lanes.specs.Lanes.{done_in}
 use Rattle.def_lanes.specs.Parts.{Terms, Agreed, Joined}
-use Rattle.def_lanes.specs.Waits.{IsPairOf, AreWaited}
+use Rattle.def_lanes.specs.Waits.{IsNoteOf, AreWaited, WaitedAt}
 use Rattle.def_lanes.specs.Works.{Work, lane_of_work, owner, AreOf, calls_in}
 use Rattle.def_lanes.proofs.Agreements.{agreed-both}
 use Rattle.def_lanes.proofs.DeviceLemmas.{devices-next}
 use Rattle.def_lanes.proofs.Owners.{strange-owners}
-use Rattle.def_lanes.proofs.WaitLemmas.{waited-next}
+use Rattle.def_lanes.proofs.WaitLemmas.{waited-next, waited-at-next}
+use Rattle.boss_outside_server.specs.declared.waited.Waited.{Waited}
 use Rattle.boss_outside.specs.declared.actuators.Actuators as actuators
 use Rattle.boss_worker.specs.declared.duty.Duty.{Duty}
 use Rattle.boss_worker.specs.declared.duty.Duty.TheVariants.{Connections, Time, Devices}
@@ -117,14 +118,15 @@ worked-next workers n works others unrun ran first then all number low less =
         (subst (λ m. is_worked workers m others ≡ true) here (then (ran-not ran (or_parts unrun (not ran) all).1) (omega (arith, here, low))))
 
 module _ {A : Type 0} (calls : A → List DeviceCall) (whole : A → Type 0) (terms : Terms) (pausing : Type 0) where
-  pub returned-first : (own : List Entry) (waits : List (ℕ × Bool)) → Returned calls whole terms pausing 0 [] own waits waits [] [] no_flags false
+  pub returned-first : (own : List Entry) (waits : List Waited) → Returned calls whole terms pausing 0 [] own waits waits [] [] no_flags false
   returned-first own waits = record {
     drivers = omega arith;
     back = tt;
-    pairs = [];
+    notes = [];
     each = refl;
     waited = tt;
     noted = λ told. sym (append-nil waits);
+    kept = λ told number waited is. absurd cc;
     ended = λ quiet. tt;
     worked = λ all number low less. absurd (omega (arith, less));
   }
@@ -139,19 +141,21 @@ module _ {A : Type 0} (calls : A → List DeviceCall) (whole : A → Type 0) (te
       (strange-owners terms.workers 0 n (suc n) works others of_first of_next)).each
 
 module _ {H A : Type 0} (a : actuators.Ghosts A) (terms : Terms) (pausing : Type 0) where
-  pub returned-next : (n : ℕ) (duty : Duty H A) (works others : List Work) (own part own' : List Entry) (waits waits' waits'' : List (ℕ × Bool)) (was now : List A) (pair : ℕ × Bool) (flags more : Flags) (unrun ran : Bool) →
+  pub returned-next : (n : ℕ) (duty : Duty H A) (works others : List Work) (own part own' : List Entry) (waits waits' waits'' : List Waited) (was now : List A) (note : Waited) (flags more : Flags) (unrun ran : Bool) →
       Returned a.calls (λ device. a.tells × a.whole device) terms pausing n works own waits waits' was now flags unrun →
       Agreed terms.plant terms.says own works → Agreed terms.plant terms.says part others → AreOf terms.workers 0 n works → AreOf terms.workers n (suc n) others → Joined own part own' →
-      IsPlaced terms.workers n duty → HasCalls a others duty → AllByRecursion (IsPairOf pair) others →
-      (ran ≡ true → terms.workers ≤ n → is_worked terms.workers n others ≡ true) → (IsQuiet more → AreEnded terms.plant pausing part others) → (pausing → waits'' ≡ waits' ++ pair ∷ []) →
+      IsPlaced terms.workers n duty → HasCalls a others duty → AllByRecursion (IsNoteOf note) others → (pausing → WaitedAt terms.workers n (length others) note) →
+      (ran ≡ true → terms.workers ≤ n → is_worked terms.workers n others ≡ true) → (IsQuiet more → AreEnded terms.plant pausing part others) → (pausing → waits'' ≡ waits' ++ note ∷ []) →
       Returned a.calls (λ device. a.tells × a.whole device) terms pausing (suc n) (works ++ others) own' waits waits'' (was ++ was_at duty) (now ++ devices_at duty) (both_flags flags more) (unrun || not ran)
-  returned-next n duty works others own part own' waits waits' waits'' was now pair flags more unrun ran returned agreed also of_first of_next joined placed called paired then_worked then_ended noted = record {
+  returned-next n duty works others own part own' waits waits' waits'' was now note flags more unrun ran returned agreed also of_first of_next joined placed called paired kept then_worked then_ended noted = record {
     drivers = drivers-next a terms.workers n duty was placed returned.drivers;
     back = back-next a terms.workers n duty was now works others placed called returned.drivers returned.back of_first of_next;
-    pairs = returned.pairs ++ pair ∷ [];
-    each = omega (arith, length-append returned.pairs (pair ∷ []), returned.each);
-    waited = waited-next terms.workers returned.pairs pair works others returned.waited (subst (λ m. AreOf terms.workers m (suc m) others) (sym returned.each) of_next) paired;
-    noted = λ told. noted told ∙ ap (λ list. list ++ pair ∷ []) (returned.noted told) ∙ append_assoc waits returned.pairs (pair ∷ []);
+    notes = returned.notes ++ note ∷ [];
+    each = omega (arith, length-append returned.notes (note ∷ []), returned.each);
+    waited = waited-next terms.workers returned.notes note works others returned.waited (subst (λ m. AreOf terms.workers m (suc m) others) (sym returned.each) of_next) paired;
+    noted = λ told. noted told ∙ ap (λ list. list ++ note ∷ []) (returned.noted told) ∙ append_assoc waits returned.notes (note ∷ []);
+    kept = λ told. waited-at-next terms.workers returned.notes note works others (returned.kept told) (subst (λ m. AreOf terms.workers 0 m works) (sym returned.each) of_first)
+        (subst (λ m. AreOf terms.workers m (suc m) others) (sym returned.each) of_next) (subst (λ m. WaitedAt terms.workers m (length others) note) (sym returned.each) (kept told));
     ended = ended-next a.calls (λ device. a.tells × a.whole device) terms pausing n works others own part own' flags more returned.ended then_ended agreed also of_first of_next joined;
     worked = worked-next terms.workers n works others unrun ran returned.worked then_worked;
   }

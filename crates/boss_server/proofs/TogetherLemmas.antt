@@ -1,11 +1,14 @@
 -- Workers taken together: at first none, and then one more.
-use Rattle.std.proofs.Common.{◌≡◌, ℕ, suc, ◌+◌, ◌<◌, ◌||◌, not, Bool, true, false, List, [], ◌∷◌, ◌++◌, length, refl, ap, sym, ◌∙◌, subst, arith, length-append}
-use Rattle.std.proofs.lemmas.Bool.{or_parts, cases_Bool}
+use Rattle.std.proofs.Common.{◌≡◌, ◌⊎◌, inl, inr, ℕ, suc, ◌+◌, ◌<◌, ◌≤◌, ◌==◌, ◌||◌, not, Bool, true, false, List, [], ◌∷◌, ◌++◌, length, refl, ap, sym, ◌∙◌, subst, arith, length-append}
+use Rattle.std.proofs.lemmas.Bool.{or_parts, cases_Bool, cases_lt, cond-true, cond-false}
+use Rattle.std.proofs.lemmas.Bool.Decides.{nat_tests}
+use Rattle.std.proofs.lemmas.List.{append-nil}
+use Rattle.std.proofs.lemmas.List.Elements.{filter-append}
 use Rattle.boss_outside.specs.Counts.{Rose, Joins}
 use Rattle.def_history.specs.declared.entry.Entry.{Entry}
 use Rattle.def_history.specs.History.{deeds, is_broken}
 use Rattle.def_lanes.specs.Parts.{Terms, Part, Joined}
-use Rattle.def_lanes.specs.Works.{Work, served_in}
+use Rattle.def_lanes.specs.Works.{Work, owner, served_in, AreOf}
 use Rattle.def_lanes.proofs.Lists.{each-append}
 use Rattle.def_lanes.proofs.Owners.{served_in-append}
 use Rattle.def_lanes.proofs.PartLemmas.{part-nothing, part-next}
@@ -13,9 +16,10 @@ use Rattle.boss_lock.specs.Places.{IsLonger}
 use Rattle.boss_outside_server.specs.Hosts.{Served}
 use Rattle.boss_worker.specs.declared.flags.Flags.{Flags}
 use Rattle.boss_worker.specs.Troubles.{no_flags, both_flags, IsQuiet, Counts}
-use Rattle.boss_worker.specs.Visits.{IsUncut, IsFlagged, Left}
+use Rattle.boss_worker.specs.Visits.{sessions_in, GoBySteps, IsUncut, IsFlagged, Left}
 use Rattle.boss_worker.proofs.FlagLemmas.{flagged-more}
-use Rattle.boss_server.specs.Together.{RoseWhere, Together}
+use Rattle.boss_server.specs.Hosted.{Hosted, RoseBy}
+use Rattle.boss_server.specs.Together.{works_of, RoseWhere, Together}
 use Rattle.boss_server.proofs.DeskJoins.{broken-longer}
 
 pub quiet-both : (flags others : Flags) → IsQuiet (both_flags flags others) → IsQuiet flags × IsQuiet others
@@ -44,11 +48,71 @@ either-broken : (flag other : Bool) (seen part now : List Entry) → (flag ≡ t
 either-broken true other seen part now first then longer is = broken-longer seen now longer.1 (first refl)
 either-broken false other seen part now first then longer is = broken-longer part now longer.2 (then is)
 
+-- a count that rose twice
+pub rose-both : (first then before between now : ℕ) → RoseBy first before between → RoseBy then between now → RoseBy (first + then) before now
+rose-both first then before between now once again = omega (arith, once, again)
+
+pub rose-none : (count : ℕ) → RoseBy 0 count count
+rose-none count = omega arith
+
+-- ---- the works of one worker
+
+-- others did none of them
+works-none : (workers number first end : ℕ) (works : List Work) → AreOf workers first end works → (number < first) ⊎ (end ≤ number) → works_of workers number works ≡ []
+works-none workers number first end [] are other = refl
+works-none workers number first end (work ∷ works) are other =
+    cond-false (owner workers work == number) (work ∷ works_of workers number works) (works_of workers number works) (differ other) ∙ works-none workers number first end works are.1 other
+  where
+    differ : (number < first) ⊎ (end ≤ number) → (owner workers work == number) ≡ false
+    differ (inl less) = let low = are.0.0 in grind (arith, nat_tests)
+    differ (inr more) = let high = are.0.1 in grind (arith, nat_tests)
+
+-- it did all of its own
+works-own : (workers number : ℕ) (works : List Work) → AreOf workers number (suc number) works → works_of workers number works ≡ works
+works-own workers number [] are = refl
+works-own workers number (work ∷ works) are =
+    let low = are.0.0 in
+    let high = are.0.1 in
+    let own : (owner workers work == number) ≡ true = grind (arith, nat_tests) in
+    cond-true (owner workers work == number) (work ∷ works_of workers number works) (works_of workers number works) own
+    ∙ ap (λ rest. work ∷ rest) (works-own workers number works are.1)
+
+-- one worker more, whose sessions go by steps
+numbered-next : (workers n : ℕ) (works others : List Work) → AreOf workers 0 n works → AreOf workers n (suc n) others →
+    ((number : ℕ) → GoBySteps workers (1 + number) (sessions_in (works_of workers number works))) → GoBySteps workers (1 + n) (sessions_in others) →
+    (number : ℕ) → GoBySteps workers (1 + number) (sessions_in (works_of workers number (works ++ others)))
+numbered-next workers n works others of_first of_next numbered also number = placed (cases_lt number n)
+  where
+    both : works_of workers number (works ++ others) ≡ works_of workers number works ++ works_of workers number others
+    both = filter-append (λ work. owner workers work == number) works others
+
+    so : (all : List Work) → works_of workers number (works ++ others) ≡ all → GoBySteps workers (1 + number) (sessions_in all) → GoBySteps workers (1 + number) (sessions_in (works_of workers number (works ++ others)))
+    so all is go = subst (λ list. GoBySteps workers (1 + number) (sessions_in list)) (sym is) go
+
+    behind : (n < number) ⊎ (number ≤ n) → n ≤ number → GoBySteps workers (1 + number) (sessions_in (works_of workers number (works ++ others)))
+    behind (inl later) from =
+        let none = works-none workers number 0 n works of_first (inr (omega (arith, later))) in
+        let nor = works-none workers number n (suc n) others of_next (inr (omega (arith, later))) in
+        so [] (both ∙ ap (λ front. front ++ works_of workers number others) none ∙ nor) tt
+    behind (inr here) from =
+        let same : n ≡ number = omega (arith, here, from) in
+        let none = works-none workers number 0 n works of_first (inr from) in
+        let own = works-own workers number others (subst (λ m. AreOf workers m (suc m) others) same of_next) in
+        so others (both ∙ ap (λ front. front ++ works_of workers number others) none ∙ own) (subst (λ m. GoBySteps workers (1 + m) (sessions_in others)) same also)
+
+    placed : (number < n) ⊎ (n ≤ number) → GoBySteps workers (1 + number) (sessions_in (works_of workers number (works ++ others)))
+    placed (inl before) =
+        let none = works-none workers number n (suc n) others of_next (inl before) in
+        so (works_of workers number works) (both ∙ ap (λ rest. works_of workers number works ++ rest) none ∙ append-nil (works_of workers number works)) (numbered number)
+    placed (inr from) = behind (cases_lt n number) from
+
 module _ (terms : Terms) where
-  pub together-first : (own seen : List Entry) (served : List Served) (given : List ℕ) (hosted ticked : ℕ) → deeds own ≡ [] →
+  pub together-first : (own seen : List Entry) (served : List Served) (given : List ℕ) (hosted : Hosted) (ticked : ℕ) → deeds own ≡ [] →
       Together terms 0 0 [] own seen served served given given hosted hosted ticked ticked no_flags false
   together-first own seen served given hosted ticked none = record {
     part = part-nothing terms 0 0 own served given none;
+    handed = rose-none hosted.handed;
+    numbered = λ number. tt;
     whole = λ all accepted sound. refl;
     uncut = λ quiet. tt;
     flagged = tt;
@@ -58,15 +122,21 @@ module _ (terms : Terms) where
   }
 
   pub together-next : (n shares share : ℕ) (works others : List Work) (own own' part seen seen' seen'' : List Entry) (served served' back served'' : List Served) (given given' gave given'' : List ℕ)
-      (hosted hosted' hosted'' ticked ticked' ticked'' handed faults misses : ℕ) (flags more : Flags) (unrun ran : Bool) →
+      (hosted hosted' hosted'' : Hosted) (ticked ticked' ticked'' handed faults misses : ℕ) (flags more : Flags) (unrun ran : Bool) →
       Together terms n shares works own seen served served' given given' hosted hosted' ticked ticked' flags unrun →
       Left ran terms n share others part seen' [] back [] gave handed faults misses more →
       Joined own part own' → IsLonger seen seen' seen'' → (terms.hosting → served'' ≡ served' ++ back) → (terms.clocking → given'' ≡ given' ++ gave) →
-      Joins hosted' faults hosted'' → Joins ticked' misses ticked'' →
+      Joins hosted'.faults faults hosted''.faults → RoseBy handed hosted'.handed hosted''.handed → Joins ticked' misses ticked'' →
       Together terms (suc n) (shares + share) (works ++ others) own' seen'' served served'' given given'' hosted hosted'' ticked ticked'' (both_flags flags more) (unrun || not ran)
   together-next n shares share works others own own' part seen seen' seen'' served served' back served'' given given' gave given'' hosted hosted' hosted'' ticked ticked' ticked'' handed faults misses
-      flags more unrun ran together left joined longer hosts clocks host_joins clock_joins = record {
+      flags more unrun ran together left joined longer hosts clocks host_joins host_rose clock_joins = record {
         part = part-next terms n works others own part own' served served' back served'' given given' gave given'' together.part left.part joined hosts clocks;
+        handed =
+            let sum : length (served_in works) + handed ≡ length (served_in (works ++ others)) =
+            omega (arith, ap length (served_in-append works others), length-append (served_in works) (served_in others), left.each) in
+            subst (λ more. RoseBy more hosted.handed hosted''.handed) sum
+            (rose-both (length (served_in works)) handed hosted.handed hosted'.handed hosted''.handed together.handed host_rose);
+        numbered = numbered-next terms.workers n works others together.part.of_them left.part.of_them together.numbered left.numbered;
         whole = λ all accepted sound.
             let runs = or_parts unrun (not ran) all in
             let accepts = or_parts flags.host more.host accepted in
@@ -80,7 +150,7 @@ module _ (terms : Terms) where
         flagged = each-append (IsFlagged (both_flags flags more)) works others
             (flagged-more flags (both_flags flags more) (or-first flags.disk more.disk) (or-first flags.clock more.clock) (or-first flags.memory more.memory) works together.flagged)
             (flagged-more more (both_flags flags more) (or-second flags.disk more.disk) (or-second flags.clock more.clock) (or-second flags.memory more.memory) others left.flagged);
-        host_count = rose-then flags.host more.host hosted hosted' hosted'' faults together.host_count left.hosted host_joins;
+        host_count = rose-then flags.host more.host hosted.faults hosted'.faults hosted''.faults faults together.host_count left.hosted host_joins;
         clock_count = λ sound. let both = or_parts flags.disk more.disk sound in
             rose-then flags.clock more.clock ticked ticked' ticked'' misses (together.clock_count both.0) (left.ticked both.1) clock_joins;
         broken = either-broken flags.disk more.disk seen seen' seen'' together.broken left.broken longer;

@@ -1,4 +1,5 @@
 pub mod Accounts
+pub mod Hosted
 pub mod Kept
 pub mod Making
 pub mod Places

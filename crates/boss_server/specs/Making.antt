@@ -5,6 +5,9 @@ use Rattle.std.specs.List.{AllByRecursion}
 use Rattle.boss_outside_server.specs.declared.clock.Clock as clock
 use Rattle.boss_outside_server.specs.declared.host.Host as host
 use Rattle.boss_outside_server.specs.declared.waiter.Waiter as waiter
+use Rattle.boss_outside_server.specs.Waits.{new_waited}
+use Rattle.boss_outside_server.specs.declared.waited.Waited.{Waited}
+use Rattle.boss_server.specs.Hosted.{RoseBy}
 
 module _ {C : Type 0} (k : clock.Ghosts C) where
   -- it gave nothing yet, and no reading of it failed
@@ -18,19 +21,22 @@ module _ {C : Type 0} (k : clock.Ghosts C) where
     pub faults : k.faults new ≡ k.faults old
 
 module _ {W : Type 0} (w : waiter.Ghosts W) where
-  pub record IsFreshWaiter (waiter : W) : Type 0 where
-    pub pauses : w.tells → w.pauses waiter ≡ 0
+  -- it was told that so many workers are waited for, and nothing else came to it
+  pub record IsFreshWaiter (expected : ℕ) (waiter : W) : Type 0 where
+    pub waited : w.tells → w.waited waiter ≡ new_waited expected
 
   pub record StaysWaiter (old new : W) : Type 0 where
+    pub waited : w.tells → w.waited new ≡ w.waited old
     pub waits : w.tells → w.waits new ≡ w.waits old
 
 module _ {H In Out : Type 0} (h : host.Ghosts H In Out) where
   pub record StaysHost (old new : H) : Type 0 where
     pub served : h.tells → h.served new ≡ h.served old
     pub faults : h.faults new ≡ h.faults old
+    pub handed : RoseBy 0 (h.handed old) (h.handed new)
 
 -- parts that never paused were taken back
-pub record GainsNoPause (pausing : Type 0) (waits waits' : List (ℕ × Bool)) : Type 0 where
-  pub pairs : List (ℕ × Bool)
-  pub noted : pausing → waits' ≡ waits ++ pairs
-  pub unpaused : pausing → AllByRecursion (λ pair. pair.0 ≡ 0) pairs
+pub record GainsNoPause (pausing : Type 0) (waits waits' : List Waited) : Type 0 where
+  pub notes : List Waited
+  pub noted : pausing → waits' ≡ waits ++ notes
+  pub unpaused : pausing → AllByRecursion (λ note. note.pauses ≡ 0) notes

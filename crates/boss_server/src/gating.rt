@@ -4,6 +4,7 @@ ghost use Rattle.boss_access.specs.Decisions.{first_denied};
 ghost use Rattle.boss_worker.specs.Desks.{own_of};
 ghost use Rattle.boss_worker.specs.Saying.{terms_of};
 ghost use Rattle.boss_server.specs.Accounts.{Account};
+ghost use Rattle.boss_server.specs.Hosted.{hosted_at};
 ghost use Rattle.boss_server.specs.Making.{GainsNoPause, StaysClock, StaysHost};
 ghost use Rattle.boss_server.specs.References.{KeepsReferences};
 ghost use Rattle.boss_server.specs.Sites.{gates_of};
@@ -59,7 +60,7 @@ where
         (terms_of server.entry.catalogue.now (gates_of server.entry.catalogue.now rules) server.entry.workers H.In.tells H.Out.tells H.tells C.tells W.tells) W.tells
         (server.entry.workers + 1 + drives) connections (own_of G.Desk result.0) (G.seen result.0)
         (H.served outside.old.host.now) (H.served outside.new.host.now) (C.given outside.old.clock.now) (C.given outside.new.clock.now)
-        (H.faults outside.old.host.now) (H.faults outside.new.host.now) (C.faults outside.old.clock.now) (C.faults outside.new.clock.now)
+        (hosted_at H.Host outside.old.host.now) (hosted_at H.Host outside.new.host.now) (C.faults outside.old.clock.now) (C.faults outside.new.clock.now)
         (W.waits outside.old.waiter.now) (W.waits outside.new.waiter.now)
         (take drives outside.old.devices.now.items) (drop drives outside.old.devices.now.items) outside.new.devices.now.items told.0 told.1) }
     ensures started { IfOk result.1 (λ told. RoseWhere told.1 (P.faults outside.old.spawner.now) (P.faults outside.new.spawner.now)) }
@@ -114,7 +115,7 @@ where
         (terms_of server.entry.catalogue.now [] server.entry.workers H.In.tells H.Out.tells H.tells C.tells W.tells) W.tells
         (server.entry.workers + 1 + drives) connections (own_of G.Desk result.0) (G.seen result.0)
         (H.served outside.old.host.now) (H.served outside.new.host.now) (C.given outside.old.clock.now) (C.given outside.new.clock.now)
-        (H.faults outside.old.host.now) (H.faults outside.new.host.now) (C.faults outside.old.clock.now) (C.faults outside.new.clock.now)
+        (hosted_at H.Host outside.old.host.now) (hosted_at H.Host outside.new.host.now) (C.faults outside.old.clock.now) (C.faults outside.new.clock.now)
         (W.waits outside.old.waiter.now) (W.waits outside.new.waiter.now)
         (take drives outside.old.devices.now.items) (drop drives outside.old.devices.now.items) outside.new.devices.now.items told.0 told.1) }
     ensures started { IfOk result.1 (λ told. RoseWhere told.1 (P.faults outside.old.spawner.now) (P.faults outside.new.spawner.now)) }
@@ -169,7 +170,7 @@ where
         (terms_of server.entry.catalogue.now (first_denied rules server.entry.catalogue.now.points ∷ []) server.entry.workers H.In.tells H.Out.tells H.tells C.tells W.tells) W.tells
         (server.entry.workers + 1 + drives) connections (own_of G.Desk result.0) (G.seen result.0)
         (H.served outside.old.host.now) (H.served outside.new.host.now) (C.given outside.old.clock.now) (C.given outside.new.clock.now)
-        (H.faults outside.old.host.now) (H.faults outside.new.host.now) (C.faults outside.old.clock.now) (C.faults outside.new.clock.now)
+        (hosted_at H.Host outside.old.host.now) (hosted_at H.Host outside.new.host.now) (C.faults outside.old.clock.now) (C.faults outside.new.clock.now)
         (W.waits outside.old.waiter.now) (W.waits outside.new.waiter.now)
         (take drives outside.old.devices.now.items) (drop drives outside.old.devices.now.items) outside.new.devices.now.items told.0 told.1) }
     ensures started { IfOk result.1 (λ told. RoseWhere told.1 (P.faults outside.old.spawner.now) (P.faults outside.new.spawner.now)) }

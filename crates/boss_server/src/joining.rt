@@ -4,8 +4,9 @@ ghost use Rattle.boss_lock.specs.Places.{IsLonger};
 ghost use Rattle.def_lanes.specs.Parts.{Joined};
 ghost use Rattle.boss_worker.specs.Desks.{own_of};
 ghost use Rattle.boss_worker.specs.Saying.{terms_of};
-ghost use Rattle.boss_worker.specs.Workers.{faults_at, served_at, share_at, was_at, HasLeft};
+ghost use Rattle.boss_worker.specs.Workers.{faults_at, handed_at, served_at, share_at, was_at, HasLeft};
 ghost use Rattle.boss_server.specs.Accounts.{Account};
+ghost use Rattle.boss_server.specs.Hosted.{hosted_at, RoseBy};
 ghost use Rattle.boss_server.specs.Places.{put_back, FitsAmong};
 ghost use Rattle.boss_server.specs.References.{KeepsReferences};
 ghost use Rattle.boss_server.specs.Turns.{devices_in, is_any_unrun, shares_in, EachInTurn, IsWorkerOf};
@@ -37,6 +38,7 @@ fn join_duty<H: Host, A: Actuators + Drop>(host: &mut H, devices: &mut Vec<A>, d
     ensures sound { H.sound host.new }
     ensures served { H.tells → H.served host.new ≡ H.served host.old ++ served_at H.Host duty }
     ensures count { Joins (H.faults host.old) (faults_at H.Host duty) (H.faults host.new) }
+    ensures handed { RoseBy (handed_at H.Host duty) (H.handed host.old) (H.handed host.new) }
 {
     match duty {
         Duty::Connections(part) => host.join(part),
@@ -67,9 +69,10 @@ pub(crate) fn join_one<'a, G: Desk, H: Host, C: Clock, W: Waiter, A: Actuators +
     ensures sound { H.sound outside.new.host.now }
     ensures served { H.tells → H.served outside.new.host.now ≡ H.served outside.old.host.now ++ served_at H.Host worker.entry.duty }
     ensures hosted { Joins (H.faults outside.old.host.now) (faults_at H.Host worker.entry.duty) (H.faults outside.new.host.now) }
+    ensures handed { RoseBy (handed_at H.Host worker.entry.duty) (H.handed outside.old.host.now) (H.handed outside.new.host.now) }
     ensures given { C.tells → C.given outside.new.clock.now ≡ C.given outside.old.clock.now ++ C.given worker.entry.clock }
     ensures ticked { Joins (C.faults outside.old.clock.now) (C.faults worker.entry.clock) (C.faults outside.new.clock.now) }
-    ensures waited { W.tells → W.waits outside.new.waiter.now ≡ W.waits outside.old.waiter.now ++ (W.pauses worker.entry.waiter, W.closed worker.entry.waiter) ∷ [] }
+    ensures waited { W.tells → W.waits outside.new.waiter.now ≡ W.waits outside.old.waiter.now ++ W.waited worker.entry.waiter ∷ [] }
     ensures spawner { outside.new.spawner.now ≡ outside.old.spawner.now }
     ensures devices { outside.new.devices.now.items ≡ put_back worker.entry.duty outside.old.devices.now.items }
     ensures room { vec_capacity outside.old.devices.now ≤ vec_capacity outside.new.devices.now }
@@ -122,7 +125,7 @@ pub(crate) fn join_all<'a, G: Desk, H: Host, C: Clock, W: Waiter, A: Actuators +
     ensures account { Account A.calls (λ device. A.tells × A.whole device) (terms_of server.now.catalogue.now (G.denies server.now.desk) server.now.workers H.In.tells H.Out.tells H.tells C.tells W.tells) W.tells
         (length done.entry.items) (shares_in done.entry.items (λ worker. share_at H.Host worker.duty)) (own_of G.Desk pass.new) (G.seen pass.new)
         (H.served outside.old.host.now) (H.served outside.new.host.now) (C.given outside.old.clock.now) (C.given outside.new.clock.now)
-        (H.faults outside.old.host.now) (H.faults outside.new.host.now) (C.faults outside.old.clock.now) (C.faults outside.new.clock.now)
+        (hosted_at H.Host outside.old.host.now) (hosted_at H.Host outside.new.host.now) (C.faults outside.old.clock.now) (C.faults outside.new.clock.now)
         (W.waits outside.old.waiter.now) (W.waits outside.new.waiter.now)
         (devices_in done.entry.items (λ worker. was_at worker.duty)) outside.old.devices.now.items outside.new.devices.now.items result.0 result.1 }
     ensures unrun { result.1 ≡ is_any_unrun done.entry.items }

@@ -4,6 +4,7 @@ ghost use Rattle.boss_model.specs.Catalogue.{actuators};
 ghost use Rattle.boss_model.specs.Sound.{IsSound};
 ghost use Rattle.boss_shared.specs.Keeping.{IsHeld};
 ghost use Rattle.boss_worker.specs.Saying.{terms_of};
+ghost use Rattle.boss_server.specs.Hosted.{hosted_at};
 ghost use Rattle.boss_server.specs.Kept.{Ran, drives_of};
 ghost use Rattle.boss_server.specs.Making.{GainsNoPause, StaysClock, StaysHost};
 ghost use Rattle.boss_server.specs.References.{KeepsReferences};
@@ -79,7 +80,7 @@ where
         (terms_of site.entry.catalogue.now (gates_of site.entry.catalogue.now site.entry.rules) workers H.In.tells H.Out.tells H.tells C.tells W.tells) W.tells
         (workers + 1 + drives_of site.entry.catalogue.now outside.old.devices.now.items) connections keeper result.0
         (H.served outside.old.host.now) (H.served outside.new.host.now) (C.given outside.old.clock.now) (C.given outside.new.clock.now)
-        (H.faults outside.old.host.now) (H.faults outside.new.host.now) (C.faults outside.old.clock.now) (C.faults outside.new.clock.now)
+        (hosted_at H.Host outside.old.host.now) (hosted_at H.Host outside.new.host.now) (C.faults outside.old.clock.now) (C.faults outside.new.clock.now)
         (W.waits outside.old.waiter.now) (W.waits outside.new.waiter.now)
         (take (drives_of site.entry.catalogue.now outside.old.devices.now.items) outside.old.devices.now.items)
         (drop (drives_of site.entry.catalogue.now outside.old.devices.now.items) outside.old.devices.now.items)

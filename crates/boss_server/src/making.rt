@@ -39,6 +39,7 @@ fn make_next<'a, G: Desk, H: Host, C: Clock, W: Waiter, A: Actuators + Drop, P>(
 ) -> Result<(), NoMemory>
     requires own { G.owns server.now.desk pass.old }
     requires parts { 2 ≤ G.parts pass.old }
+    requires told { W.tells → (W.waited outside.old.waiter.now).expected ≡ server.now.workers }
     requires plant { actuators server.now.catalogue.now ≡ G.plant server.now.desk }
     requires sound { H.sound outside.old.host.now }
     requires number { number < server.now.workers }
@@ -103,6 +104,7 @@ fn make_connections<'a, G: Desk, H: Host, C: Clock, W: Waiter, A: Actuators + Dr
 ) -> Result<(), NoMemory>
     requires own { G.owns server.now.desk pass.old }
     requires parts { server.now.workers + 1 ≤ G.parts pass.old }
+    requires told { W.tells → (W.waited outside.old.waiter.now).expected ≡ server.now.workers }
     requires plant { actuators server.now.catalogue.now ≡ G.plant server.now.desk }
     requires sound { H.sound outside.old.host.now }
     requires some { 1 ≤ server.now.workers }
@@ -144,6 +146,7 @@ fn make_time<'a, G: Desk, H: Host, C: Clock, W: Waiter, A: Actuators + Drop>(
 ) -> Result<(), NoMemory>
     requires own { G.owns server.now.desk pass.old }
     requires parts { 2 ≤ G.parts pass.old }
+    requires told { W.tells → (W.waited waiter.old).expected ≡ server.now.workers }
     requires plant { actuators server.now.catalogue.now ≡ G.plant server.now.desk }
     requires few { server.now.workers ≤ 32 }
     requires next { length made.old.items ≡ server.now.workers }
@@ -194,6 +197,7 @@ fn make_drive<'a, G: Desk, H: Host, C: Clock, W: Waiter, A: Actuators + Drop, P>
 ) -> Result<(), NoMemory>
     requires own { G.owns server.now.desk pass.old }
     requires parts { 2 ≤ G.parts pass.old }
+    requires told { W.tells → (W.waited outside.old.waiter.now).expected ≡ server.now.workers }
     requires plant { actuators server.now.catalogue.now ≡ G.plant server.now.desk }
     requires few { server.now.workers ≤ 32 }
     requires some { 0 < vec_len outside.old.devices.now }
@@ -252,6 +256,7 @@ fn make_drives<'a, G: Desk, H: Host, C: Clock, W: Waiter, A: Actuators + Drop, P
 ) -> Result<(), NoMemory>
     requires own { G.owns server.now.desk pass.old }
     requires parts { drives + 1 ≤ G.parts pass.old }
+    requires told { W.tells → (W.waited outside.old.waiter.now).expected ≡ server.now.workers }
     requires plant { actuators server.now.catalogue.now ≡ G.plant server.now.desk }
     requires few { server.now.workers ≤ 32 }
     requires some { drives ≤ vec_len outside.old.devices.now }
@@ -296,6 +301,7 @@ pub(crate) fn make_all<'a, G: Desk, H: Host, C: Clock, W: Waiter, A: Actuators +
 ) -> Result<(), NoMemory>
     requires own { G.owns server.now.desk pass.old }
     requires parts { server.now.workers + 2 + drives ≤ G.parts pass.old }
+    requires told { W.tells → (W.waited outside.old.waiter.now).expected ≡ server.now.workers }
     requires plant { actuators server.now.catalogue.now ≡ G.plant server.now.desk }
     requires sound { H.sound outside.old.host.now }
     requires some { 1 ≤ server.now.workers }

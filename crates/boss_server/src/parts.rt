@@ -12,7 +12,7 @@ pub(crate) fn clock_and_waiter<C: Clock, W: Waiter>(
     clock: &mut C,
     waiter: &mut W,
 ) -> Result<(C, W), NoMemory>
-    ensures fresh { IfOk result (λ parts. IsFreshClock C.Clock parts.0 × IsFreshWaiter W.Waiter parts.1) }
+    ensures fresh { IfOk result (λ parts. IsFreshClock C.Clock parts.0 × IsFreshWaiter W.Waiter (W.waited waiter.old).expected parts.1) }
     ensures clock { StaysClock C.Clock clock.old clock.new }
     ensures waiter { StaysWaiter W.Waiter waiter.old waiter.new }
 {
@@ -36,7 +36,7 @@ pub(crate) fn all_three<H: Host, C: Clock, W: Waiter>(
     connections: u32,
 ) -> Result<(H, C, W), NoMemory>
     requires { H.sound host.old }
-    ensures fresh { IfOk result (λ parts. IsFreshHost H.Host parts.0 × IsFreshClock C.Clock parts.1 × IsFreshWaiter W.Waiter parts.2) }
+    ensures fresh { IfOk result (λ parts. IsFreshHost H.Host parts.0 × IsFreshClock C.Clock parts.1 × IsFreshWaiter W.Waiter (W.waited waiter.old).expected parts.2) }
     ensures share { IfOk result (λ parts. (H.share parts.0 ≡ connections) × (H.tells → H.served parts.0 ≡ [])) }
     ensures sound { H.sound host.new }
     ensures host { StaysHost H.Host host.old host.new }

@@ -3,6 +3,7 @@ ghost use Rattle.boss_worker.specs.Desks.{own_of};
 ghost use Rattle.boss_worker.specs.Saying.{terms_of};
 ghost use Rattle.boss_worker.specs.Workers.{share_at, was_at, IsReady};
 ghost use Rattle.boss_server.specs.Accounts.{Account};
+ghost use Rattle.boss_server.specs.Hosted.{hosted_at};
 ghost use Rattle.boss_server.specs.References.{KeepsReferences};
 ghost use Rattle.boss_server.specs.Together.{RoseWhere};
 ghost use Rattle.boss_server.specs.Turns.{devices_of, shares_of, AllInTurn};
@@ -51,7 +52,7 @@ where
         (terms_of server.now.catalogue.now (G.denies server.now.desk) server.now.workers H.In.tells H.Out.tells H.tells C.tells W.tells) W.tells
         (length workers.entry.items) (shares_of workers.entry.items (λ worker. share_at H.Host worker.duty)) (own_of G.Desk pass.new) (G.seen pass.new)
         (H.served outside.old.host.now) (H.served outside.new.host.now) (C.given outside.old.clock.now) (C.given outside.new.clock.now)
-        (H.faults outside.old.host.now) (H.faults outside.new.host.now) (C.faults outside.old.clock.now) (C.faults outside.new.clock.now)
+        (hosted_at H.Host outside.old.host.now) (hosted_at H.Host outside.new.host.now) (C.faults outside.old.clock.now) (C.faults outside.new.clock.now)
         (W.waits outside.old.waiter.now) (W.waits outside.new.waiter.now)
         (devices_of workers.entry.items (λ worker. was_at worker.duty)) outside.old.devices.now.items outside.new.devices.now.items told.0 told.1) }
     ensures started { IfOk result (λ told. RoseWhere told.1 (P.faults outside.old.spawner.now) (P.faults outside.new.spawner.now)) }

@@ -3,6 +3,7 @@ ghost use Rattle.boss_model.specs.Catalogue.{actuators};
 ghost use Rattle.boss_worker.specs.Desks.{own_of};
 ghost use Rattle.boss_worker.specs.Saying.{terms_of};
 ghost use Rattle.boss_server.specs.Accounts.{Account};
+ghost use Rattle.boss_server.specs.Hosted.{hosted_at};
 ghost use Rattle.boss_server.specs.Making.{GainsNoPause, StaysClock, StaysHost};
 ghost use Rattle.boss_server.specs.References.{KeepsReferences};
 ghost use Rattle.boss_server.specs.Together.{RoseWhere};
@@ -56,7 +57,7 @@ where
         (terms_of server.now.catalogue.now (G.denies server.now.desk) server.now.workers H.In.tells H.Out.tells H.tells C.tells W.tells) W.tells
         (server.now.workers + 1 + drives) connections (own_of G.Desk pass.new) (G.seen pass.new)
         (H.served outside.old.host.now) (H.served outside.new.host.now) (C.given outside.old.clock.now) (C.given outside.new.clock.now)
-        (H.faults outside.old.host.now) (H.faults outside.new.host.now) (C.faults outside.old.clock.now) (C.faults outside.new.clock.now)
+        (hosted_at H.Host outside.old.host.now) (hosted_at H.Host outside.new.host.now) (C.faults outside.old.clock.now) (C.faults outside.new.clock.now)
         (W.waits outside.old.waiter.now) (W.waits outside.new.waiter.now)
         (take drives outside.old.devices.now.items) (drop drives outside.old.devices.now.items) outside.new.devices.now.items told.0 told.1) }
     ensures started { IfOk result (λ told. RoseWhere told.1 (P.faults outside.old.spawner.now) (P.faults outside.new.spawner.now)) }
@@ -74,11 +75,11 @@ where
     {
         return Err(NoMemory);
     }
+    outside.waiter.expect(server.workers);
     if make_all(alloc, server, pass, outside, connections, drives, &mut made).is_err() {
         return_all(server, pass, outside, made);
         return Err(NoMemory);
     }
-    outside.waiter.expect(server.workers);
     match run_and_join(alloc, server, pass, outside, made) {
         Ok(told) => Ok(told),
         Err(made) => {

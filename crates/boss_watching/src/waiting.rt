@@ -1,8 +1,9 @@
 ghost use Rattle.std.specs.Prelude.{◌≡◌, ◌≤◌, true, false, IfOk, IfErr};
-ghost use Rattle.boss_model.specs.Limits.{answer_room};
+ghost use Rattle.boss_model.specs.Limits.{answer_room, watch_pause};
 ghost use Rattle.boss_model.specs.Catalogue.{actuators};
 ghost use Rattle.boss_lock.specs.Places.{entries_at};
 ghost use Rattle.def_history.specs.History.{run};
+ghost use Rattle.def_lanes.specs.Waits.{PausedFor};
 ghost use Rattle.def_connection.specs.Talks.{standing};
 ghost use Rattle.def_connection.specs.Watching.{Watched, Watches};
 ghost use Rattle.boss_watching.specs.Ends.{is_unanswered_end, ClockCause, CloseCause, DiskCause, HasCalled, Lasted, WriteCause};
@@ -44,7 +45,7 @@ pub fn await_notices<G: Desk, K: Sink, C: Clock, W: Waiter>(
         (standing (entries_at (G.seen pass.old) (G.mine pass.old)) (K.taken sink.old) (K.faults sink.old) (C.given clock.old) false 0)
         (standing (entries_at (G.seen pass.new) (G.mine pass.new)) (K.taken sink.new) (K.faults sink.new) (C.given clock.new) false 0)) }
     ensures lasts { IfOk result (λ next. Lasts idle 0 0 (entries_at (G.seen pass.old) (G.mine pass.old)) (entries_at (G.seen pass.new) (G.mine pass.new))
-        W.tells (W.pauses waiter.old) (W.pauses waiter.new)) }
+        W.tells (W.waited waiter.old).pauses (W.waited waiter.new).pauses) }
     ensures goes_on { IfOk result (λ next. GoesOn from next true
         (sent name.now (run (G.plant desk.now) (G.seen pass.old) (G.opening desk.now)))
         (sent name.now (run (G.plant desk.now) (G.seen pass.new) (G.opening desk.now)))) }
@@ -54,12 +55,13 @@ pub fn await_notices<G: Desk, K: Sink, C: Clock, W: Waiter>(
         (standing (entries_at (G.seen pass.old) (G.mine pass.old)) (K.taken sink.old) (K.faults sink.old) (C.given clock.old) false 0)
         (standing (entries_at (G.seen pass.new) (G.mine pass.new)) (K.taken sink.new) (K.faults sink.new) (C.given clock.new) false 0)) }
     ensures lasted { IfErr result (Lasted idle (entries_at (G.seen pass.old) (G.mine pass.old)) (entries_at (G.seen pass.new) (G.mine pass.new))
-        W.tells (W.pauses waiter.old) (W.pauses waiter.new)) }
+        W.tells (W.waited waiter.old).pauses (W.waited waiter.new).pauses) }
+    ensures waited { W.tells → PausedFor watch_pause (W.waited waiter.old) (W.waited waiter.new) }
     ensures called { IfErr result (HasCalled idle (entries_at (G.seen pass.old) (G.mine pass.old)) (entries_at (G.seen pass.new) (G.mine pass.new))) }
     ensures clock_cause { IfErr result (ClockCause (C.faults clock.old) (C.faults clock.new)) }
     ensures write_cause { IfErr result (WriteCause (K.faults sink.old) (K.faults sink.new)) }
     ensures disk_cause { IfErr result (DiskCause (G.seen pass.new)) }
-    ensures close_cause { IfErr result (CloseCause W.tells (W.closed waiter.new) (W.closes waiter.old) (W.closes waiter.new)) }
+    ensures close_cause { IfErr result (CloseCause W.tells (W.waited waiter.new).closed (W.closes waiter.old) (W.closes waiter.new)) }
 {
     let mut next = from;
     for quiet in 0..idle {

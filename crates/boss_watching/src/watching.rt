@@ -1,6 +1,8 @@
 ghost use Rattle.std.specs.Prelude.{◌≡◌, ◌≤◌, false};
 ghost use Rattle.boss_model.specs.Catalogue.{actuators};
+ghost use Rattle.boss_model.specs.Limits.{watch_idle, watch_pause};
 ghost use Rattle.boss_lock.specs.Places.{entries_at};
+ghost use Rattle.def_lanes.specs.Waits.{PausedFor};
 ghost use Rattle.def_connection.specs.Talks.{standing};
 ghost use Rattle.def_connection.specs.Watching.{Watched};
 ghost use Rattle.boss_watching.specs.Ends.{is_unanswered_end, ClockCause, CloseCause, DiskCause, HasCalled, Lasted, WriteCause};
@@ -8,7 +10,7 @@ ghost use Rattle.boss_watching.specs.Notes.{notes};
 
 use crate::WatchEnd;
 use crate::waiting::await_notices;
-use boss_model::{ANSWER_ROOM, Buffer, Name, SessionId};
+use boss_model::{ANSWER_ROOM, Buffer, Name, SessionId, WATCH_IDLE};
 use boss_outside::Sink;
 use boss_outside_server::{Clock, Waiter};
 use boss_points::Catalogue;
@@ -17,7 +19,7 @@ use std::alloc::Global;
 
 /// Sends the notices of a process as they come, those from the number `from` on, which is at least 1. In each turn the clock is
 /// read and at most 64 notices are asked for, as a command of the session; each is written as a line, and where there was none
-/// there is a pause of 100 ms. It goes on until `idle` turns in a row had none, or a pause says that the worker is to end, or
+/// there is a pause of 100 ms. It goes on until 600 turns in a row had none, or a pause says that the worker is to end, or
 /// something fails.
 pub fn watch_connection<G: Desk, K: Sink, C: Clock, W: Waiter>(
     alloc: Global,
@@ -30,7 +32,6 @@ pub fn watch_connection<G: Desk, K: Sink, C: Clock, W: Waiter>(
     sink: &mut K,
     clock: &mut C,
     waiter: &mut W,
-    idle: u32,
 ) -> WatchEnd
     requires own { G.owns desk.now pass.old }
     requires plant { actuators catalogue.now ≡ G.plant desk.now }
@@ -41,13 +42,14 @@ pub fn watch_connection<G: Desk, K: Sink, C: Clock, W: Waiter>(
     ensures watched { Watched (notes catalogue.now) session name.now K.tells C.tells (is_unanswered_end result) from
         (standing (entries_at (G.seen pass.old) (G.mine pass.old)) (K.taken sink.old) (K.faults sink.old) (C.given clock.old) false 0)
         (standing (entries_at (G.seen pass.new) (G.mine pass.new)) (K.taken sink.new) (K.faults sink.new) (C.given clock.new) false 0) }
-    ensures lasted { Lasted idle (entries_at (G.seen pass.old) (G.mine pass.old)) (entries_at (G.seen pass.new) (G.mine pass.new))
-        W.tells (W.pauses waiter.old) (W.pauses waiter.new) result }
-    ensures called { HasCalled idle (entries_at (G.seen pass.old) (G.mine pass.old)) (entries_at (G.seen pass.new) (G.mine pass.new)) result }
+    ensures lasted { Lasted watch_idle (entries_at (G.seen pass.old) (G.mine pass.old)) (entries_at (G.seen pass.new) (G.mine pass.new))
+        W.tells (W.waited waiter.old).pauses (W.waited waiter.new).pauses result }
+    ensures waited { W.tells → PausedFor watch_pause (W.waited waiter.old) (W.waited waiter.new) }
+    ensures called { HasCalled watch_idle (entries_at (G.seen pass.old) (G.mine pass.old)) (entries_at (G.seen pass.new) (G.mine pass.new)) result }
     ensures clock { ClockCause (C.faults clock.old) (C.faults clock.new) result }
     ensures write { WriteCause (K.faults sink.old) (K.faults sink.new) result }
     ensures disk { DiskCause (G.seen pass.new) result }
-    ensures close { CloseCause W.tells (W.closed waiter.new) (W.closes waiter.old) (W.closes waiter.new) result }
+    ensures close { CloseCause W.tells (W.waited waiter.new).closed (W.closes waiter.old) (W.closes waiter.new) result }
 {
     let Ok(mut text) = Buffer::new(alloc, ANSWER_ROOM) else {
         return WatchEnd::NoMemory;
@@ -55,7 +57,7 @@ pub fn watch_connection<G: Desk, K: Sink, C: Clock, W: Waiter>(
     let mut next = from;
     loop {
         match await_notices(
-            desk, pass, catalogue, session, name, next, &mut text, sink, clock, waiter, idle,
+            desk, pass, catalogue, session, name, next, &mut text, sink, clock, waiter, WATCH_IDLE,
         ) {
             Ok(later) => next = later,
             Err(end) => return end,

@@ -9,7 +9,8 @@ use Rattle.boss_model.specs.Limits.{last_number}
 use Rattle.def_history.specs.declared.entry.Entry.{Entry}
 use Rattle.def_history.specs.History.{deeds, is_broken}
 use Rattle.def_lanes.specs.Lanes.{of_driver, of_time, done_in}
-use Rattle.def_lanes.specs.Waits.{IsPairOf}
+use Rattle.def_lanes.specs.Waits.{IsNoteOf}
+use Rattle.boss_outside_server.specs.declared.waited.Waited.{Waited}
 use Rattle.def_lanes.specs.Works.{Work, visit, beat, drive, owner, AreOf, calls_in}
 use Rattle.def_lanes.proofs.DeviceLemmas.{calls-one}
 use Rattle.def_lanes.proofs.Lists.{each-map}
@@ -32,41 +33,41 @@ use Rattle.boss_worker.proofs.CauseLemmas.{broken-worked, clock-worked}
 use Rattle.boss_worker.proofs.EndedLemmas.{lane-whole, ticks-long, told-to-end}
 use Rattle.boss_worker.proofs.LeftLemmas.{left-one}
 
--- a worker for connections has no pauses to be told
-visit-paired : (workers number : ℕ) (pair : ℕ × Bool) → number < workers → (work : Work) → (number ≤ owner workers work) × (owner workers work < suc number) → IsPairOf pair work
-visit-paired workers number pair low (visit served cut) within = tt
-visit-paired workers number pair low (beat pauses closed) within = absurd (omega (arith, within.1))
-visit-paired workers number pair low (drive driver calls pauses closed) within = absurd (omega (arith, within.1))
+-- of a worker for connections nothing is told in its works
+visit-noted : (workers number : ℕ) (note : Waited) → number < workers → (work : Work) → (number ≤ owner workers work) × (owner workers work < suc number) → IsNoteOf note work
+visit-noted workers number note low (visit served cut) within = tt
+visit-noted workers number note low (beat waited) within = absurd (omega (arith, within.1))
+visit-noted workers number note low (drive driver calls waited) within = absurd (omega (arith, within.1))
 
-pub visits-paired : (workers number : ℕ) (pair : ℕ × Bool) → number < workers → (works : List Work) → AreOf workers number (suc number) works → AllByRecursion (IsPairOf pair) works
-visits-paired workers number pair low works of_them =
-    each-map (λ work. (number ≤ owner workers work) × (owner workers work < suc number)) (IsPairOf pair) (visit-paired workers number pair low) works of_them
+pub visits-noted : (workers number : ℕ) (note : Waited) → number < workers → (works : List Work) → AreOf workers number (suc number) works → AllByRecursion (IsNoteOf note) works
+visits-noted workers number note low works of_them =
+    each-map (λ work. (number ≤ owner workers work) × (owner workers work < suc number)) (IsNoteOf note) (visit-noted workers number note low) works of_them
 
-pub calls-driven : (driver pauses : ℕ) (closed : Bool) (was old new more : List DeviceCall) → was ≡ old → new ≡ old ++ more → new ≡ was ++ calls_in driver (drive driver more pauses closed ∷ [])
-calls-driven driver pauses closed was old new more same grew =
-    grew ∙ ap (λ front. front ++ more) (sym same) ∙ ap (λ behind. was ++ behind) (sym (calls-one driver pauses more closed [] [] (tt, tt)))
+pub calls-driven : (driver : ℕ) (waited : Waited) (was old new more : List DeviceCall) → was ≡ old → new ≡ old ++ more → new ≡ was ++ calls_in driver (drive driver more waited ∷ [])
+calls-driven driver waited was old new more same grew =
+    grew ∙ ap (λ front. front ++ more) (sym same) ∙ ap (λ behind. was ++ behind) (sym (calls-one driver more waited [] [] (tt, tt)))
 
-module _ (catalogue : Catalogue) (gates : List Gate) (workers number : ℕ) (heeds tells hosting clocking pausing : Type 0) (own own' seen : List Entry) (given given' : List ℕ) (misses misses' pauses pauses' most before now : ℕ)
-    (closed : Bool) (end : WorkEnd) (flags : Flags) (empty : own ≡ []) (no_moment : clocking → given ≡ []) (no_pause : pausing → pauses ≡ 0) (no_miss : misses ≡ 0) (unmarked : flags ≡ no_flags)
-    (clock : ClockCause misses misses' end) (cause : EndCause seen pausing closed before now end) where
-  pub left-time : number ≡ workers → Expired own own' clocking given given' pausing pauses pauses' most end →
-      Left true (terms_of catalogue gates workers heeds tells hosting clocking pausing) number 0 (beat pauses' closed ∷ []) own' seen [] [] [] given' 0 0 misses' (flags_after (trouble_of_work end) flags)
-  left-time owned expired = left-one (terms_of catalogue gates workers heeds tells hosting clocking pausing) number (beat pauses' closed) own own' seen given given' misses misses' flags (trouble_of_work end)
-      (expired-added (actuators catalogue) clocking pausing own own' given given' pauses pauses' most end expired no_pause) (ap deeds empty) no_moment no_miss unmarked refl tt tt owned
-      (clock-worked end misses misses' clock) (λ is. broken-worked end seen pausing closed before now cause is)
+module _ (catalogue : Catalogue) (gates : List Gate) (workers number : ℕ) (heeds tells hosting clocking pausing : Type 0) (own own' seen : List Entry) (given given' : List ℕ) (misses misses' pauses most before now : ℕ)
+    (waited : Waited) (end : WorkEnd) (flags : Flags) (empty : own ≡ []) (no_moment : clocking → given ≡ []) (no_pause : pausing → pauses ≡ 0) (no_miss : misses ≡ 0) (unmarked : flags ≡ no_flags)
+    (clock : ClockCause misses misses' end) (cause : EndCause seen pausing waited.closed before now end) where
+  pub left-time : number ≡ workers → Expired own own' clocking given given' pausing pauses waited.pauses most end →
+      Left true (terms_of catalogue gates workers heeds tells hosting clocking pausing) number 0 (beat waited ∷ []) own' seen [] [] [] given' 0 0 misses' (flags_after (trouble_of_work end) flags)
+  left-time owned expired = left-one (terms_of catalogue gates workers heeds tells hosting clocking pausing) number (beat waited) own own' seen given given' misses misses' flags (trouble_of_work end)
+      (expired-added (actuators catalogue) clocking pausing own own' given given' pauses waited.pauses most end expired no_pause) (ap deeds empty) no_moment no_miss unmarked refl tt tt owned
+      (clock-worked end misses misses' clock) (λ is. broken-worked end seen pausing waited.closed before now cause is)
 
-module _ (catalogue : Catalogue) (gates : List Gate) (workers number : ℕ) (heeds tells hosting clocking recording pausing : Type 0) (old new : Stand) (seen : List Entry) (misses misses' pauses : ℕ)
-    (closed : Bool) (trouble : Trouble) (flags : Flags) (empty : old.own ≡ []) (no_moment : clocking → old.given ≡ []) (no_miss : misses ≡ 0) (unmarked : flags ≡ no_flags)
-    (clock : ClockTrouble misses misses' trouble) (broken : trouble ≡ Disk → is_broken seen ≡ true) (driver : ℕ) (drove : Drove catalogue driver clocking recording old new pausing pauses) where
+module _ (catalogue : Catalogue) (gates : List Gate) (workers number : ℕ) (heeds tells hosting clocking recording pausing : Type 0) (old new : Stand) (seen : List Entry) (misses misses' : ℕ)
+    (waited : Waited) (trouble : Trouble) (flags : Flags) (empty : old.own ≡ []) (no_moment : clocking → old.given ≡ []) (no_miss : misses ≡ 0) (unmarked : flags ≡ no_flags)
+    (clock : ClockTrouble misses misses' trouble) (broken : trouble ≡ Disk → is_broken seen ≡ true) (driver : ℕ) (drove : Drove catalogue driver clocking recording old new pausing waited.pauses) where
   pub left-driven : number ≡ workers + 1 + driver →
-      Left true (terms_of catalogue gates workers heeds tells hosting clocking pausing) number 0 (drive driver drove.calls pauses closed ∷ []) new.own seen [] [] [] new.given 0 0 misses' (flags_after trouble flags)
-  left-driven owned = left-one (terms_of catalogue gates workers heeds tells hosting clocking pausing) number (drive driver drove.calls pauses closed) old.own new.own seen old.given new.given misses misses' flags trouble
+      Left true (terms_of catalogue gates workers heeds tells hosting clocking pausing) number 0 (drive driver drove.calls waited ∷ []) new.own seen [] [] [] new.given 0 0 misses' (flags_after trouble flags)
+  left-driven owned = left-one (terms_of catalogue gates workers heeds tells hosting clocking pausing) number (drive driver drove.calls waited) old.own new.own seen old.given new.given misses misses' flags trouble
       drove.added (ap deeds empty) no_moment no_miss unmarked refl tt tt owned clock broken
 
-  pub driven-ended : (most : ℕ) → last_number ≤ most → WasTold old.own new.own pausing closed most trouble → IsQuiet (flags_after trouble flags) → pausing →
-      length (done_in (actuators catalogue) (of_driver driver) new.own) < last_number → closed ≡ true
+  pub driven-ended : (most : ℕ) → last_number ≤ most → WasTold old.own new.own pausing waited.closed most trouble → IsQuiet (flags_after trouble flags) → pausing →
+      length (done_in (actuators catalogue) (of_driver driver) new.own) < last_number → waited.closed ≡ true
   driven-ended most enough was_told quiet told few =
-      let in_lane = lane-whole (actuators catalogue) (of_driver driver) (IsDriven (is_guarded catalogue driver) catalogue driver drove.calls pausing pauses) clocking old.own new.own old.given new.given
+      let in_lane = lane-whole (actuators catalogue) (of_driver driver) (IsDriven (is_guarded catalogue driver) catalogue driver drove.calls pausing waited.pauses) clocking old.own new.own old.given new.given
       drove.added (ap deeds empty) in
       was_told (ap deeds empty) enough (subst (λ f. IsQuiet (flags_after trouble f)) unmarked quiet) told (let same = ap length in_lane in omega (arith, same))
 

@@ -25,8 +25,8 @@ use Rattle.boss_worker.specs.Troubles.{flags_after, trouble_of_work, IsQuiet}
 visit-ended : (plant : List Actuator) (pausing : Type 0) (own : List Entry) (workers number : ℕ) → number < workers → (work : Work) →
     (number ≤ owner workers work) × (owner workers work < suc number) → HasEnded pausing work (done_in plant (lane_of_work work) own)
 visit-ended plant pausing own workers number low (visit one cut) within = tt
-visit-ended plant pausing own workers number low (beat pauses closed) within = absurd (omega (arith, within.1))
-visit-ended plant pausing own workers number low (drive driver calls pauses closed) within = absurd (omega (arith, within.1))
+visit-ended plant pausing own workers number low (beat waited) within = absurd (omega (arith, within.1))
+visit-ended plant pausing own workers number low (drive driver calls waited) within = absurd (omega (arith, within.1))
 
 pub visits-ended : (plant : List Actuator) (pausing : Type 0) (own : List Entry) (workers number : ℕ) → number < workers → (works : List Work) → AreOf workers number (suc number) works →
     AreEnded plant pausing own works

@@ -26,8 +26,8 @@ marked-more flags more disk clock memory by_memory marked = memory marked
 flagged-one : (flags more : Flags) → (flags.disk ≡ true → more.disk ≡ true) → (flags.clock ≡ true → more.clock ≡ true) → (flags.memory ≡ true → more.memory ≡ true) → (work : Work) →
     IsFlagged flags work → IsFlagged more work
 flagged-one flags more disk clock memory (visit served cut) flagged = marked-more flags more disk clock memory cut flagged
-flagged-one flags more disk clock memory (beat pauses closed) flagged = tt
-flagged-one flags more disk clock memory (drive driver calls pauses closed) flagged = tt
+flagged-one flags more disk clock memory (beat waited) flagged = tt
+flagged-one flags more disk clock memory (drive driver calls waited) flagged = tt
 
 pub flagged-more : (flags more : Flags) → (flags.disk ≡ true → more.disk ≡ true) → (flags.clock ≡ true → more.clock ≡ true) → (flags.memory ≡ true → more.memory ≡ true) → (works : List Work) →
     AreFlagged flags works → AreFlagged more works

@@ -1,6 +1,7 @@
 -- One connection more, and where the work ends.
-use Rattle.std.proofs.Common.{◌≡◌, ℕ, suc, ◌+◌, ◌*◌, ◌<◌, Bool, true, false, List, [], ◌∷◌, ◌++◌, length, refl, ap, sym, ◌∙◌, subst, arith, length-append}
+use Rattle.std.proofs.Common.{◌≡◌, ℕ, suc, ◌+◌, ◌*◌, ◌<◌, Bool, true, false, List, [], ◌∷◌, ◌++◌, length, map, refl, ap, sym, ◌∙◌, subst, arith, length-append}
 use Rattle.std.specs.List.{AllByRecursion}
+use Rattle.std.proofs.lemmas.List.{length-map, map-append}
 use Rattle.def_history.specs.declared.entry.Entry.{Entry}
 use Rattle.def_history.specs.History.{deeds, is_broken}
 use Rattle.def_lanes.specs.Lanes.{of_session}
@@ -14,8 +15,13 @@ use Rattle.boss_worker.specs.declared.flags.Flags.{Flags}
 use Rattle.boss_worker.specs.declared.trouble.Trouble.{Trouble}
 use Rattle.boss_worker.specs.declared.trouble.Trouble.TheVariants.{Nothing, Disk, Clock, Memory}
 use Rattle.boss_worker.specs.Troubles.{no_flags, flags_after, failed_host, cut_by, ClockTrouble, Counts}
-use Rattle.boss_worker.specs.Visits.{IsUncut, IsFlagged, SoFar, Left}
+use Rattle.boss_worker.specs.Visits.{sessions_in, GoBySteps, IsUncut, IsFlagged, SoFar, Left}
 use Rattle.boss_worker.proofs.FlagLemmas.{flagged-after, flagged-more, host-after, marked-after, quiet-after}
+
+-- one number more
+steps-more : (step first : ℕ) (numbers : List ℕ) (next : ℕ) → GoBySteps step first numbers → next ≡ first + step * length numbers → GoBySteps step first (numbers ++ next ∷ [])
+steps-more step first [] next go is = (omega (arith, is), tt)
+steps-more step first (number ∷ numbers) next go is = (go.0, steps-more step (first + step) numbers next go.1 (omega (arith, is)))
 
 module _ (terms : Terms) (number : ℕ) where
   pub so-far-first : (own : List Entry) (served : List Served) (given : List ℕ) (handed next : ℕ) (flags : Flags) → deeds own ≡ [] → handed ≡ 0 → next ≡ 1 + number →
@@ -24,6 +30,7 @@ module _ (terms : Terms) (number : ℕ) where
     part = part-nothing terms number (suc number) own served given none;
     each = sym no_handed;
     next_is = rw no_handed (omega (arith, first));
+    numbered = tt;
     before = tt;
     uncut = λ quiet. tt;
     flagged = tt;
@@ -38,11 +45,17 @@ module _ (terms : Terms) (number : ℕ) where
       let owned = owner-session terms.workers number handed one (cut_by trouble) low (is ∙ so_far.next_is) in
       let grown : length (served_in (works ++ visit one (cut_by trouble) ∷ [])) ≡ length (served_in works) + 1 =
       ap length (served_in-append works (visit one (cut_by trouble) ∷ [])) ∙ length-append (served_in works) (one ∷ []) in
+      let all : sessions_in (works ++ visit one (cut_by trouble) ∷ []) ≡ sessions_in works ++ one.session ∷ [] =
+      ap (map (λ (served : Served). served.session)) (served_in-append works (visit one (cut_by trouble) ∷ []))
+      ∙ map-append (λ (served : Served). served.session) (served_in works) (one ∷ []) in
+      let many : length (sessions_in works) ≡ handed = length-map (served_in works) (λ (served : Served). served.session) ∙ so_far.each in
       record {
         part = part-more terms number (suc number) works (visit one (cut_by trouble)) own own' served served' served'' given given' given'' so_far.part added
             (omega (arith, owned)) (omega (arith, owned)) (subst (λ s. AllByRecursion (λ work. ¬ (lane_of_work work ≡ of_session s)) works) (sym is) (before-absent next works so_far.before)) back;
         each = omega (arith, grown, so_far.each, one_more);
         next_is = next-turn (so_far.next_is);
+        numbered = subst (GoBySteps terms.workers (1 + number)) (sym all) (steps-more terms.workers (1 + number) (sessions_in works) one.session so_far.numbered
+            (is ∙ so_far.next_is ∙ ap (λ n. 1 + number + terms.workers * n) (sym many)));
         before = before-more next later works one (cut_by trouble) so_far.before is (omega (arith, further, low));
         uncut = λ quiet. let both = quiet-after trouble flags quiet in
             each-append IsUncut works (visit one (cut_by trouble) ∷ []) (so_far.uncut both.0) (both.1, tt);
@@ -67,6 +80,7 @@ module _ (terms : Terms) (number : ℕ) where
     };
     each = so_far.each ∙ sym same;
     next_is = so_far.next_is ∙ ap (λ n. 1 + number + terms.workers * n) (sym same);
+    numbered = so_far.numbered;
     before = so_far.before;
     uncut = so_far.uncut;
     flagged = so_far.flagged;
@@ -80,6 +94,7 @@ module _ (terms : Terms) (number : ℕ) where
     left-closed no_host no_disk calm ticked all = record {
       part = so_far.part;
       each = so_far.each;
+      numbered = so_far.numbered;
       whole = λ ran hosted sound. all;
       uncut = so_far.uncut;
       flagged = so_far.flagged;
@@ -93,6 +108,7 @@ module _ (terms : Terms) (number : ℕ) where
     left-failed no_disk rose ticked = record {
       part = so_far.part;
       each = so_far.each;
+      numbered = so_far.numbered;
       whole = λ ran hosted sound. absurd (let no : true ≡ false = hosted in cc);
       uncut = λ quiet. so_far.uncut (record { disk = quiet.disk; clock = quiet.clock; memory = quiet.memory });
       flagged = flagged-more flags (failed_host flags) (λ is. is) (λ is. is) (λ is. is) works so_far.flagged;
@@ -106,6 +122,7 @@ module _ (terms : Terms) (number : ℕ) where
     left-broken no_host calm disk broke = record {
       part = so_far.part;
       each = so_far.each;
+      numbered = so_far.numbered;
       whole = λ ran hosted sound. absurd (let no : true ≡ false = sym disk ∙ sound in cc);
       uncut = so_far.uncut;
       flagged = so_far.flagged;
@@ -133,6 +150,7 @@ pub left-fresh : (ran : Bool) (terms : Terms) (number share : ℕ) (works : List
 left-fresh ran terms number share works own seen served served' given given' handed host_faults clock_faults flags left none no_moment = record {
   part = part-fresh terms number (suc number) works own served served' given given' left.part none no_moment;
   each = left.each;
+  numbered = left.numbered;
   whole = left.whole;
   uncut = left.uncut;
   flagged = left.flagged;
@@ -148,6 +166,7 @@ pub left-nothing : (terms : Terms) (number share : ℕ) (own seen : List Entry) 
 left-nothing terms number share own seen served given handed host_faults clock_faults flags empty none no_moment no_handed no_fault no_miss unmarked = record {
   part = part-fresh terms number (suc number) [] own served served given given (part-nothing terms number (suc number) own served given empty) none no_moment;
   each = sym no_handed;
+  numbered = tt;
   whole = λ ran. absurd (let no : false ≡ true = ran in cc);
   uncut = λ quiet. tt;
   flagged = tt;
@@ -166,6 +185,7 @@ left-one terms number work own own' seen given given' misses misses' flags troub
       (part-more terms number (suc number) [] work own own' [] [] [] given given given' (part-nothing terms number (suc number) own [] given empty) added
       (omega (arith, owned)) (omega (arith, owned)) tt (λ told. sym serves)) (λ told. refl) no_moment;
   each = ap (λ list. length (list ++ [])) serves;
+  numbered = subst (λ list. GoBySteps terms.workers (1 + number) (map (λ (served : Served). served.session) (list ++ []))) (sym serves) tt;
   whole = λ ran accepted sound. refl;
   uncut = λ quiet. (uncut, tt);
   flagged = (flagged, tt);

@@ -7,3 +7,4 @@ pub mod LeftLemmas
 pub mod VisitLemmas
 pub mod WorkerLemmas
 pub mod HeldLemmas
+pub mod WaitedLemmas

@@ -1,10 +1,12 @@
 -- What a worker left that was ready, by its duty.
-use Rattle.std.proofs.Common.{◌≡◌, ℕ, ◌≤◌, true, false, [], ◌∷◌, refl, ap, sym, ◌∙◌, subst, append-nil}
+use Rattle.std.proofs.Common.{◌+◌, arith, ◌≡◌, ℕ, ◌≤◌, true, false, [], ◌∷◌, refl, ap, sym, ◌∙◌, subst, append-nil}
 use Rattle.std.specs.declared.snapshot.Snapshot.{Snapshot}
 use Rattle.boss_model.specs.Catalogue.{actuators as points_of, Catalogue}
-use Rattle.boss_model.specs.Limits.{last_number}
+use Rattle.boss_model.specs.Limits.{drive_pause, last_number, tick_pause}
 use Rattle.def_history.specs.History.{deeds, is_broken}
+use Rattle.def_lanes.specs.Waits.{PausedFor, WaitedAt}
 use Rattle.def_lanes.specs.Works.{beat, drive}
+use Rattle.boss_outside_server.specs.declared.waited.Waited.{Waited}
 use Rattle.boss_outside.specs.declared.actuators.Actuators as actuators
 use Rattle.boss_shared.specs.declared.desk.Desk as desk
 use Rattle.boss_outside_server.specs.declared.clock.Clock as clock
@@ -27,8 +29,15 @@ use Rattle.boss_worker.specs.Workers.{served_at, share_at, handed_at, faults_at,
 use Rattle.boss_worker.proofs.DutyLemmas.{calls-driven, driven-ended, left-driven, left-time, time-ended}
 use Rattle.boss_worker.proofs.EndedLemmas.{worked-one}
 use Rattle.boss_worker.proofs.LeftLemmas.{left-nothing}
+use Rattle.boss_worker.proofs.WaitedLemmas.{waited-drive, waited-time}
 
 module _ {H In Out A : Type 0} (h : host.Ghosts H In Out) (workers number : ℕ) where
+  -- the other workers come behind those that serve connections
+  pub behind-connections : (duty : Duty H A) → IsFreshDuty h workers number duty → ((part : H) → duty ≡ Connections part → ⊥) → workers ≤ number
+  behind-connections (Connections part) fresh other = absurd (other part refl)
+  behind-connections Time fresh other = omega (arith, fresh)
+  behind-connections (Devices driver devices was) fresh other = omega (arith, fresh.0)
+
   fresh-handed : (duty : Duty H A) → IsFreshDuty h workers number duty → handed_at h duty ≡ 0
   fresh-handed (Connections part) fresh = fresh.1.handed
   fresh-handed Time fresh = refl
@@ -56,8 +65,11 @@ module _ {H In Out A : Type 0} (h : host.Ghosts H In Out) (workers number : ℕ)
 
 module _ {G Pass H In Out C W A : Type 0} (g : desk.Ghosts G Pass) (h : host.Ghosts H In Out) (k : clock.Ghosts C) (w : waiter.Ghosts W) (a : actuators.Ghosts A) (catalogue : Catalogue) (heeds tells : Type 0)
     (it : G) (workers number : ℕ) (pass : Pass) (duty : Duty H A) (tick : C) (wait : W) (flags : Flags) (ready : IsReady g h k w a catalogue it workers number pass duty tick wait flags) where
-  pub has-left-nothing : (wait' : W) → HasLeft g h k w a false (terms_of catalogue (g.denies it) workers heeds tells h.tells k.tells w.tells) it number pass duty tick wait' flags
-  has-left-nothing wait' = record {
+  no-pause : w.tells → (w.waited wait).pauses ≡ 0
+  no-pause told = ap (λ (it : Waited). it.pauses) (ready.waited told)
+
+  pub has-left-nothing : (wait' : W) → (w.tells → WaitedAt workers number 0 (w.waited wait')) → HasLeft g h k w a false (terms_of catalogue (g.denies it) workers heeds tells h.tells k.tells w.tells) it number pass duty tick wait' flags
+  has-left-nothing wait' waits = record {
     own = ready.own;
     one = ready.one;
     works = [];
@@ -65,41 +77,43 @@ module _ {G Pass H In Out C W A : Type 0} (g : desk.Ghosts G Pass) (h : host.Gho
         (handed_at h duty) (faults_at h duty) (k.faults tick) flags (ap deeds ready.empty) (fresh-served h workers number duty ready.fresh) ready.given
         (fresh-handed h workers number duty ready.fresh) (fresh-faults h workers number duty ready.fresh) ready.clock_faults ready.unmarked;
     called = fresh-calls h workers number a duty ready.fresh;
-    paired = tt;
+    noted = tt;
+    waits = waits;
     placed = fresh-placed h workers number duty ready.fresh;
     worked = λ ran. absurd (let no : false ≡ true = ran in cc);
     ended = λ quiet. tt;
   }
 
   module _ (pass' : Pass) (tick' : C) (wait' : W) (most : ℕ) (enough : last_number ≤ most) (end : WorkEnd) (own : g.owns it pass') (parts : g.parts pass' ≡ g.parts pass) (clock : ClockCause (k.faults tick) (k.faults tick') end)
-      (cause : EndCause (g.seen pass') w.tells (w.closed wait') (w.closes wait) (w.closes wait') end) where
-    pub has-left-time : duty ≡ Time → Expired (own_of g pass) (own_of g pass') k.tells (k.given tick) (k.given tick') w.tells (w.pauses wait) (w.pauses wait') most end →
+      (cause : EndCause (g.seen pass') w.tells (w.waited wait').closed (w.closes wait) (w.closes wait') end) (paused : w.tells → PausedFor tick_pause (w.waited wait) (w.waited wait')) where
+    pub has-left-time : duty ≡ Time → Expired (own_of g pass) (own_of g pass') k.tells (k.given tick) (k.given tick') w.tells (w.waited wait).pauses (w.waited wait').pauses most end →
         HasLeft g h k w a true (terms_of catalogue (g.denies it) workers heeds tells h.tells k.tells w.tells) it number pass' duty tick' wait' (flags_after (trouble_of_work end) flags)
     has-left-time is expired = subst (λ d. HasLeft g h k w a true (terms_of catalogue (g.denies it) workers heeds tells h.tells k.tells w.tells) it number pass' d tick' wait' (flags_after (trouble_of_work end) flags)) (sym is)
         (record {
           own = own;
           one = parts ∙ ready.one;
-          works = beat (w.pauses wait') (w.closed wait') ∷ [];
+          works = beat (w.waited wait') ∷ [];
           left = left-time catalogue (g.denies it) workers number heeds tells h.tells k.tells w.tells (own_of g pass) (own_of g pass') (g.seen pass') (k.given tick) (k.given tick') (k.faults tick) (k.faults tick')
-              (w.pauses wait) (w.pauses wait') most (w.closes wait) (w.closes wait') (w.closed wait') end flags ready.empty ready.given ready.paused ready.clock_faults ready.unmarked clock cause
+              (w.waited wait).pauses most (w.closes wait) (w.closes wait') (w.waited wait') end flags ready.empty ready.given no-pause ready.clock_faults ready.unmarked clock cause
               (subst (IsFreshDuty h workers number) is ready.fresh) expired;
           called = tt;
-          paired = (refl, tt);
+          noted = (refl, tt);
+          waits = λ told. waited-time workers number (w.waited wait) (w.waited wait') (ready.waited told) 1 (subst (IsFreshDuty h workers number) is ready.fresh) (paused told);
           placed = subst (IsFreshDuty h workers number) is ready.fresh;
-          worked = λ ran low. worked-one workers number (beat (w.pauses wait') (w.closed wait')) (subst (IsFreshDuty h workers number) is ready.fresh);
+          worked = λ ran low. worked-one workers number (beat (w.waited wait')) (subst (IsFreshDuty h workers number) is ready.fresh);
           ended = λ quiet. (
             (λ told few. time-ended (points_of catalogue) k.tells w.tells (own_of g pass) (own_of g pass') (g.seen pass') (k.given tick) (k.given tick')
-                (w.pauses wait) (w.pauses wait') most (w.closes wait) (w.closes wait') (w.closed wait') end flags ready.empty ready.paused cause enough quiet told expired few),
+                (w.waited wait).pauses (w.waited wait').pauses most (w.closes wait) (w.closes wait') (w.waited wait').closed end flags ready.empty no-pause cause enough quiet told expired few),
             tt,
           );
         })
 
   module _ (pass' : Pass) (tick' : C) (wait' : W) (most : ℕ) (enough : last_number ≤ most) (trouble : Trouble) (own : g.owns it pass') (parts : g.parts pass' ≡ g.parts pass)
       (clock : ClockTrouble (k.faults tick) (k.faults tick') trouble) (broken : trouble ≡ Disk → is_broken (g.seen pass') ≡ true)
-      (was_told : WasTold (own_of g pass) (own_of g pass') w.tells (w.closed wait') most trouble) where
+      (was_told : WasTold (own_of g pass) (own_of g pass') w.tells (w.waited wait').closed most trouble) (paused : w.tells → PausedFor drive_pause (w.waited wait) (w.waited wait')) where
     pub has-left-devices : (driver : ℕ) (devices devices' : A) (was : Snapshot A) → duty ≡ Devices driver devices was →
         Drove catalogue driver k.tells a.tells (record { own = own_of g pass; given = k.given tick; whole = a.whole devices; calls = a.calls devices })
-        (record { own = own_of g pass'; given = k.given tick'; whole = a.whole devices'; calls = a.calls devices' }) w.tells (w.pauses wait') →
+        (record { own = own_of g pass'; given = k.given tick'; whole = a.whole devices'; calls = a.calls devices' }) w.tells (w.waited wait').pauses →
         HasLeft g h k w a true (terms_of catalogue (g.denies it) workers heeds tells h.tells k.tells w.tells) it number pass' (Devices driver devices' was) tick' wait' (flags_after trouble flags)
     has-left-devices driver devices devices' was is drove =
         let fresh = subst (IsFreshDuty h workers number) is ready.fresh in
@@ -108,15 +122,16 @@ module _ {G Pass H In Out C W A : Type 0} (g : desk.Ghosts G Pass) (h : host.Gho
         record {
           own = own;
           one = parts ∙ ready.one;
-          works = drive driver drove.calls (w.pauses wait') (w.closed wait') ∷ [];
-          left = left-driven catalogue (g.denies it) workers number heeds tells h.tells k.tells a.tells w.tells old new (g.seen pass') (k.faults tick) (k.faults tick') (w.pauses wait') (w.closed wait') trouble flags
+          works = drive driver drove.calls (w.waited wait') ∷ [];
+          left = left-driven catalogue (g.denies it) workers number heeds tells h.tells k.tells a.tells w.tells old new (g.seen pass') (k.faults tick) (k.faults tick') (w.waited wait') trouble flags
               ready.empty ready.given ready.clock_faults ready.unmarked clock broken driver drove fresh.0;
-          called = λ told whole. calls-driven driver (w.pauses wait') (w.closed wait') (a.calls was.value) (a.calls devices) (a.calls devices') drove.calls (ap a.calls fresh.1) (drove.wrote told whole).1;
-          paired = (refl, tt);
+          called = λ told whole. calls-driven driver (w.waited wait') (a.calls was.value) (a.calls devices) (a.calls devices') drove.calls (ap a.calls fresh.1) (drove.wrote told whole).1;
+          noted = (refl, tt);
+          waits = λ told. waited-drive workers number (w.waited wait) (w.waited wait') (ready.waited told) 1 driver fresh.0 (paused told);
           placed = fresh.0;
-          worked = λ ran low. worked-one workers number (drive driver drove.calls (w.pauses wait') (w.closed wait')) fresh.0;
+          worked = λ ran low. worked-one workers number (drive driver drove.calls (w.waited wait')) fresh.0;
           ended = λ quiet. (
-            driven-ended catalogue (g.denies it) workers number heeds tells h.tells k.tells a.tells w.tells old new (g.seen pass') (k.faults tick) (k.faults tick') (w.pauses wait') (w.closed wait') trouble flags
+            driven-ended catalogue (g.denies it) workers number heeds tells h.tells k.tells a.tells w.tells old new (g.seen pass') (k.faults tick) (k.faults tick') (w.waited wait') trouble flags
                 ready.empty ready.given ready.clock_faults ready.unmarked clock broken driver drove most enough was_told quiet,
             tt,
           );

@@ -16,8 +16,8 @@ is_worked workers number (work ∷ works) = (owner workers work == number) || is
 -- a worker that serves no connection was told to end, where its waiter tells and its lane has less than 2^62 entries
 abbrev pub HasEnded : Type 0 → Work → List Entry → Type 0
 HasEnded pausing (visit served cut) entries = Unit {0}
-HasEnded pausing (beat pauses closed) entries = pausing → length entries < last_number → closed ≡ true
-HasEnded pausing (drive driver calls pauses closed) entries = pausing → length entries < last_number → closed ≡ true
+HasEnded pausing (beat waited) entries = pausing → length entries < last_number → waited.closed ≡ true
+HasEnded pausing (drive driver calls waited) entries = pausing → length entries < last_number → waited.closed ≡ true
 
 abbrev pub AreEnded : List Actuator → Type 0 → List Entry → List Work → Type 0
 AreEnded plant pausing own works = AllByRecursion (λ work. HasEnded pausing work (done_in plant (lane_of_work work) own)) works

@@ -30,9 +30,9 @@ IsDriven false catalogue driver calls pausing pauses entries = IsDriveOf driver 
 -- a connection agrees where its input tells the bytes that it lost; the pauses of a worker are those of its turns
 abbrev pub says : Catalogue → List Gate → Type 0 → Type 0 → Type 0 → Work → List Entry → Type 0
 says catalogue gates heeds tells pausing (visit served cut) entries = heeds → IsVisit catalogue gates tells served cut entries
-says catalogue gates heeds tells pausing (beat pauses closed) entries = IsBeatOf pausing pauses entries
-says catalogue gates heeds tells pausing (drive driver calls pauses closed) entries =
-    IsDriven (is_guarded catalogue driver) catalogue driver calls pausing pauses entries
+says catalogue gates heeds tells pausing (beat waited) entries = IsBeatOf pausing waited.pauses entries
+says catalogue gates heeds tells pausing (drive driver calls waited) entries =
+    IsDriven (is_guarded catalogue driver) catalogue driver calls pausing waited.pauses entries
 
 -- a server with these gates and so many workers for connections; whether the inputs of its connections tell their bytes, and the outputs theirs;
 -- whether its host tells what it took back, its clock the moments that it gave, and its waiter the pauses

@@ -1,6 +1,6 @@
 -- Source: own.
 -- What a worker left when it ended.
-use Rattle.std.specs.Prelude.{◌≡◌, ℕ, suc, ◌+◌, ◌*◌, ◌<◌, ◌^◌, Bool, true, false, List, length}
+use Rattle.std.specs.Prelude.{◌≡◌, ℕ, suc, ◌+◌, ◌*◌, ◌<◌, ◌^◌, Bool, true, false, List, [], ◌∷◌, length, map}
 use Rattle.std.specs.List.{AllByRecursion}
 use Rattle.def_history.specs.declared.entry.Entry.{Entry}
 use Rattle.def_history.specs.History.{is_broken}
@@ -14,8 +14,8 @@ use Rattle.boss_worker.specs.Troubles.{IsQuiet, Counts}
 -- no connection was cut off
 abbrev pub IsUncut : Work → Type 0
 IsUncut (visit served cut) = cut ≡ not_cut
-IsUncut (beat pauses closed) = Unit {0}
-IsUncut (drive driver calls pauses closed) = Unit {0}
+IsUncut (beat waited) = Unit {0}
+IsUncut (drive driver calls waited) = Unit {0}
 
 abbrev pub AreUncut : List Work → Type 0
 AreUncut works = AllByRecursion IsUncut works
@@ -29,11 +29,20 @@ IsMarked flags by_memory = flags.memory ≡ true
 
 abbrev pub IsFlagged : Flags → Work → Type 0
 IsFlagged flags (visit served cut) = IsMarked flags cut
-IsFlagged flags (beat pauses closed) = Unit {0}
-IsFlagged flags (drive driver calls pauses closed) = Unit {0}
+IsFlagged flags (beat waited) = Unit {0}
+IsFlagged flags (drive driver calls waited) = Unit {0}
 
 abbrev pub AreFlagged : Flags → List Work → Type 0
 AreFlagged flags works = AllByRecursion (IsFlagged flags) works
+
+-- the sessions of connections, in order
+abbrev pub sessions_in : List Work → List ℕ
+sessions_in works = map (λ served. served.session) (served_in works)
+
+-- the first of the numbers is this one, and each later one is so much more than the one before
+abbrev pub GoBySteps : ℕ → ℕ → List ℕ → Type 0
+GoBySteps step first [] = Unit {0}
+GoBySteps step first (number ∷ numbers) = (number ≡ first) × GoBySteps step (first + step) numbers
 
 -- a part of a host before it handed out a connection
 module _ {H In Out : Type 0} (h : host.Ghosts H In Out) where
@@ -51,17 +60,20 @@ pub record SoFar (terms : Terms) (number : ℕ) (works : List Work) (own : List 
   pub part : Part terms number (suc number) works own served served' given given'
   pub each : length (served_in works) ≡ handed
   pub next_is : next ≡ 1 + number + terms.workers * handed
+  pub numbered : GoBySteps terms.workers (1 + number) (sessions_in works)
   pub before : AreBefore next works
   pub uncut : IsQuiet flags → AreUncut works
   pub flagged : AreFlagged flags works
 
 -- what a worker left: its works agree with its own entries; each connection that it was handed was given back, and those are as
--- many as it was to serve unless an accept failed, the disk has, or it did not run; and the flags have their causes in its own
+-- many as it was to serve unless an accept failed, the disk has, or it did not run; the first has a session one more than the number
+-- of the worker, and each later one as many more as there are workers for connections; and the flags have their causes in its own
 -- parts, of which the counts began with 0
 pub record Left (ran : Bool) (terms : Terms) (number share : ℕ) (works : List Work) (own seen : List Entry) (served served' : List Served) (given given' : List ℕ)
     (handed host_faults clock_faults : ℕ) (flags : Flags) : Type 0 where
   pub part : Part terms number (suc number) works own served served' given given'
   pub each : length (served_in works) ≡ handed
+  pub numbered : GoBySteps terms.workers (1 + number) (sessions_in works)
   pub whole : ran ≡ true → flags.host ≡ false → flags.disk ≡ false → handed ≡ share
   pub uncut : IsQuiet flags → AreUncut works
   pub flagged : AreFlagged flags works

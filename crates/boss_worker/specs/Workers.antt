@@ -1,13 +1,14 @@
 -- Source: own.
 -- A worker before it runs, and what it left.
-use Rattle.std.specs.Prelude.{◌≡◌, ℕ, ◌+◌, ◌<◌, ◌≤◌, Bool, true, List, [], ◌∷◌, ◌++◌}
+use Rattle.std.specs.Prelude.{◌≡◌, ℕ, ◌+◌, ◌<◌, ◌≤◌, Bool, true, List, [], ◌∷◌, ◌++◌, length}
 use Rattle.std.specs.List.{AllByRecursion}
 use Rattle.boss_model.specs.Catalogue.{actuators as points_of, Catalogue}
 use Rattle.def_lanes.specs.Parts.{Terms}
-use Rattle.def_lanes.specs.Waits.{IsPairOf}
+use Rattle.def_lanes.specs.Waits.{IsNoteOf, WaitedAt}
 use Rattle.def_lanes.specs.Works.{Work, calls_in}
 use Rattle.boss_outside.specs.declared.actuators.Actuators as actuators
 use Rattle.boss_outside_server.specs.Hosts.{Served}
+use Rattle.boss_outside_server.specs.Waits.{new_waited}
 use Rattle.boss_shared.specs.declared.desk.Desk as desk
 use Rattle.boss_shared.specs.Gates.{AreFree}
 use Rattle.boss_outside_server.specs.declared.clock.Clock as clock
@@ -76,7 +77,7 @@ HasCalls a works Time = Unit {0}
 HasCalls a works (Devices driver devices was) = a.tells → a.whole devices → a.calls devices ≡ a.calls was.value ++ calls_in driver works
 
 module _ {G Pass H In Out C W A : Type 0} (g : desk.Ghosts G Pass) (h : host.Ghosts H In Out) (k : clock.Ghosts C) (w : waiter.Ghosts W) (a : actuators.Ghosts A) where
-  -- a worker that has not begun: its parts are fresh
+  -- a worker that has not begun: its parts are fresh, and its waiter was told how many workers are waited for
   pub record IsReady (catalogue : Catalogue) (desk : G) (workers number : ℕ) (pass : Pass) (duty : Duty H A) (clock : C) (waiter : W) (flags : Flags) : Type 0 where
     pub own : g.owns desk pass
     pub one : g.parts pass ≡ 1
@@ -85,7 +86,7 @@ module _ {G Pass H In Out C W A : Type 0} (g : desk.Ghosts G Pass) (h : host.Gho
     pub plant : points_of catalogue ≡ g.plant desk
     pub given : k.tells → k.given clock ≡ []
     pub clock_faults : k.faults clock ≡ 0
-    pub paused : w.tells → w.pauses waiter ≡ 0
+    pub waited : w.tells → w.waited waiter ≡ new_waited workers
     pub few : workers ≤ 32
     pub fresh : IsFreshDuty h workers number duty
     pub unmarked : flags ≡ no_flags
@@ -98,7 +99,8 @@ module _ {G Pass H In Out C W A : Type 0} (g : desk.Ghosts G Pass) (h : host.Gho
     pub left : Left ran terms number (share_at h duty) works (own_of g pass) (g.seen pass) [] (served_at h duty) [] (k.given clock)
         (handed_at h duty) (faults_at h duty) (k.faults clock) flags
     pub called : HasCalls a works duty
-    pub paired : AllByRecursion (IsPairOf (w.pauses waiter, w.closed waiter)) works
+    pub noted : AllByRecursion (IsNoteOf (w.waited waiter)) works
+    pub waits : w.tells → WaitedAt terms.workers number (length works) (w.waited waiter)
     pub placed : IsPlaced terms.workers number duty
     pub worked : ran ≡ true → terms.workers ≤ number → is_worked terms.workers number works ≡ true
     pub ended : IsQuiet flags → AreEnded terms.plant w.tells (own_of g pass) works

@@ -1,8 +1,10 @@
 ghost use Rattle.std.specs.Prelude.{◌≡◌, ◌<◌, true, None};
 ghost use Rattle.boss_model.specs.Catalogue.{actuators};
+ghost use Rattle.boss_model.specs.Limits.{watch_pause};
 ghost use Rattle.def_history.specs.History.{is_broken};
 ghost use Rattle.def_lanes.specs.Lanes.{of_session};
 ghost use Rattle.def_lanes.specs.Parts.{Added};
+ghost use Rattle.def_lanes.specs.Waits.{PausedFor};
 ghost use Rattle.boss_outside_server.specs.Hosts.{IsUntouched, served_of};
 ghost use Rattle.boss_sessions.specs.Holding.{Holds, LeavesOthers};
 ghost use Rattle.boss_worker.specs.declared.trouble.Trouble.TheVariants.{Disk};
@@ -12,7 +14,7 @@ ghost use Rattle.boss_worker.specs.Troubles.{cut_by, ClockTrouble};
 
 use crate::Trouble;
 use crate::trouble::{session_trouble, watch_trouble};
-use boss_model::{SessionId, WATCH_IDLE};
+use boss_model::SessionId;
 use boss_outside::{Sink, Source};
 use boss_outside_server::{Clock, Waiter};
 use boss_points::Catalogue;
@@ -45,12 +47,13 @@ pub(crate) fn attend<G: Desk, S: Source, K: Sink, C: Clock, W: Waiter>(
         (λ entries. S.tells → IsVisit catalogue.now (G.denies desk.now) K.tells (served_of S.Source K.Sink session input.new output.new) (cut_by result) entries)
         C.tells (own_of G.Desk pass.old) (own_of G.Desk pass.new) (C.given clock.old) (C.given clock.new) }
     ensures others { LeavesOthers (G.denies desk.now) session (G.held pass.old) (G.held pass.new) }
+    ensures waited { W.tells → PausedFor watch_pause (W.waited waiter.old) (W.waited waiter.new) }
     ensures clocked { ClockTrouble (C.faults clock.old) (C.faults clock.new) result }
     ensures broken { result ≡ Disk → is_broken (G.seen pass.new) ≡ true }
 {
     match serve_connection(alloc, desk, pass, catalogue, session, input, output, clock) {
         SessionEnd::Watch { name, from } => watch_trouble(watch_connection(
-            alloc, desk, pass, catalogue, session, &name, from, output, clock, waiter, WATCH_IDLE,
+            alloc, desk, pass, catalogue, session, &name, from, output, clock, waiter,
         )),
         end => session_trouble(&end),
     }

@@ -1,6 +1,8 @@
 ghost use Rattle.std.specs.Prelude.{◌≡◌, ◌<◌, ◌≤◌, [], List, true};
 ghost use Rattle.boss_model.specs.Catalogue.{actuators};
+ghost use Rattle.boss_model.specs.Limits.{watch_pause};
 ghost use Rattle.def_history.specs.History.{deeds};
+ghost use Rattle.def_lanes.specs.Waits.{PausedFor};
 ghost use Rattle.def_lanes.specs.Works.{Work};
 ghost use Rattle.boss_shared.specs.Gates.{AreFree};
 ghost use Rattle.boss_worker.specs.Desks.{own_of};
@@ -16,7 +18,7 @@ use std::alloc::Global;
 
 /// Serves connections, one after another, until the part has handed out its share, an accept fails, or the disk has failed, and
 /// gives each back when it has ended. The first has a session number one more than that of the worker, and each later one as many
-/// more as there are workers for connections.
+/// more as there are workers for connections. Gives what went wrong, and how many it served.
 pub(crate) fn attend_all<G: Desk, H: Host, C: Clock, W: Waiter>(
     alloc: Global,
     server: &Server<'_, G>,
@@ -25,7 +27,7 @@ pub(crate) fn attend_all<G: Desk, H: Host, C: Clock, W: Waiter>(
     host: &mut H,
     clock: &mut C,
     waiter: &mut W,
-) -> Flags
+) -> (Flags, u32)
     requires own { G.owns server.now.desk pass.old }
     requires plant { actuators server.now.catalogue.now ≡ G.plant server.now.desk }
     requires empty { deeds (own_of G.Desk pass.old) ≡ [] }
@@ -39,14 +41,17 @@ pub(crate) fn attend_all<G: Desk, H: Host, C: Clock, W: Waiter>(
     ensures share { H.share host.new ≡ H.share host.old }
     ensures left { (works : List Work) × Left true (terms_of server.now.catalogue.now (G.denies server.now.desk) server.now.workers H.In.tells H.Out.tells H.tells C.tells W.tells) number (H.share host.old) works
         (own_of G.Desk pass.new) (G.seen pass.new) (H.served host.old) (H.served host.new) (C.given clock.old) (C.given clock.new)
-        (H.handed host.new) (H.faults host.new) (C.faults clock.new) result }
+        (H.handed host.new) (H.faults host.new) (C.faults clock.new) result.0 }
+    ensures count { result.1 ≡ H.handed host.new }
+    ensures waited { W.tells → PausedFor watch_pause (W.waited waiter.old) (W.waited waiter.new) }
 {
     let mut flags = Flags::none();
     let mut next = 1 + u64::from(number);
+    let mut count = 0;
     'connections: loop {
         match host.accept() {
-            Accepted::Closed => return flags,
-            Accepted::Failed => return flags.with_failed_host(),
+            Accepted::Closed => return (flags, count),
+            Accepted::Failed => return (flags.with_failed_host(), count),
             Accepted::Conn(mut input, mut output) => {
                 let session = SessionId(next);
                 let trouble = attend(
@@ -61,9 +66,10 @@ pub(crate) fn attend_all<G: Desk, H: Host, C: Clock, W: Waiter>(
                     waiter,
                 );
                 host.give_back(session, input, output);
+                count += 1;
                 flags = flags.after(trouble);
                 if let Trouble::Disk = trouble {
-                    return flags;
+                    return (flags, count);
                 }
                 next += u64::from(server.workers);
             }

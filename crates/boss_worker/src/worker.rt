@@ -48,7 +48,7 @@ impl<'a, G: Desk, H: Host, C: Clock, W: Waiter, A: Actuators + Drop> Task
     fn run(&mut self) {
         match &mut self.duty {
             Duty::Connections(host) => {
-                self.flags = attend_all(
+                let (flags, connections) = attend_all(
                     self.alloc,
                     self.server,
                     self.number,
@@ -57,7 +57,8 @@ impl<'a, G: Desk, H: Host, C: Clock, W: Waiter, A: Actuators + Drop> Task
                     &mut self.clock,
                     &mut self.waiter,
                 );
-                self.waiter.leave();
+                self.flags = flags;
+                self.waiter.leave(connections);
             }
             Duty::Time => {
                 let end = expire(
@@ -88,7 +89,7 @@ impl<'a, G: Desk, H: Host, C: Clock, W: Waiter, A: Actuators + Drop> Task
 
     fn abandon(&mut self) {
         if let Duty::Connections(_) = self.duty {
-            self.waiter.leave();
+            self.waiter.leave(0);
         }
     }
 }

@@ -4,6 +4,8 @@ use Rattle.std.proofs.lemmas.Bool.{cond-true, cond-false, false_from_ne_true}
 use Rattle.std.proofs.lemmas.Bool.Decides.{nat_tests}
 use Rattle.std.proofs.lemmas.List.{append-nil, map-append}
 use Rattle.boss_model.specs.DeviceCall.{DeviceCall}
+use Rattle.boss_outside_server.specs.declared.waited.Waited.{Waited}
+use Rattle.boss_outside_server.specs.Waits.{new_waited}
 use Rattle.def_lanes.specs.Devices.{AllTaken, DevicesBack}
 use Rattle.def_lanes.specs.Lanes.{Lane, of_driver}
 use Rattle.def_lanes.specs.Works.{Work, visit, beat, drive, lane_of_work, owner, AreOf, IsAbsent, AreApart, calls_by, calls_in}
@@ -16,8 +18,8 @@ calls_in-append driver (x ∷ xs) ys = ap (λ rest. calls_by driver x ++ rest) (
 
 no-calls : (driver : ℕ) (work : Work) → ¬ (lane_of_work work ≡ of_driver driver) → calls_by driver work ≡ []
 no-calls driver (visit served cut) other = refl
-no-calls driver (beat pauses closed) other = refl
-no-calls driver (drive next calls pauses closed) other =
+no-calls driver (beat waited) other = refl
+no-calls driver (drive next calls waited) other =
     cond-false (next == driver) calls [] (false_from_ne_true (next == driver) (λ is. other (let same : next ≡ driver = grind (arith, nat_tests) in ap of_driver same)))
 
 calls-absent : (driver : ℕ) (works : List Work) → IsAbsent (of_driver driver) works → calls_in driver works ≡ []
@@ -28,7 +30,7 @@ calls-absent driver (work ∷ works) absent = ap (λ front. front ++ calls_in dr
 calls-others : (workers first end driver : ℕ) (works : List Work) → AreOf workers first end works → (workers + 1 + driver < first) ⊎ (end ≤ workers + 1 + driver) → calls_in driver works ≡ []
 calls-others workers first end driver works of_them outside = calls-absent driver works
     (each-map (λ work. (first ≤ owner workers work) × (owner workers work < end)) (λ work. ¬ (lane_of_work work ≡ of_driver driver))
-    (λ work within same. apart-from (owner workers work) (workers + 1 + driver) first end within outside (same-owner workers work (drive driver [] 0 false) same)) works of_them)
+    (λ work within same. apart-from (owner workers work) (workers + 1 + driver) first end within outside (same-owner workers work (drive driver [] (new_waited 0)) same)) works of_them)
   where
     apart-from : (mine other first end : ℕ) → (first ≤ mine) × (mine < end) → (other < first) ⊎ (end ≤ other) → mine ≡ other → ⊥
     apart-from mine other first end within (inl below) same = omega (arith, within.0)
@@ -77,12 +79,12 @@ around lane (first ∷ before) behind work apart is =
     let rest = around lane before behind work apart.1 is in
     (((λ same. (each-parts (λ other. ¬ (lane_of_work other ≡ lane_of_work first)) before (work ∷ behind) apart.0).1.0 (is ∙ sym same)), rest.0), rest.1)
 
-pub calls-one : (driver pauses : ℕ) (calls : List DeviceCall) (closed : Bool) (before behind : List Work) → AreApart (before ++ drive driver calls pauses closed ∷ behind) →
-    calls_in driver (before ++ drive driver calls pauses closed ∷ behind) ≡ calls
-calls-one driver pauses calls closed before behind apart =
-    let none = around (of_driver driver) before behind (drive driver calls pauses closed) apart refl in
-    calls_in-append driver before (drive driver calls pauses closed ∷ behind)
-    ∙ ap (λ front. front ++ (calls_by driver (drive driver calls pauses closed) ++ calls_in driver behind)) (calls-absent driver before none.0)
-    ∙ ap (λ rest. calls_by driver (drive driver calls pauses closed) ++ rest) (calls-absent driver behind none.1)
-    ∙ append-nil (calls_by driver (drive driver calls pauses closed))
+pub calls-one : (driver : ℕ) (calls : List DeviceCall) (waited : Waited) (before behind : List Work) → AreApart (before ++ drive driver calls waited ∷ behind) →
+    calls_in driver (before ++ drive driver calls waited ∷ behind) ≡ calls
+calls-one driver calls waited before behind apart =
+    let none = around (of_driver driver) before behind (drive driver calls waited) apart refl in
+    calls_in-append driver before (drive driver calls waited ∷ behind)
+    ∙ ap (λ front. front ++ (calls_by driver (drive driver calls waited) ++ calls_in driver behind)) (calls-absent driver before none.0)
+    ∙ ap (λ rest. calls_by driver (drive driver calls waited) ++ rest) (calls-absent driver behind none.1)
+    ∙ append-nil (calls_by driver (drive driver calls waited))
     ∙ cond-true (driver == driver) calls [] (grind (arith, nat_tests))

@@ -7,6 +7,7 @@ use Rattle.boss_model.specs.declared.state.Actuator.{Actuator}
 use Rattle.def_history.specs.declared.entry.Entry.{Entry}
 use Rattle.def_history.specs.declared.entry.Entry.TheVariants.{Did, Broke}
 use Rattle.boss_outside_server.specs.Hosts.{Served}
+use Rattle.boss_outside_server.specs.Waits.{new_waited}
 use Rattle.def_lanes.specs.Lanes.{of_session, of_driver, of_time, of_nobody, only, done_in}
 use Rattle.def_lanes.specs.Parts.{is_untimed, AreTimed}
 use Rattle.def_lanes.specs.Works.{not_cut, by_clock, visit, beat, drive, owner}
@@ -73,8 +74,8 @@ owner-row = refl
 next-owner-row : owner 2 (visit (ended 4) by_clock) ≡ 1
 next-owner-row = refl
 
-time-owner-row : owner 2 (beat 1 true) ≡ 2
+time-owner-row : owner 2 (beat (new_waited 2)) ≡ 2
 time-owner-row = refl
 
-driver-owner-row : owner 2 (drive 1 [] 0 true) ≡ 4
+driver-owner-row : owner 2 (drive 1 [] (new_waited 2)) ≡ 4
 driver-owner-row = refl

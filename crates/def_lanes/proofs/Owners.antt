@@ -37,14 +37,14 @@ same-lane of_nobody of_nobody is = refl
 
 pub same-owner : (workers : ℕ) (x y : Work) → lane_of_work x ≡ lane_of_work y → owner workers x ≡ owner workers y
 same-owner workers (visit served cut) (visit other ended) is = let same : served.session ≡ other.session = cc in ap (λ s. (s - 1) % workers) same
-same-owner workers (visit served cut) (beat pauses closed) is = absurd cc
-same-owner workers (visit served cut) (drive driver calls pauses closed) is = absurd cc
-same-owner workers (beat pauses closed) (visit other ended) is = absurd cc
-same-owner workers (beat pauses closed) (beat others told) is = refl
-same-owner workers (beat pauses closed) (drive driver calls others told) is = absurd cc
-same-owner workers (drive driver calls pauses closed) (visit other ended) is = absurd cc
-same-owner workers (drive driver calls pauses closed) (beat others told) is = absurd cc
-same-owner workers (drive driver calls pauses closed) (drive next made others told) is = let same : driver ≡ next = cc in ap (λ d. workers + 1 + d) same
+same-owner workers (visit served cut) (beat waited) is = absurd cc
+same-owner workers (visit served cut) (drive driver calls waited) is = absurd cc
+same-owner workers (beat waited) (visit other ended) is = absurd cc
+same-owner workers (beat waited) (beat others) is = refl
+same-owner workers (beat waited) (drive driver calls others) is = absurd cc
+same-owner workers (drive driver calls waited) (visit other ended) is = absurd cc
+same-owner workers (drive driver calls waited) (beat others) is = absurd cc
+same-owner workers (drive driver calls waited) (drive next made others) is = let same : driver ≡ next = cc in ap (λ d. workers + 1 + d) same
 
 -- the sessions of a worker for connections: the first one, and then each one behind as many others as there are such workers
 pub owner-session : (workers number turn : ℕ) (served : Served) (cut : Cut) → number < workers → served.session ≡ 1 + number + workers * turn →
@@ -85,16 +85,16 @@ served_in-append (x ∷ xs) ys = ap (λ rest. served_by x ++ rest) (served_in-ap
 
 not-next : (next : ℕ) (work : Work) → IsBefore next work → ¬ (lane_of_work work ≡ of_session next)
 not-next next (visit served cut) before is = let same : served.session ≡ next = cc in omega arith
-not-next next (beat pauses closed) before is = before
-not-next next (drive driver calls pauses closed) before is = before
+not-next next (beat waited) before is = before
+not-next next (drive driver calls waited) before is = before
 
 pub before-absent : (next : ℕ) (works : List Work) → AreBefore next works → IsAbsent (of_session next) works
 before-absent next works before = each-map (IsBefore next) (λ work. ¬ (lane_of_work work ≡ of_session next)) (not-next next) works before
 
 before-later : (next later : ℕ) → next < later → (work : Work) → IsBefore next work → IsBefore later work
 before-later next later less (visit served cut) before = omega arith
-before-later next later less (beat pauses closed) before = before
-before-later next later less (drive driver calls pauses closed) before = before
+before-later next later less (beat waited) before = before
+before-later next later less (drive driver calls waited) before = before
 
 pub before-more : (next later : ℕ) (works : List Work) (served : Served) (cut : Cut) → AreBefore next works → served.session ≡ next → next < later →
     AreBefore later (works ++ visit served cut ∷ [])

@@ -1,14 +1,20 @@
--- Pairs of the waiter stand at the places of their workers; and pauses are counted.
-use Rattle.std.proofs.Common.{◌≡◌, ℕ, zero, suc, ◌+◌, ◌<◌, ◌≤◌, Bool, List, [], ◌∷◌, ◌++◌, length, cond, true, false, Some, refl, ap, ◌∙◌, arith}
+-- What waiters noted stands at the places of their workers; and pauses are counted, and keep their length.
+use Rattle.std.proofs.Common.{◌≡◌, ◌⊎◌, inl, inr, ℕ, zero, suc, ◌+◌, ◌<◌, ◌≤◌, ◌==◌, Bool, List, [], ◌∷◌, ◌++◌, length, cond, true, false, Some, refl, sym, ap, ◌∙◌, subst, arith}
+use Rattle.std.proofs.lemmas.Bool.{cond-true, cond-false}
+use Rattle.std.proofs.lemmas.Bool.Decides.{nat_tests}
 use Rattle.std.specs.List.{AllByRecursion, filter, slice_get}
 use Rattle.boss_model.specs.Limits.{last_number}
 use Rattle.def_history.specs.declared.entry.Entry.{Entry}
 use Rattle.def_history.specs.declared.entry.Entry.TheVariants.{Did, Broke}
 use Rattle.def_history.specs.History.{deeds}
-use Rattle.boss_outside_server.specs.Waits.{one_pause_more}
+use Rattle.boss_outside_server.specs.declared.waited.Lengths.{Lengths}
+use Rattle.boss_outside_server.specs.declared.waited.Lengths.TheVariants.{NoPause, Each, Various}
+use Rattle.boss_outside_server.specs.declared.waited.Waited.{Waited}
+use Rattle.boss_outside_server.specs.declared.waiter.Woke.{Woke}
+use Rattle.boss_outside_server.specs.Waits.{after_pause, lengths_after, one_pause_more}
 use Rattle.def_lanes.specs.Lanes.{only}
-use Rattle.def_lanes.specs.Waits.{IsPairOf, IsWaited, AreWaited, paused}
-use Rattle.def_lanes.specs.Works.{Work, visit, beat, drive, owner, AreOf}
+use Rattle.def_lanes.specs.Waits.{AreWaited, AreWaitedAt, IsNoteOf, IsSteady, IsWaited, PausedFor, WaitedAt, lengths_of, paused}
+use Rattle.def_lanes.specs.Works.{Work, visit, beat, drive, owner, count_of, AreOf}
 use Rattle.def_lanes.proofs.Lists.{each-append, each-map, each-both}
 
 slice_get-front : {X : Type 0} (xs ys : List X) (i : ℕ) (x : X) → slice_get xs i ≡ Some x → slice_get (xs ++ ys) i ≡ Some x
@@ -20,30 +26,130 @@ slice_get-last : {X : Type 0} (xs : List X) (x : X) → slice_get (xs ++ x ∷ [
 slice_get-last [] x = refl
 slice_get-last (y ∷ xs) x = slice_get-last xs x
 
-waited-front : (workers : ℕ) (pairs more : List (ℕ × Bool)) (work : Work) → IsWaited workers pairs work → IsWaited workers (pairs ++ more) work
-waited-front workers pairs more (visit served cut) waited = tt
-waited-front workers pairs more (beat pauses closed) waited = slice_get-front pairs more workers (pauses, closed) waited
-waited-front workers pairs more (drive driver calls pauses closed) waited = slice_get-front pairs more (workers + 1 + driver) (pauses, closed) waited
+waited-front : (workers : ℕ) (notes more : List Waited) (work : Work) → IsWaited workers notes work → IsWaited workers (notes ++ more) work
+waited-front workers notes more (visit served cut) is = tt
+waited-front workers notes more (beat waited) is = slice_get-front notes more workers waited is
+waited-front workers notes more (drive driver calls waited) is = slice_get-front notes more (workers + 1 + driver) waited is
 
-at_last : (pairs : List (ℕ × Bool)) (pair other : ℕ × Bool) (place : ℕ) → pair ≡ other → length pairs ≤ place → place < suc (length pairs) →
-    slice_get (pairs ++ pair ∷ []) place ≡ Some other
-at_last pairs pair other place is low high =
-    let here : place ≡ length pairs = omega arith in
-    ap (slice_get (pairs ++ pair ∷ [])) here ∙ slice_get-last pairs pair ∙ ap Some is
+at_last : (notes : List Waited) (note other : Waited) (place : ℕ) → note ≡ other → length notes ≤ place → place < suc (length notes) →
+    slice_get (notes ++ note ∷ []) place ≡ Some other
+at_last notes note other place is low high =
+    let here : place ≡ length notes = omega arith in
+    ap (slice_get (notes ++ note ∷ [])) here ∙ slice_get-last notes note ∙ ap Some is
 
-waited-last : (workers : ℕ) (pairs : List (ℕ × Bool)) (pair : ℕ × Bool) (work : Work) → IsPairOf pair work →
-    (length pairs ≤ owner workers work) × (owner workers work < suc (length pairs)) → IsWaited workers (pairs ++ pair ∷ []) work
-waited-last workers pairs pair (visit served cut) is within = tt
-waited-last workers pairs pair (beat pauses closed) is within = at_last pairs pair (pauses, closed) workers is within.0 within.1
-waited-last workers pairs pair (drive driver calls pauses closed) is within = at_last pairs pair (pauses, closed) (workers + 1 + driver) is within.0 within.1
+waited-last : (workers : ℕ) (notes : List Waited) (note : Waited) (work : Work) → IsNoteOf note work →
+    (length notes ≤ owner workers work) × (owner workers work < suc (length notes)) → IsWaited workers (notes ++ note ∷ []) work
+waited-last workers notes note (visit served cut) is within = tt
+waited-last workers notes note (beat waited) is within = at_last notes note waited workers is within.0 within.1
+waited-last workers notes note (drive driver calls waited) is within = at_last notes note waited (workers + 1 + driver) is within.0 within.1
 
-pub waited-next : (workers : ℕ) (pairs : List (ℕ × Bool)) (pair : ℕ × Bool) (xs ys : List Work) → AreWaited workers pairs xs →
-    AreOf workers (length pairs) (suc (length pairs)) ys → AllByRecursion (IsPairOf pair) ys → AreWaited workers (pairs ++ pair ∷ []) (xs ++ ys)
-waited-next workers pairs pair xs ys waited of_next are =
-    each-append (IsWaited workers (pairs ++ pair ∷ [])) xs ys
-    (each-map (IsWaited workers pairs) (IsWaited workers (pairs ++ pair ∷ [])) (waited-front workers pairs (pair ∷ [])) xs waited)
-    (each-both (IsPairOf pair) (λ work. (length pairs ≤ owner workers work) × (owner workers work < suc (length pairs))) (IsWaited workers (pairs ++ pair ∷ []))
-    (waited-last workers pairs pair) ys are of_next)
+pub waited-next : (workers : ℕ) (notes : List Waited) (note : Waited) (xs ys : List Work) → AreWaited workers notes xs →
+    AreOf workers (length notes) (suc (length notes)) ys → AllByRecursion (IsNoteOf note) ys → AreWaited workers (notes ++ note ∷ []) (xs ++ ys)
+waited-next workers notes note xs ys waited of_next are =
+    each-append (IsWaited workers (notes ++ note ∷ [])) xs ys
+    (each-map (IsWaited workers notes) (IsWaited workers (notes ++ note ∷ [])) (waited-front workers notes (note ∷ [])) xs waited)
+    (each-both (IsNoteOf note) (λ work. (length notes ≤ owner workers work) × (owner workers work < suc (length notes))) (IsWaited workers (notes ++ note ∷ []))
+    (waited-last workers notes note) ys are of_next)
+
+-- ---- how many works each worker did
+
+count-append : (workers number : ℕ) (xs ys : List Work) → count_of workers number (xs ++ ys) ≡ count_of workers number xs + count_of workers number ys
+count-append workers number [] ys = omega arith
+count-append workers number (x ∷ xs) ys =
+    let rest : count_of workers number (xs ++ ys) ≡ count_of workers number xs + count_of workers number ys = count-append workers number xs ys in
+    omega arith
+
+-- a worker did none of the works of others, and all of its own
+count-none : (workers number first end : ℕ) (xs : List Work) → AreOf workers first end xs → (number < first) ⊎ (end ≤ number) → count_of workers number xs ≡ 0
+count-none workers number first end [] are other = refl
+count-none workers number first end (x ∷ xs) are other =
+    let rest : count_of workers number xs ≡ 0 = count-none workers number first end xs are.1 other in
+    let no : cond {A = ℕ} (owner workers x == number) 1 0 ≡ 0 = cond-false (owner workers x == number) 1 0 (differ other) in
+    omega (arith, no, rest)
+  where
+    differ : (number < first) ⊎ (end ≤ number) → (owner workers x == number) ≡ false
+    differ (inl less) = let low = are.0.0 in grind (arith, nat_tests)
+    differ (inr more) = let high = are.0.1 in grind (arith, nat_tests)
+
+count-own : (workers number : ℕ) (xs : List Work) → AreOf workers number (suc number) xs → count_of workers number xs ≡ length xs
+count-own workers number [] are = refl
+count-own workers number (x ∷ xs) are =
+    let rest : count_of workers number xs ≡ length xs = count-own workers number xs are.1 in
+    let low = are.0.0 in
+    let high = are.0.1 in
+    let own : (owner workers x == number) ≡ true = grind (arith, nat_tests) in
+    let yes : cond {A = ℕ} (owner workers x == number) 1 0 ≡ 1 = cond-true (owner workers x == number) 1 0 own in
+    omega (arith, yes, rest)
+
+-- ---- each note is that of its worker
+
+-- a note behind others stands before the last place or there
+front-or-last : (notes : List Waited) (note waited : Waited) (place : ℕ) → slice_get (notes ++ note ∷ []) place ≡ Some waited →
+    ((place < length notes) × (slice_get notes place ≡ Some waited)) ⊎ ((place ≡ length notes) × (note ≡ waited))
+front-or-last [] note waited zero is = inr (refl, cc)
+front-or-last [] note waited (suc place) is = absurd cc
+front-or-last (first ∷ notes) note waited zero is = inl (omega arith, is)
+front-or-last (first ∷ notes) note waited (suc place) is = later (front-or-last notes note waited place is)
+  where
+    later : ((place < length notes) × (slice_get notes place ≡ Some waited)) ⊎ ((place ≡ length notes) × (note ≡ waited)) →
+        ((suc place < suc (length notes)) × (slice_get notes place ≡ Some waited)) ⊎ ((suc place ≡ suc (length notes)) × (note ≡ waited))
+    later (inl front) = let less = front.0 in inl (omega arith, front.1)
+    later (inr last) = inr (ap suc last.0, last.1)
+
+pub waited-at-next : (workers : ℕ) (notes : List Waited) (note : Waited) (xs ys : List Work) → AreWaitedAt workers notes xs →
+    AreOf workers 0 (length notes) xs → AreOf workers (length notes) (suc (length notes)) ys → WaitedAt workers (length notes) (length ys) note →
+    AreWaitedAt workers (notes ++ note ∷ []) (xs ++ ys)
+waited-at-next workers notes note xs ys before of_first of_next last number waited is = placed (front-or-last notes note waited number is)
+  where
+    placed : ((number < length notes) × (slice_get notes number ≡ Some waited)) ⊎ ((number ≡ length notes) × (note ≡ waited)) →
+        WaitedAt workers number (count_of workers number (xs ++ ys)) waited
+    placed (inl front) =
+        let less = front.0 in
+        let none : count_of workers number ys ≡ 0 = count-none workers number (length notes) (suc (length notes)) ys of_next (inl less) in
+        let all : count_of workers number (xs ++ ys) ≡ count_of workers number xs + count_of workers number ys = count-append workers number xs ys in
+        let same : count_of workers number xs ≡ count_of workers number (xs ++ ys) = omega arith in
+        subst (λ count. WaitedAt workers number count waited) same (before number waited front.1)
+    placed (inr here) =
+        let place = here.0 in
+        let none : count_of workers (length notes) xs ≡ 0 = count-none workers (length notes) 0 (length notes) xs of_first (inr (omega arith)) in
+        let own : count_of workers (length notes) ys ≡ length ys = count-own workers (length notes) ys of_next in
+        let all : count_of workers (length notes) (xs ++ ys) ≡ count_of workers (length notes) xs + count_of workers (length notes) ys = count-append workers (length notes) xs ys in
+        let same : length ys ≡ count_of workers (length notes) (xs ++ ys) = omega arith in
+        subst (λ place. WaitedAt workers place (count_of workers place (xs ++ ys)) waited) (sym place)
+        (subst (WaitedAt workers (length notes) (count_of workers (length notes) (xs ++ ys))) here.1
+        (subst (λ count. WaitedAt workers (length notes) count note) same last))
+
+-- ---- pauses of one length
+
+some-lengths : (pauses milliseconds : ℕ) → 0 < pauses → lengths_of pauses milliseconds ≡ Each milliseconds
+some-lengths zero milliseconds some = absurd (omega arith)
+some-lengths (suc pauses) milliseconds some = refl
+
+one-more : (pauses milliseconds : ℕ) → lengths_after (lengths_of pauses milliseconds) milliseconds ≡ Each milliseconds
+one-more zero milliseconds = refl
+one-more (suc pauses) milliseconds =
+    let same : (milliseconds == milliseconds) ≡ true = grind (arith, nat_tests) in
+    cond-true (milliseconds == milliseconds) (Each milliseconds) Various same
+
+steady-more : (milliseconds : ℕ) (old : Waited) → IsSteady milliseconds old → lengths_after old.lengths milliseconds ≡ lengths_of (one_pause_more old.pauses) milliseconds
+steady-more milliseconds old is =
+    ap (λ lengths. lengths_after lengths milliseconds) is ∙ one-more old.pauses milliseconds
+    ∙ sym (some-lengths (one_pause_more old.pauses) milliseconds (omega arith))
+
+pub paused-none : (milliseconds : ℕ) (waited : Waited) → PausedFor milliseconds waited waited
+paused-none milliseconds waited = record { steady = λ is. is; expected = refl; leaving = refl }
+
+pub paused-one : (milliseconds : ℕ) (woke : Woke) (old new : Waited) → new ≡ after_pause milliseconds woke old → PausedFor milliseconds old new
+paused-one milliseconds woke old new is =
+    subst (PausedFor milliseconds old) (sym is) (record { steady = steady-more milliseconds old; expected = refl; leaving = refl })
+
+pub paused-both : (milliseconds : ℕ) (old between new : Waited) → PausedFor milliseconds old between → PausedFor milliseconds between new →
+    PausedFor milliseconds old new
+paused-both milliseconds old between new first then = record {
+  steady = λ is. then.steady (first.steady is);
+  expected = then.expected ∙ first.expected;
+  leaving = then.leaving ∙ first.leaving;
+}
 
 -- ---- counts
 

@@ -3,6 +3,7 @@
 use Rattle.std.specs.Prelude.{◌≡◌, ℕ, ◌+◌, ◌-◌, ◌%◌, ◌<◌, ◌≤◌, ◌==◌, Bool, true, false, ◌||◌, List, [], ◌∷◌, ◌++◌, if◌then◌else◌}
 use Rattle.std.specs.List.{AllByRecursion}
 use Rattle.boss_model.specs.DeviceCall.{DeviceCall}
+use Rattle.boss_outside_server.specs.declared.waited.Waited.{Waited}
 use Rattle.boss_outside_server.specs.Hosts.{Served}
 use Rattle.def_lanes.specs.Lanes.{Lane, of_session, of_driver, of_time, is_lane}
 
@@ -13,34 +14,39 @@ pub data Cut : Type 0 where
   by_clock : Cut
   by_memory : Cut
 
--- a connection that ended, and whether it was cut off; or the pauses of the worker that watches time, and whether the last one told
--- it to end; or those of a worker that drives the devices of a driver, with the calls of its devices
+-- a connection that ended, and whether it was cut off; or what the waiter of the worker that watches time noted; or that of a worker
+-- that drives the devices of a driver, with the calls of its devices
 pub data Work : Type 0 where
   visit : Served → Cut → Work
-  beat : ℕ → Bool → Work
-  drive : ℕ → List DeviceCall → ℕ → Bool → Work
+  beat : Waited → Work
+  drive : ℕ → List DeviceCall → Waited → Work
 
 abbrev pub lane_of_work : Work → Lane
 lane_of_work (visit served cut) = of_session served.session
-lane_of_work (beat pauses closed) = of_time
-lane_of_work (drive driver calls pauses closed) = of_driver driver
+lane_of_work (beat waited) = of_time
+lane_of_work (drive driver calls waited) = of_driver driver
 
 -- the number of the worker that does it, where so many serve connections: these have the numbers from 0 on, and the sessions
 -- in turn; then comes the one that watches time, and then one for each driver
 abbrev pub owner : ℕ → Work → ℕ
 owner workers (visit served cut) = (served.session - 1) % workers
-owner workers (beat pauses closed) = workers
-owner workers (drive driver calls pauses closed) = workers + 1 + driver
+owner workers (beat waited) = workers
+owner workers (drive driver calls waited) = workers + 1 + driver
 
 -- each is done by a worker with a number from the first one up to, but not with, the end
 abbrev pub AreOf : ℕ → ℕ → ℕ → List Work → Type 0
 AreOf workers first end works = AllByRecursion (λ work. (first ≤ owner workers work) × (owner workers work < end)) works
 
+-- how many of them the worker with this number did
+abbrev pub count_of : ℕ → ℕ → List Work → ℕ
+count_of workers number [] = 0
+count_of workers number (work ∷ works) = (if owner workers work == number then 1 else 0) + count_of workers number works
+
 -- each is a connection with a session before this one
 abbrev pub IsBefore : ℕ → Work → Type 0
 IsBefore next (visit served cut) = served.session < next
-IsBefore next (beat pauses closed) = ⊥
-IsBefore next (drive driver calls pauses closed) = ⊥
+IsBefore next (beat waited) = ⊥
+IsBefore next (drive driver calls waited) = ⊥
 
 abbrev pub AreBefore : ℕ → List Work → Type 0
 AreBefore next works = AllByRecursion (IsBefore next) works
@@ -61,8 +67,8 @@ AreStrange works others = AllByRecursion (λ work. IsAbsent (lane_of_work work) 
 -- each has come to its end: no connection was cut off, and each other worker was told to end
 abbrev pub IsWhole : Work → Type 0
 IsWhole (visit served cut) = cut ≡ not_cut
-IsWhole (beat pauses closed) = closed ≡ true
-IsWhole (drive driver calls pauses closed) = closed ≡ true
+IsWhole (beat waited) = waited.closed ≡ true
+IsWhole (drive driver calls waited) = waited.closed ≡ true
 
 abbrev pub AreWhole : List Work → Type 0
 AreWhole works = AllByRecursion IsWhole works
@@ -70,8 +76,8 @@ AreWhole works = AllByRecursion IsWhole works
 -- the connections, in order
 abbrev pub served_by : Work → List Served
 served_by (visit served cut) = served ∷ []
-served_by (beat pauses closed) = []
-served_by (drive driver calls pauses closed) = []
+served_by (beat waited) = []
+served_by (drive driver calls waited) = []
 
 abbrev pub served_in : List Work → List Served
 served_in [] = []
@@ -90,8 +96,8 @@ is_done_by (work ∷ works) lane = is_lane lane (lane_of_work work) || is_done_b
 -- the calls of a driver's devices, in order
 abbrev pub calls_by : ℕ → Work → List DeviceCall
 calls_by driver (visit served cut) = []
-calls_by driver (beat pauses closed) = []
-calls_by driver (drive other calls pauses closed) = if other == driver then calls else []
+calls_by driver (beat waited) = []
+calls_by driver (drive other calls waited) = if other == driver then calls else []
 
 abbrev pub calls_in : ℕ → List Work → List DeviceCall
 calls_in driver [] = []

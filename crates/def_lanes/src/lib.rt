@@ -16,7 +16,7 @@
 //!   to the next;
 //! - who started the workers joins their passes in the order of their numbers. A join of passes keeps the entries that pass a
 //!   test as they were, where only one side has such entries; so it is `Joined` ([`a_join_keeps_what_one_side_has`]), and `next`
-//!   makes one `Part` of all. Beside it go the pairs of the waiter ([`pauses_stand_at_their_places`]) and the devices
+//!   makes one `Part` of all. Beside it go the notes of the waiter ([`notes_stand_at_their_places`]) and the devices
 //!   ([`devices_come_back`]);
 //! - after the last join the pass holds all of the history, and `Agreed` speaks of it: each work of the entries of its lane,
 //!   and nothing was done that is no work ([`all_that_was_done_is_work`]).
@@ -42,4 +42,4 @@ pub use lanes::{
 };
 pub use parts::parts_come_together;
 pub use server::Server;
-pub use waits::{pauses_are_counted, pauses_stand_at_their_places};
+pub use waits::{notes_stand_at_their_places, pauses_are_counted, pauses_keep_their_length};

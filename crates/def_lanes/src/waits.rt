@@ -2,15 +2,29 @@ ghost use Rattle.std.specs.Prelude.{◌≡◌, ℕ, suc, ◌<◌, ◌≤◌, Boo
 ghost use Rattle.std.specs.List.{AllByRecursion};
 ghost use Rattle.def_history.specs.declared.entry.Entry.{Entry};
 ghost use Rattle.def_lanes.specs.Lanes.{only};
-ghost use Rattle.def_lanes.specs.Waits.{IsPairOf, AreWaited, paused};
+ghost use Rattle.def_lanes.specs.Waits.{AreWaited, AreWaitedAt, IsNoteOf, PausedFor, WaitedAt, paused};
 ghost use Rattle.def_lanes.specs.Works.{Work, AreOf};
 ghost use Rattle.boss_model.specs.Limits.{last_number};
+ghost use Rattle.boss_outside_server.specs.declared.waited.Waited.{Waited};
+ghost use Rattle.boss_outside_server.specs.declared.waiter.Woke.{Woke};
+ghost use Rattle.boss_outside_server.specs.Waits.{after_pause};
 
-/// Where the waiter notes the pauses of one worker behind those of the workers before it, each stands at its worker's place.
-pub fn pauses_stand_at_their_places()
-    ensures { (workers : ℕ) (pairs : List (ℕ × Bool)) (pair : ℕ × Bool) (works others : List Work) → AreWaited workers pairs works →
-        AreOf workers (length pairs) (suc (length pairs)) others → AllByRecursion (IsPairOf pair) others →
-        AreWaited workers (pairs ++ pair ∷ []) (works ++ others) }
+/// Where a waiter keeps what was noted of one worker behind the workers before it, each stands at its worker's place.
+pub fn notes_stand_at_their_places()
+    ensures works { (workers : ℕ) (notes : List Waited) (note : Waited) (works others : List Work) → AreWaited workers notes works →
+        AreOf workers (length notes) (suc (length notes)) others → AllByRecursion (IsNoteOf note) others →
+        AreWaited workers (notes ++ note ∷ []) (works ++ others) }
+    ensures places { (workers : ℕ) (notes : List Waited) (note : Waited) (works others : List Work) → AreWaitedAt workers notes works →
+        AreOf workers 0 (length notes) works → AreOf workers (length notes) (suc (length notes)) others →
+        WaitedAt workers (length notes) (length others) note → AreWaitedAt workers (notes ++ note ∷ []) (works ++ others) }
+{}
+
+/// Pauses of one length, in milliseconds: none; one; and those of one call and then of another.
+pub fn pauses_keep_their_length()
+    ensures none { (milliseconds : ℕ) (waited : Waited) → PausedFor milliseconds waited waited }
+    ensures one { (milliseconds : ℕ) (woke : Woke) (old new : Waited) → new ≡ after_pause milliseconds woke old → PausedFor milliseconds old new }
+    ensures both { (milliseconds : ℕ) (old between new : Waited) → PausedFor milliseconds old between → PausedFor milliseconds between new →
+        PausedFor milliseconds old new }
 {}
 
 /// In a history of less than 2^62 entries a count of pauses is exact, where no more were made than there are entries that pass

@@ -9,18 +9,20 @@ use Rattle.def_history.specs.declared.entry.Entry.{Entry}
 use Rattle.def_history.specs.History.{IsLegal, run}
 use Rattle.def_lanes.specs.Works.{owner, calls_in}
 use Rattle.boss_outside_server.specs.Hosts.{Served}
+use Rattle.boss_outside_server.specs.declared.waited.Waited.{Waited}
 use Rattle.boss_shared.specs.Gates.{Gate}
 use Rattle.boss_worker.specs.declared.flags.Flags.{Flags}
 use Rattle.boss_worker.specs.Saying.{terms_of}
 use Rattle.boss_shared.specs.declared.keeper.Keeper as keeper
 use Rattle.boss_server.specs.Accounts.{Account}
+use Rattle.boss_server.specs.Hosted.{Hosted}
 use Rattle.boss_server.specs.Kept.{Ran}
 use Rattle.law_settled.specs.Settled.{IsSettled, taking_target, last_from, last_call}
 use Rattle.law_settled.proofs.Agreeing.{last-append}
 use Rattle.law_settled.proofs.OfWorks.{work-of, works-opened, no-calls, last-any, back-at, at-front}
 
 module _ {A : Type 0} (calls : A → List DeviceCall) (whole : A → Type 0) (catalogue : Catalogue) (gates : List Gate) (heeds tells hosting clocking pausing : Type 0)
-    (workers n shares : ℕ) (log seen : List Entry) (served served' : List Served) (given given' : List ℕ) (hosted hosted' ticked ticked' : ℕ) (waits waits' : List (ℕ × Bool))
+    (workers n shares : ℕ) (log seen : List Entry) (served served' : List Served) (given given' : List ℕ) (hosted hosted' : Hosted) (ticked ticked' : ℕ) (waits waits' : List Waited)
     (was others devices : List A) (flags : Flags) (unrun : Bool)
     (account : Account calls whole (terms_of catalogue gates workers heeds tells hosting clocking pausing) pausing n shares log seen served served' given given' hosted hosted' ticked ticked'
     waits waits' was others devices flags unrun) where
@@ -53,7 +55,7 @@ module _ {A : Type 0} (calls : A → List DeviceCall) (whole : A → Type 0) (ca
 
 -- the same over a keeper, which comes back as the history left it
 module _ {K A : Type 0} (k : keeper.Ghosts K) (calls : A → List DeviceCall) (whole : A → Type 0) (catalogue : Catalogue) (gates : List Gate) (heeds tells hosting clocking pausing : Type 0)
-    (workers n shares : ℕ) (start end : K) (served served' : List Served) (given given' : List ℕ) (hosted hosted' ticked ticked' : ℕ) (waits waits' : List (ℕ × Bool))
+    (workers n shares : ℕ) (start end : K) (served served' : List Served) (given given' : List ℕ) (hosted hosted' : Hosted) (ticked ticked' : ℕ) (waits waits' : List Waited)
     (was others devices : List A) (flags : Flags) (unrun : Bool)
     (ran : Ran k calls whole (terms_of catalogue gates workers heeds tells hosting clocking pausing) pausing n shares start end served served' given given' hosted hosted' ticked ticked'
     waits waits' was others devices flags unrun) where

@@ -21,6 +21,8 @@ use Rattle.def_lanes.specs.Lanes.{of_driver, done_in}
 use Rattle.def_lanes.specs.Parts.{Agreed}
 use Rattle.def_lanes.specs.Works.{Work, visit, beat, drive, lane_of_work, IsAbsent, AreApart, calls_in}
 use Rattle.def_lanes.proofs.DeviceLemmas.{calls-one}
+use Rattle.boss_outside_server.specs.declared.waited.Waited.{Waited}
+use Rattle.boss_outside_server.specs.Waits.{new_waited}
 use Rattle.def_guards.specs.Guards.{is_guarded}
 use Rattle.boss_shared.specs.Gates.{Gate}
 use Rattle.boss_worker.specs.Saying.{IsDriven, says}
@@ -75,45 +77,42 @@ none_of false = refl
 
 pub no-calls : (driver : ℕ) (works : List Work) → IsAbsent (of_driver driver) works → AreApart works → calls_in driver works ≡ []
 no-calls driver works absent apart =
-    ap (λ first. first ++ calls_in driver works) (sym (none_of (driver == driver))) ∙ calls-one driver 0 [] false [] works (absent, apart)
+    ap (λ first. first ++ calls_in driver works) (sym (none_of (driver == driver))) ∙ calls-one driver [] (new_waited 0) [] works (absent, apart)
 
 module _ (P : Work → Type 0) (driver : ℕ) where
   -- the one work of the driver
   pub record HasWork (works : List Work) : Type 0 where
     pub calls : List DeviceCall
-    pub pauses : ℕ
-    pub closed : Bool
-    pub is : P (drive driver calls pauses closed)
+    pub waited : Waited
+    pub is : P (drive driver calls waited)
     pub all : calls_in driver works ≡ calls
 
   pub work-of : (works : List Work) → AreApart works → AllByRecursion P works → IsAbsent (of_driver driver) works ⊎ HasWork works
   work-of [] apart each = inl tt
   work-of (visit served cut ∷ works) apart each = elim (work-of works apart.1 each.1) [
     | inl absent ↦ inl ((λ same. cc), absent)
-    | inr has ↦ inr (record { calls = has.calls; pauses = has.pauses; closed = has.closed; is = has.is; all = has.all })
+    | inr has ↦ inr (record { calls = has.calls; waited = has.waited; is = has.is; all = has.all })
   ]
-  work-of (beat pauses closed ∷ works) apart each = elim (work-of works apart.1 each.1) [
+  work-of (beat waited ∷ works) apart each = elim (work-of works apart.1 each.1) [
     | inl absent ↦ inl ((λ same. cc), absent)
-    | inr has ↦ inr (record { calls = has.calls; pauses = has.pauses; closed = has.closed; is = has.is; all = has.all })
+    | inr has ↦ inr (record { calls = has.calls; waited = has.waited; is = has.is; all = has.all })
   ]
-  work-of (drive other calls pauses closed ∷ works) apart each = by (other == driver) refl (work-of works apart.1 each.1)
+  work-of (drive other calls waited ∷ works) apart each = by (other == driver) refl (work-of works apart.1 each.1)
     where
       by : (here : Bool) → (other == driver) ≡ here → IsAbsent (of_driver driver) works ⊎ HasWork works →
-          IsAbsent (of_driver driver) (drive other calls pauses closed ∷ works) ⊎ HasWork (drive other calls pauses closed ∷ works)
+          IsAbsent (of_driver driver) (drive other calls waited ∷ works) ⊎ HasWork (drive other calls waited ∷ works)
       by true is rest =
           let same : other ≡ driver = grind (arith, nat_tests) in
           inr (record {
             calls = calls;
-            pauses = pauses;
-            closed = closed;
-            is = subst (λ d. P (drive d calls pauses closed)) same each.0;
-            all = subst (λ d. calls_in d (drive other calls pauses closed ∷ works) ≡ calls) same (calls-one other pauses calls closed [] works apart);
+            waited = waited;
+            is = subst (λ d. P (drive d calls waited)) same each.0;
+            all = subst (λ d. calls_in d (drive other calls waited ∷ works) ≡ calls) same (calls-one other calls waited [] works apart);
           })
       by false is (inl absent) = inl ((λ same. let equal : other ≡ driver = cc in absurd (grind (arith, nat_tests))), absent)
       by false is (inr has) = inr (record {
         calls = has.calls;
-        pauses = has.pauses;
-        closed = has.closed;
+        waited = has.waited;
         is = has.is;
         all = ap (λ b. cond b calls [] ++ calls_in driver works) is ∙ has.all;
       })
@@ -132,7 +131,7 @@ module _ (catalogue : Catalogue) (gates : List Gate) (heeds tells pausing : Type
           ap (last_call point) (no-calls driver works absent agreed.apart),
           none-last catalogue point log s known legal apart value took (agreed.none (of_driver driver) absent),
         )
-        | inr has ↦ subst (IsLast s point value) (sym has.all) (worker-last catalogue point log s known legal apart value took has.calls pausing has.pauses has.is)
+        | inr has ↦ subst (IsLast s point value) (sym has.all) (worker-last catalogue point log s known legal apart value took has.calls pausing has.waited.pauses has.is)
       ]
 
 -- ---- from an opened state, and from a sound one

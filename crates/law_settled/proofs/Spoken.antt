@@ -153,11 +153,11 @@ module _ (catalogue : Catalogue) (gates : List Gate) (heeds tells pausing : Type
           (apart-visit catalogue gates tells served cut (lane_entries served.session) (each.0 heard)))
       by false is (inl absent) = inl ((λ same. let equal : served.session ≡ session = cc in absurd (grind (arith, nat_tests))), absent)
       by false is (inr apart) = inr apart
-  of-works session (beat pauses closed ∷ works) each = elim (of-works session works each.1) [
+  of-works session (beat waited ∷ works) each = elim (of-works session works each.1) [
     | inl absent ↦ inl ((λ same. cc), absent)
     | inr apart ↦ inr apart
   ]
-  of-works session (drive driver calls pauses closed ∷ works) each = elim (of-works session works each.1) [
+  of-works session (drive driver calls waited ∷ works) each = elim (of-works session works each.1) [
     | inl absent ↦ inl ((λ same. cc), absent)
     | inr apart ↦ inr apart
   ]

@@ -8,7 +8,9 @@ ghost use Rattle.boss_model.specs.State.{Persistent, State};
 ghost use Rattle.boss_model.specs.Target.{target};
 ghost use Rattle.boss_model.specs.declared.state.Actuator.{Actuator};
 ghost use Rattle.boss_outside_server.specs.Hosts.{Served};
+ghost use Rattle.boss_outside_server.specs.declared.waited.Waited.{Waited};
 ghost use Rattle.boss_server.specs.Accounts.{Account};
+ghost use Rattle.boss_server.specs.Hosted.{Hosted};
 ghost use Rattle.boss_server.specs.Kept.{Ran};
 ghost use Rattle.boss_shared.specs.Gates.{Gate};
 ghost use Rattle.boss_worker.specs.Saying.{IsDriven, says, terms_of};
@@ -67,7 +69,7 @@ pub fn a_device_has_the_target_of_a_settled_point<
     A: Actuators,
 >()
     ensures account { (catalogue : Catalogue) (gates : List Gate) (workers n shares : ℕ) (d : Persistent) (log seen : List Entry)
-        (served served' : List Served) (given given' : List ℕ) (hosted hosted' ticked ticked' : ℕ) (waits waits' : List (ℕ × Bool))
+        (served served' : List Served) (given given' : List ℕ) (hosted hosted' : Hosted) (ticked ticked' : ℕ) (waits waits' : List Waited)
         (was others devices : List A) (flags : Flags) (unrun : Bool) (point : ℕ) →
         let plant = actuators catalogue in
         H.In.tells → point < length plant → IsLegal plant log (opened plant d) →
@@ -78,7 +80,7 @@ pub fn a_device_has_the_target_of_a_settled_point<
         × (A.tells × A.whole device → last_call point (A.calls device) ≡ Some (taking_target plant (run plant log (opened plant d)) point)) }
     // over a keeper whose disk did not fail, by its state as it comes back
     ensures kept { (catalogue : Catalogue) (gates : List Gate) (workers n shares : ℕ) (d : Persistent) (start end : K)
-        (served served' : List Served) (given given' : List ℕ) (hosted hosted' ticked ticked' : ℕ) (waits waits' : List (ℕ × Bool))
+        (served served' : List Served) (given given' : List ℕ) (hosted hosted' : Hosted) (ticked ticked' : ℕ) (waits waits' : List Waited)
         (was others devices : List A) (flags : Flags) (unrun : Bool) (point : ℕ) →
         let plant = actuators catalogue in
         H.In.tells → point < length plant → plant ≡ K.plant start → K.state start ≡ opened plant d →

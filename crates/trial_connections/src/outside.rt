@@ -69,5 +69,9 @@ pub fn pauses_of(alloc: Global, own: Own) -> Result<(u64, bool), NoMemory> {
 /// The pauses of the last part that was taken back.
 fn last_of(alloc: Global, waiter: &TurnWaiter) -> Result<(u64, bool), NoMemory> {
     let waits = waiter.waits(alloc)?;
-    Ok(waits.last().map_or((0, false), |wait| **wait))
+    Ok(
+        waits
+            .last()
+            .map_or((0, false), |wait| (wait.pauses, wait.closed)),
+    )
 }

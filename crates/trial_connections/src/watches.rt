@@ -47,7 +47,6 @@ struct Watch {
     /// How many more submits the process makes, each of which takes the damper from the one before.
     submits: u32,
     from: u64,
-    idle: u32,
     /// The number of the write and of the reading of the clock that fails, from 1; 0 is none.
     write: u64,
     reading: u64,
@@ -64,13 +63,12 @@ const FROM_1: Watch = Watch {
     lines: &TAKEN,
     submits: 0,
     from: 1,
-    idle: 2,
     write: 0,
     reading: 0,
     machine: GOOD,
-    going: 8,
+    going: 600,
     taken: (0, 0),
-    told: &[ENDED, DONE, "Idle; pauses: 2"],
+    told: &[ENDED, DONE, "Idle; pauses: 600"],
 };
 
 const RUNS: &[Watch] = &[
@@ -78,25 +76,19 @@ const RUNS: &[Watch] = &[
     Watch {
         shows: "from the second on",
         from: 2,
-        told: &[DONE, "Idle; pauses: 2"],
+        told: &[DONE, "Idle; pauses: 600"],
         ..FROM_1
     },
     Watch {
         shows: "from one that has not come",
         from: 3,
-        told: &["Idle; pauses: 2"],
+        told: &["Idle; pauses: 600"],
         ..FROM_1
     },
     Watch {
         shows: "a process that is not known yet",
         lines: &[],
-        told: &["Idle; pauses: 2"],
-        ..FROM_1
-    },
-    Watch {
-        shows: "no turn",
-        idle: 0,
-        told: &["Idle; pauses: 0"],
+        told: &["Idle; pauses: 600"],
         ..FROM_1
     },
     Watch {
@@ -104,7 +96,7 @@ const RUNS: &[Watch] = &[
         lines: &[ATTACH],
         submits: 101,
         taken: (1, 101),
-        told: &["Idle; pauses: 2"],
+        told: &["Idle; pauses: 600"],
         ..FROM_1
     },
     Watch {
@@ -112,7 +104,7 @@ const RUNS: &[Watch] = &[
         lines: &[ATTACH],
         submits: 520,
         taken: (8, 520),
-        told: &["Idle; pauses: 2"],
+        told: &["Idle; pauses: 600"],
         ..FROM_1
     },
     Watch {
@@ -121,20 +113,19 @@ const RUNS: &[Watch] = &[
         submits: 520,
         from: 999,
         taken: (500, 520),
-        told: &["Idle; pauses: 2"],
+        told: &["Idle; pauses: 600"],
         ..FROM_1
     },
     Watch {
         shows: "the second pause closes",
-        idle: 5,
         going: 1,
         told: &[ENDED, DONE, "Closed; pauses: 2; told to end"],
         ..FROM_1
     },
     Watch {
         shows: "the last pause closes",
-        going: 1,
-        told: &[ENDED, DONE, "Idle; pauses: 2; told to end"],
+        going: 599,
+        told: &[ENDED, DONE, "Idle; pauses: 600; told to end"],
         ..FROM_1
     },
     Watch {
@@ -281,7 +272,6 @@ impl Trial for Watching<'_> {
             &mut self.sink,
             &mut self.own.clock,
             &mut self.own.waiter,
-            run.idle,
         ))
     }
 }

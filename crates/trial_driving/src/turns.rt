@@ -5,7 +5,8 @@ ghost use Rattle.std.specs.Prelude.{◌≡◌, ◌≤◌, IfOk, IsTrue};
 ghost use Rattle.std.specs.List.{AllByRecursion};
 ghost use Rattle.boss_drive.specs.Driving.{Driven};
 ghost use Rattle.boss_lock.specs.Places.{entries_at};
-ghost use Rattle.boss_model.specs.Limits.{last_moment};
+ghost use Rattle.boss_model.specs.Limits.{drive_pause, last_moment};
+ghost use Rattle.def_lanes.specs.Waits.{PausedFor};
 
 use boss_drive::drive;
 use boss_expiry::WorkEnd;
@@ -95,7 +96,8 @@ fn take<G: Desk, L: Link>(
           whole = IsTrue devices.new.whole;
           calls = devices.new.calls.items;
         })
-        ⟦<TurnWaiter as Waiter>⟧.tells (⟦<TurnWaiter as Waiter>⟧.pauses waiter.old) (⟦<TurnWaiter as Waiter>⟧.pauses waiter.new) turns result }
+        ⟦<TurnWaiter as Waiter>⟧.tells (⟦<TurnWaiter as Waiter>⟧.waited waiter.old).pauses (⟦<TurnWaiter as Waiter>⟧.waited waiter.new).pauses turns result }
+    ensures waited { PausedFor drive_pause (⟦<TurnWaiter as Waiter>⟧.waited waiter.old) (⟦<TurnWaiter as Waiter>⟧.waited waiter.new) }
 {
     drive(desk, pass, DriverId(0), devices, clock, waiter, turns)
 }

@@ -250,7 +250,7 @@ fn pauses_of(alloc: Global, waiter: TurnWaiter) -> Result<u64, NoMemory> {
         Ok(mut all) => {
             all.join(waiter);
             let waits = all.waits(alloc)?;
-            Ok(waits.last().map_or(0, |wait| wait.0))
+            Ok(waits.last().map_or(0, |wait| wait.pauses))
         }
         Err(none) => Err(none),
     }

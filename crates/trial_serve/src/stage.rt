@@ -245,9 +245,9 @@ fn tell<R>(
 }
 
 fn tell_pauses(text: &mut String, alloc: Global, waiter: &TurnWaiter) -> Result<(), NoMemory> {
-    for (count, closed) in waiter.waits(alloc)? {
-        put_number(text, "pauses ", *count)?;
-        put(text, if *closed { b" closed\n" } else { b"\n" })?;
+    for note in waiter.waits(alloc)? {
+        put_number(text, "pauses ", note.pauses)?;
+        put(text, if note.closed { b" closed\n" } else { b"\n" })?;
     }
     Ok(())
 }

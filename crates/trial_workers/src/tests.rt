@@ -8,8 +8,8 @@ use boss_adapters::{RealClock, RealHost, RealSpawner, RealWaiter};
 use boss_model::{Items, NoMemory};
 use boss_outside::{BytesSink, BytesSource, Sink, Source};
 use boss_outside_server::{
-    Accepted, Clock, Host, ListClock, ListHost, ListSpawner, OneOf, Ran, Spawner, Task, TurnWaiter,
-    Waiter, Woke,
+    Accepted, Clock, Host, Leaving, Lengths, ListClock, ListHost, ListSpawner, OneOf, Ran, Spawner,
+    Task, TurnWaiter, Waited, Waiter, Woke,
 };
 use std::alloc::Global;
 use std::io::Eprint;
@@ -89,8 +89,8 @@ fn pauses_of_a_part(alloc: Global, waiter: &mut TurnWaiter) -> Result<u64, NoMem
     let mut part = waiter.split(alloc)?;
     let mut digits = pauses(0, &mut part, 4, 1_000);
     waiter.join(part);
-    for (count, closed) in waiter.waits(alloc)? {
-        digits = then(then(digits, *count), u64::from(*closed));
+    for note in waiter.waits(alloc)? {
+        digits = then(then(digits, note.pauses), u64::from(note.closed));
     }
     Ok(digits)
 }
@@ -103,6 +103,56 @@ fn a_waiter_in_memory_closes_after_its_turns(rt: HostRuntime) -> Result<(), Fail
     Ok(())
 }
 
+/// What is noted of a worker where three are expected.
+fn note(pauses: u64, lengths: Lengths, closed: bool, leaving: Leaving) -> Waited {
+    Waited {
+        pauses,
+        lengths,
+        closed,
+        expected: 3,
+        leaving,
+    }
+}
+
+/// Whether a waiter that expects three workers keeps what it is to of four parts: one that never paused; one that paused twice for
+/// 100 ms, and left behind seven connections; one whose pauses are of two lengths; and one that left twice.
+fn keeps_four_notes(alloc: Global, waiter: &mut TurnWaiter) -> Result<bool, NoMemory> {
+    waiter.expect(3);
+    let first = waiter.split(alloc)?;
+    let mut second = waiter.split(alloc)?;
+    let mut third = waiter.split(alloc)?;
+    let mut fourth = waiter.split(alloc)?;
+    pauses(0, &mut second, 2, 100);
+    second.leave(7);
+    pauses(0, &mut third, 1, 20);
+    pauses(0, &mut third, 1, 100);
+    fourth.leave(0);
+    fourth.leave(1);
+    waiter.join(first);
+    waiter.join(second);
+    waiter.join(third);
+    waiter.join(fourth);
+    let wanted = [
+        note(0, Lengths::NoPause, false, Leaving::NotYet),
+        note(2, Lengths::Each(100), true, Leaving::Once(7)),
+        note(2, Lengths::Various, true, Leaving::NotYet),
+        note(0, Lengths::NoPause, false, Leaving::Often),
+    ];
+    let notes = waiter.waits(alloc)?;
+    let mut same = notes.len() == wanted.len();
+    for (kept, wanted) in notes.iter().zip(wanted.iter()) {
+        same = same && **kept == *wanted;
+    }
+    Ok(same)
+}
+
+#[test]
+fn a_waiter_keeps_what_its_parts_noted(rt: HostRuntime) -> Result<(), Fail> {
+    let mut waiter = TurnWaiter::new(rt.alloc(), 1)?;
+    assert!(rt; keeps_four_notes(rt.alloc(), &mut waiter)?);
+    Ok(())
+}
+
 /// A pause of a part of a waiter that expects two workers, one behind the leave of each, and one of the waiter itself.
 fn pauses_behind_leaves<W: Waiter>(alloc: Global, waiter: &mut W) -> Result<u64, NoMemory> {
     waiter.expect(2);
@@ -110,9 +160,9 @@ fn pauses_behind_leaves<W: Waiter>(alloc: Global, waiter: &mut W) -> Result<u64,
     let mut second = waiter.split(alloc)?;
     let mut third = waiter.split(alloc)?;
     let mut digits = pauses(0, &mut third, 1, 1);
-    first.leave();
+    first.leave(1);
     digits = pauses(digits, &mut third, 1, 1);
-    second.leave();
+    second.leave(0);
     digits = pauses(digits, &mut third, 1, 1);
     digits = pauses(digits, waiter, 1, 1);
     waiter.join(third);

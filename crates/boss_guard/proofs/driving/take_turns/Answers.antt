@@ -1,4 +1,8 @@
-use Rattle.std.proofs.Common.{◌+◌, refl, ap, subst, arith, ◌∙◌}
+use Rattle.std.proofs.Common.{◌+◌, refl, sym, ap, subst, arith, ◌∙◌}
+use Rattle.boss_model.specs.Limits.{drive_pause}
+use Rattle.boss_outside_server.specs.declared.waited.Waited.{Waited}
+use Rattle.def_lanes.specs.Waits.{PausedFor}
+use Rattle.def_lanes.proofs.WaitLemmas.{paused-none, paused-one, paused-both}
 use Rattle.boss_lock.specs.Places.{entries_at}
 use Rattle.boss_expiry.specs.declared.end.WorkEnd.TheVariants.{Closed}
 use Rattle.boss_drive.specs.Driving.{Stand}
@@ -16,9 +20,10 @@ loop-number-init g c = record {
   parts = refl;
   took = took_none c.args.driver c.args.guards.now g.C.Clock.tells g.A.Actuators.tells
       (record { own = entries_at (g.G.Desk.seen c.args.pass.now) (g.G.Desk.mine c.args.pass.now); given = g.C.Clock.given c.args.clock.now; whole = g.A.Actuators.whole c.args.devices.now; calls = g.A.Actuators.calls c.args.devices.now })
-      g.W.Waiter.tells (g.W.Waiter.pauses c.args.waiter.now);
+      g.W.Waiter.tells (g.W.Waiter.waited c.args.waiter.now).pauses;
   long = refl;
   soon = omega arith;
+  waited = λ tells. paused-none drive_pause (g.W.Waiter.waited c.args.waiter.now);
   clock = refl;
   closes = λ _. refl;
 }
@@ -29,8 +34,8 @@ returns-in-Err-clause-turned g c =
     let old : Stand = record { own = entries_at (g.G.Desk.seen c.args.pass.now) (g.G.Desk.mine c.args.pass.now); given = g.C.Clock.given c.args.clock.now; whole = g.A.Actuators.whole c.args.devices.now; calls = g.A.Actuators.calls c.args.devices.now } in
     let mid : Stand = record { own = entries_at (g.G.Desk.seen c.loop-number.pass) (g.G.Desk.mine c.loop-number.pass); given = g.C.Clock.given c.loop-number.clock; whole = g.A.Actuators.whole c.loop-number.devices; calls = g.A.Actuators.calls c.loop-number.devices } in
     let new : Stand = record { own = entries_at (g.G.Desk.seen c.turn.new.pass) (g.G.Desk.mine c.turn.new.pass); given = g.C.Clock.given c.turn.new.clock; whole = g.A.Actuators.whole c.turn.new.devices; calls = g.A.Actuators.calls c.turn.new.devices } in
-    let pauses = g.W.Waiter.pauses c.args.waiter.now in
-    let pauses' = g.W.Waiter.pauses c.loop-number.waiter in
+    let pauses = (g.W.Waiter.waited c.args.waiter.now).pauses in
+    let pauses' = (g.W.Waiter.waited c.loop-number.waiter).pauses in
     let before = watch c.loop-number.now c.loop-number.guards in
     ends_cut c.args.driver c.args.guards.now g.C.Clock.tells g.A.Actuators.tells old mid new g.W.Waiter.tells pauses pauses' pauses' c.loop-number.number before c.loop-number.invariant.took c.args.turns c.in-Err.end c.in-Err.ensures.cut
     (less_at_cut (g.G.Desk.seen c.turn.new.pass) c.loop-number.number c.args.turns c.in-Err.end c.in-Err.ensures.disk_cause c.loop-number-test.true)
@@ -41,15 +46,19 @@ returns-then-number-turns-clause-turned g c =
     let old : Stand = record { own = entries_at (g.G.Desk.seen c.args.pass.now) (g.G.Desk.mine c.args.pass.now); given = g.C.Clock.given c.args.clock.now; whole = g.A.Actuators.whole c.args.devices.now; calls = g.A.Actuators.calls c.args.devices.now } in
     let mid : Stand = record { own = entries_at (g.G.Desk.seen c.loop-number.pass) (g.G.Desk.mine c.loop-number.pass); given = g.C.Clock.given c.loop-number.clock; whole = g.A.Actuators.whole c.loop-number.devices; calls = g.A.Actuators.calls c.loop-number.devices } in
     let new : Stand = record { own = entries_at (g.G.Desk.seen c.turn.new.pass) (g.G.Desk.mine c.turn.new.pass); given = g.C.Clock.given c.turn.new.clock; whole = g.A.Actuators.whole c.turn.new.devices; calls = g.A.Actuators.calls c.turn.new.devices } in
-    let pauses = g.W.Waiter.pauses c.args.waiter.now in
-    let pauses' = g.W.Waiter.pauses c.loop-number.waiter in
+    let pauses = (g.W.Waiter.waited c.args.waiter.now).pauses in
+    let pauses' = (g.W.Waiter.waited c.loop-number.waiter).pauses in
     let before = watch c.loop-number.now c.loop-number.guards in
     let later = watch c.turn.new.now c.turn.new.guards in
-    let pauses'' = g.W.Waiter.pauses c.pause.new.self in
+    let pauses'' = (g.W.Waiter.waited c.pause.new.self).pauses in
     let turn = subst (λ written. TookTurn g.C.Clock.tells g.A.Actuators.tells mid new c.args.driver before later written) c.if-not-written.true c.in-Ok.ensures.taken in
-    let took = took_idle c.args.driver c.args.guards.now g.C.Clock.tells g.A.Actuators.tells old mid new g.W.Waiter.tells pauses pauses' pauses'' c.loop-number.number before c.loop-number.invariant.took later turn (λ tells. (c.pause.ensures.counted tells).0) in
+    let took = took_idle c.args.driver c.args.guards.now g.C.Clock.tells g.A.Actuators.tells old mid new g.W.Waiter.tells pauses pauses' pauses'' c.loop-number.number before c.loop-number.invariant.took later turn (λ tells. ap (λ (it : Waited). it.pauses) (c.pause.ensures.counted tells).0) in
     ends_whole c.args.driver c.args.guards.now g.C.Clock.tells g.A.Actuators.tells old new g.W.Waiter.tells pauses pauses'' (c.loop-number.number + 1) c.args.turns later Closed took tt
     (omega (arith, c.if-number-turns.true))
+
+pub returns-then-number-turns-clause-waited : goal.returns-then-number-turns-clause-waited
+returns-then-number-turns-clause-waited g c = λ tells. paused-both drive_pause (g.W.Waiter.waited c.args.waiter.now) (g.W.Waiter.waited c.loop-number.waiter) (g.W.Waiter.waited c.pause.new.self)
+    (c.loop-number.invariant.waited tells) (paused-one drive_pause c.pause.result (g.W.Waiter.waited c.loop-number.waiter) (g.W.Waiter.waited c.pause.new.self) (c.pause.ensures.counted tells).0)
 
 -- one turn more was whole
 pub loop-number-preserved : goal.loop-number-preserved
@@ -57,23 +66,32 @@ loop-number-preserved g c =
     let old : Stand = record { own = entries_at (g.G.Desk.seen c.args.pass.now) (g.G.Desk.mine c.args.pass.now); given = g.C.Clock.given c.args.clock.now; whole = g.A.Actuators.whole c.args.devices.now; calls = g.A.Actuators.calls c.args.devices.now } in
     let mid : Stand = record { own = entries_at (g.G.Desk.seen c.loop-number.pass) (g.G.Desk.mine c.loop-number.pass); given = g.C.Clock.given c.loop-number.clock; whole = g.A.Actuators.whole c.loop-number.devices; calls = g.A.Actuators.calls c.loop-number.devices } in
     let new : Stand = record { own = entries_at (g.G.Desk.seen c.turn.new.pass) (g.G.Desk.mine c.turn.new.pass); given = g.C.Clock.given c.turn.new.clock; whole = g.A.Actuators.whole c.turn.new.devices; calls = g.A.Actuators.calls c.turn.new.devices } in
-    let pauses = g.W.Waiter.pauses c.args.waiter.now in
-    let pauses' = g.W.Waiter.pauses c.loop-number.waiter in
+    let pauses = (g.W.Waiter.waited c.args.waiter.now).pauses in
+    let pauses' = (g.W.Waiter.waited c.loop-number.waiter).pauses in
     let before = watch c.loop-number.now c.loop-number.guards in
     let later = watch c.turn.new.now c.turn.new.guards in
     record {
       own = c.turn.ensures.own;
       parts = c.turn.ensures.parts ∙ c.loop-number.invariant.parts;
       took = elim c.if-not-written.branch [
-        | then-not-written+in-Close+else-number-turns w ↦ took_idle c.args.driver c.args.guards.now g.C.Clock.tells g.A.Actuators.tells old mid new g.W.Waiter.tells pauses pauses' (g.W.Waiter.pauses c.if-not-written.waiter) c.loop-number.number before c.loop-number.invariant.took later (subst (λ written. TookTurn g.C.Clock.tells g.A.Actuators.tells mid new c.args.driver before later written) w.if-not-written.true c.in-Ok.ensures.taken)
-            (λ tells. ap g.W.Waiter.pauses w.waiter-is ∙ (w.pause.ensures.counted tells).0)
-        | then-not-written+in_default w ↦ took_idle c.args.driver c.args.guards.now g.C.Clock.tells g.A.Actuators.tells old mid new g.W.Waiter.tells pauses pauses' (g.W.Waiter.pauses c.if-not-written.waiter) c.loop-number.number before c.loop-number.invariant.took later (subst (λ written. TookTurn g.C.Clock.tells g.A.Actuators.tells mid new c.args.driver before later written) w.if-not-written.true c.in-Ok.ensures.taken)
-            (λ tells. ap g.W.Waiter.pauses w.waiter-is ∙ (w.pause.ensures.counted tells).0)
-        | else-not-written w ↦ took_written c.args.driver c.args.guards.now g.C.Clock.tells g.A.Actuators.tells old mid new g.W.Waiter.tells pauses pauses' (g.W.Waiter.pauses c.if-not-written.waiter) c.loop-number.number before c.loop-number.invariant.took later (subst (λ written. TookTurn g.C.Clock.tells g.A.Actuators.tells mid new c.args.driver before later written) w.if-not-written.false c.in-Ok.ensures.taken)
-            (λ tells. ap g.W.Waiter.pauses w.waiter-is)
+        | then-not-written+in-Close+else-number-turns w ↦ took_idle c.args.driver c.args.guards.now g.C.Clock.tells g.A.Actuators.tells old mid new g.W.Waiter.tells pauses pauses' (g.W.Waiter.waited c.if-not-written.waiter).pauses c.loop-number.number before c.loop-number.invariant.took later (subst (λ written. TookTurn g.C.Clock.tells g.A.Actuators.tells mid new c.args.driver before later written) w.if-not-written.true c.in-Ok.ensures.taken)
+            (λ tells. ap (λ it. (g.W.Waiter.waited it).pauses) w.waiter-is ∙ ap (λ (it : Waited). it.pauses) (w.pause.ensures.counted tells).0)
+        | then-not-written+in_default w ↦ took_idle c.args.driver c.args.guards.now g.C.Clock.tells g.A.Actuators.tells old mid new g.W.Waiter.tells pauses pauses' (g.W.Waiter.waited c.if-not-written.waiter).pauses c.loop-number.number before c.loop-number.invariant.took later (subst (λ written. TookTurn g.C.Clock.tells g.A.Actuators.tells mid new c.args.driver before later written) w.if-not-written.true c.in-Ok.ensures.taken)
+            (λ tells. ap (λ it. (g.W.Waiter.waited it).pauses) w.waiter-is ∙ ap (λ (it : Waited). it.pauses) (w.pause.ensures.counted tells).0)
+        | else-not-written w ↦ took_written c.args.driver c.args.guards.now g.C.Clock.tells g.A.Actuators.tells old mid new g.W.Waiter.tells pauses pauses' (g.W.Waiter.waited c.if-not-written.waiter).pauses c.loop-number.number before c.loop-number.invariant.took later (subst (λ written. TookTurn g.C.Clock.tells g.A.Actuators.tells mid new c.args.driver before later written) w.if-not-written.false c.in-Ok.ensures.taken)
+            (λ tells. ap (λ it. (g.W.Waiter.waited it).pauses) w.waiter-is)
       ];
       long = c.turn.ensures.long ∙ c.loop-number.invariant.long;
       soon = c.in-Ok.ensures.soon;
+      waited = λ tells. elim c.if-not-written.branch [
+        | then-not-written+in-Close+else-number-turns w ↦ subst (PausedFor drive_pause (g.W.Waiter.waited c.args.waiter.now)) (sym (ap g.W.Waiter.waited w.waiter-is))
+            (paused-both drive_pause (g.W.Waiter.waited c.args.waiter.now) (g.W.Waiter.waited c.loop-number.waiter) (g.W.Waiter.waited w.pause.new.self)
+            (c.loop-number.invariant.waited tells) (paused-one drive_pause w.pause.result (g.W.Waiter.waited c.loop-number.waiter) (g.W.Waiter.waited w.pause.new.self) (w.pause.ensures.counted tells).0))
+        | then-not-written+in_default w ↦ subst (PausedFor drive_pause (g.W.Waiter.waited c.args.waiter.now)) (sym (ap g.W.Waiter.waited w.waiter-is))
+            (paused-both drive_pause (g.W.Waiter.waited c.args.waiter.now) (g.W.Waiter.waited c.loop-number.waiter) (g.W.Waiter.waited w.pause.new.self)
+            (c.loop-number.invariant.waited tells) (paused-one drive_pause w.pause.result (g.W.Waiter.waited c.loop-number.waiter) (g.W.Waiter.waited w.pause.new.self) (w.pause.ensures.counted tells).0))
+        | else-not-written w ↦ subst (PausedFor drive_pause (g.W.Waiter.waited c.args.waiter.now)) (sym (ap g.W.Waiter.waited w.waiter-is)) (c.loop-number.invariant.waited tells)
+      ];
       clock = c.in-Ok.ensures.clock ∙ c.loop-number.invariant.clock;
       closes = λ less. elim c.if-not-written.branch [
         | then-not-written+in-Close+else-number-turns w ↦ absurd (omega (arith, less, w.if-number-turns.false))

@@ -1,6 +1,7 @@
 use Rattle.std.proofs.Common.{◌≡◌, ◌<◌, ◌≤◌, length}
-use Rattle.boss_model.specs.Limits.{last_moment}
+use Rattle.boss_model.specs.Limits.{drive_pause, last_moment}
 use Rattle.boss_lock.specs.Places.{entries_at}
+use Rattle.def_lanes.specs.Waits.{PausedFor}
 use Rattle.boss_guard.proofs.Turned.{TookSome}
 use Rattle.boss_guard.proofs.driving.take_turns.Given as goal
 
@@ -12,9 +13,10 @@ invariant-loop-number g l = record {
   took : TookSome l.driver l.fn.guards g.C.Clock.tells g.A.Actuators.tells
       (record { own = entries_at (g.G.Desk.seen l.fn.pass) (g.G.Desk.mine l.fn.pass); given = g.C.Clock.given l.fn.clock; whole = g.A.Actuators.whole l.fn.devices; calls = g.A.Actuators.calls l.fn.devices })
       (record { own = entries_at (g.G.Desk.seen l.pass) (g.G.Desk.mine l.pass); given = g.C.Clock.given l.clock; whole = g.A.Actuators.whole l.devices; calls = g.A.Actuators.calls l.devices })
-      g.W.Waiter.tells (g.W.Waiter.pauses l.fn.waiter) (g.W.Waiter.pauses l.waiter) l.number (record { now = l.now; guards = l.guards });
+      g.W.Waiter.tells (g.W.Waiter.waited l.fn.waiter).pauses (g.W.Waiter.waited l.waiter).pauses l.number (record { now = l.now; guards = l.guards });
   long : length l.guards ≡ length l.fn.guards;
   soon : l.now ≤ last_moment;
+  waited : g.W.Waiter.tells → PausedFor drive_pause (g.W.Waiter.waited l.fn.waiter) (g.W.Waiter.waited l.waiter);
   clock : g.C.Clock.faults l.clock ≡ g.C.Clock.faults l.fn.clock;
   closes : l.number < l.turns → g.W.Waiter.closes l.waiter ≡ g.W.Waiter.closes l.fn.waiter;
 }

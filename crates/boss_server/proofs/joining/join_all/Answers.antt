@@ -1,4 +1,4 @@
-use Rattle.std.proofs.Common.{◌≡◌, ℕ, suc, Bool, ◌+◌, ◌-◌, ◌≤◌, ◌||◌, not, false, List, [], ◌∷◌, ◌++◌, length, refl, sym, ap, ◌∙◌, subst, arith, length-append, append-nil, append_assoc, rules}
+use Rattle.std.proofs.Common.{◌≡◌, ℕ, suc, Bool, ◌+◌, ◌-◌, ◌≤◌, ◌||◌, not, true, false, List, [], ◌∷◌, ◌++◌, length, refl, sym, ap, ◌∙◌, subst, arith, length-append, append-nil, append_assoc, rules}
 use Rattle.std.proofs.lemmas.Grind.{common_steps}
 use Rattle.std.proofs.lemmas.List.{nil_from_length}
 use Rattle.boss_worker.specs.declared.flags.Flags.{Flags}
@@ -8,6 +8,7 @@ use Rattle.boss_worker.specs.Troubles.{both_flags}
 use Rattle.def_history.specs.History.{deeds}
 use Rattle.boss_worker.specs.Workers.{devices_at, faults_at, handed_at, served_at, share_at, was_at, HasLeft}
 use Rattle.boss_server.specs.Accounts.{Returned}
+use Rattle.boss_server.specs.Hosted.{hosted_at}
 use Rattle.boss_server.specs.Together.{Together}
 use Rattle.boss_server.specs.Turns.{devices_in, is_any_unrun, shares_in, EachInTurn}
 use Rattle.boss_server.proofs.RanLemmas.{devices-first, each-first, shares-first, unrun-first}
@@ -15,6 +16,7 @@ use Rattle.boss_server.proofs.ReferenceLemmas.{references-same, references-then}
 use Rattle.boss_server.proofs.ReturnedLemmas.{back-length, fits-next, put-length, put-next, returned-first, returned-next}
 use Rattle.boss_server.proofs.TogetherLemmas.{together-first, together-next}
 use Rattle.boss_server.proofs.joining.join_all.Goals as goal
+use Rattle.boss_outside_server.specs.declared.waited.Waited.{Waited}
 
 pub loop-ran-init : goal.loop-ran-init
 loop-ran-init g c =
@@ -33,10 +35,10 @@ loop-ran-init g c =
           ap (λ items. shares_in items (λ worker. share_at g.H.Host worker.duty)) same in omega (arith, e);
       works = [];
       together = subst (λ flags. Together (terms_of c.args.server.now.catalogue.now (g.G.Desk.denies c.args.server.now.desk) c.args.server.now.workers g.H.In.Source.tells g.H.Out.Sink.tells g.H.Host.tells g.C.Clock.tells g.W.Waiter.tells) 0 0 [] (own_of g.G.Desk c.args.pass.now) (g.G.Desk.seen c.args.pass.now)
-          (g.H.Host.served c.args.outside.now.host.now) (g.H.Host.served c.args.outside.now.host.now) (g.C.Clock.given c.args.outside.now.clock.now) (g.C.Clock.given c.args.outside.now.clock.now) (g.H.Host.faults c.args.outside.now.host.now) (g.H.Host.faults c.args.outside.now.host.now)
+          (g.H.Host.served c.args.outside.now.host.now) (g.H.Host.served c.args.outside.now.host.now) (g.C.Clock.given c.args.outside.now.clock.now) (g.C.Clock.given c.args.outside.now.clock.now) (hosted_at g.H.Host c.args.outside.now.host.now) (hosted_at g.H.Host c.args.outside.now.host.now)
           (g.C.Clock.faults c.args.outside.now.clock.now) (g.C.Clock.faults c.args.outside.now.clock.now) flags false) (sym c.none-flags.ensures)
           (together-first (terms_of c.args.server.now.catalogue.now (g.G.Desk.denies c.args.server.now.desk) c.args.server.now.workers g.H.In.Source.tells g.H.Out.Sink.tells g.H.Host.tells g.C.Clock.tells g.W.Waiter.tells) (own_of g.G.Desk c.args.pass.now) (g.G.Desk.seen c.args.pass.now) (g.H.Host.served c.args.outside.now.host.now) (g.C.Clock.given c.args.outside.now.clock.now)
-          (g.H.Host.faults c.args.outside.now.host.now) (g.C.Clock.faults c.args.outside.now.clock.now) (ap deeds c.requires.empty));
+          (hosted_at g.H.Host c.args.outside.now.host.now) (g.C.Clock.faults c.args.outside.now.clock.now) (ap deeds c.requires.empty));
       was = [];
       back = [];
       devices = refl;
@@ -91,7 +93,7 @@ loop-ran-preserved g c =
     let handed : devices_in c.loop-ran.ran-iterator.rest.items (λ worker. was_at worker.duty) ≡ was_at c.worker_of-worker.result.0.duty ++ devices_in c.next.new.self.rest.items (λ worker. was_at worker.duty) =
     ap (λ items. devices_in items (λ worker. was_at worker.duty)) step
     ∙ devices-first c.in-Some.ran c.next.new.self.rest.items (λ worker. was_at worker.duty) c.worker_of-worker.result.0 c.worker_of-worker.result.1 c.worker_of-worker.ensures in
-    let pair : ℕ × Bool = (g.W.Waiter.pauses c.worker_of-worker.result.0.waiter, g.W.Waiter.closed c.worker_of-worker.result.0.waiter) in
+    let note : Waited = g.W.Waiter.waited c.worker_of-worker.result.0.waiter in
     record {
       own = c.join_one.ensures.own;
       parts = omega (arith, c.join_one.ensures.parts, facts.0.2.one, inv.parts, more);
@@ -109,20 +111,20 @@ loop-ran-preserved g c =
           omega (arith, e, inv.all_shares);
       works = inv.works ++ facts.0.2.works;
       together = subst (λ n. Together (terms_of c.args.server.now.catalogue.now (g.G.Desk.denies c.args.server.now.desk) c.args.server.now.workers g.H.In.Source.tells g.H.Out.Sink.tells g.H.Host.tells g.C.Clock.tells g.W.Waiter.tells) n (inv.shares + share_at g.H.Host c.worker_of-worker.result.0.duty) (inv.works ++ facts.0.2.works) (own_of g.G.Desk c.join_one.new.pass) (g.G.Desk.seen c.join_one.new.pass)
-          (g.H.Host.served c.args.outside.now.host.now) (g.H.Host.served c.join_one.new.outside.host.now) (g.C.Clock.given c.args.outside.now.clock.now) (g.C.Clock.given c.join_one.new.outside.clock.now) (g.H.Host.faults c.args.outside.now.host.now) (g.H.Host.faults c.join_one.new.outside.host.now)
+          (g.H.Host.served c.args.outside.now.host.now) (g.H.Host.served c.join_one.new.outside.host.now) (g.C.Clock.given c.args.outside.now.clock.now) (g.C.Clock.given c.join_one.new.outside.clock.now) (hosted_at g.H.Host c.args.outside.now.host.now) (hosted_at g.H.Host c.join_one.new.outside.host.now)
           (g.C.Clock.faults c.args.outside.now.clock.now) (g.C.Clock.faults c.join_one.new.outside.clock.now) c.with-flags.result (c.loop-ran.unrun || not c.worker_of-worker.result.1)) more
           (subst (λ (flags : Flags). Together (terms_of c.args.server.now.catalogue.now (g.G.Desk.denies c.args.server.now.desk) c.args.server.now.workers g.H.In.Source.tells g.H.Out.Sink.tells g.H.Host.tells g.C.Clock.tells g.W.Waiter.tells) (suc (length c.loop-ran.yielded)) (inv.shares + share_at g.H.Host c.worker_of-worker.result.0.duty) (inv.works ++ facts.0.2.works) (own_of g.G.Desk c.join_one.new.pass) (g.G.Desk.seen c.join_one.new.pass)
-          (g.H.Host.served c.args.outside.now.host.now) (g.H.Host.served c.join_one.new.outside.host.now) (g.C.Clock.given c.args.outside.now.clock.now) (g.C.Clock.given c.join_one.new.outside.clock.now) (g.H.Host.faults c.args.outside.now.host.now) (g.H.Host.faults c.join_one.new.outside.host.now)
+          (g.H.Host.served c.args.outside.now.host.now) (g.H.Host.served c.join_one.new.outside.host.now) (g.C.Clock.given c.args.outside.now.clock.now) (g.C.Clock.given c.join_one.new.outside.clock.now) (hosted_at g.H.Host c.args.outside.now.host.now) (hosted_at g.H.Host c.join_one.new.outside.host.now)
           (g.C.Clock.faults c.args.outside.now.clock.now) (g.C.Clock.faults c.join_one.new.outside.clock.now) flags (c.loop-ran.unrun || not c.worker_of-worker.result.1))
           (sym (c.with-flags.ensures ∙ ap (both_flags c.loop-ran.flags) c.join_one.ensures.flags))
           (together-next (terms_of c.args.server.now.catalogue.now (g.G.Desk.denies c.args.server.now.desk) c.args.server.now.workers g.H.In.Source.tells g.H.Out.Sink.tells g.H.Host.tells g.C.Clock.tells g.W.Waiter.tells) (length c.loop-ran.yielded) inv.shares (share_at g.H.Host c.worker_of-worker.result.0.duty) inv.works facts.0.2.works
           (own_of g.G.Desk c.loop-ran.pass) (own_of g.G.Desk c.join_one.new.pass) (own_of g.G.Desk c.worker_of-worker.result.0.pass) (g.G.Desk.seen c.loop-ran.pass) (g.G.Desk.seen c.worker_of-worker.result.0.pass) (g.G.Desk.seen c.join_one.new.pass)
           (g.H.Host.served c.args.outside.now.host.now) (g.H.Host.served c.loop-ran.outside.host.now) (served_at g.H.Host c.worker_of-worker.result.0.duty) (g.H.Host.served c.join_one.new.outside.host.now)
           (g.C.Clock.given c.args.outside.now.clock.now) (g.C.Clock.given c.loop-ran.outside.clock.now) (g.C.Clock.given c.worker_of-worker.result.0.clock) (g.C.Clock.given c.join_one.new.outside.clock.now)
-          (g.H.Host.faults c.args.outside.now.host.now) (g.H.Host.faults c.loop-ran.outside.host.now) (g.H.Host.faults c.join_one.new.outside.host.now)
+          (hosted_at g.H.Host c.args.outside.now.host.now) (hosted_at g.H.Host c.loop-ran.outside.host.now) (hosted_at g.H.Host c.join_one.new.outside.host.now)
           (g.C.Clock.faults c.args.outside.now.clock.now) (g.C.Clock.faults c.loop-ran.outside.clock.now) (g.C.Clock.faults c.join_one.new.outside.clock.now)
           (handed_at g.H.Host c.worker_of-worker.result.0.duty) (faults_at g.H.Host c.worker_of-worker.result.0.duty) (g.C.Clock.faults c.worker_of-worker.result.0.clock) c.loop-ran.flags c.worker_of-worker.result.0.flags c.loop-ran.unrun c.worker_of-worker.result.1
-          inv.together facts.0.2.left c.join_one.ensures.joined c.join_one.ensures.seen c.join_one.ensures.served c.join_one.ensures.given c.join_one.ensures.hosted c.join_one.ensures.ticked));
+          inv.together facts.0.2.left c.join_one.ensures.joined c.join_one.ensures.seen c.join_one.ensures.served c.join_one.ensures.given c.join_one.ensures.hosted c.join_one.ensures.handed c.join_one.ensures.ticked));
       was = inv.was ++ was_at c.worker_of-worker.result.0.duty;
       back = inv.back ++ devices_at c.worker_of-worker.result.0.duty;
       devices = c.join_one.ensures.devices ∙ put-next g.A.Actuators c.args.server.now.workers (length c.loop-ran.yielded) c.worker_of-worker.result.0.duty inv.back c.args.outside.now.devices.now.items c.loop-ran.outside.devices.now.items
@@ -145,12 +147,23 @@ loop-ran-preserved g c =
           (sym (c.with-flags.ensures ∙ ap (both_flags c.loop-ran.flags) c.join_one.ensures.flags))
           (returned-next g.A.Actuators (terms_of c.args.server.now.catalogue.now (g.G.Desk.denies c.args.server.now.desk) c.args.server.now.workers g.H.In.Source.tells g.H.Out.Sink.tells g.H.Host.tells g.C.Clock.tells g.W.Waiter.tells) g.W.Waiter.tells (length c.loop-ran.yielded) c.worker_of-worker.result.0.duty inv.works facts.0.2.works
           (own_of g.G.Desk c.loop-ran.pass) (own_of g.G.Desk c.worker_of-worker.result.0.pass) (own_of g.G.Desk c.join_one.new.pass)
-          (g.W.Waiter.waits c.args.outside.now.waiter.now) (g.W.Waiter.waits c.loop-ran.outside.waiter.now) (g.W.Waiter.waits c.join_one.new.outside.waiter.now) inv.was inv.back pair c.loop-ran.flags c.worker_of-worker.result.0.flags c.loop-ran.unrun c.worker_of-worker.result.1
+          (g.W.Waiter.waits c.args.outside.now.waiter.now) (g.W.Waiter.waits c.loop-ran.outside.waiter.now) (g.W.Waiter.waits c.join_one.new.outside.waiter.now) inv.was inv.back note c.loop-ran.flags c.worker_of-worker.result.0.flags c.loop-ran.unrun c.worker_of-worker.result.1
           inv.returned inv.together.part.agreed facts.0.2.left.part.agreed inv.together.part.of_them facts.0.2.left.part.of_them c.join_one.ensures.joined
-          facts.0.2.placed facts.0.2.called facts.0.2.paired facts.0.2.worked facts.0.2.ended c.join_one.ensures.waited));
+          facts.0.2.placed facts.0.2.called facts.0.2.noted facts.0.2.waits facts.0.2.worked facts.0.2.ended c.join_one.ensures.waited));
       unrun = unrun-first c.in-Some.ran c.next.new.self.rest.items c.worker_of-worker.result.0 c.worker_of-worker.result.1 c.worker_of-worker.ensures c.loop-ran.unrun
           ∙ ap (λ items. c.loop-ran.unrun || is_any_unrun items) (sym step) ∙ inv.unrun;
     }
+
+or-none : (flag : Bool) → (flag || false) ≡ flag
+or-none true = refl
+or-none false = refl
+
+pub returns-clause-unrun : goal.returns-clause-unrun
+returns-clause-unrun g c =
+    let all : length c.loop-ran.yielded ≡ length c.args.done.items =
+    first_of (omega (arith, c.in-None.ensures.steps.0, c.loop-ran.invariant.count), search rules, grind (arith, common_steps)) in
+    let none : c.loop-ran.ran-iterator.rest.items ≡ [] = nil_from_length c.loop-ran.ran-iterator.rest.items (omega (arith, c.loop-ran.invariant.count, all)) in
+    sym (or-none c.loop-ran.unrun) ∙ sym (ap (λ items. c.loop-ran.unrun || is_any_unrun items) none) ∙ c.loop-ran.invariant.unrun
 
 pub returns-clause-account : goal.returns-clause-account
 returns-clause-account g c =
@@ -166,10 +179,10 @@ returns-clause-account g c =
     record {
       works = inv.works;
       together = subst (λ n. Together (terms_of c.args.server.now.catalogue.now (g.G.Desk.denies c.args.server.now.desk) c.args.server.now.workers g.H.In.Source.tells g.H.Out.Sink.tells g.H.Host.tells g.C.Clock.tells g.W.Waiter.tells) n (shares_in c.args.done.items (λ worker. share_at g.H.Host worker.duty)) inv.works (own_of g.G.Desk c.loop-ran.pass) (g.G.Desk.seen c.loop-ran.pass)
-          (g.H.Host.served c.args.outside.now.host.now) (g.H.Host.served c.loop-ran.outside.host.now) (g.C.Clock.given c.args.outside.now.clock.now) (g.C.Clock.given c.loop-ran.outside.clock.now) (g.H.Host.faults c.args.outside.now.host.now) (g.H.Host.faults c.loop-ran.outside.host.now)
+          (g.H.Host.served c.args.outside.now.host.now) (g.H.Host.served c.loop-ran.outside.host.now) (g.C.Clock.given c.args.outside.now.clock.now) (g.C.Clock.given c.loop-ran.outside.clock.now) (hosted_at g.H.Host c.args.outside.now.host.now) (hosted_at g.H.Host c.loop-ran.outside.host.now)
           (g.C.Clock.faults c.args.outside.now.clock.now) (g.C.Clock.faults c.loop-ran.outside.clock.now) c.loop-ran.flags c.loop-ran.unrun) all
           (subst (λ shares. Together (terms_of c.args.server.now.catalogue.now (g.G.Desk.denies c.args.server.now.desk) c.args.server.now.workers g.H.In.Source.tells g.H.Out.Sink.tells g.H.Host.tells g.C.Clock.tells g.W.Waiter.tells) (length c.loop-ran.yielded) shares inv.works (own_of g.G.Desk c.loop-ran.pass) (g.G.Desk.seen c.loop-ran.pass)
-          (g.H.Host.served c.args.outside.now.host.now) (g.H.Host.served c.loop-ran.outside.host.now) (g.C.Clock.given c.args.outside.now.clock.now) (g.C.Clock.given c.loop-ran.outside.clock.now) (g.H.Host.faults c.args.outside.now.host.now) (g.H.Host.faults c.loop-ran.outside.host.now)
+          (g.H.Host.served c.args.outside.now.host.now) (g.H.Host.served c.loop-ran.outside.host.now) (g.C.Clock.given c.args.outside.now.clock.now) (g.C.Clock.given c.loop-ran.outside.clock.now) (hosted_at g.H.Host c.args.outside.now.host.now) (hosted_at g.H.Host c.loop-ran.outside.host.now)
           (g.C.Clock.faults c.args.outside.now.clock.now) (g.C.Clock.faults c.loop-ran.outside.clock.now) c.loop-ran.flags c.loop-ran.unrun) whole inv.together);
       back = inv.back;
       devices_are = inv.devices;

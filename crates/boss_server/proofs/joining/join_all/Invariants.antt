@@ -4,6 +4,7 @@ use Rattle.boss_worker.specs.Desks.{own_of}
 use Rattle.boss_worker.specs.Saying.{terms_of}
 use Rattle.boss_worker.specs.Workers.{share_at, was_at, HasLeft}
 use Rattle.boss_server.specs.Accounts.{Returned}
+use Rattle.boss_server.specs.Hosted.{hosted_at}
 use Rattle.boss_server.specs.References.{KeepsReferences}
 use Rattle.boss_server.specs.Together.{Together}
 use Rattle.boss_server.specs.Turns.{devices_in, is_any_unrun, shares_in, EachInTurn}
@@ -26,7 +27,7 @@ invariant-loop-ran g l = record {
   works : List Work;
   together : Together (terms_of l.server.catalogue.now (g.G.Desk.denies l.server.desk) l.server.workers g.H.In.Source.tells g.H.Out.Sink.tells g.H.Host.tells g.C.Clock.tells g.W.Waiter.tells)
       (length l.yielded) shares works (own_of g.G.Desk l.pass) (g.G.Desk.seen l.pass)
-      (g.H.Host.served l.fn.outside.host.now) (g.H.Host.served l.outside.host.now) (g.C.Clock.given l.fn.outside.clock.now) (g.C.Clock.given l.outside.clock.now) (g.H.Host.faults l.fn.outside.host.now) (g.H.Host.faults l.outside.host.now)
+      (g.H.Host.served l.fn.outside.host.now) (g.H.Host.served l.outside.host.now) (g.C.Clock.given l.fn.outside.clock.now) (g.C.Clock.given l.outside.clock.now) (hosted_at g.H.Host l.fn.outside.host.now) (hosted_at g.H.Host l.outside.host.now)
       (g.C.Clock.faults l.fn.outside.clock.now) (g.C.Clock.faults l.outside.clock.now) l.flags l.unrun;
   was : List g.row.A.Denot;
   back : List g.row.A.Denot;

@@ -13,8 +13,8 @@ returns-clause-ready g c = all-behind
     c.args.made.now.items c.push_in_room.new.items.items _ c.push_in_room.ensures.items c.requires.ready (
       refl,
       omega (arith, c.requires.next, c.from.ensures),
-      fresh-worker g.G.Desk g.H.Host g.C.Clock g.W.Waiter g.A.Actuators c.args.server.now.catalogue.now c.args.server.now.desk c.args.server.now.workers (length c.args.made.now.items) _ _ _ _ _
-          c.split-own_pass.ensures.own.1 c.split-own_pass.ensures.parts.1 c.split-own_pass.ensures.mine.1 c.split-own_pass.ensures.held.1 c.requires.plant c.in_ok-own_clock.ensures.fresh.0 c.in_ok-own_clock.ensures.fresh.1 c.requires.few
+      fresh-worker g.G.Desk g.H.Host g.C.Clock g.W.Waiter g.A.Actuators c.args.server.now.catalogue.now c.args.server.now.desk c.args.server.now.workers (length c.args.made.now.items) _ _ _ _ _ _
+          c.split-own_pass.ensures.own.1 c.split-own_pass.ensures.parts.1 c.split-own_pass.ensures.mine.1 c.split-own_pass.ensures.held.1 c.requires.plant c.in_ok-own_clock.ensures.fresh.0 c.in_ok-own_clock.ensures.fresh.1 c.requires.told c.requires.few
           (c.requires.next, c.of-was.ensures) c.none.ensures,
     )
 

@@ -2,11 +2,14 @@ use Rattle.std.proofs.Common.{◌≡◌, ℕ, suc, Bool, ◌+◌, ◌-◌, ◌�
 use Rattle.std.proofs.lemmas.Grind.{common_steps}
 use Rattle.std.proofs.lemmas.List.{nil_from_length}
 use Rattle.def_lanes.proofs.Lists.{each-append}
+use Rattle.boss_outside_server.specs.declared.waited.Waited.{Waited}
 use Rattle.boss_worker.specs.Workers.{devices_at, was_at, IsReady}
+use Rattle.boss_server.specs.Hosted.{RoseBy}
 use Rattle.boss_server.specs.Turns.{devices_of, AllInTurn}
-use Rattle.boss_server.proofs.FreshLemmas.{fresh-devices, fresh-faults, fresh-placed, fresh-served}
+use Rattle.boss_server.proofs.FreshLemmas.{fresh-devices, fresh-faults, fresh-handed, fresh-placed, fresh-served}
 use Rattle.boss_server.proofs.ReferenceLemmas.{references-same, references-then}
 use Rattle.boss_server.proofs.ReturnedLemmas.{drivers-next, fits-next, put-length, put-next}
+use Rattle.boss_server.proofs.TogetherLemmas.{rose-both, rose-none}
 use Rattle.boss_server.proofs.returning.return_all.Goals as goal
 
 pub loop-worker-init : goal.loop-worker-init
@@ -19,9 +22,9 @@ loop-worker-init g c =
       references = references-same c.args.outside.now;
       sound = c.requires.sound;
       spawner = refl;
-      host = record { served = λ told. refl; faults = refl };
+      host = record { served = λ told. refl; faults = refl; handed = rose-none (g.H.Host.handed c.args.outside.now.host.now) };
       clock = record { given = λ told. refl; faults = refl };
-      waiter = record { pairs = []; noted = λ told. sym (append-nil (g.W.Waiter.waits c.args.outside.now.waiter.now)); unpaused = λ told. tt };
+      waiter = record { notes = []; noted = λ told. sym (append-nil (g.W.Waiter.waits c.args.outside.now.waiter.now)); unpaused = λ told. tt };
       ready = subst (λ items. AllInTurn items 0 (λ number worker. (worker.server.now ≡ c.args.server.now) × (worker.number ≡ number)
           × IsReady g.G.Desk g.H.Host g.C.Clock g.W.Waiter g.A.Actuators c.args.server.now.catalogue.now c.args.server.now.desk c.args.server.now.workers number worker.pass worker.duty worker.clock worker.waiter worker.flags)) (sym same) c.requires.ready;
       count = omega (arith, ap length same);
@@ -68,7 +71,7 @@ loop-worker-preserved g c =
     let more : suc (length c.loop-worker.yielded) ≡ length (c.loop-worker.yielded ++ c.in-Some.worker ∷ []) = omega (arith, length-append c.loop-worker.yielded (c.in-Some.worker ∷ [])) in
     let handed : devices_of c.loop-worker.worker-iterator.rest.items (λ worker. was_at worker.duty) ≡ was_at c.in-Some.worker.duty ++ devices_of c.next.new.self.rest.items (λ worker. was_at worker.duty) =
     ap (λ items. devices_of items (λ worker. was_at worker.duty)) step in
-    let pair : ℕ × Bool = (g.W.Waiter.pauses c.in-Some.worker.waiter, g.W.Waiter.closed c.in-Some.worker.waiter) in
+    let note : Waited = g.W.Waiter.waited c.in-Some.worker.waiter in
     record {
       own = c.join_one.ensures.own;
       parts = omega (arith, c.join_one.ensures.parts, ready.one, inv.parts, more);
@@ -80,15 +83,18 @@ loop-worker-preserved g c =
         served = λ told. c.join_one.ensures.served told ∙ ap (λ list. g.H.Host.served c.loop-worker.outside.host.now ++ list) (fresh-served g.H.Host c.args.server.now.workers (length c.loop-worker.yielded) c.in-Some.worker.duty ready.fresh told)
             ∙ append-nil (g.H.Host.served c.loop-worker.outside.host.now) ∙ inv.host.served told;
         faults = c.join_one.ensures.hosted.fine (fresh-faults g.H.Host c.args.server.now.workers (length c.loop-worker.yielded) c.in-Some.worker.duty ready.fresh) ∙ inv.host.faults;
+        handed = rose-both 0 0 (g.H.Host.handed c.args.outside.now.host.now) (g.H.Host.handed c.loop-worker.outside.host.now) (g.H.Host.handed c.join_one.new.outside.host.now) inv.host.handed
+            (subst (λ more. RoseBy more (g.H.Host.handed c.loop-worker.outside.host.now) (g.H.Host.handed c.join_one.new.outside.host.now))
+            (fresh-handed g.H.Host c.args.server.now.workers (length c.loop-worker.yielded) c.in-Some.worker.duty ready.fresh) c.join_one.ensures.handed);
       };
       clock = record {
         given = λ told. c.join_one.ensures.given told ∙ ap (λ list. g.C.Clock.given c.loop-worker.outside.clock.now ++ list) (ready.given told) ∙ append-nil (g.C.Clock.given c.loop-worker.outside.clock.now) ∙ inv.clock.given told;
         faults = c.join_one.ensures.ticked.fine ready.clock_faults ∙ inv.clock.faults;
       };
       waiter = record {
-        pairs = inv.waiter.pairs ++ pair ∷ [];
-        noted = λ told. c.join_one.ensures.waited told ∙ ap (λ list. list ++ pair ∷ []) (inv.waiter.noted told) ∙ append_assoc (g.W.Waiter.waits c.args.outside.now.waiter.now) inv.waiter.pairs (pair ∷ []);
-        unpaused = λ told. each-append (λ (one : ℕ × Bool). one.0 ≡ 0) inv.waiter.pairs (pair ∷ []) (inv.waiter.unpaused told) (ready.paused told, tt);
+        notes = inv.waiter.notes ++ note ∷ [];
+        noted = λ told. c.join_one.ensures.waited told ∙ ap (λ list. list ++ note ∷ []) (inv.waiter.noted told) ∙ append_assoc (g.W.Waiter.waits c.args.outside.now.waiter.now) inv.waiter.notes (note ∷ []);
+        unpaused = λ told. each-append (λ (one : Waited). one.pauses ≡ 0) inv.waiter.notes (note ∷ []) (inv.waiter.unpaused told) (ap (λ (one : Waited). one.pauses) (ready.waited told), tt);
       };
       ready = subst (λ n. AllInTurn c.next.new.self.rest.items n (λ number worker. (worker.server.now ≡ c.args.server.now) × (worker.number ≡ number)
           × IsReady g.G.Desk g.H.Host g.C.Clock g.W.Waiter g.A.Actuators c.args.server.now.catalogue.now c.args.server.now.desk c.args.server.now.workers number worker.pass worker.duty worker.clock worker.waiter worker.flags)) more all.1;

@@ -9,6 +9,7 @@ use Rattle.boss_worker.specs.Desks.{own_of}
 use Rattle.boss_worker.specs.Saying.{terms_of}
 use Rattle.boss_worker.specs.Workers.{share_at, was_at, HasLeft, IsReady}
 use Rattle.boss_server.specs.Accounts.{Account}
+use Rattle.boss_server.specs.Hosted.{hosted_at}
 use Rattle.boss_server.specs.Together.{RoseWhere}
 use Rattle.boss_server.specs.Turns.{devices_in, devices_of, is_any_unrun, shares_in, shares_of, AllInTurn, EachInTurn}
 use Rattle.boss_server.proofs.Crosses.{Worker-send}
@@ -54,15 +55,15 @@ returns-in-Ok-clause-account g c =
     server.desk number worker.pass worker.duty worker.clock worker.waiter worker.flags)
     (λ n worker ready. (ready.0, ready.1)) c.requires.ready c.in-Ok.ensures.each in
     subst (λ was. Account g.A.Actuators.calls (λ device. g.A.Actuators.tells × g.A.Actuators.whole device) (terms_of c.args.server.now.catalogue.now (g.G.Desk.denies c.args.server.now.desk) c.args.server.now.workers g.H.In.Source.tells g.H.Out.Sink.tells g.H.Host.tells g.C.Clock.tells g.W.Waiter.tells) g.W.Waiter.tells (length c.args.workers.items) (shares_of c.args.workers.items (λ worker. share_at g.H.Host worker.duty)) (own_of g.G.Desk c.join_all.new.pass) (g.G.Desk.seen c.join_all.new.pass)
-    (g.H.Host.served c.args.outside.now.host.now) (g.H.Host.served c.join_all.new.outside.host.now) (g.C.Clock.given c.args.outside.now.clock.now) (g.C.Clock.given c.join_all.new.outside.clock.now) (g.H.Host.faults c.args.outside.now.host.now) (g.H.Host.faults c.join_all.new.outside.host.now)
+    (g.H.Host.served c.args.outside.now.host.now) (g.H.Host.served c.join_all.new.outside.host.now) (g.C.Clock.given c.args.outside.now.clock.now) (g.C.Clock.given c.join_all.new.outside.clock.now) (hosted_at g.H.Host c.args.outside.now.host.now) (hosted_at g.H.Host c.join_all.new.outside.host.now)
     (g.C.Clock.faults c.args.outside.now.clock.now) (g.C.Clock.faults c.join_all.new.outside.clock.now) (g.W.Waiter.waits c.args.outside.now.waiter.now) (g.W.Waiter.waits c.join_all.new.outside.waiter.now)
     was c.args.outside.now.devices.now.items c.join_all.new.outside.devices.now.items c.join_all.result.0 c.join_all.result.1) all.3
     (subst (λ shares. Account g.A.Actuators.calls (λ device. g.A.Actuators.tells × g.A.Actuators.whole device) (terms_of c.args.server.now.catalogue.now (g.G.Desk.denies c.args.server.now.desk) c.args.server.now.workers g.H.In.Source.tells g.H.Out.Sink.tells g.H.Host.tells g.C.Clock.tells g.W.Waiter.tells) g.W.Waiter.tells (length c.args.workers.items) shares (own_of g.G.Desk c.join_all.new.pass) (g.G.Desk.seen c.join_all.new.pass)
-    (g.H.Host.served c.args.outside.now.host.now) (g.H.Host.served c.join_all.new.outside.host.now) (g.C.Clock.given c.args.outside.now.clock.now) (g.C.Clock.given c.join_all.new.outside.clock.now) (g.H.Host.faults c.args.outside.now.host.now) (g.H.Host.faults c.join_all.new.outside.host.now)
+    (g.H.Host.served c.args.outside.now.host.now) (g.H.Host.served c.join_all.new.outside.host.now) (g.C.Clock.given c.args.outside.now.clock.now) (g.C.Clock.given c.join_all.new.outside.clock.now) (hosted_at g.H.Host c.args.outside.now.host.now) (hosted_at g.H.Host c.join_all.new.outside.host.now)
     (g.C.Clock.faults c.args.outside.now.clock.now) (g.C.Clock.faults c.join_all.new.outside.clock.now) (g.W.Waiter.waits c.args.outside.now.waiter.now) (g.W.Waiter.waits c.join_all.new.outside.waiter.now)
     (devices_in c.in-Ok.done.items (λ worker. was_at worker.duty)) c.args.outside.now.devices.now.items c.join_all.new.outside.devices.now.items c.join_all.result.0 c.join_all.result.1) all.2
     (subst (λ n. Account g.A.Actuators.calls (λ device. g.A.Actuators.tells × g.A.Actuators.whole device) (terms_of c.args.server.now.catalogue.now (g.G.Desk.denies c.args.server.now.desk) c.args.server.now.workers g.H.In.Source.tells g.H.Out.Sink.tells g.H.Host.tells g.C.Clock.tells g.W.Waiter.tells) g.W.Waiter.tells n (shares_in c.in-Ok.done.items (λ worker. share_at g.H.Host worker.duty)) (own_of g.G.Desk c.join_all.new.pass) (g.G.Desk.seen c.join_all.new.pass)
-    (g.H.Host.served c.args.outside.now.host.now) (g.H.Host.served c.join_all.new.outside.host.now) (g.C.Clock.given c.args.outside.now.clock.now) (g.C.Clock.given c.join_all.new.outside.clock.now) (g.H.Host.faults c.args.outside.now.host.now) (g.H.Host.faults c.join_all.new.outside.host.now)
+    (g.H.Host.served c.args.outside.now.host.now) (g.H.Host.served c.join_all.new.outside.host.now) (g.C.Clock.given c.args.outside.now.clock.now) (g.C.Clock.given c.join_all.new.outside.clock.now) (hosted_at g.H.Host c.args.outside.now.host.now) (hosted_at g.H.Host c.join_all.new.outside.host.now)
     (g.C.Clock.faults c.args.outside.now.clock.now) (g.C.Clock.faults c.join_all.new.outside.clock.now) (g.W.Waiter.waits c.args.outside.now.waiter.now) (g.W.Waiter.waits c.join_all.new.outside.waiter.now)
     (devices_in c.in-Ok.done.items (λ worker. was_at worker.duty)) c.args.outside.now.devices.now.items c.join_all.new.outside.devices.now.items c.join_all.result.0 c.join_all.result.1) all.1
     c.join_all.ensures.account))

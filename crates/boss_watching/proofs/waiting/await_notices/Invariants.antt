@@ -1,5 +1,7 @@
 use Rattle.std.proofs.Common.{◌≡◌, ◌≤◌, ◌<◌, false}
+use Rattle.boss_model.specs.Limits.{watch_pause}
 use Rattle.boss_lock.specs.Places.{entries_at}
+use Rattle.def_lanes.specs.Waits.{PausedFor}
 use Rattle.def_history.specs.History.{run}
 use Rattle.def_connection.specs.Talks.{standing}
 use Rattle.def_connection.specs.Watching.{Watches}
@@ -20,9 +22,10 @@ invariant-loop-quiet g l = record {
       (standing (entries_at (g.G.Desk.seen l.fn.pass) (g.G.Desk.mine l.fn.pass)) (g.K.Sink.taken l.fn.sink) (g.K.Sink.faults l.fn.sink) (g.C.Clock.given l.fn.clock) false 0)
       (standing (entries_at (g.G.Desk.seen l.pass) (g.G.Desk.mine l.pass)) (g.K.Sink.taken l.sink) (g.K.Sink.faults l.sink) (g.C.Clock.given l.clock) false 0);
   lasts : Lasts l.idle 0 l.quiet (entries_at (g.G.Desk.seen l.fn.pass) (g.G.Desk.mine l.fn.pass)) (entries_at (g.G.Desk.seen l.pass) (g.G.Desk.mine l.pass))
-      g.W.Waiter.tells (g.W.Waiter.pauses l.fn.waiter) (g.W.Waiter.pauses l.waiter);
+      g.W.Waiter.tells (g.W.Waiter.waited l.fn.waiter).pauses (g.W.Waiter.waited l.waiter).pauses;
   goes_on : Began l.quiet l.from l.next (sent l.name (run (g.G.Desk.plant l.desk) (g.G.Desk.seen l.fn.pass) (g.G.Desk.opening l.desk)))
       (sent l.name (run (g.G.Desk.plant l.desk) (g.G.Desk.seen l.pass) (g.G.Desk.opening l.desk)));
+  waited : g.W.Waiter.tells → PausedFor watch_pause (g.W.Waiter.waited l.fn.waiter) (g.W.Waiter.waited l.waiter);
   clock : g.C.Clock.faults l.clock ≡ g.C.Clock.faults l.fn.clock;
   closes : l.quiet < l.idle → g.W.Waiter.closes l.waiter ≡ g.W.Waiter.closes l.fn.waiter;
 }

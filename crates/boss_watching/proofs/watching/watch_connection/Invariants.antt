@@ -1,5 +1,7 @@
 use Rattle.std.proofs.Common.{◌≡◌, ◌≤◌, false}
+use Rattle.boss_model.specs.Limits.{watch_idle, watch_pause}
 use Rattle.boss_lock.specs.Places.{entries_at}
+use Rattle.def_lanes.specs.Waits.{PausedFor}
 use Rattle.def_history.specs.History.{run}
 use Rattle.def_connection.specs.Talks.{standing}
 use Rattle.def_connection.specs.Watching.{Watches}
@@ -19,8 +21,9 @@ invariant-loop-later g l = record {
   watches : Watches (notes l.catalogue) l.session l.name g.K.Sink.tells g.C.Clock.tells l.from l.next
       (standing (entries_at (g.G.Desk.seen l.initial.pass) (g.G.Desk.mine l.initial.pass)) (g.K.Sink.taken l.initial.sink) (g.K.Sink.faults l.initial.sink) (g.C.Clock.given l.initial.clock) false 0)
       (standing (entries_at (g.G.Desk.seen l.pass) (g.G.Desk.mine l.pass)) (g.K.Sink.taken l.sink) (g.K.Sink.faults l.sink) (g.C.Clock.given l.clock) false 0);
-  lasts : Lasts l.idle 0 0 (entries_at (g.G.Desk.seen l.initial.pass) (g.G.Desk.mine l.initial.pass)) (entries_at (g.G.Desk.seen l.pass) (g.G.Desk.mine l.pass))
-      g.W.Waiter.tells (g.W.Waiter.pauses l.initial.waiter) (g.W.Waiter.pauses l.waiter);
+  lasts : Lasts watch_idle 0 0 (entries_at (g.G.Desk.seen l.initial.pass) (g.G.Desk.mine l.initial.pass)) (entries_at (g.G.Desk.seen l.pass) (g.G.Desk.mine l.pass))
+      g.W.Waiter.tells (g.W.Waiter.waited l.initial.waiter).pauses (g.W.Waiter.waited l.waiter).pauses;
+  waited : g.W.Waiter.tells → PausedFor watch_pause (g.W.Waiter.waited l.initial.waiter) (g.W.Waiter.waited l.waiter);
   clock : g.C.Clock.faults l.clock ≡ g.C.Clock.faults l.initial.clock;
   sink : g.K.Sink.faults l.sink ≡ g.K.Sink.faults l.initial.sink;
   closes : g.W.Waiter.closes l.waiter ≡ g.W.Waiter.closes l.initial.waiter;

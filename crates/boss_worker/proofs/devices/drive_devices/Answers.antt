@@ -16,23 +16,23 @@ returns-then-is_guarded-clause-drove g c =
     let pass = subst (λ plant. IsPassOf plant (g.G.Desk.opening c.args.desk.now) (g.G.Desk.seen c.guarded_drive.new.pass) (g.G.Desk.mine c.guarded_drive.new.pass)) (sym c.requires.plant)
     (g.met.G.Desk.owned c.args.desk.now c.guarded_drive.new.pass c.guarded_drive.ensures.own) in
     drove-guarded c.args.catalogue.now (g.G.Desk.opening c.args.desk.now) (g.G.Desk.seen c.guarded_drive.new.pass) (g.G.Desk.mine c.guarded_drive.new.pass) c.args.driver g.C.Clock.tells g.A.Actuators.tells old new
-    g.W.Waiter.tells (g.W.Waiter.pauses c.args.waiter.now) (g.W.Waiter.pauses c.guarded_drive.new.waiter) c.args.turns pass refl c.requires.paused c.guarded_drive.result (sym c.if-is_guarded.ensures) c.guarded_drive.ensures.guarded
+    g.W.Waiter.tells (g.W.Waiter.waited c.args.waiter.now).pauses (g.W.Waiter.waited c.guarded_drive.new.waiter).pauses c.args.turns pass refl c.requires.paused c.guarded_drive.result (sym c.if-is_guarded.ensures) c.guarded_drive.ensures.guarded
 
 pub returns-then-is_guarded-clause-clock : goal.returns-then-is_guarded-clause-clock
 returns-then-is_guarded-clause-clock g c = subst (ClockTrouble (g.C.Clock.faults c.args.clock.now) (g.C.Clock.faults c.guarded_drive.new.clock)) (sym c.guard_trouble.ensures)
     (clock-guarded c.guarded_drive.result (g.C.Clock.faults c.args.clock.now) (g.C.Clock.faults c.guarded_drive.new.clock) c.guarded_drive.ensures.clock)
 
 pub returns-then-is_guarded-clause-disk : goal.returns-then-is_guarded-clause-disk
-returns-then-is_guarded-clause-disk g c = λ is. broken-guarded c.guarded_drive.result (g.G.Desk.seen c.guarded_drive.new.pass) g.W.Waiter.tells (g.W.Waiter.closed c.guarded_drive.new.waiter) (g.W.Waiter.closes c.args.waiter.now) (g.W.Waiter.closes c.guarded_drive.new.waiter)
+returns-then-is_guarded-clause-disk g c = λ is. broken-guarded c.guarded_drive.result (g.G.Desk.seen c.guarded_drive.new.pass) g.W.Waiter.tells (g.W.Waiter.waited c.guarded_drive.new.waiter).closed (g.W.Waiter.closes c.args.waiter.now) (g.W.Waiter.closes c.guarded_drive.new.waiter)
     c.guarded_drive.ensures.cause (sym c.guard_trouble.ensures ∙ is)
 
 pub returns-then-is_guarded-clause-told : goal.returns-then-is_guarded-clause-told
 returns-then-is_guarded-clause-told g c =
     let old : Stand = record { own = entries_at (g.G.Desk.seen c.args.pass.now) (g.G.Desk.mine c.args.pass.now); given = g.C.Clock.given c.args.clock.now; whole = g.A.Actuators.whole c.args.devices.now; calls = g.A.Actuators.calls c.args.devices.now } in
     let new : Stand = record { own = entries_at (g.G.Desk.seen c.guarded_drive.new.pass) (g.G.Desk.mine c.guarded_drive.new.pass); given = g.C.Clock.given c.guarded_drive.new.clock; whole = g.A.Actuators.whole c.guarded_drive.new.devices; calls = g.A.Actuators.calls c.guarded_drive.new.devices } in
-    subst (WasTold old.own new.own g.W.Waiter.tells (g.W.Waiter.closed c.guarded_drive.new.waiter) c.args.turns) (sym c.guard_trouble.ensures)
-    (told-guarded c.args.driver g.C.Clock.tells g.A.Actuators.tells old new g.W.Waiter.tells (g.W.Waiter.pauses c.args.waiter.now) (g.W.Waiter.pauses c.guarded_drive.new.waiter) c.args.turns
-    (g.G.Desk.seen c.guarded_drive.new.pass) (g.W.Waiter.closed c.guarded_drive.new.waiter) (g.W.Waiter.closes c.args.waiter.now) (g.W.Waiter.closes c.guarded_drive.new.waiter) (guards_of c.args.catalogue.now) c.guarded_drive.result c.guarded_drive.ensures.guarded c.guarded_drive.ensures.cause)
+    subst (WasTold old.own new.own g.W.Waiter.tells (g.W.Waiter.waited c.guarded_drive.new.waiter).closed c.args.turns) (sym c.guard_trouble.ensures)
+    (told-guarded c.args.driver g.C.Clock.tells g.A.Actuators.tells old new g.W.Waiter.tells (g.W.Waiter.waited c.args.waiter.now).pauses (g.W.Waiter.waited c.guarded_drive.new.waiter).pauses c.args.turns
+    (g.G.Desk.seen c.guarded_drive.new.pass) (g.W.Waiter.waited c.guarded_drive.new.waiter).closed (g.W.Waiter.closes c.args.waiter.now) (g.W.Waiter.closes c.guarded_drive.new.waiter) (guards_of c.args.catalogue.now) c.guarded_drive.result c.guarded_drive.ensures.guarded c.guarded_drive.ensures.cause)
 
 pub returns-else-is_guarded-clause-drove : goal.returns-else-is_guarded-clause-drove
 returns-else-is_guarded-clause-drove g c =
@@ -41,20 +41,20 @@ returns-else-is_guarded-clause-drove g c =
     let pass = subst (λ plant. IsPassOf plant (g.G.Desk.opening c.args.desk.now) (g.G.Desk.seen c.drive.new.pass) (g.G.Desk.mine c.drive.new.pass)) (sym c.requires.plant)
     (g.met.G.Desk.owned c.args.desk.now c.drive.new.pass c.drive.ensures.own) in
     drove-plain c.args.catalogue.now (g.G.Desk.opening c.args.desk.now) (g.G.Desk.seen c.drive.new.pass) (g.G.Desk.mine c.drive.new.pass) c.args.driver g.C.Clock.tells g.A.Actuators.tells old new
-    g.W.Waiter.tells (g.W.Waiter.pauses c.args.waiter.now) (g.W.Waiter.pauses c.drive.new.waiter) c.args.turns pass refl c.requires.paused c.drive.result (sym c.if-is_guarded.ensures) c.drive.ensures.driven
+    g.W.Waiter.tells (g.W.Waiter.waited c.args.waiter.now).pauses (g.W.Waiter.waited c.drive.new.waiter).pauses c.args.turns pass refl c.requires.paused c.drive.result (sym c.if-is_guarded.ensures) c.drive.ensures.driven
 
 pub returns-else-is_guarded-clause-clock : goal.returns-else-is_guarded-clause-clock
 returns-else-is_guarded-clause-clock g c = subst (ClockTrouble (g.C.Clock.faults c.args.clock.now) (g.C.Clock.faults c.drive.new.clock)) (sym c.work_trouble.ensures)
     (clock-worked c.drive.result (g.C.Clock.faults c.args.clock.now) (g.C.Clock.faults c.drive.new.clock) c.drive.ensures.clock)
 
 pub returns-else-is_guarded-clause-disk : goal.returns-else-is_guarded-clause-disk
-returns-else-is_guarded-clause-disk g c = λ is. broken-worked c.drive.result (g.G.Desk.seen c.drive.new.pass) g.W.Waiter.tells (g.W.Waiter.closed c.drive.new.waiter) (g.W.Waiter.closes c.args.waiter.now) (g.W.Waiter.closes c.drive.new.waiter)
+returns-else-is_guarded-clause-disk g c = λ is. broken-worked c.drive.result (g.G.Desk.seen c.drive.new.pass) g.W.Waiter.tells (g.W.Waiter.waited c.drive.new.waiter).closed (g.W.Waiter.closes c.args.waiter.now) (g.W.Waiter.closes c.drive.new.waiter)
     c.drive.ensures.cause (sym c.work_trouble.ensures ∙ is)
 
 pub returns-else-is_guarded-clause-told : goal.returns-else-is_guarded-clause-told
 returns-else-is_guarded-clause-told g c =
     let old : Stand = record { own = entries_at (g.G.Desk.seen c.args.pass.now) (g.G.Desk.mine c.args.pass.now); given = g.C.Clock.given c.args.clock.now; whole = g.A.Actuators.whole c.args.devices.now; calls = g.A.Actuators.calls c.args.devices.now } in
     let new : Stand = record { own = entries_at (g.G.Desk.seen c.drive.new.pass) (g.G.Desk.mine c.drive.new.pass); given = g.C.Clock.given c.drive.new.clock; whole = g.A.Actuators.whole c.drive.new.devices; calls = g.A.Actuators.calls c.drive.new.devices } in
-    subst (WasTold old.own new.own g.W.Waiter.tells (g.W.Waiter.closed c.drive.new.waiter) c.args.turns) (sym c.work_trouble.ensures)
-    (told-plain c.args.driver g.C.Clock.tells g.A.Actuators.tells old new g.W.Waiter.tells (g.W.Waiter.pauses c.args.waiter.now) (g.W.Waiter.pauses c.drive.new.waiter) c.args.turns
-    (g.G.Desk.seen c.drive.new.pass) (g.W.Waiter.closed c.drive.new.waiter) (g.W.Waiter.closes c.args.waiter.now) (g.W.Waiter.closes c.drive.new.waiter) c.drive.result c.drive.ensures.driven c.drive.ensures.cause)
+    subst (WasTold old.own new.own g.W.Waiter.tells (g.W.Waiter.waited c.drive.new.waiter).closed c.args.turns) (sym c.work_trouble.ensures)
+    (told-plain c.args.driver g.C.Clock.tells g.A.Actuators.tells old new g.W.Waiter.tells (g.W.Waiter.waited c.args.waiter.now).pauses (g.W.Waiter.waited c.drive.new.waiter).pauses c.args.turns
+    (g.G.Desk.seen c.drive.new.pass) (g.W.Waiter.waited c.drive.new.waiter).closed (g.W.Waiter.closes c.args.waiter.now) (g.W.Waiter.closes c.drive.new.waiter) c.drive.result c.drive.ensures.driven c.drive.ensures.cause)

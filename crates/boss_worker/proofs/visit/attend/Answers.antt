@@ -1,6 +1,8 @@
 use Rattle.std.proofs.Common.{sym, ◌∙◌, subst, None, lit<}
 use Rattle.def_lanes.specs.Lanes.{of_session}
+use Rattle.boss_model.specs.Limits.{watch_pause}
 use Rattle.def_lanes.specs.Parts.{Added}
+use Rattle.def_lanes.proofs.WaitLemmas.{paused-none}
 use Rattle.def_history.specs.History.{is_broken}
 use Rattle.boss_model.specs.Catalogue.{actuators}
 use Rattle.boss_outside_server.specs.Hosts.{served_of}
@@ -57,3 +59,6 @@ returns-in_default-clause-broken g c = λ is. broken-served c.serve_connection.r
 pub returns-in-Watch-clause-others : goal.returns-in-Watch-clause-others
 returns-in-Watch-clause-others g c = λ other apart holds.
     subst (Holds (g.G.Desk.denies c.args.desk.now) other None) (sym c.watch_connection.ensures.held) (c.in-Watch.ensures.others other apart holds)
+
+pub returns-in_default-clause-waited : goal.returns-in_default-clause-waited
+returns-in_default-clause-waited g c = λ tells. paused-none watch_pause (g.W.Waiter.waited c.args.waiter.now)

@@ -1,4 +1,6 @@
 use Rattle.std.proofs.Common.{◌≡◌, ℕ, ◌+◌, ◌*◌, ◌-◌, ◌≤◌, false, List, None}
+use Rattle.boss_model.specs.Limits.{watch_pause}
+use Rattle.def_lanes.specs.Waits.{PausedFor}
 use Rattle.def_lanes.specs.Works.{Work}
 use Rattle.boss_sessions.specs.Holding.{Holds}
 use Rattle.boss_worker.specs.Desks.{own_of}
@@ -22,6 +24,8 @@ invariant-connections g l = record {
       (own_of g.G.Desk l.pass) (g.H.Host.served l.fn.host) (g.H.Host.served l.host) (g.C.Clock.given l.fn.clock) (g.C.Clock.given l.clock)
       (g.H.Host.handed l.host) l.next l.flags;
   small : l.next ≤ 32 + 32 * g.H.Host.handed l.host;
+  counted : l.count ≡ g.H.Host.handed l.host;
+  waited : g.W.Waiter.tells → PausedFor watch_pause (g.W.Waiter.waited l.fn.waiter) (g.W.Waiter.waited l.waiter);
   hosted : g.H.Host.faults l.host ≡ 0;
   no_host : l.flags.host ≡ false;
   no_disk : l.flags.disk ≡ false;

@@ -1,0 +1,106 @@
+ghost use Rattle.std.specs.Prelude.{◌≡◌};
+ghost use Rattle.boss_outside_server.specs.Waits.{after_leave, after_pause, leaving_after, lengths_after, new_waited, one_pause_more};
+
+use crate::Woke;
+
+/// The number of pauses at which a count of them stands still: `2 ^ 62`.
+const LAST_PAUSE: u64 = 1 << 62;
+
+/// How long the pauses of a worker were asked to be.
+#[derive(Clone, Copy, Debug, PartialEq, Eq)]
+pub enum Lengths {
+    /// There was none.
+    NoPause,
+    /// Each was to be so long, in milliseconds.
+    Each(u64),
+    /// They were not all to be of one length.
+    Various,
+}
+
+impl Lengths {
+    /// These, and one more pause, in milliseconds.
+    fn after(self, milliseconds: u64) -> Lengths
+        ensures { result ≡ lengths_after self milliseconds }
+    {
+        match self {
+            Lengths::NoPause => Lengths::Each(milliseconds),
+            Lengths::Each(all) if all == milliseconds => self,
+            _ => Lengths::Various,
+        }
+    }
+}
+
+/// Whether a worker has left.
+#[derive(Clone, Copy, Debug, PartialEq, Eq)]
+pub enum Leaving {
+    /// It has not.
+    NotYet,
+    /// It has, once, when it had served so many connections.
+    Once(u32),
+    /// It has left more than once.
+    Often,
+}
+
+impl Leaving {
+    /// The worker leaves, when it has served so many connections.
+    fn after(self, connections: u32) -> Leaving
+        ensures { result ≡ leaving_after self connections }
+    {
+        match self {
+            Leaving::NotYet => Leaving::Once(connections),
+            _ => Leaving::Often,
+        }
+    }
+}
+
+/// What a waiter notes of a worker.
+#[derive(Clone, Copy, Debug, PartialEq, Eq)]
+pub struct Waited {
+    /// The number of its pauses, up to `2 ^ 62`, where it stands still.
+    pub pauses: u64,
+    /// How long they were.
+    pub lengths: Lengths,
+    /// Whether the last one said Close.
+    pub closed: bool,
+    /// How many workers were said to be waited for, before this one began; 0 where nothing was said.
+    pub expected: u32,
+    /// Whether it has left.
+    pub leaving: Leaving,
+}
+
+impl Waited {
+    /// Nothing yet, where so many workers are waited for.
+    pub(crate) fn new(expected: u32) -> Waited
+        ensures { result ≡ new_waited expected }
+    {
+        Waited {
+            pauses: 0,
+            lengths: Lengths::NoPause,
+            closed: false,
+            expected,
+            leaving: Leaving::NotYet,
+        }
+    }
+
+    /// This, and one more pause, in milliseconds, that ended so.
+    pub(crate) fn after_pause(self, milliseconds: u64, woke: Woke) -> Waited
+        ensures { result ≡ after_pause milliseconds woke self }
+    {
+        Waited {
+            pauses: self.pauses.saturating_add(1).min(LAST_PAUSE),
+            lengths: self.lengths.after(milliseconds),
+            closed: matches!(woke, Woke::Close),
+            ..self
+        }
+    }
+
+    /// This, and that the worker leaves, when it has served so many connections.
+    pub(crate) fn after_leave(self, connections: u32) -> Waited
+        ensures { result ≡ after_leave connections self }
+    {
+        Waited {
+            leaving: self.leaving.after(connections),
+            ..self
+        }
+    }
+}

@@ -1,0 +1,28 @@
+use Rattle.std.proofs.Common.{◌≡◌, sym, subst, ◌∙◌}
+use Rattle.boss_server.specs.Hosted.{RoseBy}
+use Rattle.boss_server.proofs.TogetherLemmas.{rose-none}
+use Rattle.boss_serve_jobs.proofs.serving.run_workers.Goals as goal
+
+-- the workers ran, over the host as it listens
+pub returns-in-Ok-ended-clause-ran : goal.returns-in-Ok-ended-clause-ran
+returns-in-Ok-ended-clause-ran g c =
+    let h = g.H.Host in
+    let was = c.args.outside.now.host.now in
+    let bound = c.announce.new.self in
+    let ran = rw c.in-Ok-ended.is at c.serve_keeper-keeper.ensures.ran in
+    let handed : h.handed bound ≡ h.handed was = c.announce.ensures.counts.0 ∙ c.in-Ok.ensures.counts.0 in
+    record {
+      log = ran.log;
+      held = ran.held;
+      end = record {
+        bound = bound;
+        listens = record {
+          served = λ told. c.announce.ensures.connections told ∙ c.in-Ok.ensures.connections told;
+          faults = c.announce.ensures.counts.3 ∙ c.in-Ok.ensures.cause.fine;
+          handed = subst (RoseBy 0 (h.handed was)) (sym handed) (rose-none (h.handed was));
+        };
+        account = ran.account;
+        started = rw c.in-Ok-ended.is at c.serve_keeper-keeper.ensures.started;
+        disk = ran.disk;
+      };
+    }
