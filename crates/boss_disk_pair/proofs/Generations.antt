@@ -26,7 +26,7 @@ use Rattle.boss_snapshot.proofs.KeptFronts.{written_front}
 use Rattle.boss_snapshot.specs.Writes.{state_front, DiffersAtFirst, IsIdle, IsWritten, WhileWriting}
 use Rattle.boss_disk_pair.specs.Images.{OpensEither, OpensTo}
 use Rattle.boss_disk_pair.specs.Orders.{InOrder, stories_of}
-use Rattle.boss_disk_pair.specs.Rests.{forced, IsInForce, Resting}
+use Rattle.boss_disk_pair.specs.Rests.{counted, forced, IsInForce, Resting}
 use Rattle.boss_disk_pair.proofs.Forced.{between, beside_idle, next_in_force, opens_in, from_order}
 use Rattle.boss_disk_pair.proofs.Appends.{rest_holds}
 use Rattle.boss_disk_pair.proofs.Orders.{in_order, other_moves}
@@ -127,23 +127,23 @@ module _ (plant : List Actuator) (digest : List ℕ) (version : ℕ) (second : B
     (other : List ℕ) (beside : Window) (stopped : Bool) (d : Persistent) (count : ℕ)
     (rest : Resting plant digest version second generation number place reads window other beside stopped d count)
     (new_plant : List Actuator) (new_digest : List ℕ) (whole : length new_digest ≡ 32) (e : Persistent)
-    (few : number ≤ last_number) (fits : (state 2).fits e ≡ true) (sound : IsSoundPersistent new_plant e) where
-  pub changed_rests : (gate : ℕ) (now : List ℕ) (last : Window) → IsWritten new_digest ((generation + 1) % 2 ^ 64) number e gate now last →
-      Resting new_plant new_digest 2 (not second) ((generation + 1) % 2 ^ 64) number gate now last reads window stopped e count
-  changed_rests gate now last written =
+    (events : ℕ) (few : events ≤ last_number) (fits : (state 2).fits e ≡ true) (sound : IsSoundPersistent new_plant e) where
+  pub changed_rests : (many : ℕ) → counted many ≡ events → (gate : ℕ) (now : List ℕ) (last : Window) → IsWritten new_digest ((generation + 1) % 2 ^ 64) events e gate now last →
+      Resting new_plant new_digest 2 (not second) ((generation + 1) % 2 ^ 64) events gate now last reads window stopped e many
+  changed_rests many counts gate now last written =
       let small : (generation + 1) % 2 ^ 64 < 2 ^ 64 = omega arith in
       let some : ◌≢◌ {A = ℕ} 66 0 = not_none in
-      let none : number ≡ min (number + 0) last_number = no_more number few in
-      let front = state_front 66 new_digest ((generation + 1) % 2 ^ 64) number e in
+      let none : events ≡ min (events + 0) last_number = no_more events few in
+      let front = state_front 66 new_digest ((generation + 1) % 2 ^ 64) events e in
       let kind : kind_of now ≡ State ((generation + 1) % 2 ^ 64) =
-      ap kind_of written.is ∙ written_kind new_plant new_digest whole e number few fits sound 66 ((generation + 1) % 2 ^ 64) [] some small in
+      ap kind_of written.is ∙ written_kind new_plant new_digest whole e events few fits sound 66 ((generation + 1) % 2 ^ 64) [] some small in
       record {
         front = front;
         from = e;
-        before = number;
+        before = events;
         batches = [];
         course = record {
-          is_front = inr ((generation + 1) % 2 ^ 64, is_front new_plant new_digest whole e number few fits sound 66 ((generation + 1) % 2 ^ 64) some small);
+          is_front = inr ((generation + 1) % 2 ^ 64, is_front new_plant new_digest whole e events few fits sound 66 ((generation + 1) % 2 ^ 64) some small);
           each = tt;
           of_version = λ first. tt;
           leads = refl;
@@ -156,16 +156,16 @@ module _ (plant : List Actuator) (digest : List ℕ) (version : ℕ) (second : B
         is_in_force = turned second reads now (ap (between second (kind_of reads)) kind
             ∙ next_in_force second (kind_of reads) (kind_of other) generation rest.kind (from_order second reads other rest.is_in_force));
         events = none;
-        counts = rest.counts;
+        counts = counts;
       }
 
   -- what is left while it is written
-  pub changing_leaves : (a b : List ℕ) → IsImage window a → WhileWriting other new_digest ((generation + 1) % 2 ^ 64) number e b →
+  pub changing_leaves : (a b : List ℕ) → IsImage window a → WhileWriting other new_digest ((generation + 1) % 2 ^ 64) events e b →
       InOrder (OpensEither plant digest d new_plant new_digest e) second a b
   changing_leaves a b image of =
       let here = synced_image window reads a rest.log.synced image in
       subst (λ x. InOrder (OpensEither plant digest d new_plant new_digest e) second x b) (sym here)
-      (writing_leaves new_plant new_digest whole e number few fits sound plant digest d second reads other b generation _ rest.kind (from_order second reads other rest.is_in_force)
+      (writing_leaves new_plant new_digest whole e events few fits sound plant digest d second reads other b generation _ rest.kind (from_order second reads other rest.is_in_force)
       (rest_holds plant digest rest.whole version rest.front rest.from rest.before rest.batches d reads rest.log.tail rest.course rest.log.is) of)
 
 -- the same run, of the next generation and of this state

@@ -1,10 +1,10 @@
 -- What a call owes for what it did: where it was stopped before, where nothing was done, where commands were done, and where a disk
 -- failed.
-use Rattle.std.proofs.Common.{◌≡◌, inl, inr, Bool, true, false, ◌||◌, ℕ, ◌+◌, List, [], ◌∷◌, ◌++◌, length, take, refl, sym, ap, ◌∙◌, subst, arith, append-nil, length-append}
+use Rattle.std.proofs.Common.{◌≡◌, ◌⊎◌, inl, inr, Bool, true, false, ◌||◌, ℕ, ◌+◌, List, [], ◌∷◌, ◌++◌, length, take, refl, sym, ap, ◌∙◌, subst, arith, append-nil, length-append}
 use Rattle.std.specs.List.{AllByRecursion}
 use Rattle.boss_disk.specs.declared.disk.Disk as disk
 use Rattle.def_history.specs.declared.entry.Entry.{Entry}
-use Rattle.def_history.specs.declared.entry.Entry.TheVariants.{Broke}
+use Rattle.def_history.specs.declared.entry.Entry.TheVariants.{Did, Broke}
 use Rattle.def_history.specs.History.{events, is_broken, run, run_tried, stepped, IsLegal, MayCall}
 use Rattle.def_history.proofs.Going.{tried_whole}
 use Rattle.boss_model.specs.declared.command.Command.{Command}
@@ -12,6 +12,7 @@ use Rattle.boss_model.specs.declared.event.Event.{Event}
 use Rattle.boss_model.specs.declared.state.Actuator.{Actuator}
 use Rattle.boss_model.specs.State.{Persistent, State}
 use Rattle.boss_outside.specs.Counts.{Rose}
+use Rattle.boss_shared.specs.Calls.{is_growing_at}
 use Rattle.boss_shared.specs.Keeping.{shortened}
 use Rattle.boss_shared.proofs.Holding.{whole_shortened}
 use Rattle.boss_disk_pair.specs.Causes.{Counts, counts_of, OneRose}
@@ -22,7 +23,7 @@ use Rattle.boss_durable.specs.declared.batch.Batch.{Batch}
 use Rattle.boss_durable.specs.declared.durable.Durable.{Durable}
 use Rattle.boss_durable.specs.Taken.{Taken}
 use Rattle.boss_engine.specs.Running.{Running}
-use Rattle.boss_durable.specs.Words.{lasting, keeps, leaves, passes, changes, faults, Does, RunsThrough}
+use Rattle.boss_durable.specs.Words.{AreTried, lasting, keeps, leaves, passes, changes, faults, Does, RunsThrough}
 
 never : (b : Bool) → b ≡ true → b ≡ false → ⊥
 never b on off = let clash : true ≡ false = sym on ∙ off in cc
@@ -34,6 +35,11 @@ rose_sum before now (inr rose) = omega (arith, rose.0, rose.1)
 -- where no disk failed, all that was tried was done
 tried_same : (plant : List Actuator) (made : List Entry) (s : State) → is_broken made ≡ false → run_tried plant (shortened 0 made) s ≡ run plant made s
 tried_same plant made s whole = ap (λ es. run_tried plant es s) (whole_shortened 0 made whole) ∙ tried_whole plant made s whole
+
+none_tried : (made : List Entry) → is_broken made ≡ false → AreTried 0 made
+none_tried [] whole = tt
+none_tried (Did session command moment answer ∷ made) whole = none_tried made whole
+none_tried (Broke session commands ∷ made) whole = absurd cc
 
 module _ {D : Type 0} {g : disk.Ghosts D} where
   -- ---- words
@@ -90,7 +96,7 @@ module _ {D : Type 0} {g : disk.Ghosts D} where
     gained = λ off. absurd (never durable.disks.stopped on off);
   })
 
-  gained_there : (old new : Durable D g) (more : List Event) → new.engine.plant ≡ old.engine.plant →
+  pub gained_there : (old new : Durable D g) (more : List Event) → new.engine.plant ≡ old.engine.plant →
       ((count : ℕ) → pair.rests old.disks old.engine.plant (lasting old) count → pair.rests new.disks old.engine.plant (lasting new) (count + length more)) →
       (before : List Event) → keeps old before → keeps new (before ++ more)
   unfolding keeps
@@ -166,8 +172,9 @@ module _ {D : Type 0} {g : disk.Ghosts D} where
   begun_runs old mid new made same still first then before held =
       let ran = then before (still before held) in (
         ran.0,
+        ran.1,
         words.passes_before old.disks mid.disks new.disks old.engine.plant (lasting old) _ (first before held)
-            (subst (λ (e : Running). pair.passes mid.disks new.disks e.plant e.state.persistent (run_tried e.plant (shortened ran.0 made) e.state).persistent) same ran.1),
+            (subst (λ (e : Running). pair.passes mid.disks new.disks e.plant e.state.persistent (run_tried e.plant (shortened ran.0 made) e.state).persistent) same ran.2),
       )
 
   -- ---- nothing done
@@ -199,12 +206,13 @@ module _ {D : Type 0} {g : disk.Ghosts D} where
   unfolding keeps passes
   unmoved_runs old new disks before held = (
     0,
+    tt,
     subst (λ (x : TwoDisks D g). pair.passes old.disks x old.engine.plant (lasting old) (lasting old)) (sym disks)
         (words.rests_passes old.disks old.engine.plant (lasting old) (length before) held),
   )
 
   pub idle_runs : (durable : Durable D g) → RunsThrough durable durable []
-  idle_runs durable before held = (0, keeps_passes durable before held)
+  idle_runs durable before held = (0, tt, keeps_passes durable before held)
 
   -- ---- while commands were done, or tried
 
@@ -214,17 +222,19 @@ module _ {D : Type 0} {g : disk.Ghosts D} where
   unfolding keeps passes
   done_runs old new made batch taken runs before held = (
     0,
+    none_tried made taken.whole,
     subst (λ (s : State). pair.passes old.disks new.disks old.engine.plant (lasting old) s.persistent)
         (taken.state_is ∙ sym (tried_same old.engine.plant made old.engine.state taken.whole)) (runs (length before) held),
   )
 
-  pub failed_runs : (old new : Durable D g) (session tried : ℕ) (calls : List (Command × ℕ)) →
+  pub failed_runs : (old new : Durable D g) (session tried : ℕ) (calls : List (Command × ℕ)) → (tried ≡ length calls) ⊎ (is_growing_at calls tried ≡ true) →
       new.engine.state ≡ stepped old.engine.plant session (take tried calls) old.engine.state →
       ((count : ℕ) → pair.rests old.disks old.engine.plant (lasting old) count → pair.passes old.disks new.disks old.engine.plant (lasting old) (lasting new)) →
       RunsThrough old new (Broke session calls ∷ [])
   unfolding keeps passes
-  failed_runs old new session tried calls came runs before held = (
+  failed_runs old new session tried calls all came runs before held = (
     tried,
+    (all, tt),
     subst (λ (s : State). pair.passes old.disks new.disks old.engine.plant (lasting old) s.persistent) came (runs (length before) held),
   )
 
@@ -255,4 +265,9 @@ module _ {D : Type 0} {g : disk.Ghosts D} where
 
   pub unbegun_runs : (old new : Durable D g) (session : ℕ) (calls : List (Command × ℕ)) →
       ((before : List Event) → keeps old before → passes old new (lasting old) (lasting old)) → RunsThrough old new (Broke session calls ∷ [])
-  unbegun_runs old new session calls runs before held = (0, runs before held)
+  unfolding passes
+  unbegun_runs old new session calls runs before held = (
+    length calls,
+    (inl refl, tt),
+    words.passes_wider old.disks new.disks old.engine.plant (lasting old) _ (runs before held),
+  )

@@ -1,5 +1,5 @@
 -- The events of steps, and how many bytes they have.
-use Rattle.std.proofs.Common.{◌≡◌, true, ℕ, ◌*◌, ◌≤◌, List, [], ◌∷◌, ◌++◌, length, Option, Some, None, refl, sym, ap, ◌∙◌, arith, length-append}
+use Rattle.std.proofs.Common.{◌≡◌, true, ◌*◌, ◌≤◌, List, [], ◌∷◌, length, Option, Some, None, refl, sym, ap, arith, length-append}
 use Rattle.std.specs.List.{AllByRecursion}
 use Rattle.def_bytes.specs.Batches.{batch_text}
 use Rattle.def_bytes.specs.Events.{event}

@@ -1,5 +1,5 @@
 -- What a call of several commands owes.
-use Rattle.std.proofs.Common.{◌≡◌, ◌⊎◌, inl, inr, true, false, ◌||◌, ℕ, zero, suc, ◌+◌, ◌<◌, ◌≤◌, List, [], ◌∷◌, ◌++◌, length, take, Option, Some, None, refl, sym, ap, ◌∙◌, subst, arith, append-nil, length-take}
+use Rattle.std.proofs.Common.{◌≡◌, ◌⊎◌, inl, inr, true, false, ℕ, zero, suc, ◌+◌, ◌<◌, ◌≤◌, List, [], ◌∷◌, ◌++◌, length, take, Option, Some, None, refl, sym, ap, ◌∙◌, subst, arith, append-nil, length-take}
 use Rattle.std.specs.List.{AllByRecursion}
 use Rattle.boss_disk.specs.declared.disk.Disk as disk
 use Rattle.def_history.specs.declared.entry.Entry.TheVariants.{Did, Broke}
@@ -82,6 +82,11 @@ rest_fits calls n done rest within is all wants grows =
       | inl same ↦ subst (RestFits calls done) (sym (all same)) (is ∙ same)
       | inr lower ↦ subst (λ (q : Option Outcome × ℕ). RestFits calls q.1 q.0) (λ i. (sym (wants lower) i, sym is i)) (lower, grows lower)
     ]
+
+-- all were tried, or the next may want memory
+all_tried : (calls : List (Command × ℕ)) (n : ℕ) → n ≤ length calls → (n < length calls → is_growing_at calls n ≡ true) →
+    (n ≡ length calls) ⊎ (is_growing_at calls n ≡ true)
+all_tried calls n within wants = elim (compared n (length calls) within) [ inl same ↦ inl same | inr lower ↦ inr (wants lower) ]
 
 -- ---- the log
 
@@ -182,6 +187,8 @@ module _ {D : Type 0} {g : disk.Ghosts D} where
     all_failed left none within may off on same rose =
         subst (Does old new) (sym (broke_alone session calls left none)) (failed_does old new session (length answers) calls off on same rose may (came within) runs)
 
-    pub all_failed_runs : (left : List Answer) → left ≡ [] → length answers ≤ length calls → RunsThrough old new (made_by_all session calls left (Some DiskFault))
-    all_failed_runs left none within =
-        subst (RunsThrough old new) (sym (broke_alone session calls left none)) (failed_runs old new session (length answers) calls (came within) runs)
+    pub all_failed_runs : (left : List Answer) → left ≡ [] → length answers ≤ length calls → (length answers < length calls → is_growing_at calls (length answers) ≡ true) →
+        RunsThrough old new (made_by_all session calls left (Some DiskFault))
+    all_failed_runs left none within wants =
+        subst (RunsThrough old new) (sym (broke_alone session calls left none))
+        (failed_runs old new session (length answers) calls (all_tried calls (length answers) within wants) (came within) runs)

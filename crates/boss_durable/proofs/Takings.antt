@@ -6,7 +6,7 @@ use Rattle.def_bytes.specs.Batches.{batch_text}
 use Rattle.def_bytes.specs.Events.{event}
 use Rattle.def_history.specs.declared.entry.Entry.{Entry}
 use Rattle.def_history.specs.declared.entry.Entry.TheVariants.{Did}
-use Rattle.def_history.specs.History.{events, if_event, is_broken, run, IsLegal, MayCall}
+use Rattle.def_history.specs.History.{events, if_event, run, MayCall}
 use Rattle.def_history.specs.Made.{done_by, is_growing}
 use Rattle.def_history.proofs.Going.{run_append, events_append, broken_append, legal_append}
 use Rattle.law_spelling.proofs.OfEvents.{event-fits}

@@ -1,6 +1,6 @@
 -- Source: own.
 -- How a call begins, and what its beginning tells of the disks.
-use Rattle.std.specs.Prelude.{◌≡◌, Bool, true, false, ℕ, List, Option, is_none}
+use Rattle.std.specs.Prelude.{◌≡◌, Bool, true, false, ℕ, List, is_none}
 use Rattle.std.specs.List.{AllByRecursion}
 use Rattle.boss_model.specs.declared.command.Command.{Command}
 use Rattle.boss_model.specs.declared.command.Command.TheVariants as command

@@ -2,3 +2,5 @@ pub mod Begun
 pub mod Reached
 pub mod Taken
 pub mod Words
+pub mod Redone
+pub mod Followed

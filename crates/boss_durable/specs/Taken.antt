@@ -1,6 +1,6 @@
 -- Source: own.
 -- What was done so far in a call.
-use Rattle.std.specs.Prelude.{◌≡◌, ℕ, ◌≤◌, true, false, List, length, Some}
+use Rattle.std.specs.Prelude.{◌≡◌, ◌≤◌, true, false, List, length, Some}
 use Rattle.std.specs.List.{AllByRecursion}
 use Rattle.def_bytes.specs.Batches.{batch_text}
 use Rattle.def_bytes.specs.Events.{event}

@@ -1,17 +1,26 @@
 -- Source: own.
 -- What is said of an engine with its disks, and of a call of it, where the disks tell what they hold. Nothing above looks into
 -- these words.
-use Rattle.std.specs.Prelude.{ℕ, ◌+◌, ◌-◌, List, length}
+use Rattle.std.specs.Prelude.{◌≡◌, ◌⊎◌, ℕ, ◌+◌, ◌-◌, true, List, [], ◌∷◌, length}
 use Rattle.boss_disk.specs.declared.disk.Disk as disk
 use Rattle.def_history.specs.declared.entry.Entry.{Entry}
+use Rattle.def_history.specs.declared.entry.Entry.TheVariants.{Did, Broke}
 use Rattle.def_history.specs.History.{run_tried}
 use Rattle.boss_model.specs.declared.event.Event.{Event}
 use Rattle.boss_model.specs.declared.state.Actuator.{Actuator}
 use Rattle.boss_model.specs.State.{Persistent}
+use Rattle.boss_shared.specs.Calls.{is_growing_at}
 use Rattle.boss_shared.specs.Keeping.{shortened, Keeps}
 use Rattle.boss_disk_pair.specs.Causes.{counts_of}
 use Rattle.boss_disk_pair.specs.Rests as pair
 use Rattle.boss_durable.specs.declared.durable.Durable.{Durable}
+
+-- Of the commands that were under way as a disk failed so many were tried: all of them, or those before one that may want memory, for
+-- which there was none.
+abbrev pub AreTried : ℕ → List Entry → Type 0
+AreTried tried [] = Unit {0}
+AreTried tried (Did session command moment answer ∷ entries) = AreTried tried entries
+AreTried tried (Broke session commands ∷ entries) = ((tried ≡ length commands) ⊎ (is_growing_at commands tried ≡ true)) × AreTried tried entries
 
 module _ {D : Type 0} {g : disk.Ghosts D} where
   abbrev pub lasting : Durable D g → Persistent
@@ -49,4 +58,4 @@ module _ {D : Type 0} {g : disk.Ghosts D} where
   -- while it ran, each image opened to what lasted before it, or to what all commands that were tried make of that
   abbrev pub RunsThrough : Durable D g → Durable D g → List Entry → Type 0
   RunsThrough old new made = (before : List Event) → keeps old before →
-      (tried : ℕ) × passes old new (lasting old) (run_tried old.engine.plant (shortened tried made) old.engine.state).persistent
+      (tried : ℕ) × AreTried tried made × passes old new (lasting old) (run_tried old.engine.plant (shortened tried made) old.engine.state).persistent

@@ -8,7 +8,7 @@ ghost use Rattle.boss_model.specs.declared.event.Event.{Event};
 ghost use Rattle.boss_model.specs.Effects.{event_of};
 
 use boss_model::{Buffer, Command, Effect};
-use boss_records::write_event;
+use boss_writing::write_event;
 
 /// The events of one call, as the bytes of the record that they become.
 #[derive(Drop)]

@@ -33,6 +33,7 @@ impl<D: Disk> Durable<D> {
         ensures leaves { (before : List Event) → keeps self.old before → leaves self.new (lasting self.old) (lasting self.old) }
         ensures passes { (before : List Event) → keeps self.old before → passes self.old self.new (lasting self.old) (lasting self.old) }
         ensures engine { self.new.engine ≡ self.old.engine }
+        ensures events { self.new.disks.events ≡ self.old.disks.events }
         ensures limit { self.new.log_limit ≡ self.old.log_limit }
         ensures digest { self.new.disks.digest ≡ self.old.disks.digest }
         ensures cause { BegunCause (counts_of self.old.disks) (counts_of self.new.disks) result }
@@ -69,6 +70,7 @@ impl<D: Disk> Durable<D> {
         ensures leaves { (before : List Event) → keeps self.old before → leaves self.new (lasting self.old) (lasting self.old) }
         ensures passes { (before : List Event) → keeps self.old before → passes self.old self.new (lasting self.old) (lasting self.old) }
         ensures engine { self.new.engine ≡ self.old.engine }
+        ensures events { self.new.disks.events ≡ self.old.disks.events }
         ensures limit { self.new.log_limit ≡ self.old.log_limit }
         ensures digest { self.new.disks.digest ≡ self.old.disks.digest }
         ensures cause { BegunCause (counts_of self.old.disks) (counts_of self.new.disks) result }

@@ -5,6 +5,8 @@
 //! A command begins only where the log has room for a record. Where it has come to its limit a new log begins on the other disk,
 //! behind a kept state of what lasts. Without memory for that, commands that may want memory are answered that there is none, and
 //! the others go on in the old log.
+//!
+//! It can also follow another history: an event of that, or a state, in place of a command.
 #![tactic(auto)]
 
 mod applying;
@@ -14,11 +16,15 @@ mod changing;
 mod closing;
 mod counting;
 mod durable;
+mod followed;
+mod following;
 mod keeper;
 mod several;
 mod sound_engine;
 mod stepping;
 mod taking;
+mod taking_state;
 mod wanting;
 
 pub use durable::Durable;
+pub use followed::Followed;

@@ -25,9 +25,10 @@ impl<D: Disk> Durable<D> {
     /// one record, before they are told as done. `answers` is emptied, and then has an answer for each command that was done.
     ///
     /// Stopped comes exactly where a disk failed in an earlier call, and then nothing else changes; DiskFault where one fails in
-    /// this call. Then none is done, and a crash leaves what those that were tried changed, all of it or nothing. Where no memory
-    /// is to be had for a submit, an attach or notices, that command and those behind it are not done. Where one that may want memory
-    /// was done the log is within its limit.
+    /// this call. Then none is done, and a crash leaves what those that were tried changed, all of it or nothing: all commands were
+    /// tried, or those before one that may want memory, for which there was none. Where no memory is to be had for a submit, an
+    /// attach or notices, that command and those behind it are not done. Where one that may want memory was done the log is within
+    /// its limit.
     pub fn apply_all(
         &mut self,
         session: SessionId,

@@ -1,4 +1,3 @@
-pub mod Spellings
 pub mod Splits
 pub mod Redone
 pub mod ReadOn

@@ -1,4 +1,3 @@
-pub mod Bounds
 pub mod Again
 pub mod UnderWay
 pub mod Reading

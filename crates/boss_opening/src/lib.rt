@@ -6,7 +6,6 @@
 mod checking;
 mod going_on;
 mod opening;
-mod ranges;
 mod reading;
 mod replaying;
 

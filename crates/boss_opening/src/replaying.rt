@@ -5,7 +5,7 @@ ghost use Rattle.boss_model.specs.State.{Persistent};
 ghost use Rattle.boss_opening.specs.Again.{BeginsOn, HasSpelling, Leads, LeadsOn, NoneBegins};
 ghost use Rattle.boss_disk_pair.specs.Reads.{NoneLeads};
 
-use crate::ranges::is_modest;
+use boss_bounds::is_modest;
 use boss_engine::Engine;
 use boss_model::{Act, Event, NoMemory};
 use boss_records::read_event;

@@ -19,7 +19,7 @@ use Rattle.def_disk_pair.specs.Pairs.{HasEvents, IsNew, OfThatInForce}
 use Rattle.law_soundness.proofs.Opened.{first-sound, opened-sound}
 use Rattle.law_effects.proofs.Redone.{replay-sound}
 use Rattle.boss_opening.specs.Opens.{OpenedAt}
-use Rattle.boss_opening.proofs.Spellings.{effective-modest, event-spelled}
+use Rattle.boss_bounds.proofs.Spellings.{effective-modest, event-spelled}
 
 abbrev Fit : List Event → Type 0
 Fit events = AllByRecursion (λ e. event.fits e ≡ true) events

@@ -2,7 +2,8 @@ ghost use Rattle.std.specs.Prelude.{◌≡◌, Some};
 ghost use Rattle.boss_model.specs.Effects.{event_of};
 
 use boss_model::{Act, Buffer, Command, Effect, Event, ProcId};
-use boss_records::{read_event, write_event};
+use boss_records::read_event;
+use boss_writing::{put_event, write_event};
 use std::alloc::Global;
 use std::test::Fail;
 
@@ -75,7 +76,7 @@ fn told(alloc: Global, event: &Event) -> Result<String, Fail> {
     }
 }
 
-/// The bytes spell this event and no more, and the event is written with these bytes.
+/// The bytes spell this event and no more, and the event is written with these bytes, at hand or as what a step made.
 fn spell(alloc: Global, bytes: &[u8], text: &str) -> Result<(), Fail> {
     let Some((event, used)) = read_event(alloc, bytes)? else {
         return Err("no event".into());
@@ -83,10 +84,12 @@ fn spell(alloc: Global, bytes: &[u8], text: &str) -> Result<(), Fail> {
     if used != bytes.len() || told(alloc, &event)?.as_str() != text {
         return Err("another event".into());
     }
+    let mut alone = Buffer::new(alloc, 4_096)?;
+    put_event(&mut alone, &event);
     let mut record = Buffer::new(alloc, 4_096)?;
     let (command, effect) = step_of(event);
     write_event(&mut record, &command, &effect);
-    if record.bytes() != bytes {
+    if alone.bytes() != bytes || record.bytes() != bytes {
         return Err("other bytes".into());
     }
     Ok(())

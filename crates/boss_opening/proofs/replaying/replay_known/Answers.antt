@@ -2,9 +2,9 @@ use Rattle.std.proofs.Common.{sym, ◌∙◌}
 use Rattle.std.proofs.lemmas.Bool.{both_ways}
 use Rattle.boss_model.specs.Acts.{replay}
 use Rattle.boss_opening.specs.Again.{LeadsOn}
-use Rattle.boss_opening.specs.Bounds.{is_modest}
+use Rattle.boss_bounds.specs.Bounds.{is_modest}
 use Rattle.boss_opening.proofs.Redone.{ok_leads}
-use Rattle.boss_opening.proofs.Spellings.{effective-modest, event-spelled}
+use Rattle.boss_bounds.proofs.Spellings.{effective-modest, event-spelled}
 use Rattle.boss_opening.proofs.replaying.replay_known.Goals as goal
 
 pub returns-then-not-is_modest-clause-nowhere : goal.returns-then-not-is_modest-clause-nowhere

@@ -1,13 +1,11 @@
-use Rattle.boss_disk_pair.specs.Rests.{passes, changes}
-use Rattle.boss_disk_pair.proofs.Words.{either_way, passes_leaves}
+use Rattle.boss_disk_pair.specs.Rests.{rests}
+use Rattle.boss_disk_pair.proofs.Words.{either_way}
 use Rattle.boss_disk_pair.proofs.two_disks.TwoDisks.next_generation.Goals as goal
 
-pub returns-clause-passes : goal.returns-clause-passes
-unfolding passes changes
-returns-clause-passes g c plant d count at are sound = λ told. (
-  either_way c.change.result c.change.ensures.digest c.change.ensures.old_digest,
-  c.change.ensures.changes plant plant d d count at are sound told,
-)
+pub returns-clause-rests : goal.returns-clause-rests
+unfolding rests
+returns-clause-rests g c plant d count at are sound =
+    c.take_state.ensures.rests plant d d count count at are sound (λ told. (at told).counts)
 
-pub returns-clause-leaves : goal.returns-clause-leaves
-returns-clause-leaves g c plant d count at are sound = passes_leaves c.args.self.now _ plant d d (returns-clause-passes g c plant d count at are sound)
+pub returns-clause-events : goal.returns-clause-events
+returns-clause-events g c = either_way c.take_state.result c.take_state.ensures.events c.take_state.ensures.old_events

@@ -32,7 +32,7 @@ returns-in-NoMemory-clause-kept g c =
     c.in-NoMemory.ensures.engine c.in-NoMemory.ensures.cause (λ before held. c.in-NoMemory.ensures.keeps before held wanting)
 
 pub returns-in-NoMemory-clause-images : goal.returns-in-NoMemory-clause-images
-returns-in-NoMemory-clause-images g c before held = (0, c.in-NoMemory.ensures.passes before held)
+returns-in-NoMemory-clause-images g c before held = (0, tt, c.in-NoMemory.ensures.passes before held)
 
 pub returns-in-DiskFault-clause-kept : goal.returns-in-DiskFault-clause-kept
 returns-in-DiskFault-clause-kept g c =

@@ -1,4 +1,4 @@
-use Rattle.std.proofs.Common.{◌≡◌, ◌⊎◌, ℕ, ◌+◌, ◌≤◌, take, sym, ◌∙◌, subst}
+use Rattle.std.proofs.Common.{◌⊎◌, ℕ, ◌+◌, ◌≤◌, take, sym, ◌∙◌, subst}
 use Rattle.def_history.specs.Made.{made_by_all}
 use Rattle.boss_durable.specs.Begun.{WantNone}
 use Rattle.boss_durable.specs.Words.{Does, RunsThrough, log}

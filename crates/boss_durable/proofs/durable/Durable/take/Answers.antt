@@ -1,6 +1,5 @@
-use Rattle.std.proofs.Common.{◌≡◌, ◌<◌, ◌≤◌, [], ◌∷◌, length, refl, sym, ap, ◌∙◌, subst, arith}
+use Rattle.std.proofs.Common.{inl, [], ◌∷◌, length, refl, ap, arith}
 use Rattle.def_history.specs.declared.entry.Entry.TheVariants.{Did}
-use Rattle.boss_durable.specs.Taken.{Taken}
 use Rattle.boss_durable.proofs.Doing.{done_does, done_runs, failed_does, failed_runs, unmoved_does, unmoved_keeps, unmoved_runs}
 use Rattle.boss_durable.proofs.Takings.{nothing_taken, short_log, taken_short}
 use Rattle.boss_durable.proofs.durable.Durable.take.Goals as goal
@@ -36,7 +35,7 @@ pub returns-in-Err-append_to-clause-images : goal.returns-in-Err-append_to-claus
 returns-in-Err-append_to-clause-images g c =
     let taken = c.in-Ok.ensures.taken [] c.args.self.now.engine.state
     (nothing_taken c.args.self.now.engine.plant c.args.self.now.engine.state c.clear.new.self (ap (λ b. b.bytes.bytes) c.clear.ensures) (ap (λ b. b.events) c.clear.ensures)) in
-    failed_runs c.args.self.now _ c.args.session 1 ((c.args.command.now, c.args.moment) ∷ []) taken.state_is
+    failed_runs c.args.self.now _ c.args.session 1 ((c.args.command.now, c.args.moment) ∷ []) (inl refl) taken.state_is
     (λ count at. c.append_to.ensures.passes _ _ _ _ count at taken (omega arith))
 
 pub returns-in-Err-clause-kept : goal.returns-in-Err-clause-kept

@@ -1,4 +1,4 @@
-use Rattle.std.proofs.Common.{◌≡◌, ◌≤◌, ◌<◌, length, take, ap, sym, ◌∙◌, arith, length-take}
+use Rattle.std.proofs.Common.{◌≡◌, ◌≤◌, length, take, ◌∙◌, arith, length-take}
 use Rattle.def_history.specs.Made.{done_by}
 use Rattle.boss_durable.proofs.ManyDone.{all_done, all_done_runs, all_failed, all_failed_runs, done_within, rest_fits, stops_at}
 use Rattle.boss_durable.proofs.Takings.{done_few, short_log, taken_short}
@@ -62,3 +62,4 @@ returns-in-Err-clause-images g c =
     omega (arith, done_few c.args.session (take c.args.many c.args.commands.now) c.take_steps.new.answers.items, c.requires.few, c.requires.within) in
     all_failed_runs c.args.self.now _ c.args.session c.args.many c.args.commands.now c.take_steps.new.answers.items c.take_steps.new.batch many c.take_steps.ensures.taken
     (λ count at. c.append_to.ensures.passes _ _ _ _ count at c.take_steps.ensures.taken few) _ c.clear-in-Err.ensures.items (omega (arith, many, c.requires.within))
+    (stops_at c.args.commands.now c.args.many (length c.take_steps.new.answers.items) c.take_steps.ensures.many c.requires.within c.take_steps.ensures.rest c.requires.wants)

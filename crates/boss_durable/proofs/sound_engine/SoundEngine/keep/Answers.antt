@@ -1,21 +1,9 @@
-use Rattle.std.proofs.Common.{◌≡◌, true, List, sym, ap, ◌∙◌, subst}
+use Rattle.std.proofs.Common.{◌≡◌, true, ap, ◌∙◌, subst}
 use Rattle.std.proofs.lemmas.Result.{IfOk-weaker}
-use Rattle.def_bytes.specs.States.{reply, state}
-use Rattle.law_spelling.proofs.OfStates.{reply-fits, state-fits}
-use Rattle.boss_model.specs.declared.state.Actuator.{Actuator}
-use Rattle.boss_model.specs.Plants.{IsPlant}
-use Rattle.boss_model.specs.Sound.{IsSoundPersistent}
-use Rattle.boss_model.specs.State.{Persistent}
-use Rattle.law_spelling.proofs.Stored.{storable}
-use Rattle.law_spelling.specs.Ranges.{IsStoredProcess}
-use Rattle.law_time.proofs.Orders.{each-map}
+use Rattle.def_bytes.specs.States.{state}
 use Rattle.boss_durable.specs.Reached.{IsReached}
+use Rattle.boss_durable.proofs.Redoing.{sound_fits}
 use Rattle.boss_durable.proofs.sound_engine.SoundEngine.keep.Goals as goal
-
-sound_fits : (plant : List Actuator) (d : Persistent) → IsPlant plant → IsSoundPersistent plant d → (state 2).fits d ≡ true
-sound_fits plant d whole sound =
-    let stored = storable plant whole d sound in
-    state-fits 2 d stored (each-map IsStoredProcess (λ p. (reply 2).fits p.reply ≡ true) (λ p is. reply-fits p.reply is.reply) d.processes stored.processes)
 
 pub returns-clause-fits : goal.returns-clause-fits
 returns-clause-fits c =

@@ -28,7 +28,7 @@ use Rattle.def_bytes.proofs.Spelling.{left_true, right_true, both_true}
 use Rattle.law_effects.specs.Changes.{is_new}
 use Rattle.law_effects.specs.Early.{early}
 use Rattle.law_effects.proofs.Early.{replay-refused}
-use Rattle.boss_opening.specs.Bounds.{is_held, is_bounded, is_modest}
+use Rattle.boss_bounds.specs.Bounds.{is_held, is_bounded, is_modest}
 
 -- ---- numbers
 

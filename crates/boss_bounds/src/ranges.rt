@@ -1,7 +1,7 @@
 ghost use Rattle.std.specs.Prelude.{◌≡◌};
 ghost use Rattle.std.specs.List.{list_all};
 ghost use Rattle.boss_model.specs.Submit.{is_length};
-ghost use Rattle.boss_opening.specs.Bounds.{is_bounded, is_held, is_modest};
+ghost use Rattle.boss_bounds.specs.Bounds.{is_bounded, is_held, is_modest};
 
 use boss_model::{Act, LONGEST_HOLD, LONGEST_LEASE, Setting, Step};
 
