@@ -1,0 +1,10 @@
+pub mod Writing
+pub mod Items
+pub mod Parts
+pub mod FirstRecords
+pub mod Batches
+pub mod LogSteps
+pub mod Stood
+pub mod Lifted
+pub mod Forced
+pub mod Looked

@@ -1,0 +1,177 @@
+-- What the disk in force holds of what its pair stands for.
+use Rattle.std.proofs.Common.{◌≡◌, inl, inr, ⊎_elim, ℕ, ◌+◌, ◌<◌, ◌≤◌, true, false, List, [], ◌∷◌, ◌++◌, length, take, drop, refl, sym, ap, subst, ◌∙◌, arith, length-take, length-drop, take-append-drop}
+use Rattle.std.specs.Prelude.{map, nat_lt}
+use Rattle.std.proofs.lemmas.Bool.Decides.{nat_tests}
+use Rattle.std.proofs.lemmas.Bool.{cond-true, cond-false}
+use Rattle.std.proofs.lemmas.List.{length-take-le}
+use Rattle.boss_disk.specs.Window.{Window}
+use Rattle.boss_feeding.specs.Held.{HasLog, HasText}
+use Rattle.boss_feeding.specs.Lines.{lines_text}
+use Rattle.boss_feeding.proofs.FirstRecords.{at_batches}
+use Rattle.boss_feeding.proofs.Items.{lines_join}
+use Rattle.boss_model.specs.declared.event.Event.{Event}
+use Rattle.boss_model.specs.declared.state.Actuator.{Actuator}
+use Rattle.boss_model.specs.Limits.{last_number}
+use Rattle.boss_model.specs.Sound.{IsSoundPersistent}
+use Rattle.boss_model.specs.State.{Persistent, first_persistent}
+use Rattle.boss_snapshot.specs.Fronts.{size_of, text_of, version_of}
+use Rattle.boss_snapshot.specs.Refusals.{IsKeptState, IsState}
+use Rattle.boss_snapshot.specs.Writes.{IsWritten}
+use Rattle.boss_snapshot.proofs.Again.{written_kept}
+use Rattle.boss_snapshot.proofs.KeptFronts.{read_front}
+use Rattle.def_bytes.specs.Batches.{batch_text}
+use Rattle.def_bytes.specs.States.{state}
+use Rattle.def_disk_pair.specs.Fronts.{IsFront}
+use Rattle.def_disk_pair.specs.Pairs.{HasEvents, IsNew, OfThatInForce, StandsFor}
+use Rattle.def_disk_pair.proofs.OfKinds.{state_front}
+use Rattle.def_disk_pair.proofs.Prefixes.{same_front}
+use Rattle.def_feed.specs.Feeds.{event_items, feed_text, state_items}
+use Rattle.def_log.specs.declared.kind.DiskKind.{DiskKind}
+use Rattle.def_log.specs.declared.kind.DiskKind.TheVariants.{Idle, Plain, State, Other}
+use Rattle.def_log.specs.InForce.{InForce, Foreign, Neither, First, Second}
+use Rattle.def_log.specs.Kinds.{in_force, kind_of}
+use Rattle.def_log.specs.Log.{spelled}
+
+-- ---- the disk in force
+
+module _ (plant : List Actuator) (digest : List ℕ) (base : Persistent) (before : ℕ) (events : List Event) (first second : List ℕ)
+    (stands : StandsFor plant digest base before events first second) where
+  of : (i : InForce) → in_force (kind_of first) (kind_of second) ≡ i →
+      OfThatInForce (HasEvents plant digest base before events) (λ bytes. IsNew bytes × (base ≡ first_persistent) × (before ≡ 0) × (events ≡ [])) i first second
+  of i is = subst (λ j. OfThatInForce (HasEvents plant digest base before events) (λ bytes. IsNew bytes × (base ≡ first_persistent) × (before ≡ 0) × (events ≡ [])) j first second) is stands
+
+  pub first_has : in_force (kind_of first) (kind_of second) ≡ First → HasEvents plant digest base before events first
+  first_has is = of First is
+
+  pub second_has : in_force (kind_of first) (kind_of second) ≡ Second → HasEvents plant digest base before events second
+  second_has is = of Second is
+
+  pub never_foreign : in_force (kind_of first) (kind_of second) ≡ Foreign → ⊥
+  never_foreign is = of Foreign is
+
+  pub new_has : in_force (kind_of first) (kind_of second) ≡ Neither → (before ≡ 0) × (events ≡ [])
+  new_has is = let new = of Neither is in (new.2, new.3)
+
+-- ---- what is told of it
+
+module _ (from : ℕ) (base : Persistent) (before : ℕ) (events : List Event) where
+  abbrev base_text : List ℕ
+  base_text = lines_text (state_items before ((state 2).text base))
+
+  abbrev events_text : List ℕ
+  events_text = lines_text (event_items from (before + 1) events)
+
+  pub feed_with : from < before → feed_text from base before events ≡ base_text ++ events_text
+  feed_with above =
+      let test : nat_lt from before ≡ true = grind (arith, nat_tests, above) in
+      ap (λ items. lines_text (items ++ event_items from (before + 1) events)) (cond-true (nat_lt from before) (state_items before ((state 2).text base)) [] test)
+      ∙ lines_join (state_items before ((state 2).text base)) (event_items from (before + 1) events)
+
+  pub feed_without : before ≤ from → feed_text from base before events ≡ events_text
+  feed_without below =
+      let test : nat_lt from before ≡ false = grind (arith, nat_tests, below) in
+      ap (λ items. lines_text (items ++ event_items from (before + 1) events)) (cond-false (nat_lt from before) (state_items before ((state 2).text base)) [] test)
+
+pub feed_new : (from : ℕ) (base : Persistent) (before : ℕ) (events : List Event) → before ≡ 0 → events ≡ [] → feed_text from base before events ≡ []
+feed_new from base before events none nothing =
+    feed_without from base before events (omega (arith, none)) ∙ ap (λ es. lines_text (event_items from (before + 1) es)) nothing
+
+-- no state is told where none is before the events
+pub feed_plain_log : (from : ℕ) (base : Persistent) (before : ℕ) (events : List Event) → before ≡ 0 → lines_text (event_items from (0 + 1) events) ≡ feed_text from base before events
+feed_plain_log from base before events none =
+    ap (λ n. lines_text (event_items from (n + 1) events)) (sym none) ∙ sym (feed_without from base before events (omega (arith, none)))
+
+-- the same of the same
+pub feed_same : (from : ℕ) (base other : Persistent) (before many : ℕ) (events : List Event) → base ≡ other → before ≡ many →
+    feed_text from base before events ≡ feed_text from other many events
+feed_same from base other before many events one two = ap (λ d. feed_text from d before events) one ∙ ap (λ n. feed_text from other n events) two
+
+-- ---- a journal from the first state on
+
+module _ (plant : List Actuator) (digest : List ℕ) (base : Persistent) (before : ℕ) (events : List Event) (bytes : List ℕ)
+    (has : HasEvents plant digest base before events bytes) (len : length digest ≡ 32) where
+  -- a log behind a front
+  log_behind : (gate : ℕ) → gate ≡ length has.2.front → HasLog gate events bytes
+  log_behind gate here = record {
+    front = has.2.front;
+    batches = has.0;
+    log = has.2.log;
+    placed = here;
+    each = has.2.course.each;
+    are = has.3;
+  }
+
+  abbrev PlainLog : Type 0
+  PlainLog = HasLog 41 events bytes × (before ≡ 0)
+
+  plain_behind : IsFront plant digest has.2.version base before has.2.front → kind_of bytes ≡ Plain → PlainLog
+  plain_behind (inl plain) kind =
+      let long : 41 ≡ length has.2.front = omega (arith, ap length plain.is, len) in (log_behind 41 long, plain.none_before)
+  plain_behind (inr kept) kind =
+      let at = at_batches (length has.2.front) events bytes has.2.front has.0 has.2.log refl in
+      let other : kind_of bytes ≡ State kept.0 = ap kind_of at.is ∙ state_front plant digest len has.2.version kept.0 base before has.2.front at.gate at.tail kept.1 in
+      let bad : Plain ≡ State kept.0 = sym kind ∙ other in absurd cc
+
+  pub plain_log : kind_of bytes ≡ Plain → PlainLog
+  plain_log kind = plain_behind has.2.course.is_front kind
+
+-- ---- a kept state
+
+generation_of_kind : (kind : DiskKind) → IsState kind → (generation : ℕ) × (kind ≡ State generation)
+generation_of_kind Idle is = absurd is
+generation_of_kind Plain is = absurd is
+generation_of_kind (State generation) is = (generation, refl)
+generation_of_kind Other is = absurd is
+
+-- a disk with a kept state that is sound, and what its pair stands for
+pub record Kept (base d : Persistent) (before many gate : ℕ) (events : List Event) (bytes : List ℕ) : Type 0 where
+  pub base_is : base ≡ d
+  pub before_is : before ≡ many
+  pub log : HasLog gate events bytes
+
+pub kept_log : (plant : List Actuator) (digest : List ℕ) (base : Persistent) (before : ℕ) (events : List Event) (bytes : List ℕ) (d : Persistent) (many gate : ℕ) →
+    HasEvents plant digest base before events bytes → IsState (kind_of bytes) → IsKeptState digest bytes d many gate → IsSoundPersistent plant d →
+    Kept base d before many gate events bytes
+kept_log plant digest base before events bytes d many gate has state kept sound =
+    let generation = generation_of_kind (kind_of bytes) state in
+    let mine = read_front digest bytes generation.0 many gate d kept plant generation.1 sound in
+    let inside = kept.gate in
+    let same = same_front plant digest (version_of bytes) has.2.version d base many before (take gate bytes) has.2.front (drop gate bytes) (spelled (map batch_text has.0) ++ has.2.log.gate ∷ has.2.log.tail)
+    (inr (generation.0, mine)) has.2.course.is_front (take-append-drop gate bytes ∙ has.2.log.is) in
+    record {
+      base_is = sym same.from_same;
+      before_is = sym same.before_same;
+      log = record {
+        front = has.2.front;
+        batches = has.0;
+        log = has.2.log;
+        placed = sym (length-take-le gate bytes (omega (arith, inside))) ∙ ap length same.front_same;
+        each = has.2.course.each;
+        are = has.3;
+      };
+    }
+
+-- ---- the text of a state
+
+module _ (digest bytes : List ℕ) (d : Persistent) (many gate : ℕ) (kept : IsKeptState digest bytes d many gate) where
+  pub second_version : (version_of bytes ≡ 1 → ⊥) → version_of bytes ≡ 2
+  second_version other = ⊎_elim (λ one. absurd (other one)) (λ two. two) kept.known
+
+  pub text_there : version_of bytes ≡ 2 → HasText gate ((state 2).text d) bytes
+  text_there two =
+      let behind = kept.behind in
+      let inside = kept.gate in
+      let text : text_of bytes ≡ (state 2).text d = kept.spells.is ∙ ap (λ v. (state v).text d) two in
+      let long : length (text_of bytes) ≡ size_of bytes = omega (arith, behind, inside, length-take (size_of bytes) (drop 65 bytes), length-drop 65 bytes) in
+      let size : size_of bytes ≡ length ((state 2).text d) = sym long ∙ ap length text in
+      record {
+        size = behind ∙ ap (λ n. 65 + n) size;
+        is = ap (λ n. take n (drop 65 bytes)) (sym size) ∙ text;
+      }
+
+pub written_text : (digest bytes : List ℕ) (before : ℕ) (d : Persistent) (gate : ℕ) (window : Window) → length digest ≡ 32 → before ≤ last_number → (state 2).fits d ≡ true →
+    IsWritten digest 0 before d gate bytes window → HasText gate ((state 2).text d) bytes × (gate ≤ length bytes)
+written_text digest bytes before d gate window len few fits written =
+    let kept = written_kept digest bytes 0 before d len written.is (omega arith) few fits gate written.gate in
+    let inside = kept.gate in
+    (text_there digest bytes d before gate kept (ap version_of written.is), omega (arith, inside))

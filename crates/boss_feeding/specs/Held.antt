@@ -1,0 +1,22 @@
+-- Source: own.
+-- What the disk in force holds, as it is told.
+use Rattle.std.specs.Prelude.{◌≡◌, ℕ, ◌+◌, List, length, map, take, drop}
+use Rattle.std.specs.List.{AllByRecursion}
+use Rattle.boss_model.specs.declared.event.Event.{Event}
+use Rattle.def_bytes.specs.Batches.{batch_text, IsBatch}
+use Rattle.def_disk_pair.specs.Contents.{joined}
+use Rattle.def_log.specs.Log.{IsLog}
+
+-- From place 65 up to the first gate stands this text.
+pub record HasText (gate : ℕ) (text bytes : List ℕ) : Type 0 where
+  pub size : gate ≡ 65 + length text
+  pub is : take (length text) (drop 65 bytes) ≡ text
+
+-- From a gate on stand records of these events.
+pub record HasLog (gate : ℕ) (events : List Event) (bytes : List ℕ) : Type 0 where
+  pub front : List ℕ
+  pub batches : List (List Event)
+  pub log : IsLog front (map batch_text batches) bytes
+  pub placed : gate ≡ length front
+  pub each : AllByRecursion IsBatch batches
+  pub are : events ≡ joined batches

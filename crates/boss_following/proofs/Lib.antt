@@ -1,0 +1,10 @@
+pub mod Bytes
+pub mod Lines
+pub mod Ascending
+pub mod Owning
+pub mod Moving
+pub mod Stepping
+pub mod Running
+pub mod Ending
+pub mod Feeding
+pub mod Owned
