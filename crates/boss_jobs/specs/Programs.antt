@@ -9,7 +9,7 @@ use Rattle.boss_points.specs.declared.CatalogueRefusal.{CatalogueRefusal}
 use Rattle.boss_points.specs.declared.CatalogueRefusal.TheVariants.{UnknownDriver}
 use Rattle.boss_points.specs.Reading.{catalogue_of, ◌>>=◌}
 use Rattle.boss_words.specs.declared.Job.{Job}
-use Rattle.boss_words.specs.declared.Job.TheVariants.{Script, Serve, Check, Adopt, Load}
+use Rattle.boss_words.specs.declared.Job.TheVariants.{Script, Serve, Check, Adopt, Feed, Standby, Load}
 use Rattle.boss_words.specs.Words.{job_of}
 
 -- the catalogue's file of a script whose journal is in memory alone
@@ -18,6 +18,8 @@ catalogue_word (Script catalogue journal) = if bytes_eq journal (codes "-") then
 catalogue_word (Serve catalogue journal address workers connections rules plan) = None
 catalogue_word (Check catalogue journal) = None
 catalogue_word (Adopt old new journal) = None
+catalogue_word (Feed catalogue journal from) = None
+catalogue_word (Standby catalogue journal) = None
 catalogue_word (Load count seed) = None
 
 abbrev pub script_of_words : List (List ℕ) → Option (List ℕ)
@@ -29,6 +31,8 @@ is_served (Some (Script catalogue journal)) = true
 is_served (Some (Check catalogue journal)) = true
 is_served (Some (Adopt old new journal)) = true
 is_served (Some (Serve catalogue journal address workers connections rules plan)) = true
+is_served (Some (Feed catalogue journal from)) = true
+is_served (Some (Standby catalogue journal)) = true
 is_served (Some (Load count seed)) = true
 is_served None = false
 

@@ -37,6 +37,8 @@ impl Status {
     pub const RULES: Status = Status(16);
     /// The plan of the devices was refused.
     pub const PLAN: Status = Status(17);
+    /// A feed was not followed to its end: events are missing, a line is at fault, or it ends within a state.
+    pub const STANDBY: Status = Status(18);
 }
 
 impl fmt::Display for Status {
@@ -58,6 +60,7 @@ impl fmt::Display for Status {
             Status::ADOPTION => "the adoption of a changed catalogue was refused",
             Status::RULES => "the access rules were refused",
             Status::PLAN => "the plan of the devices was refused",
+            Status::STANDBY => "a feed was not followed to its end",
             Status(_) => "no status of the program",
         })
     }

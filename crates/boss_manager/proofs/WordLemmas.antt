@@ -6,8 +6,8 @@ use Rattle.std.specs.Option.{option_and_then}
 use Rattle.std.specs.Str.{bytes_eq}
 use Rattle.std.specs.Str.Parse.{digits_value}
 use Rattle.boss_words.specs.declared.job.Job.{Job}
-use Rattle.boss_words.specs.declared.job.Job.TheVariants.{Script, Serve, Check, Adopt, Load}
-use Rattle.boss_words.specs.Words.{adopt_of, check_of, is_number, job_of, load_of, number_of, optional_of, script_of, serve_of, word_of}
+use Rattle.boss_words.specs.declared.job.Job.TheVariants.{Script, Serve, Check, Adopt, Feed, Standby, Load}
+use Rattle.boss_words.specs.Words.{adopt_of, check_of, event_number_of, feed_of, is_number, job_of, load_of, number_of, optional_of, script_of, serve_of, standby_of, word_of}
 
 -- the workers of a server are 1 to 32; of other jobs nothing is said
 abbrev Fits : Option Job → Type 0
@@ -15,6 +15,8 @@ Fits (Some (Serve catalogue journal address workers connections rules plan)) = (
 Fits (Some (Script catalogue journal)) = Unit {0}
 Fits (Some (Check catalogue journal)) = Unit {0}
 Fits (Some (Adopt old new journal)) = Unit {0}
+Fits (Some (Feed catalogue journal from)) = Unit {0}
+Fits (Some (Standby catalogue journal)) = Unit {0}
 Fits (Some (Load count seed)) = Unit {0}
 Fits None = Unit {0}
 
@@ -67,6 +69,19 @@ fits-adopt (a ∷ []) = tt
 fits-adopt (a ∷ b ∷ []) = tt
 fits-adopt (a ∷ b ∷ c ∷ d ∷ more) = tt
 
+fits-feed : (arguments : List (List ℕ)) → Fits (feed_of arguments)
+fits-feed (catalogue ∷ journal ∷ from ∷ []) = fits-then _ (event_number_of from) (λ n _. fits-then _ (word_of catalogue) (λ c _. fits-then _ (word_of journal) (λ j _. tt)))
+fits-feed [] = tt
+fits-feed (a ∷ []) = tt
+fits-feed (a ∷ b ∷ []) = tt
+fits-feed (a ∷ b ∷ c ∷ d ∷ more) = tt
+
+fits-standby : (arguments : List (List ℕ)) → Fits (standby_of arguments)
+fits-standby (catalogue ∷ journal ∷ []) = fits-then _ (word_of catalogue) (λ c _. fits-then _ (word_of journal) (λ j _. tt))
+fits-standby [] = tt
+fits-standby (a ∷ []) = tt
+fits-standby (a ∷ b ∷ c ∷ more) = tt
+
 fits-load : (arguments : List (List ℕ)) → Fits (load_of arguments)
 fits-load (count ∷ seed ∷ []) = fits-then _ (number_of 1 10000 count) (λ n _. fits-then _ (number_of 0 4294967295 seed) (λ m _. tt))
 fits-load [] = tt
@@ -90,7 +105,9 @@ fits-job (job ∷ arguments) =
     (fits-if (bytes_eq job (codes "serve")) _ _ (fits-serve arguments)
     (fits-if (bytes_eq job (codes "check")) _ _ (fits-check arguments)
     (fits-if (bytes_eq job (codes "adopt")) _ _ (fits-adopt arguments)
-    (fits-if (bytes_eq job (codes "load")) _ _ (fits-load arguments) tt))))
+    (fits-if (bytes_eq job (codes "feed")) _ _ (fits-feed arguments)
+    (fits-if (bytes_eq job (codes "standby")) _ _ (fits-standby arguments)
+    (fits-if (bytes_eq job (codes "load")) _ _ (fits-load arguments) tt))))))
 
 -- a server that the words ask for has 1 to 32 workers
 pub workers-fit : (words : List (List ℕ)) (name journal address : List ℕ) (workers connections : ℕ) (rules plan : Option (List ℕ)) → job_of words ≡ Some (Serve name journal address workers connections rules plan) → (1 ≤ workers) × (workers ≤ 32)

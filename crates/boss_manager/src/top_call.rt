@@ -7,27 +7,29 @@ ghost use Rattle.boss_jobs.specs.Jobs.{DoesScript, SaysUsage, world};
 ghost use Rattle.boss_jobs.specs.KeptScripts.{DoesKeptScript};
 ghost use Rattle.boss_jobs.specs.LoadJobs.{DoesLoad};
 ghost use Rattle.boss_jobs.specs.Programs.{is_served, script_of_words};
+ghost use Rattle.boss_standby_jobs.specs.FeedJobs.{FeedsJournal, FeedsMemory};
+ghost use Rattle.boss_standby_jobs.specs.StandbyJobs.{DoesStandby, StandbyMemory};
 ghost use Rattle.boss_serve_jobs.specs.ServeJobs.{DoesServe, is_serve, server_world, ServesInMemory};
 
-use boss_adopt_jobs::{adopt_kept, adopt_memory};
+use crate::doing::do_words;
 use boss_files::Files;
-use boss_jobs::{Status, check_kept, check_memory, do_kept_script, do_load, do_script, say_usage};
+use boss_jobs::Status;
 use boss_outside::{Actuators, Sink, Source};
 use boss_outside_server::{Clock, Host, Spawner, Waiter};
-use boss_serve_jobs::{Service, World, do_kept_serve, do_memory_serve};
-use boss_words::{Job, WordsRefusal, read_words};
 use std::alloc::Global;
 use std::sync::Wait;
 
 /// Does what the words ask for. They do not include the program's own name.
 ///
 /// This is a script, `script CATALOGUE JOURNAL`, a server, `serve CATALOGUE JOURNAL ADDRESS WORKERS CONNECTIONS RULES PLAN`, a check, `check
-/// CATALOGUE JOURNAL`, an adoption of a changed catalogue, `adopt OLD NEW JOURNAL`, or a generated load, `load COUNT SEED`. A script reads the catalogue, opens the journal, answers the lines of
-/// the source to the sink and drives the devices, the d-th of them for driver d. A server does so for so many connections that the host
+/// CATALOGUE JOURNAL`, an adoption of a changed catalogue, `adopt OLD NEW JOURNAL`, a feed, `feed CATALOGUE JOURNAL FROM`, a standby,
+/// `standby CATALOGUE JOURNAL`, or a generated load, `load COUNT SEED`. A script reads the catalogue, opens the journal, answers the lines
+/// of the source to the sink and drives the devices, the d-th of them for driver d. A server does so for so many connections that the host
 /// takes at the address, by so many workers, in time that the clock tells. A check tells what the journal stands for. An adoption takes
-/// that over under the new catalogue, where no removed point is in use and each point takes all values that it holds. The journal is
-/// kept in two files, that of its name and that of its name with `.b` behind it, or with `-` in memory alone. A load tells what came of
-/// a generated day.
+/// that over under the new catalogue, where no removed point is in use and each point takes all values that it holds. A feed tells the
+/// journal's events above FROM, and a standby does again in its own journal what a feed from the source tells. The journal is kept in two
+/// files, that of its name and that of its name with `.b` behind it, or with `-` in memory alone. A load tells what came of a generated
+/// day.
 pub fn boss<
     R: Wait + Sync + Drop,
     F: Files,
@@ -76,6 +78,18 @@ where
     ensures adopt_memory { (old_name new_name : List ℕ) → job_of (texts words.now.items) ≡ Some (job.Adopt old_name new_name (codes "-"))
         → AdoptsMemory ⟦<F as Files>⟧ ⟦<S as Source>⟧ ⟦<K as Sink>⟧ ⟦<A as Actuators>⟧ old_name new_name (vec_len devices.old)
         (world files.old source.old sink.old devices.old.items) (world files.new source.new sink.new devices.new.items) result.0 }
+    ensures feed { (name journal : List ℕ) (from : ℕ) → job_of (texts words.now.items) ≡ Some (job.Feed name journal from) → journal ≢ codes "-"
+        → FeedsJournal F.Files S.Source K.Sink A.Actuators name journal from (vec_len devices.old)
+        (world files.old source.old sink.old devices.old.items) (world files.new source.new sink.new devices.new.items) result.0 }
+    ensures feed_memory { (name : List ℕ) (from : ℕ) → job_of (texts words.now.items) ≡ Some (job.Feed name (codes "-") from)
+        → FeedsMemory F.Files S.Source K.Sink A.Actuators name (vec_len devices.old)
+        (world files.old source.old sink.old devices.old.items) (world files.new source.new sink.new devices.new.items) result.0 }
+    ensures standby { (name journal : List ℕ) → job_of (texts words.now.items) ≡ Some (job.Standby name journal) → journal ≢ codes "-"
+        → DoesStandby F.Files S.Source K.Sink A.Actuators name journal (vec_len devices.old)
+        (world files.old source.old sink.old devices.old.items) (world files.new source.new sink.new devices.new.items) result.0 }
+    ensures standby_memory { (name : List ℕ) → job_of (texts words.now.items) ≡ Some (job.Standby name (codes "-"))
+        → StandbyMemory F.Files S.Source K.Sink A.Actuators name (vec_len devices.old)
+        (world files.old source.old sink.old devices.old.items) (world files.new source.new sink.new devices.new.items) result.0 }
     ensures serve { (name journal address : List ℕ) (workers connections : ℕ) (rules plan : Option (List ℕ))
         → job_of (texts words.now.items) ≡ Some (job.Serve name journal address workers connections rules plan) → journal ≢ codes "-"
         → DoesServe F.Files S.Source K.Sink A.Actuators H.Host H.In.Source H.Out.Sink
@@ -103,89 +117,7 @@ where
         → SaysUsage ⟦<F as Files>⟧ ⟦<S as Source>⟧ ⟦<K as Sink>⟧ ⟦<A as Actuators>⟧
         (world files.old source.old sink.old devices.old.items) (world files.new source.new sink.new devices.new.items) result.0 }
 {
-    match read_words(alloc, words) {
-        Ok(Job::Script { catalogue, journal }) => {
-            if journal.text() == "-" {
-                do_script(alloc, catalogue.text(), files, source, sink, devices)
-            } else {
-                do_kept_script(
-                    alloc,
-                    catalogue.text(),
-                    journal.text(),
-                    files,
-                    source,
-                    sink,
-                    devices,
-                )
-            }
-        }
-        Ok(Job::Check { catalogue, journal }) => {
-            if journal.text() == "-" {
-                check_memory(alloc, catalogue.text(), files, source, sink, devices)
-            } else {
-                check_kept(
-                    alloc,
-                    catalogue.text(),
-                    journal.text(),
-                    files,
-                    source,
-                    sink,
-                    devices,
-                )
-            }
-        }
-        Ok(
-            Job::Serve {
-                catalogue,
-                journal,
-                address,
-                workers,
-                connections,
-                rules,
-                plan,
-            },
-        ) => {
-            let service = Service {
-                address: address.text(),
-                workers,
-                connections,
-                rules: &rules,
-                plan: &plan,
-            };
-            let world = World {
-                files,
-                source,
-                sink,
-                devices,
-                clock,
-                host,
-                waiter,
-                spawner,
-            };
-            if journal.text() == "-" {
-                do_memory_serve(rt, alloc, catalogue.text(), service, world)
-            } else {
-                do_kept_serve(rt, alloc, catalogue.text(), journal.text(), service, world)
-            }
-        }
-        Ok(Job::Adopt { old, new, journal }) => {
-            if journal.text() == "-" {
-                adopt_memory(alloc, old.text(), new.text(), files, source, sink, devices)
-            } else {
-                adopt_kept(
-                    alloc,
-                    old.text(),
-                    new.text(),
-                    journal.text(),
-                    files,
-                    source,
-                    sink,
-                    devices,
-                )
-            }
-        }
-        Ok(Job::Load { count, seed }) => do_load(alloc, count, seed, sink),
-        Err(WordsRefusal::Usage) => say_usage(sink),
-        Err(WordsRefusal::NoMemory) => Status::NO_MEMORY,
-    }
+    do_words(
+        rt, alloc, words, files, source, sink, devices, clock, host, waiter, spawner,
+    )
 }

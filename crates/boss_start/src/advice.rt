@@ -4,7 +4,7 @@ use boss_manager::Status;
 use std::alloc::{AllocError, Global};
 
 /// One sentence for a status: what happened, and what to do about it, with the names among the program's words. Where all was done there
-/// is one only for a check or an adoption that found neither of a journal's files. Where the catalogue was refused for a point, it has that point's name.
+/// is one only for a check, a feed or an adoption that found neither of a journal's files. Where the catalogue was refused for a point, it has that point's name.
 pub fn advice(
     alloc: Global,
     status: Status,
@@ -16,7 +16,7 @@ pub fn advice(
         return Ok(Some(sentence(alloc, status, words, point)?));
     }
     let journal = journal_word(words);
-    if has_journal || !is_told_new(word_at(words, 0)) || journal == "-" {
+    if has_journal || !tells_none(word_at(words, 0)) || journal == "-" {
         return Ok(None);
     }
     let sentence = format!(in alloc;
@@ -84,9 +84,10 @@ fn sentence(
 const ADOPT: &str = "adopt";
 
 const USAGE: &str =
-    "these words ask for nothing that it does; write script CATALOGUE JOURNAL, check CATALOGUE JOURNAL, adopt OLD NEW JOURNAL or \
-    serve CATALOGUE JOURNAL ADDRESS WORKERS CONNECTIONS, with - for a journal in memory alone, RULES after them where names have access \
-    rules and PLAN after these, or - for none, where devices have a plan, or load COUNT SEED";
+    "these words ask for nothing that it does; write script CATALOGUE JOURNAL, check CATALOGUE JOURNAL, adopt OLD NEW JOURNAL, \
+    feed CATALOGUE JOURNAL FROM, standby CATALOGUE JOURNAL or serve CATALOGUE JOURNAL ADDRESS WORKERS CONNECTIONS, with - for a journal \
+    in memory alone, RULES after them where names have access rules and PLAN after these, or - for none, where devices have a plan, or \
+    load COUNT SEED";
 
 const FILE_FAULT: &str = "a file failed, as an earlier line says; mend that and start again";
 
@@ -110,6 +111,9 @@ fn of_this_run(status: Status) -> &'static str {
     if status == Status::LINE_TOO_LONG {
         return "a line of the standard input has more than 65,535 bytes; shorten it and go on from there";
     }
+    if status == Status::STANDBY {
+        return "the feed was followed up to there and no further, as the line says; ask for it again from the number of events that a check of the journal tells";
+    }
     if status == Status::TOO_MANY_LINES {
         return "the standard input has more than 4,294,967,296 lines; go on with the others in another run";
     }
@@ -128,9 +132,9 @@ fn of_catalogue(alloc: Global, catalogue: &str, point: Option<&str>) -> Result<S
     }
 }
 
-/// Whether the job of this name says of a journal that it is new.
-fn is_told_new(job: &str) -> bool {
-    job == "check" || job == ADOPT
+/// Whether the job of this name leaves it at that where a journal is not there.
+fn tells_none(job: &str) -> bool {
+    job == "check" || job == "feed" || job == ADOPT
 }
 
 /// The journal's name among the words: it stands behind one catalogue, or behind two.

@@ -1,6 +1,6 @@
 -- Source: own.
 -- The table of words. No word is an option, and the number of words is exactly the row's.
-use Rattle.std.specs.Prelude.{ℕ, Bool, nat_le, ◌&&◌, if◌then◌else◌, List, [], ◌∷◌, length, map, codes, Option, Some, None, String, string_bytes}
+use Rattle.std.specs.Prelude.{ℕ, ◌^◌, Bool, nat_le, nat_lt, ◌&&◌, if◌then◌else◌, List, [], ◌∷◌, length, map, codes, Option, Some, None, String, string_bytes}
 use Rattle.std.specs.Option.{option_and_then}
 use Rattle.std.specs.Char.{is_ascii_digit}
 use Rattle.std.specs.List.{list_all}
@@ -8,7 +8,7 @@ use Rattle.std.specs.Str.{bytes_eq}
 use Rattle.std.specs.Str.Parse.{digits_value}
 use Rattle.std.specs.declared.alloc.Global.{Global}
 use Rattle.boss_words.specs.declared.job.Job.{Job}
-use Rattle.boss_words.specs.declared.job.Job.TheVariants.{Script, Serve, Check, Adopt, Load}
+use Rattle.boss_words.specs.declared.job.Job.TheVariants.{Script, Serve, Check, Adopt, Feed, Standby, Load}
 
 abbrev pub texts : List (String Global) → List (List ℕ)
 texts words = map (λ word. string_bytes word) words
@@ -30,6 +30,14 @@ is_number text = nat_le 1 (length text) && nat_le (length text) 10 && list_all i
 abbrev pub number_of : ℕ → ℕ → List ℕ → Option ℕ
 number_of least most text =
     if is_number text && nat_le least (digits_value 10 text) && nat_le (digits_value 10 text) most then Some (digits_value 10 text) else None
+
+-- 1 to 19 decimal digits, without a sign
+abbrev pub is_event_number : List ℕ → Bool
+is_event_number text = nat_le 1 (length text) && nat_le (length text) 19 && list_all is_ascii_digit text
+
+-- the number of an event that they spell, below 2^62
+abbrev pub event_number_of : List ℕ → Option ℕ
+event_number_of text = if is_event_number text && nat_lt (digits_value 10 text) (2 ^ 62) then Some (digits_value 10 text) else None
 
 -- script CATALOGUE JOURNAL
 abbrev pub script_of : List (List ℕ) → Option Job
@@ -84,6 +92,23 @@ adopt_of (old ∷ new ∷ journal ∷ []) = do
   Some (Adopt old new journal)
 adopt_of _ = None
 
+-- feed CATALOGUE JOURNAL FROM
+abbrev pub feed_of : List (List ℕ) → Option Job
+feed_of (catalogue ∷ journal ∷ from ∷ []) = do
+  from ← event_number_of from
+  catalogue ← word_of catalogue
+  journal ← word_of journal
+  Some (Feed catalogue journal from)
+feed_of _ = None
+
+-- standby CATALOGUE JOURNAL
+abbrev pub standby_of : List (List ℕ) → Option Job
+standby_of (catalogue ∷ journal ∷ []) = do
+  catalogue ← word_of catalogue
+  journal ← word_of journal
+  Some (Standby catalogue journal)
+standby_of _ = None
+
 -- load COUNT SEED
 abbrev pub load_of : List (List ℕ) → Option Job
 load_of (count ∷ seed ∷ []) = do
@@ -100,4 +125,6 @@ job_of (job ∷ arguments) =
     (if bytes_eq job (codes "serve") then serve_of arguments else
     (if bytes_eq job (codes "check") then check_of arguments else
     (if bytes_eq job (codes "adopt") then adopt_of arguments else
-    (if bytes_eq job (codes "load") then load_of arguments else None))))
+    (if bytes_eq job (codes "feed") then feed_of arguments else
+    (if bytes_eq job (codes "standby") then standby_of arguments else
+    (if bytes_eq job (codes "load") then load_of arguments else None))))))

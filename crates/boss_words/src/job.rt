@@ -43,6 +43,22 @@ pub enum Job {
         /// The journal's file, or `-` for a journal in memory alone.
         journal: Word,
     },
+    /// Tell what a journal stands for, as lines that a standby follows.
+    Feed {
+        /// The catalogue's file.
+        catalogue: Word,
+        /// The journal's file, or `-` for a journal in memory alone.
+        journal: Word,
+        /// The number of the last event that is known already, or 0: below 2^62.
+        from: u64,
+    },
+    /// Follow another journal: its feed comes line by line on the standard input.
+    Standby {
+        /// The catalogue's file.
+        catalogue: Word,
+        /// The journal's file, or `-` for a journal in memory alone.
+        journal: Word,
+    },
     /// Run a generated script.
     Load {
         /// How many transactions it submits: 1 to 10,000.

@@ -1,7 +1,10 @@
 ghost use Rattle.std.specs.Prelude.{◌≡◌, ◌≤◌};
 ghost use Rattle.std.specs.Char.{is_ascii_digit};
 ghost use Rattle.std.specs.List.{list_all};
-ghost use Rattle.boss_words.specs.Words.{is_number, number_of};
+ghost use Rattle.boss_words.specs.Words.{event_number_of, is_event_number, is_number, number_of};
+
+/// Numbers of events are below this.
+const EVENT_NUMBERS: u64 = 1 << 62;
 
 /// The number that 1 to 10 decimal digits spell, if it lies within these bounds. A sign is no digit.
 pub(crate) fn number(text: &str, least: u32, most: u32) -> Option<u32>
@@ -23,6 +26,30 @@ fn is_number(text: &str) -> bool
 {
     match text.len() {
         1..=10 => all_digits(text),
+        _ => false,
+    }
+}
+
+/// The number of an event that 1 to 19 decimal digits spell, if it is below 2^62. A sign is no digit.
+pub(crate) fn event_number(text: &str) -> Option<u64>
+    ensures { result ≡ event_number_of text.now }
+{
+    if !is_event_number(text) {
+        return None;
+    }
+    match text.parse::<u64>() {
+        Ok(number) if number < EVENT_NUMBERS => Some(number),
+        Ok(_) => None,
+        Err(_) => None,
+    }
+}
+
+/// Whether the text is 1 to 19 decimal digits.
+fn is_event_number(text: &str) -> bool
+    ensures { result ≡ is_event_number text.now }
+{
+    match text.len() {
+        1..=19 => all_digits(text),
         _ => false,
     }
 }

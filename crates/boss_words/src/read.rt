@@ -1,9 +1,9 @@
-ghost use Rattle.boss_words.specs.Words.{texts, job_of, script_of, serve_of, check_of, adopt_of, load_of, optional_of, file_of};
+ghost use Rattle.boss_words.specs.Words.{texts, job_of, script_of, serve_of, check_of, adopt_of, feed_of, standby_of, load_of, optional_of, file_of};
 ghost use Rattle.boss_words.specs.Given.{Gives};
 ghost use Rattle.boss_words.specs.declared.read.WordsRefusal.TheVariants.{NoMemory};
 ghost use Rattle.std.specs.Prelude.{◌≡◌};
 
-use crate::number::number;
+use crate::number::{event_number, number};
 use crate::{Job, Word};
 use std::alloc::{AllocError, Global};
 use std::error::Error;
@@ -49,6 +49,8 @@ pub fn read_words(alloc: Global, words: &Vec<String>) -> Result<Job, WordsRefusa
         "serve" => serve(alloc, arguments),
         "check" => check(alloc, arguments),
         "adopt" => adopt(alloc, arguments),
+        "feed" => feed(alloc, arguments),
+        "standby" => standby(alloc, arguments),
         "load" => load(arguments),
         _ => Err(WordsRefusal::Usage),
     }
@@ -154,6 +156,35 @@ fn adopt(alloc: Global, arguments: &[String]) -> Result<Job, WordsRefusal>
     let new = Word::new(alloc, new.as_str())?;
     let journal = Word::new(alloc, journal.as_str())?;
     Ok(Job::Adopt { old, new, journal })
+}
+
+/// `feed CATALOGUE JOURNAL FROM`
+fn feed(alloc: Global, arguments: &[String]) -> Result<Job, WordsRefusal>
+    ensures { Gives result (feed_of (texts arguments.now)) }
+{
+    let [catalogue, journal, from] = arguments else {
+        return Err(WordsRefusal::Usage);
+    };
+    let from = event_number(from.as_str()).ok_or(WordsRefusal::Usage)?;
+    let catalogue = Word::new(alloc, catalogue.as_str())?;
+    let journal = Word::new(alloc, journal.as_str())?;
+    Ok(Job::Feed {
+        catalogue,
+        journal,
+        from,
+    })
+}
+
+/// `standby CATALOGUE JOURNAL`
+fn standby(alloc: Global, arguments: &[String]) -> Result<Job, WordsRefusal>
+    ensures { Gives result (standby_of (texts arguments.now)) }
+{
+    let [catalogue, journal] = arguments else {
+        return Err(WordsRefusal::Usage);
+    };
+    let catalogue = Word::new(alloc, catalogue.as_str())?;
+    let journal = Word::new(alloc, journal.as_str())?;
+    Ok(Job::Standby { catalogue, journal })
 }
 
 /// `load COUNT SEED`

@@ -1,5 +1,5 @@
 //! Trials of the whole transaction manager: worked scripts, byte for byte, the statuses of runs that end early, plans and rules that are refused, journals that are checked,
-//! catalogues that are adopted, generated loads, and the bounds of what is kept.
+//! catalogues that are adopted, feeds that are told and followed, generated loads, and the bounds of what is kept.
 #![tactic(auto)]
 
 #[cfg(test)]
@@ -24,3 +24,5 @@ mod runs;
 mod scripts;
 #[cfg(test)]
 mod shorter_lists;
+#[cfg(test)]
+mod standbys;

@@ -1,86 +1,104 @@
-use Rattle.std.proofs.Common.{inl, inr, refl, vec_len}
-use Rattle.boss_words.specs.Words.{texts}
+use Rattle.std.proofs.Common.{vec_len}
 use Rattle.boss_jobs.specs.Jobs.{world}
 use Rattle.boss_serve_jobs.specs.ServeJobs.{server_world}
-use Rattle.boss_jobs.proofs.KeptLemmas.{checks-kept, checks-memory, does-kept, none-asked}
-use Rattle.boss_serve_jobs.proofs.ServeLemmas.{does-serve, serves-memory}
-use Rattle.boss_adopt_jobs.proofs.Completing.{does-adopt, does-adopt-memory}
-use Rattle.boss_manager.proofs.WordLemmas.{workers-fit}
+use Rattle.boss_words.specs.Words.{job_of, texts}
+use Rattle.boss_manager.proofs.Asked.{asked-adopt, asked-adopt_memory, asked-apart, asked-check, asked-check_memory, asked-feed, asked-feed_memory, asked-kept, asked-load, asked-script, asked-serve, asked-serve_memory, asked-standby, asked-standby_memory, asked-usage, asked-usage_only}
 use Rattle.boss_manager.proofs.top_call.boss.Goals as goal
 
--- ---- a server's workers are as many as its row allows
-
-pub do_memory_serve-requires-clause-some : goal.do_memory_serve-requires-clause-some
-do_memory_serve-requires-clause-some g c = λ _ _. (workers-fit (texts c.args.words.now.items) _ _ _ _ _ _ _ (rw c.in-Ok-Serve.field-0-is at c.in-Ok-Serve.ensures)).0
-
-pub do_memory_serve-requires-clause-few : goal.do_memory_serve-requires-clause-few
-do_memory_serve-requires-clause-few g c = λ _ _. (workers-fit (texts c.args.words.now.items) _ _ _ _ _ _ _ (rw c.in-Ok-Serve.field-0-is at c.in-Ok-Serve.ensures)).1
-
-pub do_kept_serve-requires-clause-some : goal.do_kept_serve-requires-clause-some
-do_kept_serve-requires-clause-some g c = λ _ _. (workers-fit (texts c.args.words.now.items) _ _ _ _ _ _ _ (rw c.in-Ok-Serve.field-0-is at c.in-Ok-Serve.ensures)).0
-
-pub do_kept_serve-requires-clause-few : goal.do_kept_serve-requires-clause-few
-do_kept_serve-requires-clause-few g c = λ _ _. (workers-fit (texts c.args.words.now.items) _ _ _ _ _ _ _ (rw c.in-Ok-Serve.field-0-is at c.in-Ok-Serve.ensures)).1
-
--- ---- no memory for the words: nothing was done
+pub returns-clause-script : goal.returns-clause-script
+returns-clause-script g c = asked-script g.F.Files g.S.Source g.K.Sink g.A.Actuators g.H.Host g.H.In.Source g.H.Out.Sink g.C.Clock g.W.Waiter g.P.Spawner (vec_len c.args.devices.now)
+    (server_world (world c.args.files.now c.args.source.now c.args.sink.now c.args.devices.now.items) c.args.clock.now c.args.host.now c.args.waiter.now c.args.spawner.now)
+    (server_world (world c.do_words.new.files c.do_words.new.source c.do_words.new.sink c.do_words.new.devices.items) c.do_words.new.clock c.do_words.new.host c.do_words.new.waiter c.do_words.new.spawner)
+    c.do_words.result.0 (job_of (texts c.args.words.now.items)) c.do_words.ensures.does
 
 pub returns-clause-kept_script : goal.returns-clause-kept_script
-returns-clause-kept_script g c name journal is named =
-    let all = world c.args.files.now c.args.source.now c.args.sink.now c.args.devices.now.items in
-    does-kept g.F.Files g.S.Source g.K.Sink g.A.Actuators all all 8 name (vec_len c.args.devices.now) journal
-    (inl (record { why = inr (refl, refl); source = refl; sink = refl; devices = refl }))
-    (λ tells. none-asked _ (g.F.Files.asked c.args.files.now))
-    (λ tells file first second. refl)
+returns-clause-kept_script g c = asked-kept g.F.Files g.S.Source g.K.Sink g.A.Actuators g.H.Host g.H.In.Source g.H.Out.Sink g.C.Clock g.W.Waiter g.P.Spawner (vec_len c.args.devices.now)
+    (server_world (world c.args.files.now c.args.source.now c.args.sink.now c.args.devices.now.items) c.args.clock.now c.args.host.now c.args.waiter.now c.args.spawner.now)
+    (server_world (world c.do_words.new.files c.do_words.new.source c.do_words.new.sink c.do_words.new.devices.items) c.do_words.new.clock c.do_words.new.host c.do_words.new.waiter c.do_words.new.spawner)
+    c.do_words.result.0 (job_of (texts c.args.words.now.items)) c.do_words.ensures.does
 
 pub returns-clause-check : goal.returns-clause-check
-returns-clause-check g c name journal is named =
-    let all = world c.args.files.now c.args.source.now c.args.sink.now c.args.devices.now.items in
-    checks-kept g.F.Files g.S.Source g.K.Sink g.A.Actuators all all 8 name (vec_len c.args.devices.now) journal
-    (inl (record { why = inr (refl, refl); source = refl; sink = refl; devices = refl }))
-    (λ tells file. refl) refl refl
-    (λ tells. none-asked _ (g.F.Files.asked c.args.files.now))
+returns-clause-check g c = asked-check g.F.Files g.S.Source g.K.Sink g.A.Actuators g.H.Host g.H.In.Source g.H.Out.Sink g.C.Clock g.W.Waiter g.P.Spawner (vec_len c.args.devices.now)
+    (server_world (world c.args.files.now c.args.source.now c.args.sink.now c.args.devices.now.items) c.args.clock.now c.args.host.now c.args.waiter.now c.args.spawner.now)
+    (server_world (world c.do_words.new.files c.do_words.new.source c.do_words.new.sink c.do_words.new.devices.items) c.do_words.new.clock c.do_words.new.host c.do_words.new.waiter c.do_words.new.spawner)
+    c.do_words.result.0 (job_of (texts c.args.words.now.items)) c.do_words.ensures.does
 
 pub returns-clause-check_memory : goal.returns-clause-check_memory
-returns-clause-check_memory g c name is =
-    let all = world c.args.files.now c.args.source.now c.args.sink.now c.args.devices.now.items in
-    checks-memory g.F.Files g.S.Source g.K.Sink g.A.Actuators all all 8 name (vec_len c.args.devices.now)
-    (inl (record { why = inr (refl, refl); source = refl; sink = refl; devices = refl }))
-    (λ tells file. refl) refl refl
-    (λ tells. none-asked _ (g.F.Files.asked c.args.files.now))
-
-pub returns-clause-serve : goal.returns-clause-serve
-returns-clause-serve g c name journal address workers connections rules plan is named =
-    let world = world c.args.files.now c.args.source.now c.args.sink.now c.args.devices.now.items in
-    let all = server_world world c.args.clock.now c.args.host.now c.args.waiter.now c.args.spawner.now in
-    does-serve g.F.Files g.S.Source g.K.Sink g.A.Actuators g.H.Host g.H.In.Source g.H.Out.Sink g.C.Clock g.W.Waiter g.P.Spawner name rules plan (vec_len c.args.devices.now) workers connections all all 8 journal
-    (inl (inl (record { why = inr (refl, refl); sink = refl; devices = refl }), record { clock = refl; host = refl; waiter = refl; spawner = refl }))
-    refl
-    (λ tells. none-asked _ (g.F.Files.asked c.args.files.now))
-    (λ tells file first second. refl)
-
-pub returns-clause-serve_memory : goal.returns-clause-serve_memory
-returns-clause-serve_memory g c name address workers connections rules plan is =
-    let world = world c.args.files.now c.args.source.now c.args.sink.now c.args.devices.now.items in
-    let all = server_world world c.args.clock.now c.args.host.now c.args.waiter.now c.args.spawner.now in
-    serves-memory g.F.Files g.S.Source g.K.Sink g.A.Actuators g.H.Host g.H.In.Source g.H.Out.Sink g.C.Clock g.W.Waiter g.P.Spawner name rules plan (vec_len c.args.devices.now) workers connections all all 8
-    (inl (inl (record { why = inr (refl, refl); sink = refl; devices = refl }), record { clock = refl; host = refl; waiter = refl; spawner = refl }))
-    refl
-    (λ tells. none-asked _ (g.F.Files.asked c.args.files.now))
-    (λ tells file. refl)
+returns-clause-check_memory g c = asked-check_memory g.F.Files g.S.Source g.K.Sink g.A.Actuators g.H.Host g.H.In.Source g.H.Out.Sink g.C.Clock g.W.Waiter g.P.Spawner (vec_len c.args.devices.now)
+    (server_world (world c.args.files.now c.args.source.now c.args.sink.now c.args.devices.now.items) c.args.clock.now c.args.host.now c.args.waiter.now c.args.spawner.now)
+    (server_world (world c.do_words.new.files c.do_words.new.source c.do_words.new.sink c.do_words.new.devices.items) c.do_words.new.clock c.do_words.new.host c.do_words.new.waiter c.do_words.new.spawner)
+    c.do_words.result.0 (job_of (texts c.args.words.now.items)) c.do_words.ensures.does
 
 pub returns-clause-adopt : goal.returns-clause-adopt
-returns-clause-adopt g c old_name new_name journal is named =
-    let all = world c.args.files.now c.args.source.now c.args.sink.now c.args.devices.now.items in
-    does-adopt g.F.Files g.S.Source g.K.Sink g.A.Actuators old_name new_name (vec_len c.args.devices.now) all all 8 journal
-    (inl (record { why = inr (refl, refl); source = refl; sink = refl; devices = refl }))
-    refl refl
-    (λ tells. none-asked _ (g.F.Files.asked c.args.files.now))
-    (λ tells file first second. refl)
+returns-clause-adopt g c = asked-adopt g.F.Files g.S.Source g.K.Sink g.A.Actuators g.H.Host g.H.In.Source g.H.Out.Sink g.C.Clock g.W.Waiter g.P.Spawner (vec_len c.args.devices.now)
+    (server_world (world c.args.files.now c.args.source.now c.args.sink.now c.args.devices.now.items) c.args.clock.now c.args.host.now c.args.waiter.now c.args.spawner.now)
+    (server_world (world c.do_words.new.files c.do_words.new.source c.do_words.new.sink c.do_words.new.devices.items) c.do_words.new.clock c.do_words.new.host c.do_words.new.waiter c.do_words.new.spawner)
+    c.do_words.result.0 (job_of (texts c.args.words.now.items)) c.do_words.ensures.does
 
 pub returns-clause-adopt_memory : goal.returns-clause-adopt_memory
-returns-clause-adopt_memory g c old_name new_name is =
-    let all = world c.args.files.now c.args.source.now c.args.sink.now c.args.devices.now.items in
-    does-adopt-memory g.F.Files g.S.Source g.K.Sink g.A.Actuators old_name new_name (vec_len c.args.devices.now) all all 8
-    (inl (record { why = inr (refl, refl); source = refl; sink = refl; devices = refl }))
-    (λ tells file. refl) refl refl
-    (λ tells. none-asked _ (g.F.Files.asked c.args.files.now))
+returns-clause-adopt_memory g c = asked-adopt_memory g.F.Files g.S.Source g.K.Sink g.A.Actuators g.H.Host g.H.In.Source g.H.Out.Sink g.C.Clock g.W.Waiter g.P.Spawner (vec_len c.args.devices.now)
+    (server_world (world c.args.files.now c.args.source.now c.args.sink.now c.args.devices.now.items) c.args.clock.now c.args.host.now c.args.waiter.now c.args.spawner.now)
+    (server_world (world c.do_words.new.files c.do_words.new.source c.do_words.new.sink c.do_words.new.devices.items) c.do_words.new.clock c.do_words.new.host c.do_words.new.waiter c.do_words.new.spawner)
+    c.do_words.result.0 (job_of (texts c.args.words.now.items)) c.do_words.ensures.does
+
+pub returns-clause-feed : goal.returns-clause-feed
+returns-clause-feed g c = asked-feed g.F.Files g.S.Source g.K.Sink g.A.Actuators g.H.Host g.H.In.Source g.H.Out.Sink g.C.Clock g.W.Waiter g.P.Spawner (vec_len c.args.devices.now)
+    (server_world (world c.args.files.now c.args.source.now c.args.sink.now c.args.devices.now.items) c.args.clock.now c.args.host.now c.args.waiter.now c.args.spawner.now)
+    (server_world (world c.do_words.new.files c.do_words.new.source c.do_words.new.sink c.do_words.new.devices.items) c.do_words.new.clock c.do_words.new.host c.do_words.new.waiter c.do_words.new.spawner)
+    c.do_words.result.0 (job_of (texts c.args.words.now.items)) c.do_words.ensures.does
+
+pub returns-clause-feed_memory : goal.returns-clause-feed_memory
+returns-clause-feed_memory g c = asked-feed_memory g.F.Files g.S.Source g.K.Sink g.A.Actuators g.H.Host g.H.In.Source g.H.Out.Sink g.C.Clock g.W.Waiter g.P.Spawner (vec_len c.args.devices.now)
+    (server_world (world c.args.files.now c.args.source.now c.args.sink.now c.args.devices.now.items) c.args.clock.now c.args.host.now c.args.waiter.now c.args.spawner.now)
+    (server_world (world c.do_words.new.files c.do_words.new.source c.do_words.new.sink c.do_words.new.devices.items) c.do_words.new.clock c.do_words.new.host c.do_words.new.waiter c.do_words.new.spawner)
+    c.do_words.result.0 (job_of (texts c.args.words.now.items)) c.do_words.ensures.does
+
+pub returns-clause-standby : goal.returns-clause-standby
+returns-clause-standby g c = asked-standby g.F.Files g.S.Source g.K.Sink g.A.Actuators g.H.Host g.H.In.Source g.H.Out.Sink g.C.Clock g.W.Waiter g.P.Spawner (vec_len c.args.devices.now)
+    (server_world (world c.args.files.now c.args.source.now c.args.sink.now c.args.devices.now.items) c.args.clock.now c.args.host.now c.args.waiter.now c.args.spawner.now)
+    (server_world (world c.do_words.new.files c.do_words.new.source c.do_words.new.sink c.do_words.new.devices.items) c.do_words.new.clock c.do_words.new.host c.do_words.new.waiter c.do_words.new.spawner)
+    c.do_words.result.0 (job_of (texts c.args.words.now.items)) c.do_words.ensures.does
+
+pub returns-clause-standby_memory : goal.returns-clause-standby_memory
+returns-clause-standby_memory g c = asked-standby_memory g.F.Files g.S.Source g.K.Sink g.A.Actuators g.H.Host g.H.In.Source g.H.Out.Sink g.C.Clock g.W.Waiter g.P.Spawner (vec_len c.args.devices.now)
+    (server_world (world c.args.files.now c.args.source.now c.args.sink.now c.args.devices.now.items) c.args.clock.now c.args.host.now c.args.waiter.now c.args.spawner.now)
+    (server_world (world c.do_words.new.files c.do_words.new.source c.do_words.new.sink c.do_words.new.devices.items) c.do_words.new.clock c.do_words.new.host c.do_words.new.waiter c.do_words.new.spawner)
+    c.do_words.result.0 (job_of (texts c.args.words.now.items)) c.do_words.ensures.does
+
+pub returns-clause-serve : goal.returns-clause-serve
+returns-clause-serve g c = asked-serve g.F.Files g.S.Source g.K.Sink g.A.Actuators g.H.Host g.H.In.Source g.H.Out.Sink g.C.Clock g.W.Waiter g.P.Spawner (vec_len c.args.devices.now)
+    (server_world (world c.args.files.now c.args.source.now c.args.sink.now c.args.devices.now.items) c.args.clock.now c.args.host.now c.args.waiter.now c.args.spawner.now)
+    (server_world (world c.do_words.new.files c.do_words.new.source c.do_words.new.sink c.do_words.new.devices.items) c.do_words.new.clock c.do_words.new.host c.do_words.new.waiter c.do_words.new.spawner)
+    c.do_words.result.0 (job_of (texts c.args.words.now.items)) c.do_words.ensures.does
+
+pub returns-clause-serve_memory : goal.returns-clause-serve_memory
+returns-clause-serve_memory g c = asked-serve_memory g.F.Files g.S.Source g.K.Sink g.A.Actuators g.H.Host g.H.In.Source g.H.Out.Sink g.C.Clock g.W.Waiter g.P.Spawner (vec_len c.args.devices.now)
+    (server_world (world c.args.files.now c.args.source.now c.args.sink.now c.args.devices.now.items) c.args.clock.now c.args.host.now c.args.waiter.now c.args.spawner.now)
+    (server_world (world c.do_words.new.files c.do_words.new.source c.do_words.new.sink c.do_words.new.devices.items) c.do_words.new.clock c.do_words.new.host c.do_words.new.waiter c.do_words.new.spawner)
+    c.do_words.result.0 (job_of (texts c.args.words.now.items)) c.do_words.ensures.does
+
+pub returns-clause-load : goal.returns-clause-load
+returns-clause-load g c = asked-load g.F.Files g.S.Source g.K.Sink g.A.Actuators g.H.Host g.H.In.Source g.H.Out.Sink g.C.Clock g.W.Waiter g.P.Spawner (vec_len c.args.devices.now)
+    (server_world (world c.args.files.now c.args.source.now c.args.sink.now c.args.devices.now.items) c.args.clock.now c.args.host.now c.args.waiter.now c.args.spawner.now)
+    (server_world (world c.do_words.new.files c.do_words.new.source c.do_words.new.sink c.do_words.new.devices.items) c.do_words.new.clock c.do_words.new.host c.do_words.new.waiter c.do_words.new.spawner)
+    c.do_words.result.0 (job_of (texts c.args.words.now.items)) c.do_words.ensures.does
+
+pub returns-clause-apart : goal.returns-clause-apart
+returns-clause-apart g c other =
+    let apart = asked-apart g.F.Files g.S.Source g.K.Sink g.A.Actuators g.H.Host g.H.In.Source g.H.Out.Sink g.C.Clock g.W.Waiter g.P.Spawner (vec_len c.args.devices.now)
+    (server_world (world c.args.files.now c.args.source.now c.args.sink.now c.args.devices.now.items) c.args.clock.now c.args.host.now c.args.waiter.now c.args.spawner.now)
+    (server_world (world c.do_words.new.files c.do_words.new.source c.do_words.new.sink c.do_words.new.devices.items) c.do_words.new.clock c.do_words.new.host c.do_words.new.waiter c.do_words.new.spawner)
+    c.do_words.result.0 (job_of (texts c.args.words.now.items)) c.do_words.ensures.does other in
+    (apart.clock, apart.host, apart.waiter, apart.spawner)
+
+pub returns-clause-usage_only : goal.returns-clause-usage_only
+returns-clause-usage_only g c = asked-usage_only g.F.Files g.S.Source g.K.Sink g.A.Actuators g.H.Host g.H.In.Source g.H.Out.Sink g.C.Clock g.W.Waiter g.P.Spawner (vec_len c.args.devices.now)
+    (server_world (world c.args.files.now c.args.source.now c.args.sink.now c.args.devices.now.items) c.args.clock.now c.args.host.now c.args.waiter.now c.args.spawner.now)
+    (server_world (world c.do_words.new.files c.do_words.new.source c.do_words.new.sink c.do_words.new.devices.items) c.do_words.new.clock c.do_words.new.host c.do_words.new.waiter c.do_words.new.spawner)
+    c.do_words.result.0 (job_of (texts c.args.words.now.items)) c.do_words.ensures.does
+
+pub returns-clause-usage : goal.returns-clause-usage
+returns-clause-usage g c = asked-usage g.F.Files g.S.Source g.K.Sink g.A.Actuators g.H.Host g.H.In.Source g.H.Out.Sink g.C.Clock g.W.Waiter g.P.Spawner (vec_len c.args.devices.now)
+    (server_world (world c.args.files.now c.args.source.now c.args.sink.now c.args.devices.now.items) c.args.clock.now c.args.host.now c.args.waiter.now c.args.spawner.now)
+    (server_world (world c.do_words.new.files c.do_words.new.source c.do_words.new.sink c.do_words.new.devices.items) c.do_words.new.clock c.do_words.new.host c.do_words.new.waiter c.do_words.new.spawner)
+    c.do_words.result.0 (job_of (texts c.args.words.now.items)) c.do_words.ensures.does

@@ -5,4 +5,4 @@ pub returns-in_default-as_str : goal.returns-in_default-as_str
 returns-in_default-as_str c =
     let arm = c.in_default-as_str in
     let bytes = c.as_str.ensures.value in
-    rw (← c.as_slice.ensures.value) (job_of-unknown c.as_slice.result.now c.job-item.result c.job-item.is (rw bytes at arm.not-script) (rw bytes at arm.not-serve) (rw bytes at arm.not-check) (rw bytes at arm.not-adopt) (rw bytes at arm.not-load))
+    rw (← c.as_slice.ensures.value) (job_of-unknown c.as_slice.result.now c.job-item.result c.job-item.is (rw bytes at arm.not-script) (rw bytes at arm.not-serve) (rw bytes at arm.not-check) (rw bytes at arm.not-adopt) (rw bytes at arm.not-feed) (rw bytes at arm.not-standby) (rw bytes at arm.not-load))

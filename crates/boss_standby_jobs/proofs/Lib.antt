@@ -1,0 +1,4 @@
+pub mod Fed
+pub mod Came
+pub mod Lifted
+pub mod Completed
