@@ -2,16 +2,15 @@ ghost use Rattle.std.specs.Prelude.{◌≡◌, IfOk};
 ghost use Rattle.boss_model.specs.Catalogue.{actuators};
 ghost use Rattle.boss_points.specs.Seen.{seen as seen_point};
 
-use crate::same::are_same;
+use crate::bytes::joined;
+use crate::disks::spelled;
+use crate::texts::told;
 use boss_adopting::{AdoptRefusal, added_points, adopt_state, removed_points};
-use boss_model::{
-    Actuator, Cause, Items, Kept, KeptPart, KeptProcess, KeptTxn, Lease, Name, NoMemory, Notice,
-    Pending, PointId, Policy, Priority, ProcId, Step, Txn, What,
-};
+use boss_model::{Actuator, Kept, PointId};
 use boss_points::{Catalogue, Point};
 use boss_state_check::is_sound;
 use std::alloc::{AllocError, Global};
-use std::test::Fail;
+use std::process::Abort;
 
 /// A damper, a lamp and a fan.
 const OLD: &[u8] =
@@ -33,185 +32,82 @@ const WITHOUT: &[u8] =
 const NARROW: &[u8] =
     b"drivers=['field']\npoint=[{name='ahu1.damper',driver='field',kind='analog',min=0,max=40000,default=20000},{name='lamp',driver='field',kind='binary',default=0},{name='fan',driver='field',kind='multi',states=3,default=1}]";
 
-/// The points of the three, of which the fan may be removed.
-#[derive(Clone, Copy)]
-struct Places {
-    damper: PointId,
-    lamp: PointId,
-    fan: Option<PointId>,
-}
+/// The moment 2000, the next transaction 4, and two processes.
+const START: &[u8] = b"\0\0\0\0\0\0\x07\xd0\0\0\0\0\0\0\0\x04\0\x02";
 
-/// As they stand in the old catalogue.
-const FIRST: Places = Places {
-    damper: PointId(0),
-    lamp: PointId(1),
-    fan: Some(PointId(2)),
-};
+/// `a`: no notices and no reply.
+const A: &[u8] = b"\x01a\0\0\0\0\0\0\0\0\0\0\0";
 
-/// A process of this name.
-fn process(name: &[u8], count: u64, notices: Items<Notice>) -> Result<KeptProcess, Fail> {
-    let Some(name) = Name::new(name) else {
-        return Err(Fail::new("a name"));
-    };
-    Ok(KeptProcess {
-        name,
-        count,
-        notices,
-        reply: None,
-    })
-}
+/// `b`: four notices so far, all of them kept. At 1500, of transaction 3, its lease on the fan was cancelled, and all was done.
+const B: &[u8] =
+    b"\x01b\0\0\0\0\0\0\0\x04\0\x04\0\0\0\0\0\0\x05\xdc\0\0\0\0\0\0\0\x03\x02\0\0\0\x02\x01\0\0\0\0\0\0\x05\xdc\0\0\0\0\0\0\0\x03\x05";
 
-/// What `b` was told: that its lease on the fan was cancelled and all was done, and that its two others ended.
-fn notices(alloc: Global, places: Places) -> Result<Items<Notice>, NoMemory> {
-    let mut told = Items::new(alloc);
-    if let Some(point) = places.fan {
-        let what = What::Ended {
-            point,
-            cause: Cause::Cancelled,
-        };
-        told.try_push(Notice {
-            number: 1,
-            at: 1_500,
-            txn: Txn(3),
-            what,
-        })?;
-    }
-    told.try_push(Notice {
-        number: 2,
-        at: 1_500,
-        txn: Txn(3),
-        what: What::Done,
-    })?;
-    for (number, point) in [(3, places.damper), (4, places.lamp)] {
-        let what = What::Ended {
-            point,
-            cause: Cause::Expired,
-        };
-        told.try_push(Notice {
-            number,
-            at: 2_000,
-            txn: Txn(2),
-            what,
-        })?;
-    }
-    Ok(told)
-}
+/// At 2000, of 2, its leases on the damper and on the lamp ended; no reply.
+const ENDED: &[u8] =
+    b"\0\0\0\0\0\0\x07\xd0\0\0\0\0\0\0\0\x02\x02\0\0\0\0\0\0\0\0\0\0\0\x07\xd0\0\0\0\0\0\0\0\x02\x02\0\0\0\x01\0\0";
 
-/// A transaction of these writes.
-fn transaction(txn: u64, owner: u16, parts: Items<KeptPart>) -> KeptTxn {
-    KeptTxn {
-        txn: Txn(txn),
-        owner: ProcId(owner),
-        policy: Policy::Abort,
-        parts,
-    }
-}
+/// Three records, each to abort. That of 1, by `a`, has live leases on the damper at priority 8 and on the lamp at 9.
+const HELD: &[u8] = b"\0\0\0\x03\0\0\0\0\0\0\0\x01\0\0\0\x02\0\0\0\0\x08\0\0\0\0\x01\x09\0";
 
-/// A write.
-fn part(point: PointId, priority: u8, end: Option<(Cause, u64)>) -> KeptPart {
-    KeptPart {
-        point,
-        priority: Priority(priority),
-        end,
-    }
-}
+/// That of 2, by `b`, has leases on the same at priority 5, which ended at 2000.
+const REVERTING: &[u8] =
+    b"\0\0\0\0\0\0\0\x02\0\x01\0\x02\0\0\0\0\x05\x01\0\0\0\0\0\0\0\x07\xd0\0\0\0\x01\x05\x01\0\0\0\0\0\0\0\x07\xd0";
 
-/// One with two leases, one with two reversions under way, and one that is done.
-fn records(alloc: Global, places: Places) -> Result<Items<KeptTxn>, NoMemory> {
-    let mut txns = Items::new(alloc);
-    let mut held = Items::new(alloc);
-    held.try_push(part(places.damper, 8, None))?;
-    held.try_push(part(places.lamp, 9, None))?;
-    txns.try_push(transaction(1, 0, held))?;
-    let mut reverting = Items::new(alloc);
-    reverting.try_push(part(places.damper, 5, Some((Cause::Expired, 2_000))))?;
-    reverting.try_push(part(places.lamp, 5, Some((Cause::Expired, 2_000))))?;
-    txns.try_push(transaction(2, 1, reverting))?;
-    if let Some(fan) = places.fan {
-        let mut past = Items::new(alloc);
-        past.try_push(part(fan, 8, Some((Cause::Cancelled, 1_500))))?;
-        txns.try_push(transaction(3, 1, past))?;
-    }
-    Ok(txns)
-}
+/// That of 3, by `b`, had one on the fan at priority 8, which was cancelled at 1500. It is done.
+const PAST: &[u8] =
+    b"\0\0\0\0\0\0\0\x03\0\x01\0\x01\0\0\0\x02\x08\x01\x01\0\0\0\0\0\0\x05\xdc\0\x01\0\0\0\0\0\0\0\x03";
 
-/// A lease of the first transaction.
-fn lease(alloc: Global, point: PointId, priority: u8, value: i64) -> Lease {
-    Lease {
-        txn: Txn(1),
-        owner: ProcId(0),
-        point,
-        priority: Priority(priority),
-        value,
-        until: 61_000,
-        revert: Items::new(alloc),
-        policy: Policy::Abort,
-    }
-}
+/// Two leases, of 1: 45000 on the damper and 1 on the lamp, until 61000, and nothing behind it.
+const LEASES: &[u8] =
+    b"\0\0\0\x02\0\0\0\0\0\0\0\x01\0\0\0\0\0\0\x08\0\0\0\0\0\0\xaf\xc8\0\0\0\0\0\0\xee\x48\0\0\0\0\0\0\0\0\0\x01\0\0\0\0\0\x01\x09\0\0\0\0\0\0\0\x01\0\0\0\0\0\0\xee\x48\0\0";
 
-/// A reversion of the second.
-fn reversion(alloc: Global, point: PointId, value: i64) -> Result<Pending, AllocError> {
-    let steps = vec![in alloc; Step { value, hold: 5_000 }]?;
-    Ok(Pending {
-        txn: Txn(2),
-        owner: ProcId(1),
-        point,
-        priority: Priority(5),
-        steps: Items::from_vec(steps),
-        start: 2_000,
-    })
-}
+/// Two reversions, of 2, from 2000 on for 5000: 30000 on the damper and 0 on the lamp.
+const REVERSIONS: &[u8] =
+    b"\0\0\0\x02\0\0\0\0\0\0\0\x02\0\x01\0\0\0\0\x05\0\0\0\0\0\0\x07\xd0\x01\0\0\0\0\0\0\x75\x30\0\0\x13\x88\0\0\0\0\0\0\0\x02\0\x01\0\0\0\x01\x05\0\0\0\0\0\0\x07\xd0\x01\0\0\0\0\0\0\0\0\0\0\x13\x88";
 
-/// The leases, in the order of their slots.
-fn leases(alloc: Global, places: Places) -> Result<Items<Lease>, AllocError> {
-    let damper = lease(alloc, places.damper, 8, 45_000);
-    let lamp = lease(alloc, places.lamp, 9, 1);
-    let leases = if places.damper < places.lamp {
-        vec![in alloc; damper, lamp]?
-    } else {
-        vec![in alloc; lamp, damper]?
-    };
-    Ok(Items::from_vec(leases))
-}
+/// The state with the three points, as they stand in the old catalogue.
+const STATE: &[&[u8]] = &[
+    START, A, B, ENDED, HELD, REVERTING, PAST, LEASES, REVERSIONS,
+];
 
-/// The reversions under way, in the order of their slots.
-fn reversions(alloc: Global, places: Places) -> Result<Items<Pending>, AllocError> {
-    let damper = reversion(alloc, places.damper, 30_000)?;
-    let lamp = reversion(alloc, places.lamp, 0)?;
-    let pending = if places.damper < places.lamp {
-        vec![in alloc; damper, lamp]?
-    } else {
-        vec![in alloc; lamp, damper]?
-    };
-    Ok(Items::from_vec(pending))
-}
+/// The same as a text.
+const SAME_TOLD: &str = r#"2000 4
+a 0 [] None
+b 4 [Notice { number: 1, at: 1500, txn: Txn(3), what: Ended { point: PointId(2), cause: Cancelled } }, Notice { number: 2, at: 1500, txn: Txn(3), what: Done }, Notice { number: 3, at: 2000, txn: Txn(2), what: Ended { point: PointId(0), cause: Expired } }, Notice { number: 4, at: 2000, txn: Txn(2), what: Ended { point: PointId(1), cause: Expired } }] None
+1 0 Abort, 0 8 None, 1 9 None
+2 1 Abort, 0 5 Some((Expired, 2000)), 1 5 Some((Expired, 2000))
+3 1 Abort, 2 8 Some((Cancelled, 1500))
+done [Txn(3)]
+leases [Lease { txn: Txn(1), owner: ProcId(0), point: PointId(0), priority: Priority(8), value: 45000, until: 61000, revert: Items { items: [] }, policy: Abort }, Lease { txn: Txn(1), owner: ProcId(0), point: PointId(1), priority: Priority(9), value: 1, until: 61000, revert: Items { items: [] }, policy: Abort }]
+reversions [Pending { txn: Txn(2), owner: ProcId(1), point: PointId(0), priority: Priority(5), steps: Items { items: [Step { value: 30000, hold: 5000 }] }, start: 2000 }, Pending { txn: Txn(2), owner: ProcId(1), point: PointId(1), priority: Priority(5), steps: Items { items: [Step { value: 0, hold: 5000 }] }, start: 2000 }]
+"#;
 
-/// The state with the three points at these places.
-fn state(alloc: Global, places: Places) -> Result<Kept, Fail> {
-    let mut processes = Items::new(alloc);
-    processes.try_push(process(b"a", 0, Items::new(alloc))?)?;
-    processes.try_push(process(b"b", 4, notices(alloc, places)?)?)?;
-    let mut done = Items::new(alloc);
-    if places.fan.is_some() {
-        done.try_push(Txn(3))?;
-    }
-    Ok(Kept {
-        now: 2_000,
-        next: Txn(4),
-        processes,
-        txns: records(alloc, places)?,
-        done,
-        leases: leases(alloc, places)?,
-        pending: reversions(alloc, places)?,
-    })
-}
+/// The same where the fan comes first and the damper last.
+const TURNED_TOLD: &str = r#"2000 4
+a 0 [] None
+b 4 [Notice { number: 1, at: 1500, txn: Txn(3), what: Ended { point: PointId(0), cause: Cancelled } }, Notice { number: 2, at: 1500, txn: Txn(3), what: Done }, Notice { number: 3, at: 2000, txn: Txn(2), what: Ended { point: PointId(2), cause: Expired } }, Notice { number: 4, at: 2000, txn: Txn(2), what: Ended { point: PointId(1), cause: Expired } }] None
+1 0 Abort, 2 8 None, 1 9 None
+2 1 Abort, 2 5 Some((Expired, 2000)), 1 5 Some((Expired, 2000))
+3 1 Abort, 0 8 Some((Cancelled, 1500))
+done [Txn(3)]
+leases [Lease { txn: Txn(1), owner: ProcId(0), point: PointId(1), priority: Priority(9), value: 1, until: 61000, revert: Items { items: [] }, policy: Abort }, Lease { txn: Txn(1), owner: ProcId(0), point: PointId(2), priority: Priority(8), value: 45000, until: 61000, revert: Items { items: [] }, policy: Abort }]
+reversions [Pending { txn: Txn(2), owner: ProcId(1), point: PointId(1), priority: Priority(5), steps: Items { items: [Step { value: 0, hold: 5000 }] }, start: 2000 }, Pending { txn: Txn(2), owner: ProcId(1), point: PointId(2), priority: Priority(5), steps: Items { items: [Step { value: 30000, hold: 5000 }] }, start: 2000 }]
+"#;
+
+/// The same without the fan, and so without the record that is done.
+const CHANGED_TOLD: &str = r#"2000 4
+a 0 [] None
+b 4 [Notice { number: 2, at: 1500, txn: Txn(3), what: Done }, Notice { number: 3, at: 2000, txn: Txn(2), what: Ended { point: PointId(0), cause: Expired } }, Notice { number: 4, at: 2000, txn: Txn(2), what: Ended { point: PointId(1), cause: Expired } }] None
+1 0 Abort, 0 8 None, 1 9 None
+2 1 Abort, 0 5 Some((Expired, 2000)), 1 5 Some((Expired, 2000))
+done []
+leases [Lease { txn: Txn(1), owner: ProcId(0), point: PointId(0), priority: Priority(8), value: 45000, until: 61000, revert: Items { items: [] }, policy: Abort }, Lease { txn: Txn(1), owner: ProcId(0), point: PointId(1), priority: Priority(9), value: 1, until: 61000, revert: Items { items: [] }, policy: Abort }]
+reversions [Pending { txn: Txn(2), owner: ProcId(1), point: PointId(0), priority: Priority(5), steps: Items { items: [Step { value: 30000, hold: 5000 }] }, start: 2000 }, Pending { txn: Txn(2), owner: ProcId(1), point: PointId(1), priority: Priority(5), steps: Items { items: [Step { value: 0, hold: 5000 }] }, start: 2000 }]
+"#;
 
 /// The catalogue that these bytes spell.
-fn read(alloc: Global, bytes: &[u8]) -> Result<Catalogue, Fail> {
-    match Catalogue::read(alloc, bytes) {
-        Ok(catalogue) => Ok(catalogue),
-        Err(_refusal) => Err(Fail::new("a catalogue")),
-    }
+fn read(rt: &impl Abort, alloc: Global, bytes: &[u8]) -> Catalogue {
+    Catalogue::read(alloc, bytes).expect(rt, "a catalogue")
 }
 
 /// What the machine knows of a catalogue's points.
@@ -250,78 +146,69 @@ fn adopted(
     Ok(Some(adopt_state(alloc, old, new, kept)))
 }
 
-/// Whether the state is adopted under the new catalogue, with the points at these places then.
-fn is_adopted(alloc: Global, new: &[u8], places: Places) -> Result<bool, Fail> {
-    let old = read(alloc, OLD)?;
-    let new = read(alloc, new)?;
-    let wanted = state(alloc, places)?;
-    Ok(match adopted(alloc, &old, &new, &state(alloc, FIRST)?)? {
-        Some(Ok(kept)) => are_same(&kept, &wanted),
-        _ => false,
-    })
-}
-
-#[test]
-fn leases_and_reversions_stand_in_the_new_order(rt: HostRuntime) -> Result<(), Fail> {
-    let turned = Places {
-        damper: PointId(2),
-        lamp: PointId(1),
-        fan: Some(PointId(0)),
-    };
-    assert!(rt; is_adopted(rt.alloc(), TURNED, turned)?);
-    assert!(rt; is_adopted(rt.alloc(), OLD, FIRST)?);
-    Ok(())
-}
-
-#[test]
-fn what_is_done_goes_with_its_point(rt: HostRuntime) -> Result<(), Fail> {
-    let places = Places { fan: None, ..FIRST };
-    assert!(rt; is_adopted(rt.alloc(), CHANGED, places)?);
-    Ok(())
-}
-
-/// Whether this is the name of the damper.
-fn is_damper(name: &Name) -> bool {
-    name.bytes() == b"ahu1.damper".as_slice()
-}
-
-/// Whether the answer is that the damper is in use.
-fn is_in_use(answer: &Option<Result<Kept, AdoptRefusal>>) -> bool {
+/// An answer as a text.
+fn answer(rt: &impl Abort, alloc: Global, answer: &Option<Result<Kept, AdoptRefusal>>) -> String {
     match answer {
-        Some(Err(AdoptRefusal::InUse { name })) => is_damper(name),
-        _ => false,
+        Some(Ok(kept)) => told(rt, alloc, kept),
+        Some(Err(refusal)) => refused(rt, alloc, refusal),
+        None => rt.panic("a state that is not sound"),
     }
 }
 
-/// Whether the answer is that the damper is unfit.
-fn is_unfit(answer: &Option<Result<Kept, AdoptRefusal>>) -> bool {
-    match answer {
-        Some(Err(AdoptRefusal::Unfit { name })) => is_damper(name),
-        _ => false,
+fn refused(rt: &impl Abort, alloc: Global, refusal: &AdoptRefusal) -> String {
+    match refusal {
+        AdoptRefusal::InUse { name } => format!(in alloc; "in use {name}").expect(rt, "memory"),
+        AdoptRefusal::Unfit { name } => format!(in alloc; "unfit {name}").expect(rt, "memory"),
+        AdoptRefusal::NoMemory => rt.panic("no memory"),
     }
 }
 
-#[test]
-fn a_state_that_holds_a_point_is_refused(rt: HostRuntime) -> Result<(), Fail> {
-    let alloc = rt.alloc();
-    let old = read(alloc, OLD)?;
-    let kept = state(alloc, FIRST)?;
-    let without = read(alloc, WITHOUT)?;
-    let answer = adopted(alloc, &old, &without, &kept)?;
-    assert!(rt; is_in_use(&answer));
-    let narrow = read(alloc, NARROW)?;
-    let answer = adopted(alloc, &old, &narrow, &kept)?;
-    assert!(rt; is_unfit(&answer));
-    Ok(())
+/// What is answered where the state is adopted under this catalogue, as a text.
+fn adopted_under(rt: &impl Abort, alloc: Global, new: &[u8]) -> String {
+    let old = read(rt, alloc, OLD);
+    let new = read(rt, alloc, new);
+    let kept = spelled(alloc, &joined(rt, alloc, STATE)).expect(rt, "a state");
+    answer(
+        rt,
+        alloc,
+        &adopted(alloc, &old, &new, &kept).expect(rt, "memory"),
+    )
 }
 
 #[test]
-fn points_are_counted_by_their_names(rt: HostRuntime) -> Result<(), Fail> {
-    let alloc = rt.alloc();
-    let old = read(alloc, OLD)?;
-    let changed = read(alloc, CHANGED)?;
-    assert_eq!(rt; removed_points(&old, &changed), 1);
-    assert_eq!(rt; added_points(&old, &changed), 1);
-    assert_eq!(rt; removed_points(&old, &old), 0);
-    Ok(())
+fn leases_and_reversions_stand_in_the_new_order(rt: HostRuntime) {
+    assert_eq!(&rt;
+        adopted_under(&rt, rt.alloc(), TURNED).as_str(),
+        TURNED_TOLD
+    );
+    assert_eq!(&rt; adopted_under(&rt, rt.alloc(), OLD).as_str(), SAME_TOLD);
+}
+
+#[test]
+fn what_is_done_goes_with_its_point(rt: HostRuntime) {
+    assert_eq!(&rt;
+        adopted_under(&rt, rt.alloc(), CHANGED).as_str(),
+        CHANGED_TOLD
+    );
+}
+
+#[test]
+fn a_state_that_holds_a_point_is_refused(rt: HostRuntime) {
+    assert_eq!(&rt;
+        adopted_under(&rt, rt.alloc(), WITHOUT).as_str(),
+        "in use ahu1.damper"
+    );
+    assert_eq!(&rt;
+        adopted_under(&rt, rt.alloc(), NARROW).as_str(),
+        "unfit ahu1.damper"
+    );
+}
+
+#[test]
+fn points_are_counted_by_their_names(rt: HostRuntime) {
+    let old = read(&rt, rt.alloc(), OLD);
+    let changed = read(&rt, rt.alloc(), CHANGED);
+    assert_eq!(&rt; removed_points(&old, &changed), 1);
+    assert_eq!(&rt; added_points(&old, &changed), 1);
+    assert_eq!(&rt; removed_points(&old, &old), 0);
 }

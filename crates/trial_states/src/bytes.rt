@@ -1,4 +1,5 @@
-use std::alloc::{AllocError, Global};
+use std::alloc::Global;
+use std::process::Abort;
 
 /// The digest of the catalogue.
 pub const DIGEST: [u8; 32] = [7; 32];
@@ -58,54 +59,80 @@ const REVERSIONS: &[u8] =
     b"\0\0\0\x01\0\0\0\0\0\0\0\x02\0\0\0\0\0\x01\x10\0\0\0\0\0\0\xee\x48\x01\0\0\0\0\0\0\0\x01\0\0\xea\x60";
 
 /// A state with all of these: 371 bytes.
-pub fn large(alloc: Global) -> Result<Vec<u8>, AllocError> {
-    let mut bytes = START.to_vec(alloc)?;
-    for part in [
-        AHU,
-        FAULT,
-        ENDED,
-        REVERTED,
-        CUT,
-        DONE,
-        REPLY,
-        OTHER_PROCESS,
-        LIVE,
-        PAST,
-        ARE_DONE,
-        LEASES,
-        REVERSIONS,
-    ] {
-        bytes.extend_from_slice(part)?;
+pub const LARGE: &[&[u8]] = &[
+    START,
+    AHU,
+    FAULT,
+    ENDED,
+    REVERTED,
+    CUT,
+    DONE,
+    REPLY,
+    OTHER_PROCESS,
+    LIVE,
+    PAST,
+    ARE_DONE,
+    LEASES,
+    REVERSIONS,
+];
+
+/// The same as a text.
+pub const LARGE_TOLD: &str = r#"70000 5
+ahu 9 [Notice { number: 5, at: 1000, txn: Txn(1), what: Fault { point: PointId(0) } }, Notice { number: 6, at: 61000, txn: Txn(2), what: Ended { point: PointId(1), cause: Superseded { by: Txn(3) } } }, Notice { number: 7, at: 62000, txn: Txn(2), what: Reverted { point: PointId(2) } }, Notice { number: 8, at: 62000, txn: Txn(2), what: Cut { point: PointId(3), by: Txn(4) } }, Notice { number: 9, at: 62000, txn: Txn(2), what: Done }] Some(KeptReply { seq: 5, acceptance: Renewed { txn: Txn(1), until: 63000 } })
+b 0 [] None
+1 0 Abort, 0 8 None
+2 0 Keep, 1 16 Some((Superseded { by: Txn(3) }, 61000)), 2 8 Some((Cancelled, 62000))
+done [Txn(2)]
+leases [Lease { txn: Txn(1), owner: ProcId(0), point: PointId(0), priority: Priority(8), value: 45000, until: 130000, revert: Items { items: [Step { value: -1, hold: 5000 }, Step { value: 30000, hold: 86400000 }] }, policy: Abort }]
+reversions [Pending { txn: Txn(2), owner: ProcId(0), point: PointId(1), priority: Priority(16), steps: Items { items: [Step { value: 1, hold: 60000 }] }, start: 61000 }]
+"#;
+
+/// Puts these bytes behind others.
+pub fn put(rt: &impl Abort, into: &mut Vec<u8>, bytes: &[u8]) {
+    into.extend_from_slice(bytes).expect(rt, "memory");
+}
+
+/// All of these, one after another.
+pub fn joined(rt: &impl Abort, alloc: Global, parts: &[&[u8]]) -> Vec<u8> {
+    let mut bytes = Vec::new(alloc);
+    for part in parts {
+        put(rt, &mut bytes, part);
     }
-    Ok(bytes)
+    bytes
 }
 
 /// A state with so many leases and nothing else, below 256.
-pub fn leases(alloc: Global, count: u8) -> Result<Vec<u8>, AllocError> {
-    let mut bytes = vec![in alloc; 0u8; 24]?;
-    bytes.extend_from_slice(&[0, 0, 0, count])?;
+pub fn leases(rt: &impl Abort, alloc: Global, count: u8) -> Vec<u8> {
+    let mut bytes = joined(rt, alloc, &[&[0; 24], &[0, 0, 0, count]]);
     for i in 0..count {
-        bytes.extend_from_slice(&[0; 13])?;
-        bytes.extend_from_slice(&[i, 8])?;
-        bytes.extend_from_slice(&[0; 18])?;
+        put(rt, &mut bytes, &[0; 13]);
+        put(rt, &mut bytes, &[i, 8]);
+        put(rt, &mut bytes, &[0; 18]);
     }
-    bytes.extend_from_slice(&[0; 4])?;
-    Ok(bytes)
+    put(rt, &mut bytes, &[0; 4]);
+    bytes
 }
 
 /// The disk of a state of this generation with so many events before it, and a shut gate.
 pub fn state_disk(
+    rt: &impl Abort,
     alloc: Global,
     generation: u8,
     events: u8,
     spelled: &[u8],
-) -> Result<Vec<u8>, AllocError> {
-    let mut bytes = b"BOSSSNAP\x02".to_vec(alloc)?;
-    bytes.extend_from_slice(&DIGEST)?;
-    bytes.extend_from_slice(&[0, 0, 0, 0, 0, 0, 0, generation])?;
-    bytes.extend_from_slice(&[0, 0, 0, 0, 0, 0, 0, events])?;
-    bytes.extend_from_slice(&(spelled.len() as u64).to_be_bytes())?;
-    bytes.extend_from_slice(spelled)?;
-    bytes.push(0)?;
-    Ok(bytes)
+) -> Vec<u8> {
+    let size = (spelled.len() as u64).to_be_bytes();
+    joined(
+        rt,
+        alloc,
+        &[
+            b"BOSSSNAP\x02",
+            &DIGEST,
+            &[0, 0, 0, 0, 0, 0, 0, generation],
+            &[0, 0, 0, 0, 0, 0, 0, events],
+            &size,
+            spelled,
+            &[0],
+        ],
+    )
 }

@@ -6,17 +6,19 @@ use boss_disk::MemoryDisk;
 use boss_model::{Items, Kept, NoMemory};
 use boss_snapshot::read_kept;
 use std::alloc::Global;
+use std::process::Abort;
 
 /// A disk of these bytes, of which the call of this number fails.
-pub fn failing_disk(alloc: Global, bytes: &[u8], call: u64) -> Result<MemoryDisk, NoMemory> {
+pub fn failing_disk(rt: &impl Abort, alloc: Global, bytes: &[u8], call: u64) -> MemoryDisk {
     let mut fails = Items::new(alloc);
-    fails.try_push(call)?;
-    MemoryDisk::new(alloc, Items::from_vec(bytes.to_vec(alloc)?), fails)
+    fails.try_push(call).expect(rt, "memory");
+    let bytes = Items::from_vec(bytes.to_vec(alloc).expect(rt, "memory"));
+    MemoryDisk::new(alloc, bytes, fails).expect(rt, "memory")
 }
 
 /// A disk of these bytes, none of whose calls fails.
-pub fn disk_of(alloc: Global, bytes: &[u8]) -> Result<MemoryDisk, NoMemory> {
-    failing_disk(alloc, bytes, 0)
+pub fn disk_of(rt: &impl Abort, alloc: Global, bytes: &[u8]) -> MemoryDisk {
+    failing_disk(rt, alloc, bytes, 0)
 }
 
 /// The state that these bytes spell in version 2; none where they spell none, or no memory is left.

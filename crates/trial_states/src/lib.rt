@@ -9,12 +9,10 @@ mod bytes;
 #[cfg(test)]
 mod disks;
 #[cfg(test)]
-mod made;
-#[cfg(test)]
 mod refusals;
 #[cfg(test)]
-mod same;
-#[cfg(test)]
 mod stops;
+#[cfg(test)]
+mod texts;
 #[cfg(test)]
 mod writing;

@@ -1,12 +1,10 @@
-use crate::bytes::{DIGEST, OTHER, SMALL, state_disk};
+use crate::bytes::{DIGEST, OTHER, SMALL, joined, state_disk};
 use crate::disks::{disk_of, failing_disk};
 use boss_disk::MemoryDisk;
-use boss_model::NoMemory;
 use boss_snapshot::{SnapshotRefusal, kind, read_state};
 use def_log::DiskKind;
-use std::alloc::{AllocError, Global};
+use std::alloc::Global;
 use std::process::Abort;
-use std::test::Fail;
 
 /// Whether a disk has a kept state that is refused so.
 fn is_refused(alloc: Global, disk: &mut MemoryDisk, wanted: SnapshotRefusal) -> bool {
@@ -21,25 +19,29 @@ fn is_refused(alloc: Global, disk: &mut MemoryDisk, wanted: SnapshotRefusal) -> 
 
 /// Whether bytes are refused so whose byte at this place is changed to this value.
 fn is_refused_changed(
+    rt: &impl Abort,
     alloc: Global,
     bytes: &[u8],
     place: usize,
     value: u8,
     wanted: SnapshotRefusal,
-) -> Result<bool, NoMemory> {
-    let mut bytes = bytes.to_vec(alloc)?;
+) -> bool {
+    let mut bytes = joined(rt, alloc, &[bytes]);
     if place < bytes.len() {
         bytes[place] = value;
     }
-    let mut disk = disk_of(alloc, &bytes)?;
-    Ok(is_refused(alloc, &mut disk, wanted))
+    let mut disk = disk_of(rt, alloc, &bytes);
+    is_refused(alloc, &mut disk, wanted)
 }
 
+/// Versions that are none.
+const VERSIONS: &[u8] = &[0, 3, 255];
+
 /// Changes the head of a kept state.
-fn change_head<R: Abort>(rt: &R, alloc: Global, whole: &[u8]) -> Result<(), NoMemory> {
-    for found in [0, 3, 255] {
-        let version = SnapshotRefusal::Version { found };
-        assert!(rt; is_refused_changed(alloc, whole, 8, found, version)?);
+fn change_head(rt: &impl Abort, alloc: Global, whole: &[u8]) {
+    for found in VERSIONS {
+        let version = SnapshotRefusal::Version { found: *found };
+        assert!(rt; is_refused_changed(rt, alloc, whole, 8, *found, version));
     }
     let mut kept = DIGEST;
     kept[31] = 8;
@@ -47,8 +49,7 @@ fn change_head<R: Abort>(rt: &R, alloc: Global, whole: &[u8]) -> Result<(), NoMe
         kept,
         found: DIGEST,
     };
-    assert!(rt; is_refused_changed(alloc, whole, 40, 8, catalogue)?);
-    Ok(())
+    assert!(rt; is_refused_changed(rt, alloc, whole, 40, 8, catalogue));
 }
 
 /// Which byte is changed, to what, and the place that is told. From 65 on it is of the number of processes, a name's length, the
@@ -73,93 +74,82 @@ const DAMAGES: &[(usize, u8, u64)] = &[
 ];
 
 /// Changes other bytes of it.
-fn change_state<R: Abort>(rt: &R, alloc: Global, whole: &[u8]) -> Result<(), NoMemory> {
+fn change_state(rt: &impl Abort, alloc: Global, whole: &[u8]) {
     for (at, value, place) in DAMAGES {
         let damaged = SnapshotRefusal::Damaged { place: *place };
-        let refused = is_refused_changed(alloc, whole, *at, *value, damaged)?;
+        let refused = is_refused_changed(rt, alloc, whole, *at, *value, damaged);
         assert!(rt; refused, "{at} {value}");
     }
-    Ok(())
 }
 
 #[test]
-fn changed_byte_is_refused_at_its_place(rt: HostRuntime) -> Result<(), Fail> {
-    let whole = state_disk(rt.alloc(), 3, 5, SMALL)?;
-    change_head(&rt, rt.alloc(), &whole)?;
-    change_state(&rt, rt.alloc(), &whole)?;
-    Ok(())
+fn changed_byte_is_refused_at_its_place(rt: HostRuntime) {
+    let whole = state_disk(&rt, rt.alloc(), 3, 5, SMALL);
+    change_head(&rt, rt.alloc(), &whole);
+    change_state(&rt, rt.alloc(), &whole);
 }
 
 /// Cuts a kept state to each length that has the head and a part of the rest.
-fn cut_each<R: Abort>(rt: &R, alloc: Global, whole: &[u8]) -> Result<(), NoMemory> {
+fn cut_each(rt: &impl Abort, alloc: Global, whole: &[u8]) {
     for size in 66..whole.len() {
-        let mut disk = disk_of(alloc, &whole[..size])?;
+        let mut disk = disk_of(rt, alloc, &whole[..size]);
         let refused = is_refused(alloc, &mut disk, SnapshotRefusal::Damaged { place: 57 });
         assert!(rt; refused, "{size}");
     }
-    Ok(())
 }
 
 /// A kept state in which all is wrong but byte 65: the version, the catalogue, the number of events and the length.
-fn wrong(alloc: Global, whole: &[u8]) -> Result<Vec<u8>, AllocError> {
-    let mut wrong = whole.to_vec(alloc)?;
+fn wrong(rt: &impl Abort, alloc: Global, whole: &[u8]) -> Vec<u8> {
+    let mut wrong = joined(rt, alloc, &[whole]);
     if wrong.len() > 65 {
         wrong[8] = 9;
         wrong[9..41].copy_from_slice(&OTHER);
         wrong[49] = 0x80;
         wrong[57] = 0x80;
     }
-    Ok(wrong)
+    wrong
 }
 
 /// What is told where all is wrong, and where all is wrong but the version.
-fn refuse_wrong<R: Abort>(rt: &R, alloc: Global, wrong: &[u8]) -> Result<(), NoMemory> {
+fn refuse_wrong(rt: &impl Abort, alloc: Global, wrong: &[u8]) {
     let version = SnapshotRefusal::Version { found: 9 };
-    assert!(rt; is_refused_changed(alloc, wrong, 65, 1, version)?);
+    assert!(rt; is_refused_changed(rt, alloc, wrong, 65, 1, version));
     let catalogue = SnapshotRefusal::Catalogue {
         kept: OTHER,
         found: DIGEST,
     };
-    assert!(rt; is_refused_changed(alloc, wrong, 8, 2, catalogue)?);
-    assert!(rt; is_refused_changed(alloc, wrong, 8, 1, catalogue)?);
-    Ok(())
+    assert!(rt; is_refused_changed(rt, alloc, wrong, 8, 2, catalogue));
+    assert!(rt; is_refused_changed(rt, alloc, wrong, 8, 1, catalogue));
 }
 
 #[test]
-fn first_cause_is_told(rt: HostRuntime) -> Result<(), Fail> {
-    let whole = state_disk(rt.alloc(), 3, 5, SMALL)?;
-    cut_each(&rt, rt.alloc(), &whole)?;
-    refuse_wrong(&rt, rt.alloc(), &wrong(rt.alloc(), &whole)?)?;
-    Ok(())
+fn first_cause_is_told(rt: HostRuntime) {
+    let whole = state_disk(&rt, rt.alloc(), 3, 5, SMALL);
+    cut_each(&rt, rt.alloc(), &whole);
+    refuse_wrong(&rt, rt.alloc(), &wrong(&rt, rt.alloc(), &whole));
 }
 
 /// Whether the kind of a disk is not told whose call of this number fails.
-fn has_no_kind(alloc: Global, whole: &[u8], call: u64) -> Result<bool, NoMemory> {
-    let mut disk = failing_disk(alloc, whole, call)?;
-    Ok(kind(&mut disk).is_err() && disk.faults() == 1)
+fn has_no_kind(rt: &impl Abort, alloc: Global, whole: &[u8], call: u64) -> bool {
+    let mut disk = failing_disk(rt, alloc, whole, call);
+    kind(&mut disk).is_err() && disk.faults() == 1
 }
 
 /// Whether the state of a disk is not read whose call of this number fails.
-fn has_no_state(alloc: Global, whole: &[u8], call: u64) -> Result<bool, NoMemory> {
-    let mut disk = failing_disk(alloc, whole, call)?;
-    Ok(is_refused(alloc, &mut disk, SnapshotRefusal::DiskFault) && disk.faults() == 1)
+fn has_no_state(rt: &impl Abort, alloc: Global, whole: &[u8], call: u64) -> bool {
+    let mut disk = failing_disk(rt, alloc, whole, call);
+    is_refused(alloc, &mut disk, SnapshotRefusal::DiskFault) && disk.faults() == 1
 }
 
-/// Fails each read in turn.
-fn fail_each_read<R: Abort>(rt: &R, alloc: Global, whole: &[u8]) -> Result<(), NoMemory> {
-    // The kind takes the length and the first bytes; the state takes the length, what stands before it, and its bytes.
-    for call in [1, 2] {
-        assert!(rt; has_no_kind(alloc, whole, call)?, "{call}");
-    }
-    for call in [3, 4, 5] {
-        assert!(rt; has_no_state(alloc, whole, call)?, "{call}");
-    }
-    Ok(())
-}
-
+/// Fails each read in turn: the kind takes the length and the first bytes; the state takes the length, what stands before it, and
+/// its bytes.
 #[test]
-fn each_read_of_the_disk_may_fail(rt: HostRuntime) -> Result<(), Fail> {
-    let whole = state_disk(rt.alloc(), 3, 5, SMALL)?;
-    fail_each_read(&rt, rt.alloc(), &whole)?;
-    Ok(())
+fn each_read_of_the_disk_may_fail(rt: HostRuntime) {
+    let whole = state_disk(&rt, rt.alloc(), 3, 5, SMALL);
+    for call in 1..3 {
+        assert!(&rt; has_no_kind(&rt, rt.alloc(), &whole, call), "{call}");
+    }
+    for call in 3..6 {
+        assert!(&rt; has_no_state(&rt, rt.alloc(), &whole, call), "{call}");
+    }
 }

@@ -5,12 +5,11 @@ ghost use Rattle.boss_model.specs.Seen.{seen};
 use crate::bytes::{DIGEST, SMALL, leases, state_disk};
 use crate::disks::{disk_of, failing_disk, spelled};
 use boss_disk::MemoryDisk;
-use boss_model::{Kept, NoMemory};
+use boss_model::Kept;
 use boss_snapshot::{kind, write_state};
 use def_log::DiskKind;
 use std::alloc::Global;
 use std::process::Abort;
-use std::test::Fail;
 
 /// Whether the bytes behind the first of each are the same, which is 0 in neither.
 fn differ_at_first(some: &[u8], other: &[u8]) -> bool {
@@ -37,109 +36,94 @@ fn is_kind(told: DiskKind, bytes: &[u8], wanted: &[u8]) -> bool {
 
 /// Writes a state as generation 4, with seven events before it, over a disk that stops after so many calls, and looks at what is
 /// left. Whether it was written whole.
-fn write_to_stop<R: Abort>(
-    rt: &R,
+fn write_to_stop(
+    rt: &impl Abort,
     alloc: Global,
     held: &[u8],
     kept: &Kept,
     wanted: &[u8],
     stop: u64,
-) -> Result<bool, NoMemory>
+) -> bool
     requires { (state 2).fits (seen kept.now) ≡ true }
 {
-    let mut disk = disk_of(alloc, held)?;
+    let mut disk = disk_of(rt, alloc, held);
     disk.stop_after(stop);
     let done = write_state(kept, &mut disk, &DIGEST, 4, 7).is_ok();
-    look_at_each(rt, alloc, &disk, held, wanted, done)?;
-    Ok(done)
+    look_at_each(rt, alloc, &disk, held, wanted, done);
+    done
 }
 
+/// Which of what a stop may leave is looked at.
+const PICKS: &[u64] = &[0, 1, 2, 5];
+
 /// Looks at some of what a stop may leave of a disk.
-fn look_at_each<R: Abort>(
-    rt: &R,
+fn look_at_each(
+    rt: &impl Abort,
     alloc: Global,
     disk: &MemoryDisk,
     held: &[u8],
     wanted: &[u8],
     done: bool,
-) -> Result<(), NoMemory> {
-    for pick in [0, 1, 2, 5] {
-        let fine = is_left(disk.image(alloc, pick)?, held, wanted, done);
-        assert!(rt; fine, "pick {pick}");
+) {
+    for pick in PICKS {
+        let image = disk.image(alloc, *pick).expect(rt, "memory");
+        assert!(rt; is_left(image, held, wanted, done), "pick {pick}");
     }
-    Ok(())
 }
 
 /// Whether a disk is what a stop may leave.
-fn is_left(image: MemoryDisk, held: &[u8], wanted: &[u8], done: bool) -> bool {
-    let mut image = image;
+fn is_left(mut image: MemoryDisk, held: &[u8], wanted: &[u8], done: bool) -> bool {
     let told = kind(&mut image).unwrap_or(DiskKind::Other);
     let bytes = image.into_bytes();
     may_be_left(bytes.slice(), held, wanted, done) && is_kind(told, bytes.slice(), wanted)
 }
 
 /// Stops a disk that holds these bytes at each of so many calls while this state is written, and after the last.
-fn stop_at_each<R: Abort>(
-    rt: &R,
-    alloc: Global,
-    held: &[u8],
-    kept: &Kept,
-    calls: u64,
-) -> Result<(), NoMemory>
+fn stop_at_each(rt: &impl Abort, alloc: Global, held: &[u8], kept: &Kept, calls: u64)
     requires { (state 2).fits (seen kept.now) ≡ true }
 {
-    let wanted = state_disk(alloc, 4, 7, SMALL)?;
+    let wanted = state_disk(rt, alloc, 4, 7, SMALL);
     for stop in 0..=calls {
-        let done = write_to_stop(rt, alloc, held, kept, &wanted, stop)?;
+        let done = write_to_stop(rt, alloc, held, kept, &wanted, stop);
         assert_eq!(rt; done, stop == calls, "stop {stop}");
     }
-    Ok(())
+}
+
+/// The state of the small bytes.
+fn small(rt: &impl Abort, alloc: Global) -> Kept
+    ensures { (state 2).fits (seen result) ≡ true }
+{
+    spelled(alloc, SMALL).expect(rt, "a state")
 }
 
 /// Stops disks that hold nothing, a few bytes, and an older state.
-fn stop_each_disk<R: Abort>(rt: &R, alloc: Global, kept: &Kept) -> Result<(), Fail>
-    requires { (state 2).fits (seen kept.now) ≡ true }
-{
+#[test]
+fn stop_at_any_call_leaves_the_old_or_the_new(rt: HostRuntime) {
+    let alloc = rt.alloc();
+    let kept = small(&rt, alloc);
     // A length, and byte 0 read where there is one; a write and a sync where it is not 0; a cut; the state, and its length; a
     // sync, byte 0, and a sync.
-    stop_at_each(rt, alloc, &[], kept, 9)?;
-    stop_at_each(rt, alloc, &[0, 1, 2], kept, 8)?;
-    let older = state_disk(alloc, 3, 5, &leases(alloc, 9)?)?;
-    stop_at_each(rt, alloc, &older, kept, 10)?;
-    Ok(())
-}
-
-#[test]
-fn stop_at_any_call_leaves_the_old_or_the_new(rt: HostRuntime) -> Result<(), Fail> {
-    match spelled(rt.alloc(), SMALL) {
-        Some(kept) => stop_each_disk(&rt, rt.alloc(), &kept),
-        None => Err(Fail::new("a state")),
-    }
+    stop_at_each(&rt, alloc, &[], &kept, 9);
+    stop_at_each(&rt, alloc, &[0, 1, 2], &kept, 8);
+    let older = state_disk(&rt, alloc, 3, 5, &leases(&rt, alloc, 9));
+    stop_at_each(&rt, alloc, &older, &kept, 10);
 }
 
 /// Whether a write over an empty disk fails just where one of its first nine calls is the one that fails, with one fault then.
-fn fails_as_its_disk(alloc: Global, kept: &Kept, call: u64) -> Result<bool, NoMemory>
+fn fails_as_its_disk(rt: &impl Abort, alloc: Global, kept: &Kept, call: u64) -> bool
     requires { (state 2).fits (seen kept.now) ≡ true }
 {
-    let mut disk = failing_disk(alloc, &[], call)?;
+    let mut disk = failing_disk(rt, alloc, &[], call);
     let failed = write_state(kept, &mut disk, &DIGEST, 4, 7).is_err();
-    Ok(failed == (call < 10) && disk.faults() == u64::from(failed))
+    failed == (call < 10) && disk.faults() == u64::from(failed)
 }
 
 /// Writes this state over disks of which each call fails in turn.
-fn fail_at_each<R: Abort>(rt: &R, alloc: Global, kept: &Kept) -> Result<(), Fail>
-    requires { (state 2).fits (seen kept.now) ≡ true }
-{
-    for call in 1..=10 {
-        assert!(rt; fails_as_its_disk(alloc, kept, call)?, "call {call}");
-    }
-    Ok(())
-}
-
 #[test]
-fn each_write_of_the_disk_may_fail(rt: HostRuntime) -> Result<(), Fail> {
-    match spelled(rt.alloc(), SMALL) {
-        Some(kept) => fail_at_each(&rt, rt.alloc(), &kept),
-        None => Err(Fail::new("a state")),
+fn each_write_of_the_disk_may_fail(rt: HostRuntime) {
+    let alloc = rt.alloc();
+    let kept = small(&rt, alloc);
+    for call in 1..11 {
+        assert!(&rt; fails_as_its_disk(&rt, alloc, &kept, call), "call {call}");
     }
 }
