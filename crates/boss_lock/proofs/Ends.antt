@@ -20,7 +20,7 @@ use Rattle.boss_lock.proofs.Sums.{total_only}
 
 module _ {V T E : Type 0} (means : V → T → List E → Type 0) (start : T) (seats : ℕ) where
   -- a new lock: no ticket is drawn, the value is home, and one seat has every part
-  pub opens : (value : V) → seats < 2 ^ 32 → means value start [] → IsKept means start seats (opening (0 ∷ 0 ∷ []) (Some value ∷ []) (first_view start seats))
+  pub opens : (value : V) → seats < 2 ^ 33 → means value start [] → IsKept means start seats (opening (0 ∷ 0 ∷ []) (Some value ∷ []) (first_view start seats))
   opens value few stands = record {
     low = 0;
     high = 0;

@@ -1,5 +1,5 @@
 -- Lemmas on lists that begin one another.
-use Rattle.std.proofs.Common.{◌≡◌, ◌⊎◌, inl, inr, ⊎_elim, ◌≤◌, List, [], ◌∷◌, ◌++◌, length, refl, sym, ap, ◌∙◌, arith, append_assoc, append-nil}
+use Rattle.std.proofs.Common.{◌≡◌, ◌⊎◌, inl, inr, ⊎_elim, ◌≤◌, List, [], ◌∷◌, ◌++◌, length, refl, sym, ap, ◌∙◌, arith, append_assoc, append-nil, length-append}
 use mathlib.Core.List.{IsPrefix}
 use Rattle.boss_lock.specs.Places.{longer, IsLonger}
 
@@ -16,6 +16,9 @@ module _ {E : Type 0} where
   prefix_whole [] (y ∷ ys) p le = absurd (omega arith)
   prefix_whole (x ∷ xs) [] p le = let e = p.1 in absurd (cc)
   prefix_whole (x ∷ xs) (y ∷ ys) p le = let e = p.1 in let rest = prefix_whole xs ys (p.0, cc) (omega arith) in cc
+
+  pub prefix_length : (xs ys : List E) → IsPrefix xs ys → length xs ≤ length ys
+  prefix_length xs ys p = let e = length-append xs p.0 in let f = ap length p.1 in omega arith
 
   pub longer_nil : (xs : List E) → longer xs [] ≡ xs
   longer_nil [] = refl

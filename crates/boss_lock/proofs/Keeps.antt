@@ -21,7 +21,7 @@ use Rattle.boss_lock.proofs.Sums.{total_set, total_snoc, total_at, total_two, to
 load_first : (words : List ℕ) (a b : ℕ) → words ≡ a ∷ b ∷ [] → set words 0 (get_or words 0 0) ≡ a ∷ b ∷ []
 load_first words a b is = subst (λ (ws : List ℕ). set ws 0 (get_or ws 0 0) ≡ a ∷ b ∷ []) (sym is) refl
 
-load_second : (words : List ℕ) (a b : ℕ) → words ≡ a ∷ b ∷ [] → set words 1 (get_or words 1 0) ≡ a ∷ b ∷ []
+pub load_second : (words : List ℕ) (a b : ℕ) → words ≡ a ∷ b ∷ [] → set words 1 (get_or words 1 0) ≡ a ∷ b ∷ []
 load_second words a b is = subst (λ (ws : List ℕ). set ws 1 (get_or ws 1 0) ≡ a ∷ b ∷ []) (sym is) refl
 
 raise : (n : ℕ) → (n % 2 ^ 64 + 1) % 2 ^ 64 ≡ suc n % 2 ^ 64
@@ -61,33 +61,33 @@ value_of (Some y) is = (y, refl)
 value_of None is = absurd (omega arith)
 
 module _ {V T E : Type 0} (means : V → T → List E → Type 0) (start : T) (seats : ℕ) where
-  abbrev Table : Type 0
+  abbrev pub Table : Type 0
   Table = State (Option V) (View T E)
 
-  abbrev Rule : Table → Type 0
+  abbrev pub Rule : Table → Type 0
   Rule = IsKept means start seats
 
-  abbrev line_of : View T E → ℕ
+  abbrev pub line_of : View T E → ℕ
   line_of v = in_line v.stage
 
-  abbrev parts_of : View T E → ℕ
+  abbrev pub parts_of : View T E → ℕ
   parts_of v = v.parts
 
-  abbrev away_of : View T E → ℕ
+  abbrev pub away_of : View T E → ℕ
   away_of v = away v.stage
 
-  abbrev ticket_at : ℕ → View T E → ℕ
+  abbrev pub ticket_at : ℕ → View T E → ℕ
   ticket_at t v = ticketed t v.stage
 
   -- what is known of each seat, after one of them has changed its view
-  others_fit : (low : ℕ) (log : List E) (views : List (View T E)) (id : ℕ) (w : View T E) → Fits low log start w
+  pub others_fit : (low : ℕ) (log : List E) (views : List (View T E)) (id : ℕ) (w : View T E) → Fits low log start w
       → ((j : ℕ) (u : View T E) → j ≢ id → get_elem? views j ≡ slot.some u → Fits low log start u)
       → (j : ℕ) (u : View T E) → get_elem? (set views id w) j ≡ slot.some u → Fits low log start u
   others_fit low log views id w mine others j u at =
       ⊎_elim (λ (p : (j ≡ id) × (w ≡ u)). subst (Fits low log start) p.1 mine) (λ (p : (j ≢ id) × (get_elem? views j ≡ slot.some u)). others j u p.0 p.1) (at_set views id j w u at)
 
   -- A step of one seat that keeps its parts. The four equations say that what the step adds to each sum is what it adds to the other side
-  moves : (s : Table) (r : Rule s) (id : ℕ) (v w : View T E) → get_elem? s.views id ≡ slot.some v → w.parts ≡ v.parts
+  pub moves : (s : Table) (r : Rule s) (id : ℕ) (v w : View T E) → get_elem? s.views id ≡ slot.some v → w.parts ≡ v.parts
       → (low high : ℕ) (log : List E) (home : Option V) (words : List ℕ) (homes : List (slot.Option (Option V)))
       → words ≡ (high % 2 ^ 64) ∷ (low % 2 ^ 64) ∷ [] → homes ≡ slot_of home ∷ []
       → StandsAtHome means start log home → Fits low log start w
@@ -177,7 +177,7 @@ module _ {V T E : Type 0} (means : V → T → List E → Type 0) (start : T) (s
   }
 
   -- a seat with the turn has the ticket that is served, so no other knows the history's end
-  others_move : (s : Table) (r : Rule s) (id : ℕ) (v : View T E) (low : ℕ) (more : List E) → get_elem? s.views id ≡ slot.some v → ticketed r.low v.stage ≡ 1
+  pub others_move : (s : Table) (r : Rule s) (id : ℕ) (v : View T E) (low : ℕ) (more : List E) → get_elem? s.views id ≡ slot.some v → ticketed r.low v.stage ≡ 1
       → (j : ℕ) (u : View T E) → j ≢ id → get_elem? s.views j ≡ slot.some u → Fits r.low r.log start u → Fits low (r.log ++ more) start u
   others_move s r id v low more at has j u apart there fits =
       let other = tickets_apart s r id j v u r.low (λ e. apart (sym e)) at there has in
@@ -468,19 +468,18 @@ module _ {V T E : Type 0} (means : V → T → List E → Type 0) (start : T) (s
         each_seat = λ j u there. ⊎_elim (others_fit r.low r.log s.views id left fits_left (λ i x _. r.each_seat i x) j u) (λ (is : right ≡ u). subst (Fits r.low r.log start) is fits_right) (at_snoc views right u j there);
       }
 
-  -- A seat takes in the parts and the places of another, and what it had seen
-  pub joins : (id : ℕ) (v : View T E) (other : ℕ) (u : View T E) → v.stage ≡ Idle → u.stage ≡ Idle → v.other ≡ [] → u.other ≡ [] → 0 < v.parts
+  -- A seat takes in the parts and the places of another that is idle, and what it had seen
+  pub joins : (id : ℕ) (v : View T E) (other : ℕ) (u : View T E) → u.stage ≡ Idle → v.other ≡ [] → u.other ≡ [] → 0 < v.parts
       → Joins Rule id v other u (joined_view v u) spent_view
-  joins id v other u idle idle_too compared_once compared_too some_part s r at apart there =
+  joins id v other u idle compared_once compared_too some_part s r at apart there =
       let w = joined_view v u in
       let views = set s.views id w in
       let was = r.each_seat id v at in
       let theirs = r.each_seat other u (sym (set_else s.views id other w apart) ∙ there) in
       let first = λ (f : View T E → ℕ). total_set f s.views id v w at in
       let second = λ (f : View T E → ℕ). total_set f views other u spent_view there in
-      let not_in_line : in_line v.stage ≡ 0 = ap in_line idle in
-      let nor_other : in_line u.stage ≡ 0 = ap in_line idle_too in
-      let not_away : away u.stage ≡ 0 = ap away idle_too in
+      let not_in_line : in_line u.stage ≡ 0 = ap in_line idle in
+      let not_away : away u.stage ≡ 0 = ap away idle in
       let once : (k : ℕ) → times k v.places + times k u.places ≤ 1 = λ k.
       let m = total_two (placed k) s.views id other v u (λ e. apart (sym e)) at (sym (set_else s.views id other w apart) ∙ there) in
       let q = r.one_place k in
@@ -490,7 +489,7 @@ module _ {V T E : Type 0} (means : V → T → List E → Type 0) (start : T) (s
       let seen_too : AllBelow (length u.seen) u.places = subst (λ (l : List E). AllBelow (length l) u.places) ((λ i. longer u.seen (compared_too i)) ∙ longer_nil u.seen) theirs.places_seen in
       let fits_own : Fits r.low r.log start w = record {
         same_start = λ _. was.same_start some_part;
-        one_ticket = omega arith;
+        one_ticket = let one = was.one_ticket in omega arith;
         spent = λ none. absurd (omega arith);
         rising = rises_woven v.places u.places was.rising theirs.rising once;
         seen_before = was.seen_before;
@@ -521,11 +520,11 @@ module _ {V T E : Type 0} (means : V → T → List E → Type 0) (start : T) (s
         one_value = let a = first away_of in let b = second away_of in let q = r.one_value in omega arith;
         all_parts = let a = first parts_of in let b = second parts_of in let q = r.all_parts in omega arith;
         line = let a = first line_of in let b = second line_of in let q = r.line in omega arith;
-        tickets = λ t. let a = first (ticket_at t) in let b = second (ticket_at t) in let e : ticketed t u.stage ≡ 0 = ap (ticketed t) idle_too in let q = r.tickets t in omega arith;
+        tickets = λ t. let a = first (ticket_at t) in let b = second (ticket_at t) in let e : ticketed t u.stage ≡ 0 = ap (ticketed t) idle in let q = r.tickets t in omega arith;
         one_place = λ k.
             let a = first (placed k) in
             let b = second (placed k) in
-            let e : due k u.stage ≡ 0 = ap (due k) idle_too in
+            let e : due k u.stage ≡ 0 = ap (due k) idle in
             let f = times_woven k v.places u.places in
             let q = r.one_place k in
             omega arith;

@@ -100,7 +100,7 @@ pub record IsKept {V T E : Type 0} (means : V → T → List E → Type 0) (star
   pub home : Option V
   pub words : s.words ≡ (high % 2 ^ 64) ∷ (low % 2 ^ 64) ∷ []
   pub slots : s.homes ≡ slot_of home ∷ []
-  pub few_seats : seats < 2 ^ 32
+  pub few_seats : seats < 2 ^ 33
   pub stands : StandsAtHome means start log home
   pub one_value : present home + total (λ (v : View T E). away v.stage) s.views ≡ 1
   pub all_parts : total (λ (v : View T E). v.parts) s.views ≡ seats

@@ -98,3 +98,11 @@ module _ {T E : Type 0} where
     seen = longer seat.seen other.seen;
     places = woven seat.places other.places;
   }
+
+  -- the seat that lent its turn to another, which made these entries
+  abbrev pub after_lending : Standing T E → List E → Standing T E
+  after_lending seat made = record seat { seen = found seat ++ made; turn = Some (found seat ++ made) }
+
+  -- the seat with the parts of another too
+  abbrev pub with_parts_of : Standing T E → Standing T E → Standing T E
+  with_parts_of seat other = record seat { parts = seat.parts + other.parts }

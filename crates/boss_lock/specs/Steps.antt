@@ -77,6 +77,27 @@ module _ {T E : Type 0} where
   abbrev pub compared_view : View T E → View T E
   compared_view v = record v { seen = longer v.seen v.other; other = [] }
 
+  -- the view of a seat that has the value, and added these entries to the history
+  abbrev pub added_view : View T E → List E → View T E
+  added_view v made = record v {
+    seen = list_of v.stage ++ made;
+    other = [];
+    places = v.places ++ numbers_from (length (list_of v.stage)) (length made);
+    stage = Holding (ticket_of v.stage) (list_of v.stage ++ made);
+  }
+
+  -- the view of a seat that keeps one part, with its turn, and sets down the rest
+  abbrev pub bare_view : View T E → View T E
+  bare_view v = record v { parts = 1; places = [] }
+
+  -- the view of the seat with that rest
+  abbrev pub set_down_view : View T E → View T E
+  set_down_view v = record v { parts = v.parts - 1; other = []; stage = Idle }
+
+  -- the view of a seat that took the parts of another, and nothing else of it
+  abbrev pub folded_view : View T E → View T E → View T E
+  folded_view v u = record v { parts = v.parts + u.parts }
+
   -- the stage of a seat, with whatever it has
   abbrev pub IsWaiting : View T E → Type 0
   IsWaiting v = v.stage ≡ Waiting (ticket_of v.stage)
@@ -121,6 +142,10 @@ module _ {V T E : Type 0} where
   abbrev pub compared : Step (Option V) → Knower V T E → ℕ → Knower V T E → Type 0
   compared step me found after =
       let v = compared_view me.0 in (after ≡ (v, me.1)) × IsLonger me.0.seen me.0.other v.seen × ArePlacesOf v.places v.seen
+
+  abbrev pub added : List E → Step (Option V) → Knower V T E → ℕ → Knower V T E → Type 0
+  added told step me found after =
+      let v = added_view me.0 told in (after ≡ (v, me.1)) × IsPrefix me.0.other (list_of me.0.stage) × ArePlacesOf v.places v.seen
 
 -- the token is one of this table, which has a lock's words and its slot
 abbrev pub IsOn : {S W : Type 0} → TableId → Seat S W → Type 0

@@ -1,11 +1,11 @@
 // The lock and its calls.
-ghost use Rattle.std.specs.Prelude.{◌≡◌, ℕ, ◌+◌, ◌<◌, ◌≤◌, ◌⊎◌, List, [], ◌∷◌, ◌++◌, length, Some, None, IsSome, IfOk, IfErr};
+ghost use Rattle.std.specs.Prelude.{◌≡◌, ℕ, ◌+◌, ◌*◌, ◌^◌, ◌<◌, ◌≤◌, ◌⊎◌, List, [], ◌∷◌, ◌++◌, length, Some, None, IsSome, IfOk, IfErr};
 ghost use mathlib.Core.List.{IsPrefix};
 ghost use Rattle.boss_lock.specs.Places.{numbers_from, ArePlacesOf, IsLonger, total};
-ghost use Rattle.boss_lock.specs.Seats.{IsSeatOf, found, own_entries, first_seat, with_turn, after_turn, one_part_less, one_part_of, both_seats};
+ghost use Rattle.boss_lock.specs.Seats.{IsSeatOf, found, own_entries, first_seat, with_turn, after_turn, one_part_less, one_part_of, both_seats, after_lending, with_parts_of};
 
 use crate::seat::Seat;
-use crate::steps::{begin_turn, divide, end_turn, take_in};
+use crate::steps::{begin_turn, divide, end_turn, fold, lend_turn, take_in};
 use crate::view::{Known, Made, OneHistory, Stands, Terms};
 use atomic_table::{Closed, Refused, Table};
 use std::alloc::{AllocFailed, Global};
@@ -87,6 +87,35 @@ fn only_value<V>(mut slots: Vec<Option<V>>) -> V
     value
 }
 
+// A new lock, and its only seat, which has so many parts.
+fn with_parts<V: Stands>(
+    alloc: Global,
+    value: V,
+    parts: u64,
+) -> Result<(Ruled<V>, Seat<V>), (V, NoMemory)>
+    requires parts { (0 < parts) × (parts < 2 ^ 33) }
+    requires value { V.stands value (V.start value) [] }
+    ensures lock { IfOk result (λ made. (made.0.start ≡ V.start value) × (made.0.seats ≡ parts)) }
+    ensures seat { IfOk result (λ made. made.1 ≡ first_seat made.0) }
+    ensures err { IfErr result (λ refused. refused.0 ≡ value) }
+{
+    let terms = Terms {
+        seats: parts,
+        value: Snapshot::of(&value),
+    };
+    let slots = match one_slot(alloc, value) {
+        Ok(slots) => slots,
+        Err(value) => return Err((value, NoMemory)),
+    };
+    match Table::new(alloc, &[0, 0], slots, &terms) {
+        Ok((table, token)) => Ok((Ruled { table }, Seat { token })),
+        Err(refused) => {
+            let Refused { slots } = refused;
+            Err((only_value(slots), NoMemory))
+        }
+    }
+}
+
 impl<V: Stands> Ruled<V> {
     /// A new lock, and its only seat, which has all `seats` parts. The history is empty.
     ///
@@ -99,21 +128,23 @@ impl<V: Stands> Ruled<V> {
         ensures seat { IfOk result (λ made. made.1 ≡ first_seat made.0) }
         ensures err { IfErr result (λ refused. refused.0 ≡ value) }
     {
-        let terms = Terms {
-            seats,
-            value: Snapshot::of(&value),
-        };
-        let slots = match one_slot(alloc, value) {
-            Ok(slots) => slots,
-            Err(value) => return Err((value, NoMemory)),
-        };
-        match Table::new(alloc, &[0, 0], slots, &terms) {
-            Ok((table, token)) => Ok((Ruled { table }, Seat { token })),
-            Err(refused) => {
-                let Refused { slots } = refused;
-                Err((only_value(slots), NoMemory))
-            }
-        }
+        with_parts(alloc, value, seats as u64)
+    }
+
+    /// The same with two parts for each of `pairs`, so that whoever has a pair can `split` a seat off that
+    /// takes the turns, and `fold` it in again, while the other one lies where a turn can be lent to it.
+    pub fn new_in_pairs(
+        alloc: Global,
+        value: V,
+        pairs: u32,
+    ) -> Result<(Ruled<V>, Seat<V>), (V, NoMemory)>
+        requires pairs { 0 < pairs }
+        requires value { V.stands value (V.start value) [] }
+        ensures lock { IfOk result (λ made. (made.0.start ≡ V.start value) × (made.0.seats ≡ 2 * pairs)) }
+        ensures seat { IfOk result (λ made. made.1 ≡ first_seat made.0) }
+        ensures err { IfErr result (λ refused. refused.0 ≡ value) }
+    {
+        with_parts(alloc, value, 2 * pairs as u64)
     }
 
     /// Waits for the seat's turn, and takes the value out.
@@ -177,6 +208,43 @@ impl<V: Stands> Ruled<V> {
     {
         let Seat { token } = other;
         take_in(&self.table.shared, &mut seat.token, token);
+    }
+
+    /// Lends the seat's turn to another seat, which makes these entries in it.
+    ///
+    /// Both have to be seats of this lock. The first has to have the turn, one part and no places, and the
+    /// other no turn. The other comes back as it would be after a turn of its own in which it found the same
+    /// history and made the entries that `made` tells. The first keeps the turn, as if it had found these too.
+    /// Nothing is asked of the value, which stays with the caller: `leave` asks that it stands for all that was
+    /// made. `made` is not read. The call takes no memory and does not wait.
+    pub fn lend<M: Made<V>>(&self, seat: &mut Seat<V>, other: Seat<V>, made: &M) -> Seat<V>
+        requires own { IsSeatOf self.now seat.old × IsSeatOf self.now other }
+        requires turn { IsSome seat.old.turn }
+        requires bare { (seat.old.parts ≡ 1) × (seat.old.places ≡ []) }
+        requires no_turn { other.turn ≡ None }
+        ensures seat { seat.new ≡ after_lending seat.old (M.entries made.now) }
+        ensures history { IsPrefix other.seen (found seat.old) }
+        ensures other { result ≡ after_turn (with_turn other (found seat.old)) (M.entries made.now) }
+        ensures own_entries { own_entries result ≡ own_entries other ++ M.entries made.now }
+        ensures places { ArePlacesOf result.places result.seen }
+    {
+        let Seat { token } = other;
+        let token = lend_turn(&self.table.shared, &mut seat.token, token, made);
+        Seat { token }
+    }
+
+    /// Takes the parts of another seat that has no places, and lets go what it had seen.
+    ///
+    /// Both have to be seats of this lock, and the other has to have no turn. The seat stays as it was but
+    /// for its parts, also with the turn. The call takes no memory.
+    pub fn fold(&self, seat: &mut Seat<V>, other: Seat<V>)
+        requires own { IsSeatOf self.now seat.old × IsSeatOf self.now other }
+        requires no_turn { other.turn ≡ None }
+        requires no_places { other.places ≡ [] }
+        ensures seat { seat.new ≡ with_parts_of seat.old other }
+    {
+        let Seat { token } = other;
+        fold(&self.table.shared, &mut seat.token, token);
     }
 
     /// Ends the lock, and gives its value. It stands for all that the seat has seen, and every place of

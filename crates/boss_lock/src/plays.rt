@@ -1,7 +1,7 @@
 // The kinds of step, and what each tells the seat that makes it.
 ghost use Rattle.std.specs.Prelude.{List, []};
 ghost use Rattle.boss_lock.specs.Rule.{spent_view};
-ghost use Rattle.boss_lock.specs.Steps.{left_view, right_view, joined_view, drawn, looked, taken, given, passed, compared};
+ghost use Rattle.boss_lock.specs.Steps.{left_view, right_view, joined_view, bare_view, set_down_view, folded_view, drawn, looked, taken, given, passed, compared, added};
 
 use crate::view::{Known, Stands, View};
 use atomic_table::{Join, Play, Split};
@@ -25,7 +25,7 @@ impl<V: Stands> Play<Option<V>, Known<V>> for Take {
     ghost then = { taken V.stands };
 }
 
-// Names the entries of one turn. The call that gives the value back picks them.
+// Names the entries of one turn. The call that adds them, or gives the value back, picks them.
 pub trait Telling<E> {
     ghost told: { List E };
 }
@@ -55,6 +55,14 @@ impl<V: Stands> Play<Option<V>, Known<V>> for Compare {
     ghost then = { compared };
 }
 
+pub struct Add<J> {
+    telling: PhantomData<J>,
+}
+
+impl<V: Stands, J: Telling<V::Entry>> Play<Option<V>, Known<V>> for Add<J> {
+    ghost then = { added J.told };
+}
+
 pub struct OnePart;
 
 impl<T, E> Split<View<T, E>> for OnePart {
@@ -67,6 +75,24 @@ pub struct AllParts;
 
 impl<T, E> Join<View<T, E>> for AllParts {
     ghost both = { joined_view };
+
+    ghost spent = { spent_view };
+}
+
+// All but one part, and every place. The part that stays keeps the turn.
+pub struct SetDown;
+
+impl<T, E> Split<View<T, E>> for SetDown {
+    ghost left = { bare_view };
+
+    ghost right = { set_down_view };
+}
+
+// The parts alone.
+pub struct Fold;
+
+impl<T, E> Join<View<T, E>> for Fold {
+    ghost both = { folded_view };
 
     ghost spent = { spent_view };
 }

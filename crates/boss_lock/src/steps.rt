@@ -2,10 +2,12 @@
 ghost use Rattle.std.specs.Prelude.{◌≡◌, ℕ, ◌%◌, ◌^◌, ◌<◌, ◌≤◌, List, [], ◌∷◌, ◌++◌, length, Some, None};
 ghost use mathlib.Core.List.{IsPrefix};
 ghost use Rattle.boss_lock.specs.Places.{ArePlacesOf, IsLonger};
-ghost use Rattle.boss_lock.specs.Steps.{ticket_of, list_of, waiting_view, turn_view, holding_view, given_view, passed_view, left_view, right_view, joined_view, compared_view, IsWaiting, HasTurn, IsHolding, HasGiven, StandsFor, IsOn, IsSameToken};
+ghost use Rattle.boss_lock.specs.Steps.{ticket_of, list_of, waiting_view, turn_view, holding_view, given_view, passed_view, left_view, right_view, joined_view, compared_view, added_view, bare_view, set_down_view, folded_view, IsWaiting, HasTurn, IsHolding, HasGiven, StandsFor, IsOn, IsSameToken};
 ghost use Rattle.boss_lock.specs.declared.view.Stage.TheVariants.{Idle};
 
-use crate::plays::{AllParts, Compare, Draw, GiveBack, Look, OnePart, PassOn, Take, Telling};
+use crate::plays::{
+    Add, AllParts, Compare, Draw, Fold, GiveBack, Look, OnePart, PassOn, SetDown, Take, Telling,
+};
 use crate::view::{Board, Made, Stands, Token};
 use boss_model::LOCK_LOOKS;
 use std::hint::spin_loop;
@@ -31,8 +33,8 @@ fn draw<V: Stands>(board: &Board<V>, token: &mut Token<V>) -> u64
     board.fetch_add::<Draw>(token, TICKET, 1)
 }
 
-// The half of a word that a sleep compares. Fewer than 2^32 tickets are out at any time, so it changes
-// before a seat's turn comes.
+// The half of a word that a sleep compares. A seat that waits keeps a thread, and there are fewer than
+// 2^32 of these, so it changes before a seat's turn comes.
 fn low_half(word: u64) -> u32
     ensures { result ≡ word % 2 ^ 32 }
 {
@@ -163,10 +165,11 @@ pub(crate) fn divide<V: Stands>(board: &Board<V>, token: &mut Token<V>) -> Token
     board.split_seat::<OnePart>(token)
 }
 
-// Takes in the parts and the places of another seat, and what it had seen, to be compared.
+// Takes in the parts and the places of another seat, and what it had seen, to be compared. A seat with
+// the turn takes another along this way.
 fn merge<V: Stands>(board: &Board<V>, token: &mut Token<V>, other: Token<V>)
     requires own { IsOn board.now.table_id token.old × IsOn board.now.table_id other }
-    requires idle { (token.old.me.0.stage ≡ Idle) × (other.me.0.stage ≡ Idle) × (other.me.1 ≡ []) }
+    requires idle { (other.me.0.stage ≡ Idle) × (other.me.1 ≡ []) }
     requires compared { (token.old.me.0.other ≡ []) × (other.me.0.other ≡ []) }
     requires part { 0 < token.old.me.0.parts }
     ensures same { IsSameToken token.old token.new }
@@ -199,4 +202,70 @@ pub(crate) fn take_in<V: Stands>(board: &Board<V>, token: &mut Token<V>, other: 
 {
     merge(board, token, other);
     compare(board, token);
+}
+
+// Adds the entries of `made` to the history, while the value is in the seat's hands.
+fn add<V: Stands, M: Made<V>, J: Telling<V::Entry>>(
+    board: &Board<V>,
+    token: &mut Token<V>,
+    made: &M,
+)
+    requires own { IsOn board.now.table_id token.old }
+    requires holding { IsHolding token.old.me.0 }
+    requires part { 0 < token.old.me.0.parts }
+    requires told { J.told ≡ M.entries made.now }
+    ensures same { IsSameToken token.old token.new }
+    ensures added { token.new.me ≡ (added_view token.old.me.0 (M.entries made.now), token.old.me.1) }
+    ensures history { IsPrefix token.old.me.0.other (list_of token.old.me.0.stage) }
+    ensures places { ArePlacesOf token.new.me.0.places token.new.me.0.seen }
+{
+    let _ = made;
+    board.load::<Add<J>>(token, SERVING);
+}
+
+// Sets down all but one part, and every place, in a new seat. The turn stays.
+fn set_down<V: Stands>(board: &Board<V>, token: &mut Token<V>) -> Token<V>
+    requires own { IsOn board.now.table_id token.old }
+    requires compared { token.old.me.0.other ≡ [] }
+    requires two_parts { 2 ≤ token.old.me.0.parts }
+    ensures same { IsSameToken token.old token.new }
+    ensures left { token.new.me ≡ (bare_view token.old.me.0, token.old.me.1) }
+    ensures right { (result.table_id ≡ token.old.table_id) × (result.me ≡ (set_down_view token.old.me.0, [])) }
+{
+    board.split_seat::<SetDown>(token)
+}
+
+// Takes another seat along, adds the entries of `made` to the history, and sets the seat down with them.
+pub(crate) fn lend_turn<V: Stands, M: Made<V>>(
+    board: &Board<V>,
+    token: &mut Token<V>,
+    other: Token<V>,
+    made: &M,
+) -> Token<V>
+    requires own { IsOn board.now.table_id token.old × IsOn board.now.table_id other }
+    requires holding { IsHolding token.old.me.0 }
+    requires idle { (other.me.0.stage ≡ Idle) × (other.me.1 ≡ []) }
+    requires compared { (token.old.me.0.other ≡ []) × (other.me.0.other ≡ []) }
+    requires parts { (0 < token.old.me.0.parts) × (0 < other.me.0.parts) }
+    ensures same { IsSameToken token.old token.new }
+    ensures own { token.new.me ≡ (bare_view (added_view (joined_view token.old.me.0 other.me.0) (M.entries made.now)), token.old.me.1) }
+    ensures history { IsPrefix other.me.0.seen (list_of token.old.me.0.stage) }
+    ensures other { (result.table_id ≡ token.old.table_id) × (result.me ≡ (set_down_view (added_view (joined_view token.old.me.0 other.me.0) (M.entries made.now)), [])) }
+    ensures places { ArePlacesOf result.me.0.places result.me.0.seen }
+{
+    merge(board, token, other);
+    add::<V, M, Brand>(board, token, made);
+    set_down(board, token)
+}
+
+// Takes the parts of another seat, and nothing else of it.
+pub(crate) fn fold<V: Stands>(board: &Board<V>, token: &mut Token<V>, other: Token<V>)
+    requires own { IsOn board.now.table_id token.old × IsOn board.now.table_id other }
+    requires idle { (other.me.0.stage ≡ Idle) × (other.me.1 ≡ []) }
+    requires no_places { other.me.0.places ≡ [] }
+    requires part { 0 < token.old.me.0.parts }
+    ensures same { IsSameToken token.old token.new }
+    ensures both { token.new.me ≡ (folded_view token.old.me.0 other.me.0, token.old.me.1) }
+{
+    board.join_seat::<Fold>(token, other);
 }

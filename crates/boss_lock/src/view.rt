@@ -55,7 +55,7 @@ pub type Known<V> = View<<V as Stands>::Start, <V as Stands>::Entry>;
 // What the table is told when it is made. It has no byte of the value, whose start the rule reads.
 #[derive(Drop)]
 pub struct Terms<V> {
-    pub seats: u32,
+    pub seats: u64,
     pub value: Snapshot<V>,
 }
 

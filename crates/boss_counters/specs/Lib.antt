@@ -1,0 +1,3 @@
+pub mod Matters
+pub mod Rule
+pub mod Steps

@@ -1,5 +1,0 @@
-use Rattle.boss_lock.proofs.Ends.{opens}
-use Rattle.boss_lock.proofs.lock.Ruled.new.Goals as goal
-
-pub new-requires : goal.new-requires
-new-requires g c = rw (c.of.ensures, c.in-Ok.ensures.ok) (opens _ _ _ c.args.value c.ranges.seats.fits c.requires.value)
