@@ -3,7 +3,7 @@
 ghost use Rattle.std.specs.Prelude.{◌≡◌, []};
 
 use crate::signals::read_past_signals;
-use boss_outside::{Failed, Got, Sink, Source};
+use boss_outside::{Failed, Got, Hears, Sink, Source};
 use std::alloc::Global;
 use std::io::Write;
 use std::net::TcpStream;
@@ -46,6 +46,11 @@ impl Source for RealSource {
             }
         }
     }
+}
+
+/// It tells of no read, and has nothing to be shown.
+impl Hears<RealSink> for RealSource {
+    fn show(&mut self, _sink: &RealSink) {}
 }
 
 /// What goes out by a connection. The connection closes when its source and its sink are dropped.

@@ -3,7 +3,7 @@
 ghost use Rattle.std.specs.Prelude.{◌≡◌, []};
 
 use crate::read_past_signals;
-use boss_outside::{Failed, Got, Sink, Source};
+use boss_outside::{Failed, Got, Hears, Sink, Source};
 use std::io::Write;
 use std::rt::{Stdin, Stdout};
 
@@ -44,6 +44,11 @@ impl Source for StdSource {
             }
         }
     }
+}
+
+/// It tells of no read, and has nothing to be shown.
+impl Hears<StdSink> for StdSource {
+    fn show(&mut self, _sink: &StdSink) {}
 }
 
 /// The standard output.

@@ -81,6 +81,10 @@ impl Files for RealFiles {
 
     ghost holds = { λ files name. None };
 
+    ghost past = { λ files name. [] };
+
+    ghost whole = { λ files. ⊥ };
+
     ghost asked = { λ files. [] };
 
     ghost faults = { λ files. files.faults };

@@ -105,6 +105,8 @@ impl<R: Net<Listener = TcpListener, Stream = TcpStream> + Eprint + Copy> Host fo
 
     ghost served = { λ host. [] };
 
+    ghost listens = { λ host. [] };
+
     ghost handed = { λ host. host.handed };
 
     ghost share = { λ host. host.share };

@@ -33,6 +33,7 @@ pub fn assign_plan<F: Files, A: Actuators>(
     ensures planned { Planned F.Files A.Actuators name.now catalogue.now files.old devices.old.items devices.new.items result }
     ensures asks { F.tells → AsksFor name.now (F.asked files.old) (F.asked files.new) result }
     ensures stays { F.tells → (file : List ℕ) → F.holds files.new file ≡ F.holds files.old file }
+    ensures past { F.tells → (file : List ℕ) → F.past files.new file ≡ F.past files.old file }
     ensures cause { FaultOnly (F.faults files.old) (F.faults files.new) result }
 {
     let plan = read_plan(alloc, files, name, catalogue)?;
@@ -50,6 +51,7 @@ fn read_plan<F: Files>(
     ensures reads { F.tells → Reads catalogue.now (F.holds files.old name.now) result }
     ensures asks { F.tells → AsksFor name.now (F.asked files.old) (F.asked files.new) result }
     ensures stays { F.tells → (file : List ℕ) → F.holds files.new file ≡ F.holds files.old file }
+    ensures past { F.tells → (file : List ℕ) → F.past files.new file ≡ F.past files.old file }
     ensures cause { FaultOnly (F.faults files.old) (F.faults files.new) result }
 {
     let bytes = match files.read(alloc, name, LONGEST_FILE) {

@@ -1,14 +1,21 @@
-use Rattle.std.proofs.Common.{◌≡◌, ◌≢◌, ℕ, Bool, true, false, cond, List, [], ◌∷◌, ◌++◌, length, get_or, set, Option, Some, None, option_map, position, find, bytes_eq, sym, ◌∙◌, ap, refl, arith, ltb, ⊎_elim}
+use Rattle.std.proofs.Common.{◌≡◌, ◌≢◌, ℕ, Bool, true, false, cond, List, [], ◌∷◌, ◌++◌, length, get_or, set, Option, Some, None, option_map, position, find, bytes_eq, sym, ◌∙◌, ap, refl, arith, ltb, ⊎_elim, append_assoc, append-nil, if◌then◌else◌, ◌⊎◌, inl, inr, subst, IsTrue}
 use Rattle.std.specs.List.{position_or_len, slice_get}
 use Rattle.std.proofs.lemmas.Bool.{cases_lt, cases_Bool}
 use Rattle.std.proofs.lemmas.Bool.Decides.{Decides-ltb}
 use Rattle.std.specs.Option.{option_or}
+use Rattle.std.proofs.lemmas.List.{ext_get_or}
 use Rattle.std.proofs.lemmas.List.Folds.{find_at, find-set, find_past, find-append}
 use Rattle.std.proofs.lemmas.List.Quantifiers.{position-Some}
 use Rattle.std.proofs.lemmas.List.Sums.{position_or_len_is}
 use Rattle.std.proofs.lemmas.Option.{slice_get_past}
 use Rattle.std.proofs.lemmas.Slice.Eq.{bytes_eq-Decides}
-use Rattle.boss_files.specs.Shelf.{bytes_under}
+use Rattle.boss_disk.specs.Images.{holds_along, holds_fresh}
+use Rattle.boss_disk.specs.Marks.{agrees_at, mark}
+use Rattle.boss_disk.specs.Picked.{IsPicked, picked}
+use Rattle.boss_disk.specs.Record.{DiskRecord, DiskState, fresh, state_of}
+use Rattle.boss_disk.specs.Window.{IsImage, Window}
+use Rattle.boss_files.specs.Files.{windows}
+use Rattle.boss_files.specs.Shelf.{bytes_under, past_under, Shelf}
 
 -- names by their bytes
 same_name : (a b : List ℕ) → bytes_eq a b ≡ true → a ≡ b
@@ -95,3 +102,63 @@ added_elsewhere files name other differ =
     (find-append (λ (file : List ℕ × List ℕ). bytes_eq file.0 other) files ((name, []) ∷ []))
     ∙ not_behind (find (λ (file : List ℕ × List ℕ). bytes_eq file.0 other) files) (bytes_eq name other) (name, [])
     (other_name name other (λ same. differ (sym same)))
+
+-- ---- stores that were given back
+
+-- one more is told of under its name
+pub past_here : (stores : List (List ℕ × DiskRecord)) (name : List ℕ) (store : DiskRecord) →
+    past_under (stores ++ (name, store) ∷ []) name ≡ past_under stores name ++ windows (state_of store).story
+past_here [] name store = ap (λ (t : Bool). (if t then windows (state_of store).story else []) ++ []) (itself name) ∙ append-nil (windows (state_of store).story)
+past_here (other ∷ stores) name store =
+    let front : List Window = if bytes_eq other.0 name then windows (state_of other.1).story else [] in
+    ap (λ ws. front ++ ws) (past_here stores name store) ∙ sym (append_assoc front (past_under stores name) (windows (state_of store).story))
+
+-- and nowhere else
+pub past_elsewhere : (stores : List (List ℕ × DiskRecord)) (name other : List ℕ) (store : DiskRecord) → other ≢ name →
+    past_under (stores ++ (name, store) ∷ []) other ≡ past_under stores other
+past_elsewhere [] name other store differ =
+    ap (λ (t : Bool). (if t then windows (state_of store).story else []) ++ []) (other_name name other (λ same. differ (sym same)))
+past_elsewhere (one ∷ stores) name other store differ =
+    let front : List Window = if bytes_eq one.0 other then windows (state_of one.1).story else [] in
+    ap (λ ws. front ++ ws) (past_elsewhere stores name other store differ)
+
+-- ---- the image of a disk as it is
+
+picked_now : (place : ℕ) (there : Option ℕ) (byte : ℕ) → ((kept : ℕ) → there ≡ Some kept → byte ≡ kept) → picked 1 place there byte ≡ byte
+picked_now place None byte stays = refl
+picked_now place (Some kept) byte stays = sym (stays kept refl)
+
+one-some : (pick : ℕ) → pick ≡ 1 → pick ≢ 0
+one-some pick is none = omega (arith, is, none)
+
+-- it has the bytes that a read gives
+pub image_as_it_is : (disk : DiskRecord) (image : List ℕ) → IsPicked 1 (state_of disk) image → image ≡ (state_of disk).bytes
+image_as_it_is disk image is =
+    let state : DiskState = state_of disk in
+    let held : IsImage state.story.window state.bytes = (holds_along (fresh disk.start) disk.calls (holds_fresh disk.start)).bytes in
+    ext_get_or 0 image state.bytes (is.size (one-some 1 refl))
+    (λ place inside.
+    is.each (one-some 1 refl) place inside
+    ∙ picked_now place (mark state.story.window.stays place) (get_or state.bytes place 0) (agrees_at state.story.window.stays state.bytes held.stays place))
+
+-- a store that is given back is kept, or the record is no more whole
+pub kept_gains : (was mid now : Shelf) (name : List ℕ) (store : DiskRecord) → mid.stores ≡ was.stores → mid.whole ≡ was.whole →
+    (now ≡ record mid { stores = mid.stores ++ (name, store) ∷ [] }) ⊎ (now ≡ record mid { whole = false }) → IsTrue now.whole →
+    IsTrue was.whole × (past_under now.stores name ≡ past_under was.stores name ++ windows (state_of store).story)
+kept_gains was mid now name store same level kept whole = elim kept [
+  | inl is ↦ (
+    subst IsTrue (ap (λ (s : Shelf). s.whole) is ∙ level) whole,
+    ap (λ (s : Shelf). past_under s.stores name) is ∙ past_here mid.stores name store ∙ ap (λ stores. past_under stores name ++ windows (state_of store).story) same,
+  )
+  | inr left ↦ (let never : IsTrue false = subst IsTrue (ap (λ (s : Shelf). s.whole) left) whole in absurd cc)
+]
+
+pub kept_elsewhere : (was mid now : Shelf) (name : List ℕ) (store : DiskRecord) → mid.stores ≡ was.stores →
+    (now ≡ record mid { stores = mid.stores ++ (name, store) ∷ [] }) ⊎ (now ≡ record mid { whole = false }) → (other : List ℕ) → other ≢ name →
+    past_under now.stores other ≡ past_under was.stores other
+kept_elsewhere was mid now name store same kept other differ =
+    elim kept [
+      | inl is ↦ ap (λ (s : Shelf). past_under s.stores other) is ∙ past_elsewhere mid.stores name other store differ
+      | inr left ↦ ap (λ (s : Shelf). past_under s.stores other) left
+    ]
+    ∙ ap (λ stores. past_under stores other) same

@@ -1,6 +1,8 @@
 -- Source: own.
 use Rattle.std.specs.Prelude.{◌≡◌, ℕ, ◌<◌, ◌≤◌, ◌⊎◌, Bool, true, false, List, [], ◌∷◌, ◌++◌, length, Option, Some, unwrap_or, Result, Ok, Err}
 use Rattle.boss_outside.specs.Counts.{Rose}
+use Rattle.boss_disk.specs.Story.{Story}
+use Rattle.boss_disk.specs.Window.{Window}
 use Rattle.boss_files.specs.declared.files.FileBytes.{FileBytes}
 use Rattle.boss_files.specs.declared.files.FileBytes.TheVariants.{Whole, Longer}
 use Rattle.boss_files.specs.declared.files.FileFault.{FileFault}
@@ -20,6 +22,10 @@ ReadsFile held (Longer size) = (bytes : List ℕ) × (held ≡ Some bytes) × (l
 abbrev pub opened : {T : Type 0} → Option (List ℕ) → Result T FileFault → Option (List ℕ)
 opened held (Ok _) = Some (unwrap_or held [])
 opened held (Err _) = held
+
+-- all windows of a story, oldest first
+abbrev pub windows : Story → List Window
+windows story = story.past ++ story.window ∷ []
 
 -- the call failed exactly where the count rose in it; want of memory leaves the count
 abbrev pub FileCause : {T : Type 0} → ℕ → ℕ → Result T FileFault → Type 0

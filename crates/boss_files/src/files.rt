@@ -1,7 +1,7 @@
-ghost use Rattle.std.specs.Prelude.{◌≡◌, ◌≢◌, ℕ, List, [], Option, Some, IsSome, IfOk, unwrap_or};
+ghost use Rattle.std.specs.Prelude.{◌≡◌, ◌≢◌, ℕ, List, [], ◌++◌, Option, Some, IsSome, IfOk, unwrap_or};
 ghost use Rattle.boss_outside.specs.Counts.{Joins};
-ghost use Rattle.boss_disk.specs.Window.{settled};
-ghost use Rattle.boss_files.specs.Files.{KeepsLimit, ReadsFile, FileCause, Asks, opened};
+ghost use Rattle.boss_disk.specs.Window.{Window, settled};
+ghost use Rattle.boss_files.specs.Files.{KeepsLimit, ReadsFile, FileCause, Asks, opened, windows};
 
 use boss_disk::Disk;
 use boss_model::{Items, NoMemory};
@@ -80,6 +80,14 @@ pub trait Files {
     /// The bytes of the file under a name, where there is one.
     ghost holds: { Self → List ℕ → Option (List ℕ) };
 
+    /// What a crash might have left of the file under a name, while stores of it were open that were given back: their windows,
+    /// oldest first.
+    ghost past: { Self → List ℕ → List Window };
+
+    /// That no store is missing among them. A form in memory leaves out one that it has no memory to keep, and its record is never
+    /// whole again.
+    ghost whole: { Self → Type 0 };
+
     /// The names that were asked for so far, in order.
     ghost asked: { Self → List (List ℕ) };
 
@@ -92,6 +100,8 @@ pub trait Files {
         ensures within { IfOk result (KeepsLimit limit) }
         ensures bytes { tells → IfOk result (ReadsFile (holds self.old name.now)) }
         ensures stays { tells → (file : List ℕ) → holds self.new file ≡ holds self.old file }
+        ensures past { tells → (file : List ℕ) → past self.new file ≡ past self.old file }
+        ensures whole { tells → (whole self.old → whole self.new) × (whole self.new → whole self.old) }
         ensures asks { tells → Asks (asked self.old) (asked self.new) name.now result }
         ensures cause { FileCause (faults self.old) (faults self.new) result };
 
@@ -102,17 +112,25 @@ pub trait Files {
         ensures bytes { tells → IfOk result (λ store. Self.Store.reads store ≡ unwrap_or (holds self.old name.now) []) }
         // All of it outlasts a crash.
         ensures settled { tells → IfOk result (λ store. (Self.Store.story store).window ≡ settled (Self.Store.reads store)) }
+        // No call of it went by yet.
+        ensures begins { tells → IfOk result (λ store. (Self.Store.story store).past ≡ []) }
         ensures fresh { IfOk result (λ store. Self.Store.faults store ≡ 0) }
         ensures there { tells → holds self.new name.now ≡ opened (holds self.old name.now) result }
         ensures stays { tells → (file : List ℕ) → file ≢ name.now → holds self.new file ≡ holds self.old file }
+        ensures past { tells → (file : List ℕ) → past self.new file ≡ past self.old file }
+        ensures whole { tells → (whole self.old → whole self.new) × (whole self.new → whole self.old) }
         ensures asks { tells → Asks (asked self.old) (asked self.new) name.now result }
         ensures cause { FileCause (faults self.old) (faults self.new) result };
 
-    /// Takes a store back as the file under this name, which holds from then on what the store reads.
+    /// Takes a store back as the file under this name, which holds from then on what the store reads, and tells what a crash might
+    /// have left of it meanwhile.
     fn close(&mut self, name: &str, store: Self::Store)
         requires { tells → IsSome (holds self.old name.now) }
         ensures bytes { tells → holds self.new name.now ≡ Some (Self.Store.reads store) }
         ensures stays { tells → (file : List ℕ) → file ≢ name.now → holds self.new file ≡ holds self.old file }
+        // As long as the record is whole it was so before, and it gained the windows of the store.
+        ensures gains { tells → whole self.new → whole self.old × (past self.new name.now ≡ past self.old name.now ++ windows (Self.Store.story store)) }
+        ensures past { tells → (file : List ℕ) → file ≢ name.now → past self.new file ≡ past self.old file }
         ensures asks { tells → asked self.new ≡ asked self.old }
         ensures cause { Joins (faults self.old) (Self.Store.faults store) (faults self.new) };
 }

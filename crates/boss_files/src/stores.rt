@@ -1,8 +1,8 @@
-ghost use Rattle.std.specs.Prelude.{◌≡◌, ◌≢◌, ◌+◌, ℕ, List, [], IsSome, IfOk, OnOk, unwrap_or};
+ghost use Rattle.std.specs.Prelude.{◌≡◌, ◌≢◌, ◌+◌, ◌++◌, ℕ, List, [], IsSome, IfOk, OnOk, OnErr, unwrap_or};
 ghost use Rattle.boss_disk.specs.Window.{settled};
-ghost use Rattle.boss_files.specs.Files.{FileCause};
+ghost use Rattle.boss_files.specs.Files.{FileCause, windows};
 ghost use Rattle.boss_outside.specs.Counts.{Joins};
-ghost use Rattle.boss_files.specs.Stores.{AsksBoth};
+ghost use Rattle.boss_files.specs.Stores.{AsksBoth, MayBeTried};
 
 use crate::files::{FileFault, Files};
 use boss_disk::Disk;
@@ -23,12 +23,21 @@ pub fn open_stores<F: Files>(
     // All of both outlasts a crash.
     ensures settled { F.tells → IfOk result (λ stores. ((F.Store.story stores.0).window ≡ settled (F.Store.reads stores.0))
         × ((F.Store.story stores.1).window ≡ settled (F.Store.reads stores.1))) }
+    // No call of either went by yet.
+    ensures begin { F.tells → IfOk result (λ stores. ((F.Store.story stores.0).past ≡ []) × ((F.Store.story stores.1).past ≡ [])) }
     ensures fresh { IfOk result (λ stores. (F.Store.faults stores.0 ≡ 0) × (F.Store.faults stores.1 ≡ 0)) }
     // Both may be given back.
     ensures there { F.tells → OnOk result (IsSome (F.holds files.new journal.now) × IsSome (F.holds files.new second.now)) }
     // No file changes, but that an empty one may stand where there was none.
     ensures keeps { F.tells → (file : List ℕ) → unwrap_or (F.holds files.new file) [] ≡ unwrap_or (F.holds files.old file) [] }
     ensures stays { F.tells → (file : List ℕ) → file ≢ journal.now → file ≢ second.now → F.holds files.new file ≡ F.holds files.old file }
+    // Where both are opened nothing more is told of any file. Where they are not, maybe that a store of the first was given back as it
+    // was opened.
+    ensures past { F.tells → OnOk result ((file : List ℕ) → F.past files.new file ≡ F.past files.old file) }
+    ensures whole { F.tells → OnOk result ((F.whole files.old → F.whole files.new) × (F.whole files.new → F.whole files.old)) }
+    ensures tried { F.tells → F.whole files.new → OnErr result (F.whole files.old
+        × MayBeTried (unwrap_or (F.holds files.old journal.now) []) (F.past files.old journal.now) (F.past files.new journal.now)) }
+    ensures others { F.tells → (file : List ℕ) → file ≢ journal.now → F.past files.new file ≡ F.past files.old file }
     ensures asks { F.tells → AsksBoth (F.asked files.old) (F.asked files.new) journal.now second.now result }
     ensures cause { FileCause (F.faults files.old) (F.faults files.new) result }
 {
@@ -42,7 +51,8 @@ pub fn open_stores<F: Files>(
     }
 }
 
-/// Gives both back, each under its name. From then on the files hold what the stores read.
+/// Gives both back, each under its name. From then on the files hold what the stores read, and tell what a crash might have left of
+/// them meanwhile.
 pub fn close_stores<F: Files>(
     files: &mut F,
     journal: &str,
@@ -54,6 +64,10 @@ pub fn close_stores<F: Files>(
     ensures first_bytes { F.tells → F.holds files.new journal.now ≡ Some (F.Store.reads stores.0) }
     ensures second_bytes { F.tells → F.holds files.new second.now ≡ Some (F.Store.reads stores.1) }
     ensures stays { F.tells → (file : List ℕ) → file ≢ journal.now → file ≢ second.now → F.holds files.new file ≡ F.holds files.old file }
+    ensures gains { F.tells → F.whole files.new → F.whole files.old
+        × (F.past files.new journal.now ≡ F.past files.old journal.now ++ windows (F.Store.story stores.0))
+        × (F.past files.new second.now ≡ F.past files.old second.now ++ windows (F.Store.story stores.1)) }
+    ensures past { F.tells → (file : List ℕ) → file ≢ journal.now → file ≢ second.now → F.past files.new file ≡ F.past files.old file }
     ensures asks { F.tells → F.asked files.new ≡ F.asked files.old }
     // The count rises exactly where a call of one of the stores failed.
     ensures cause { Joins (F.faults files.old) (F.Store.faults stores.0 + F.Store.faults stores.1) (F.faults files.new) }

@@ -109,7 +109,7 @@ end-of [] ys is = is
 end-of (x ∷ xs) ys is = cc
 
 -- bytes without a line end have no line that has its end
-open-lines : (rest : List ℕ) → NoLineEnd (length rest) rest → whole_lines rest ≡ []
+pub open-lines : (rest : List ℕ) → NoLineEnd (length rest) rest → whole_lines rest ≡ []
 open-lines [] before = refl
 open-lines (b ∷ rest) before =
     let here : b ≢ 10 = before 0 (omega arith) in

@@ -1,8 +1,9 @@
 -- Source: own.
 use Rattle.std.specs.Prelude.{◌≡◌, ◌⊎◌, ℕ, ◌+◌, ◌<◌, ◌≤◌, ◌==◌, Bool, false, List, [], ◌∷◌, ◌++◌, length, take, Option, Some, None}
 use Rattle.std.specs.List.{list_any}
-use Rattle.boss_model.specs.Lines.{lines}
+use Rattle.boss_model.specs.Lines.{lines, whole_lines}
 use Rattle.boss_outside.specs.Counts.{Rose}
+use Rattle.boss_outside.specs.declared.source.ReadAt.{ReadAt}
 use Rattle.boss_lines.specs.declared.reader.Next.{Next}
 use Rattle.boss_lines.specs.declared.reader.Next.TheVariants.{Line, Finish, TooLong, ReadFault}
 use Rattle.boss_model.specs.Limits.{longest_line}
@@ -62,3 +63,13 @@ NextCause before now ReadFault = Rose before now
 abbrev pub StopsAt : Next → Option Next → Type 0
 StopsAt Line stopped = (stopped ≡ None) ⊎ (stopped ≡ Some Finish)
 StopsAt answer stopped = stopped ≡ Some answer
+
+-- A read of the bytes that come was made while a line was waited for: those that had come by then have no whole line, and the
+-- sink had taken as many bytes as this, as far as the source was told
+pub record IsReadFor (bytes : List ℕ) (told : ℕ) (at : ReadAt) : Type 0 where
+  pub come : List ℕ
+  pub rest : List ℕ
+  pub split : bytes ≡ come ++ rest
+  pub left : at.left ≡ length rest
+  pub waiting : whole_lines come ≡ []
+  pub shown : at.told ≡ told

@@ -1,6 +1,7 @@
 ghost use Rattle.std.specs.Prelude.{◌≡◌, ◌≢◌, ◌≤◌, ℕ, true, [], ◌++◌, length, Some, None, IfOk, IfSome};
 ghost use Rattle.boss_model.specs.Limits.{longest_line};
-ghost use Rattle.boss_lines.specs.Lines.{Answers, EndsLine, is_at_hand, Leaves, NextCause, StopsAt};
+ghost use Rattle.boss_outside.specs.Notes.{NotesEach};
+ghost use Rattle.boss_lines.specs.Lines.{Answers, EndsLine, IsReadFor, is_at_hand, Leaves, NextCause, StopsAt};
 
 use crate::window::{Found, Window};
 use boss_model::NoMemory;
@@ -84,8 +85,11 @@ impl Lines {
         ensures ends { S.tells → result ≡ Next.Line →
             EndsLine (self.old.ahead ++ S.left source.old) (self.new.ahead ++ S.left source.new) self.new.line self.new.stopped }
         ensures held { S.tells → S.held source.new ≡ S.held source.old }
+        // It reads only as long as no whole line has come.
+        ensures reads { S.tells → NotesEach (IsReadFor (self.old.ahead ++ S.left source.old) (S.told source.old)) (S.reads source.old) (S.reads source.new) }
 
         // Of every source.
+        ensures shown { S.told source.new ≡ S.told source.old }
         ensures leaves { Leaves self.new.line self.new.ahead result }
         ensures cause { self.old.stopped ≢ Some Next.ReadFault → NextCause (S.faults source.old) (S.faults source.new) result }
         ensures at_hand { is_at_hand self.old.stopped self.old.ahead ≡ true → (result ≡ Next.Line) × (source.new ≡ source.old) }

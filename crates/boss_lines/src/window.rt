@@ -1,7 +1,8 @@
 ghost use Rattle.std.specs.Prelude.{◌≡◌, ℕ, ◌+◌, ◌-◌, ◌<◌, ◌≤◌, true, List, [], ◌++◌, length, take, drop, slice_index, IfOk, IfSome, IfNone};
 ghost use Rattle.boss_model.specs.Limits.{longest_line};
+ghost use Rattle.boss_outside.specs.Notes.{Notes, NotesEach};
 ghost use Rattle.boss_outside.specs.Streams.{FitsRoom, Reads, ReadCause};
-ghost use Rattle.boss_lines.specs.Lines.{ends_line};
+ghost use Rattle.boss_lines.specs.Lines.{ends_line, IsReadFor};
 ghost use Rattle.boss_lines.specs.Window.{Adds, NoLineEnd, Shows, IsAtEnd, FoundCause, IsFound};
 
 use boss_model::{LONGEST_LINE, NoMemory};
@@ -95,6 +96,8 @@ impl Window {
         ensures bytes { S.tells → self.new ++ S.left source.new ≡ self.old ++ S.left source.old }
         ensures finish { S.tells → result ≡ Got.Finish → S.left source.new ≡ [] }
         ensures stays { S.tells → S.held source.new ≡ S.held source.old }
+        ensures noted { S.tells → Notes (S.reads source.old) (S.reads source.new) (record { left = length (S.left source.old); told = S.told source.old }) }
+        ensures shown { S.told source.new ≡ S.told source.old }
         ensures cause { ReadCause (S.faults source.old) (S.faults source.new) result }
     {
         let bytes = self.bytes.as_mut_slice();
@@ -110,6 +113,8 @@ impl Window {
         ensures bytes { S.tells → self.new ++ S.left source.new ≡ self.old ++ S.left source.old }
         ensures finish { S.tells → IsAtEnd (S.left source.new) result }
         ensures stays { S.tells → S.held source.new ≡ S.held source.old }
+        ensures reads { S.tells → NotesEach (IsReadFor (self.old ++ S.left source.old) (S.told source.old)) (S.reads source.old) (S.reads source.new) }
+        ensures shown { S.told source.new ≡ S.told source.old }
         ensures at_hand { ends_line self.old ≡ true → IsFound result × (source.new ≡ source.old) }
         ensures cause { FoundCause (S.faults source.old) (S.faults source.new) result }
     {
@@ -172,6 +177,8 @@ fn read_behind<S: Source>(source: &mut S, bytes: &mut [u8], place: usize) -> Got
     ensures count { FitsRoom (length bytes.old - place) result }
     ensures bytes { S.tells → Reads (S.left source.old) (S.left source.new) (drop place bytes.new) result }
     ensures stays { S.tells → S.held source.new ≡ S.held source.old }
+    ensures noted { S.tells → Notes (S.reads source.old) (S.reads source.new) (record { left = length (S.left source.old); told = S.told source.old }) }
+    ensures shown { S.told source.new ≡ S.told source.old }
     ensures cause { ReadCause (S.faults source.old) (S.faults source.new) result }
 {
     source.read(&mut bytes[place..])

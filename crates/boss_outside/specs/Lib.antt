@@ -1,5 +1,6 @@
 pub mod Counts
 pub mod Links
+pub mod Notes
 pub mod Plan
 pub mod Stores
 pub mod Streams

@@ -7,6 +7,8 @@
 
 mod actuators;
 mod failed;
+mod heard_source;
+mod hears;
 mod link;
 mod list_link;
 mod noted;
@@ -16,9 +18,11 @@ mod source;
 
 pub use actuators::{Actuators, DeviceCall, IdleActuators, SimActuators};
 pub use failed::Failed;
+pub use heard_source::HeardSource;
+pub use hears::Hears;
 pub use link::Link;
 pub use list_link::ListLink;
 pub use noted::Noted;
 pub use plan::FaultPlan;
 pub use sink::{BytesSink, Sink};
-pub use source::{BytesSource, Got, Source};
+pub use source::{BytesSource, Got, ReadAt, Source};

@@ -1,7 +1,9 @@
-ghost use Rattle.std.specs.Prelude.{◌≡◌, ◌↔◌, ℕ, ◌+◌, ◌^◌, ◌<◌, List, length, IfOk, IsTrue};
+ghost use Rattle.std.specs.Prelude.{◌≡◌, ◌↔◌, ℕ, ◌+◌, ◌^◌, ◌<◌, List, length, Option, None, IfOk, IsTrue};
 ghost use Rattle.boss_outside.specs.Plan.{new_plan, fails_next, after_call};
 ghost use Rattle.boss_outside.specs.Stores.{bytes_left};
 ghost use Rattle.boss_outside.specs.Streams.{count_of, FitsRoom, FillsRoom, Reads, ReadCause, IsSuffixOf};
+ghost use Rattle.boss_outside.specs.Notes.{Notes};
+ghost use Rattle.boss_outside.specs.declared.source.ReadAt.{ReadAt as Made};
 
 use crate::plan::FaultPlan;
 use boss_model::{Items, NoMemory};
@@ -31,6 +33,15 @@ impl Got {
     }
 }
 
+/// At which point of all that went over a connection a read of it was made.
+#[derive(Clone, Copy, Debug, PartialEq, Eq)]
+pub struct ReadAt {
+    /// How many bytes were left to read before it.
+    pub left: usize,
+    /// How many bytes the connection's sink had taken then, as far as the source was shown.
+    pub told: usize,
+}
+
 /// Something that bytes are read from.
 pub trait Source {
     /// That the values of this type tell which bytes they hold. A form in memory does; a real one can't.
@@ -45,12 +56,21 @@ pub trait Source {
     /// The number of reads that failed, up to `2 ^ 64 - 1`, where it stands still.
     ghost faults: { Self → ℕ };
 
+    /// Each read so far, in order, those that failed too; none where the values of this type don't tell, or one of them had no
+    /// memory to note a read.
+    ghost reads: { Self → Option (List Made) } = { λ _. None };
+
+    /// How many bytes the connection's sink had taken when the source was shown it last, and 0 before.
+    ghost told: { Self → ℕ } = { λ _. 0 };
+
     /// Reads some of the bytes that are left.
     fn read(&mut self, into: &mut [u8]) -> Got
         requires { 0 < length into.old }
         ensures count { FitsRoom (length into.old) result }
         ensures bytes { tells → Reads (left self.old) (left self.new) into.new result }
         ensures stays { tells → held self.new ≡ held self.old }
+        ensures noted { tells → Notes (reads self.old) (reads self.new) (record { left = length (left self.old); told = told self.old }) }
+        ensures shown { told self.new ≡ told self.old }
         ensures cause { ReadCause (faults self.old) (faults self.new) result };
 
     /// What is left is the end of what was held.
@@ -94,7 +114,7 @@ impl BytesSource {
     }
 
     /// The bytes that are left to read.
-    fn left(&self) -> &[u8]
+    pub(crate) fn left(&self) -> &[u8]
         ensures value { result.now ≡ bytes_left self.now }
         ensures fits { self.now.given + length result.now < 2 ^ 64 }
     {

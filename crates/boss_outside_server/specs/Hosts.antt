@@ -1,8 +1,10 @@
 -- Source: own.
-use Rattle.std.specs.Prelude.{◌≡◌, ℕ, ◌+◌, ◌<◌, ◌≤◌, Bool, true, false, List, [], ◌∷◌}
+use Rattle.std.specs.Prelude.{◌≡◌, ℕ, ◌+◌, ◌<◌, ◌≤◌, Bool, true, false, List, [], ◌∷◌, ◌++◌, Option, Result, Ok, Err}
 use Rattle.std.specs.List.{AllByRecursion}
 use Rattle.boss_outside.specs.Counts.{Rose}
+use Rattle.boss_outside.specs.Notes.{IsUnread}
 use Rattle.boss_outside.specs.Plan.{Plan, new_plan}
+use Rattle.boss_outside.specs.declared.source.ReadAt.{ReadAt}
 use Rattle.boss_outside.specs.declared.source.Source as source
 use Rattle.boss_outside.specs.declared.sink.Sink as sink
 use Rattle.boss_outside_server.specs.declared.host.Accepted.{Accepted}
@@ -10,7 +12,7 @@ use Rattle.boss_outside_server.specs.declared.host.Accepted.TheVariants.{Conn, C
 use Rattle.boss_outside_server.specs.declared.list_host.Ended.{Ended}
 
 -- an ended connection: its session, all bytes that its input held and those left of them, the bytes that its output took,
--- and how many of its reads and writes failed
+-- how many of its reads and writes failed, and at which point each read was made, where this was noted
 pub record Served : Type 0 where
   pub session : ℕ
   pub held : List ℕ
@@ -18,6 +20,12 @@ pub record Served : Type 0 where
   pub taken : List ℕ
   pub read_faults : ℕ
   pub write_faults : ℕ
+  pub reads : Option (List ReadAt)
+
+-- an address is noted among those that are listened at; a call that failed changes none
+abbrev pub Listens : {T E : Type 0} → List (List ℕ) → List (List ℕ) → List ℕ → Result T E → Type 0
+Listens old new address (Ok _) = new ≡ old ++ address ∷ []
+Listens old new address (Err _) = new ≡ old
 
 module _ {I O : Type 0} (i : source.Ghosts I) (o : sink.Ghosts O) where
   -- the connection as it ended
@@ -29,6 +37,7 @@ module _ {I O : Type 0} (i : source.Ghosts I) (o : sink.Ghosts O) where
     taken = o.taken output;
     read_faults = i.faults input;
     write_faults = o.faults output;
+    reads = i.reads input;
   }
 
   -- nothing was read of the input, and nothing written to the output
@@ -37,6 +46,7 @@ module _ {I O : Type 0} (i : source.Ghosts I) (o : sink.Ghosts O) where
     pub empty : o.taken output ≡ []
     pub no_read_failed : i.faults input ≡ 0
     pub no_write_failed : o.faults output ≡ 0
+    pub unread : IsUnread (i.reads input)
 
   -- a connection is handed out untouched
   abbrev pub IsFresh : Accepted I O → Type 0
@@ -74,9 +84,10 @@ module _ {I O : Type 0} where
   is_failed Closed = false
   is_failed Failed = true
 
--- a host in memory: the connections of the parts that are still to be split off, those that this one has still to hand
+-- a host in memory: the addresses that it listens at, the connections of the parts that are still to be split off, those that this one has still to hand
 -- out, how many it handed out, how many it is to, how many are out, and those that came back
 pub record Hosting (I O : Type 0) : Type 0 where
+  pub listens : List (List ℕ)
   pub parts : List (List (I × O))
   pub waiting : List (I × O)
   pub handed : ℕ
@@ -89,6 +100,7 @@ module _ {I O : Type 0} where
   -- a host of which no part was split off
   abbrev pub new_hosting : List (List (I × O)) → List ℕ → Hosting I O
   new_hosting parts fails = record {
+    listens = [];
     parts = parts;
     waiting = [];
     handed = 0;

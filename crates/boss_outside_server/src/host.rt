@@ -2,7 +2,7 @@ ghost use Rattle.std.specs.Prelude.{◌≡◌, ℕ, ◌+◌, ◌-◌, ◌^◌, �
 ghost use Rattle.boss_outside.specs.Counts.{HasCause, Joins};
 
 use boss_model::{NoMemory, SessionId};
-use boss_outside::{Failed, Sink, Source};
+use boss_outside::{Failed, Hears, Sink};
 use std::alloc::Global;
 
 /// What an accept gave.
@@ -29,10 +29,10 @@ pub struct Announcement {
 
 /// Something that hands out connections, one at a time, and takes each back when it has ended.
 pub trait Host: Sized + Drop {
-    ghost use Rattle.boss_outside_server.specs.Hosts.{Served, served_of, IsFresh, HandsOut, AcceptCause};
+    ghost use Rattle.boss_outside_server.specs.Hosts.{Served, served_of, IsFresh, HandsOut, AcceptCause, Listens};
 
-    /// What is read from a connection.
-    type In: Source;
+    /// What is read from a connection. It can be shown what the connection's output has taken.
+    type In: Hears<Self::Out>;
 
     /// What is written to a connection.
     type Out: Sink;
@@ -45,6 +45,9 @@ pub trait Host: Sized + Drop {
 
     /// The connections that it took back, as they had ended, in order.
     ghost served: { Self → List Served };
+
+    /// The addresses that it listens at, in the order in which it was asked to.
+    ghost listens: { Self → List (List ℕ) };
 
     /// The number of connections that it handed out, up to `2 ^ 64 - 1`, where it stands still.
     ghost handed: { Self → ℕ };
@@ -65,6 +68,7 @@ pub trait Host: Sized + Drop {
         ensures counts { (handed self.new ≡ handed self.old) × (share self.new ≡ share self.old)
             × (away self.new ≡ away self.old) }
         ensures connections { tells → served self.new ≡ served self.old }
+        ensures address { tells → Listens (listens self.old) (listens self.new) address.now result }
         ensures cause { HasCause (faults self.old) (faults self.new) result };
 
     /// Hears what is served at the address from now on, so that it can say so to whoever started the server. It is called once, after
@@ -74,7 +78,8 @@ pub trait Host: Sized + Drop {
         ensures sound { sound self.new }
         ensures counts { (handed self.new ≡ handed self.old) × (share self.new ≡ share self.old)
             × (away self.new ≡ away self.old) × (faults self.new ≡ faults self.old) }
-        ensures connections { tells → served self.new ≡ served self.old };
+        ensures connections { tells → served self.new ≡ served self.old }
+        ensures address { tells → listens self.new ≡ listens self.old };
 
     /// A part that is to hand out so many connections.
     fn split(&mut self, alloc: Global, connections: u32) -> Result<Self, NoMemory>
@@ -85,7 +90,8 @@ pub trait Host: Sized + Drop {
         ensures sound { sound self.new }
         ensures counts { (handed self.new ≡ handed self.old) × (share self.new ≡ share self.old)
             × (away self.new ≡ away self.old) × (faults self.new ≡ faults self.old) }
-        ensures connections { tells → served self.new ≡ served self.old };
+        ensures connections { tells → served self.new ≡ served self.old }
+        ensures address { tells → listens self.new ≡ listens self.old };
 
     /// Waits for a connection and hands it out. The one before has to be given back.
     fn accept(&mut self) -> Accepted<Self::In, Self::Out>
@@ -96,6 +102,7 @@ pub trait Host: Sized + Drop {
         ensures share { share self.new ≡ share self.old }
         ensures sound { sound self.new }
         ensures connections { tells → served self.new ≡ served self.old }
+        ensures address { tells → listens self.new ≡ listens self.old }
         ensures cause { AcceptCause (faults self.old) (faults self.new) result };
 
     /// Takes an ended connection back, which it handed out.
@@ -105,6 +112,7 @@ pub trait Host: Sized + Drop {
         ensures sound { sound self.new }
         ensures connections { tells → served self.new
             ≡ served self.old ++ served_of Self.In.Source Self.Out.Sink session input output ∷ [] }
+        ensures address { tells → listens self.new ≡ listens self.old }
         ensures counts { (handed self.new ≡ handed self.old) × (share self.new ≡ share self.old)
             × (away self.new + 1 ≡ away self.old) × (faults self.new ≡ faults self.old) };
 
@@ -113,6 +121,7 @@ pub trait Host: Sized + Drop {
         requires { sound self.old }
         ensures sound { sound self.new }
         ensures connections { tells → served self.new ≡ served self.old ++ served other }
+        ensures address { tells → listens self.new ≡ listens self.old }
         ensures counts { (handed self.new ≡ min (handed self.old + handed other) (2 ^ 64 - 1))
             × (share self.new ≡ share self.old) × (away self.new ≡ away self.old) }
         ensures cause { Joins (faults self.old) (faults other) (faults self.new) };

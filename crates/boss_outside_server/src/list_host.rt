@@ -5,7 +5,7 @@ ghost use Rattle.boss_outside.specs.Plan.{fails_next, after_call, after_join};
 use crate::log::{Log, Room};
 use crate::{Accepted, Announcement, Host};
 use boss_model::{Items, NoMemory, SessionId};
-use boss_outside::{Failed, FaultPlan, Sink, Source};
+use boss_outside::{Failed, FaultPlan, Hears, Sink};
 use std::alloc::Global;
 use std::collections::VecDeque;
 use std::marker::Model;
@@ -19,12 +19,14 @@ pub struct Ended<S, K> {
 }
 
 /// A host in memory. The first part that is split off hands out the connections of the first list, and so on; a part
-/// without a list of its own has none. An accept fails where its number is one of those that are to fail, where no
-/// connection is left although the share is not handed out, and where no memory is left to note it; the connection that it
-/// would have given stays. An accept after the share is no call that may fail, and isn't counted.
+/// without a list of its own has none. A bind fails where its number is one of those that are to fail, and where no memory
+/// is left to note the address. An accept fails where its number is one of those that are to fail, where no connection is
+/// left although the share is not handed out, and where no memory is left to note it; the connection that it would have
+/// given stays. An accept after the share is no call that may fail, and isn't counted.
 #[derive(Drop)]
 pub struct ListHost<S: Drop, K: Drop> {
     alloc: Global,
+    listens: Items<Items<u8>>,
     parts: VecDeque<Items<(S, K)>>,
     waiting: VecDeque<(S, K)>,
     handed: u64,
@@ -42,6 +44,7 @@ impl<S: Drop, K: Drop> Model for ListHost<S, K> {
     ghost Value = { Hosting S K };
 
     ghost view = { λ h. record {
+      listens = h.listens;
       parts = h.parts.items;
       waiting = h.waiting.items;
       handed = h.handed;
@@ -66,6 +69,7 @@ impl<S: Drop, K: Drop> ListHost<S, K> {
     {
         Ok(ListHost {
             alloc,
+            listens: Items::new(alloc),
             parts: contents.into_vec().into(),
             waiting: VecDeque::new(alloc),
             handed: 0,
@@ -82,10 +86,26 @@ impl<S: Drop, K: Drop> ListHost<S, K> {
     {
         self.ended.entries(alloc)
     }
+
+    /// The addresses that it listens at, in the order in which it was asked to.
+    pub fn listens(&self) -> &[Items<u8>]
+        ensures { result.now ≡ self.now.listens }
+    {
+        self.listens.slice()
+    }
+
+    /// Notes an address.
+    fn note(&mut self, address: &str) -> Result<(), NoMemory>
+        ensures noted { OnOk result (self.new ≡ record self.old { listens = self.old.listens ++ address.now ∷ [] }) }
+        ensures none { OnErr result (self.new ≡ self.old) }
+    {
+        let address = Items::from_vec(address.as_bytes().to_vec(self.alloc)?);
+        self.listens.try_push(address)
+    }
 }
 
-impl<S: Source + Drop, K: Sink + Drop> Host for ListHost<S, K> {
-    ghost use Rattle.boss_outside_server.specs.Hosts.{new_hosting, AreUntouched, served_of, IsFresh, HandsOut, AcceptCause, TakesNext, is_failed, next_part, later_parts};
+impl<S: Hears<K> + Drop, K: Sink + Drop> Host for ListHost<S, K> {
+    ghost use Rattle.boss_outside_server.specs.Hosts.{new_hosting, AreUntouched, served_of, IsFresh, HandsOut, AcceptCause, Listens, TakesNext, is_failed, next_part, later_parts};
 
     type In = S;
 
@@ -98,6 +118,8 @@ impl<S: Source + Drop, K: Sink + Drop> Host for ListHost<S, K> {
 
     ghost served = { λ host. map (λ e. served_of S.Source K.Sink e.session e.input e.output) host.ended };
 
+    ghost listens = { λ host. host.listens };
+
     ghost handed = { λ host. host.handed };
 
     ghost share = { λ host. host.share };
@@ -106,11 +128,16 @@ impl<S: Source + Drop, K: Sink + Drop> Host for ListHost<S, K> {
 
     ghost faults = { λ host. host.plan.faults };
 
-    fn bind(&mut self, _address: &str) -> Result<(), Failed>
-        ensures fails { is_err result ≡ fails_next self.old.plan }
-        ensures same { self.new ≡ record self.old { plan = after_call self.old.plan (is_err result) } }
+    fn bind(&mut self, address: &str) -> Result<(), Failed>
+        ensures fails { IsTrue (fails_next self.old.plan) → IsTrue (is_err result) }
+        ensures address { Listens self.old.listens self.new.listens address.now result }
+        ensures same { self.new ≡ record self.old { listens = self.new.listens; plan = after_call self.old.plan (is_err result) } }
     {
-        self.plan.call()
+        self.plan.call()?;
+        if self.note(address).is_err() {
+            return Err(self.plan.fault());
+        }
+        Ok(())
     }
 
     /// Nobody is there to hear it.
@@ -138,6 +165,7 @@ impl<S: Source + Drop, K: Sink + Drop> Host for ListHost<S, K> {
         };
         Ok(ListHost {
             alloc,
+            listens: Items::new(alloc),
             parts: VecDeque::new(alloc),
             waiting,
             handed: 0,
@@ -156,7 +184,7 @@ impl<S: Source + Drop, K: Sink + Drop> Host for ListHost<S, K> {
         ensures count { HandsOut self.old.share self.old.handed self.new.handed self.new.away result }
         ensures next { TakesNext self.old.waiting self.new.waiting result }
         ensures sound { AreUntouched S.Source K.Sink self.new.waiting }
-        ensures same { (self.new.parts ≡ self.old.parts) × (self.new.share ≡ self.old.share)
+        ensures same { (self.new.listens ≡ self.old.listens) × (self.new.parts ≡ self.old.parts) × (self.new.share ≡ self.old.share)
             × (self.new.ended ≡ self.old.ended) }
         ensures cause { AcceptCause self.old.plan.faults self.new.plan.faults result }
         ensures fails { self.old.handed < self.old.share → IsTrue (fails_next self.old.plan) → IsTrue (is_failed result) }

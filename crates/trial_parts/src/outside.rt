@@ -2,7 +2,8 @@ ghost use Rattle.std.specs.Prelude.{◌≡◌};
 
 use boss_model::{Items, PointId};
 use boss_outside::{
-    Actuators, BytesSink, BytesSource, Got, IdleActuators, SimActuators, Sink, Source,
+    Actuators, BytesSink, BytesSource, Got, HeardSource, Hears, IdleActuators, ReadAt,
+    SimActuators, Sink, Source,
 };
 use std::alloc::Global;
 use std::process::Abort;
@@ -57,6 +58,38 @@ fn sink_takes_bytes_and_fails_as_planned(rt: HostRuntime) {
     let mut sink = BytesSink::new(alloc, second_call(&rt, alloc)).expect(&rt, "memory");
     let taken = write_three(&mut sink);
     assert!(&rt; taken == [true, false, true] && sink.taken() == b"abef".as_slice());
+}
+
+/// Whether a source gives `hello` as [`gives_hello`] says, where the sink is shown behind the first read.
+fn hears<K: Sink, S: Hears<K>>(source: &mut S, sink: &mut K) -> bool {
+    let first = reads(source, Got::Bytes(3), b"hel");
+    let took = sink.write(b"ab").is_ok();
+    source.show(sink);
+    first
+        && took
+        && reads(source, Got::Failed, b"...")
+        && reads(source, Got::Bytes(2), b"lo.")
+        && reads(source, Got::Finish, b"...")
+}
+
+/// The reads of `hello` as they are noted.
+const HEARD: [ReadAt; 4] = [
+    ReadAt { left: 5, told: 0 },
+    ReadAt { left: 2, told: 2 },
+    ReadAt { left: 2, told: 2 },
+    ReadAt { left: 0, told: 2 },
+];
+
+#[test]
+fn source_notes_what_was_taken_when_it_was_read(rt: HostRuntime) {
+    let alloc = rt.alloc();
+    let fails = second_call(&rt, alloc);
+    let text = bytes(&rt, alloc, "hello");
+    let source = BytesSource::new(alloc, text, fails).expect(&rt, "memory");
+    let mut heard = HeardSource::new(alloc, source);
+    let mut sink = BytesSink::new(alloc, Items::new(alloc)).expect(&rt, "memory");
+    assert!(&rt; hears(&mut heard, &mut sink));
+    assert!(&rt; heard.reads() == HEARD.as_slice() && heard.is_whole());
 }
 
 /// Whether each of three commands is taken.

@@ -213,6 +213,26 @@ fn two_parts(alloc: Global) -> Result<ListHost<BytesSource, BytesSink>, NoMemory
     ListHost::new(alloc, parts, Items::new(alloc))
 }
 
+/// Whether a host that was asked to listen at three addresses listens at the first and the last, where its second call fails.
+fn listens_twice(alloc: Global) -> Result<bool, NoMemory> {
+    let parts: Items<Items<(BytesSource, BytesSink)>> = Items::new(alloc);
+    let mut host = ListHost::new(alloc, parts, items(alloc, &[2])?)?;
+    let first = host.bind("here:1").is_ok();
+    let second = host.bind("there:2").is_ok();
+    let third = host.bind("yonder:3").is_ok();
+    let [one, other] = host.listens() else {
+        return Ok(false);
+    };
+    let same = one.slice() == "here:1".as_bytes() && other.slice() == "yonder:3".as_bytes();
+    Ok(first && !second && third && same)
+}
+
+#[test]
+fn a_host_notes_where_it_listens(rt: HostRuntime) -> Result<(), Fail> {
+    assert!(rt; listens_twice(rt.alloc())?);
+    Ok(())
+}
+
 /// One task more: it serves so many connections of the host, with numbers from this one on.
 fn add(
     alloc: Global,

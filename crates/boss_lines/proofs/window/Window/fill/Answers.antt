@@ -19,5 +19,7 @@ returns g c =
       bytes = λ t. append-read read.result _ _ into _ _ (read.ensures.bytes t) held;
       finish = search rules;
       stays = search rules;
+      noted = search rules;
+      shown = search rules;
       cause = search rules;
     }
