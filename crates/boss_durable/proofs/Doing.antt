@@ -4,17 +4,17 @@ use Rattle.std.proofs.Common.{◌≡◌, ◌⊎◌, inl, inr, Bool, true, false,
 use Rattle.std.specs.List.{AllByRecursion}
 use Rattle.boss_disk.specs.declared.disk.Disk as disk
 use Rattle.def_history.specs.declared.entry.Entry.{Entry}
-use Rattle.def_history.specs.declared.entry.Entry.TheVariants.{Did, Broke}
+use Rattle.def_history.specs.declared.entry.Entry.TheVariants.{Broke}
 use Rattle.def_history.specs.History.{events, is_broken, run, run_tried, stepped, IsLegal, MayCall}
-use Rattle.def_history.proofs.Going.{tried_whole}
 use Rattle.boss_model.specs.declared.command.Command.{Command}
 use Rattle.boss_model.specs.declared.event.Event.{Event}
 use Rattle.boss_model.specs.declared.state.Actuator.{Actuator}
 use Rattle.boss_model.specs.State.{Persistent, State}
 use Rattle.boss_outside.specs.Counts.{Rose}
 use Rattle.boss_shared.specs.Calls.{is_growing_at}
-use Rattle.boss_shared.specs.Keeping.{shortened}
-use Rattle.boss_shared.proofs.Holding.{whole_shortened}
+use Rattle.boss_shared.specs.Walking.{shortened, Walks}
+use Rattle.boss_shared.proofs.Holding.{none_tried, tried_same}
+use Rattle.boss_shared.proofs.Walks.{walks_once}
 use Rattle.boss_disk_pair.specs.Causes.{Counts, counts_of, OneRose}
 use Rattle.boss_disk_pair.specs.declared.two_disks.TwoDisks.{TwoDisks}
 use Rattle.boss_disk_pair.specs.Rests as pair
@@ -23,7 +23,7 @@ use Rattle.boss_durable.specs.declared.batch.Batch.{Batch}
 use Rattle.boss_durable.specs.declared.durable.Durable.{Durable}
 use Rattle.boss_durable.specs.Taken.{Taken}
 use Rattle.boss_engine.specs.Running.{Running}
-use Rattle.boss_durable.specs.Words.{AreTried, lasting, keeps, leaves, passes, changes, faults, Does, RunsThrough}
+use Rattle.boss_durable.specs.Words.{lasting, keeps, leaves, passes, passes_in_plant, changes, faults, Does, RunsThrough}
 
 never : (b : Bool) → b ≡ true → b ≡ false → ⊥
 never b on off = let clash : true ≡ false = sym on ∙ off in cc
@@ -31,15 +31,6 @@ never b on off = let clash : true ≡ false = sym on ∙ off in cc
 pub rose_sum : (before now : Counts) → OneRose before now → Rose (before.first + before.second) (now.first + now.second)
 rose_sum before now (inl rose) = omega (arith, rose.0, rose.1)
 rose_sum before now (inr rose) = omega (arith, rose.0, rose.1)
-
--- where no disk failed, all that was tried was done
-tried_same : (plant : List Actuator) (made : List Entry) (s : State) → is_broken made ≡ false → run_tried plant (shortened 0 made) s ≡ run plant made s
-tried_same plant made s whole = ap (λ es. run_tried plant es s) (whole_shortened 0 made whole) ∙ tried_whole plant made s whole
-
-none_tried : (made : List Entry) → is_broken made ≡ false → AreTried 0 made
-none_tried [] whole = tt
-none_tried (Did session command moment answer ∷ made) whole = none_tried made whole
-none_tried (Broke session commands ∷ made) whole = absurd cc
 
 module _ {D : Type 0} {g : disk.Ghosts D} where
   -- ---- words
@@ -82,17 +73,28 @@ module _ {D : Type 0} {g : disk.Ghosts D} where
 
   -- ---- calls
 
+  pub idle_runs : (durable : Durable D g) → RunsThrough durable durable []
+  idle_runs durable before held = (0, tt, keeps_passes durable before held)
+
+  one_call : (old new : Durable D g) (made : List Entry) → new.engine.plant ≡ old.engine.plant → RunsThrough old new made →
+      (before : List Event) → keeps old before → Walks old.engine.plant passes_in_plant old.engine.state old made new
+  one_call old new made same runs before held =
+      let ran = runs before held in
+      walks_once old.engine.plant passes_in_plant old.engine.state old made new (ran.0, ran.1, (same, ran.2))
+
   pub idle_does : (durable : Durable D g) (made : List Entry) → durable.disks.stopped ≡ true → made ≡ [] → Does durable durable made
   idle_does durable made on nil = subst (Does durable durable) (sym nil) (record {
     legal = tt;
     same_plant = refl;
     marked = on ∙ sym (ap (λ b. b || false) on);
     none = λ _. refl;
+    still = λ _. refl;
     state_is = λ off. absurd (never durable.disks.stopped on off);
     rose = λ off _. absurd (never durable.disks.stopped on off);
     stood = λ _. refl;
     images = λ off. absurd (never durable.disks.stopped on off);
     images_stay = λ _ first second there. there;
+    through = λ off. absurd (never durable.disks.stopped on off);
     gained = λ off. absurd (never durable.disks.stopped on off);
   })
 
@@ -108,8 +110,8 @@ module _ {D : Type 0} {g : disk.Ghosts D} where
       new.engine.plant ≡ old.engine.plant → counts_of new.disks ≡ counts_of old.disks → Taken old.engine.plant made old.engine.state new.engine.state batch →
       ((count : ℕ) → pair.rests old.disks old.engine.plant (lasting old) count →
       pair.rests new.disks old.engine.plant (lasting new) (count + length (events old.engine.plant made old.engine.state))) →
-      Does old new made
-  done_does old new made batch off on same stood taken rests =
+      RunsThrough old new made → Does old new made
+  done_does old new made batch off on same stood taken rests runs =
       let gains : (before : List Event) → keeps old before → keeps new (before ++ events old.engine.plant made old.engine.state) =
       gained_there old new (events old.engine.plant made old.engine.state) same rests in
       record {
@@ -117,6 +119,7 @@ module _ {D : Type 0} {g : disk.Ghosts D} where
         same_plant = same;
         marked = on ∙ sym (λ i. off i || taken.whole i);
         none = λ was. absurd (never old.disks.stopped was off);
+        still = λ was. absurd (never old.disks.stopped was off);
         state_is = λ _. taken.state_is;
         rose = λ _ stops. absurd (never new.disks.stopped stops on);
         stood = λ _. ap (λ counts. counts.first + counts.second) stood;
@@ -127,6 +130,7 @@ module _ {D : Type 0} {g : disk.Ghosts D} where
               (keeps_leaves new _ (gains before held)),
         );
         images_stay = λ was. absurd (never old.disks.stopped was off);
+        through = λ _. one_call old new made same runs;
         gained = λ _ before held. gains before held;
       }
 
@@ -134,36 +138,41 @@ module _ {D : Type 0} {g : disk.Ghosts D} where
   fault_does : (old new : Durable D g) (session tried : ℕ) (calls : List (Command × ℕ)) → old.disks.stopped ≡ false → new.disks.stopped ≡ true →
       new.engine.plant ≡ old.engine.plant → OneRose (counts_of old.disks) (counts_of new.disks) → AllByRecursion (MayCall old.engine.plant) calls →
       ((before : List Event) → keeps old before → leaves new (lasting old) (stepped old.engine.plant session (take tried calls) old.engine.state).persistent) →
-      Does old new (Broke session calls ∷ [])
-  fault_does old new session tried calls off on same rose may there = record {
+      RunsThrough old new (Broke session calls ∷ []) → Does old new (Broke session calls ∷ [])
+  fault_does old new session tried calls off on same rose may there runs = record {
     legal = (may, refl, tt);
     same_plant = same;
     marked = on ∙ sym (ap (λ b. b || true) off);
     none = λ was. absurd (never old.disks.stopped was off);
+    still = λ was. absurd (never old.disks.stopped was off);
     state_is = λ not. absurd (never new.disks.stopped on not);
     rose = λ _ _. rose_sum (counts_of old.disks) (counts_of new.disks) rose;
     stood = λ equal. absurd (never new.disks.stopped on (equal ∙ off));
     images = λ _ _ before held. (tried, there before held);
     images_stay = λ was. absurd (never old.disks.stopped was off);
+    through = λ _. one_call old new (Broke session calls ∷ []) same runs;
     gained = λ not. absurd (never new.disks.stopped on not);
   }
 
   -- after a beginning that left all as it was
   pub begun_does : (old mid new : Durable D g) (made : List Entry) → old.disks.stopped ≡ false → mid.disks.stopped ≡ false → mid.engine ≡ old.engine →
-      counts_of mid.disks ≡ counts_of old.disks → ((before : List Event) → keeps old before → keeps mid before) → Does mid new made → Does old new made
-  begun_does old mid new made off begun same stood still k = record {
+      counts_of mid.disks ≡ counts_of old.disks → ((before : List Event) → keeps old before → keeps mid before) → Does mid new made →
+      RunsThrough old new made → Does old new made
+  begun_does old mid new made off begun same stood stays k runs = record {
     legal = subst (λ (e : Running). IsLegal e.plant made e.state) same k.legal;
     same_plant = k.same_plant ∙ ap (λ e. e.plant) same;
     marked = k.marked ∙ ap (λ b. b || is_broken made) (begun ∙ sym off);
     none = λ was. absurd (never old.disks.stopped was off);
+    still = λ was. absurd (never old.disks.stopped was off);
     state_is = λ on. subst (λ (e : Running). new.engine.state ≡ run e.plant made e.state) same (k.state_is on);
     rose = λ _ stops. subst (λ (n : ℕ). Rose n (faults new)) (ap (λ counts. counts.first + counts.second) stood) (k.rose begun stops);
     stood = λ equal. k.stood (equal ∙ off ∙ sym begun) ∙ ap (λ counts. counts.first + counts.second) stood;
     images = λ _ _ before held.
-        let left = k.images begun (keeps_leaves mid before (still before held)) before (still before held) in
+        let left = k.images begun (keeps_leaves mid before (stays before held)) before (stays before held) in
         (left.0, subst (λ (e : Running). leaves new (run e.plant made e.state).persistent (run_tried e.plant (shortened left.0 made) e.state).persistent) same left.1);
     images_stay = λ was. absurd (never old.disks.stopped was off);
-    gained = λ on before held. subst (λ (e : Running). keeps new (before ++ events e.plant made e.state)) same (k.gained on before (still before held));
+    through = λ _. one_call old new made (k.same_plant ∙ ap (λ e. e.plant) same) runs;
+    gained = λ on before held. subst (λ (e : Running). keeps new (before ++ events e.plant made e.state)) same (k.gained on before (stays before held));
   }
 
   pub begun_runs : (old mid new : Durable D g) (made : List Entry) → mid.engine ≡ old.engine → ((before : List Event) → keeps old before → keeps mid before) →
@@ -185,17 +194,19 @@ module _ {D : Type 0} {g : disk.Ghosts D} where
     same_plant = refl;
     marked = off ∙ sym (ap (λ b. b || false) off);
     none = λ _. refl;
+    still = λ _. refl;
     state_is = λ _. refl;
     rose = λ _ stops. absurd (never durable.disks.stopped stops off);
     stood = λ _. refl;
     images = λ _ left before held. (0, left);
     images_stay = λ _ first second there. there;
+    through = λ _. one_call durable durable [] refl (idle_runs durable);
     gained = λ _ before held. subst (keeps durable) (sym (append-nil before)) held;
   }
 
   pub unmoved_does : (old new : Durable D g) → old.disks.stopped ≡ false → new.disks.stopped ≡ false → new.engine ≡ old.engine → counts_of new.disks ≡ counts_of old.disks →
-      ((before : List Event) → keeps old before → keeps new before) → Does old new []
-  unmoved_does old new off on same stood still = begun_does old new new [] off on same stood still (same_does new on)
+      ((before : List Event) → keeps old before → keeps new before) → RunsThrough old new [] → Does old new []
+  unmoved_does old new off on same stood stays runs = begun_does old new new [] off on same stood stays (same_does new on) runs
 
   pub unmoved_keeps : (old new : Durable D g) → new.engine ≡ old.engine → new.disks ≡ old.disks → (before : List Event) → keeps old before → keeps new before
   unfolding keeps
@@ -210,9 +221,6 @@ module _ {D : Type 0} {g : disk.Ghosts D} where
     subst (λ (x : TwoDisks D g). pair.passes old.disks x old.engine.plant (lasting old) (lasting old)) (sym disks)
         (words.rests_passes old.disks old.engine.plant (lasting old) (length before) held),
   )
-
-  pub idle_runs : (durable : Durable D g) → RunsThrough durable durable []
-  idle_runs durable before held = (0, tt, keeps_passes durable before held)
 
   -- ---- while commands were done, or tried
 
@@ -252,16 +260,10 @@ module _ {D : Type 0} {g : disk.Ghosts D} where
       new.engine.plant ≡ old.engine.plant → OneRose (counts_of old.disks) (counts_of new.disks) → AllByRecursion (MayCall old.engine.plant) calls →
       new.engine.state ≡ stepped old.engine.plant session (take tried calls) old.engine.state →
       ((count : ℕ) → pair.rests old.disks old.engine.plant (lasting old) count → pair.passes old.disks new.disks old.engine.plant (lasting old) (lasting new)) →
-      Does old new (Broke session calls ∷ [])
-  failed_does old new session tried calls off on same rose may came runs =
+      (tried ≡ length calls) ⊎ (is_growing_at calls tried ≡ true) → Does old new (Broke session calls ∷ [])
+  failed_does old new session tried calls off on same rose may came runs all =
       fault_does old new session tried calls off on same rose may (failed_leaves old new session (take tried calls) same came runs)
-
-  -- a disk failed before any step
-  pub unbegun_does : (old new : Durable D g) (session : ℕ) (calls : List (Command × ℕ)) → old.disks.stopped ≡ false → new.disks.stopped ≡ true →
-      new.engine ≡ old.engine → OneRose (counts_of old.disks) (counts_of new.disks) → AllByRecursion (MayCall old.engine.plant) calls →
-      ((before : List Event) → keeps old before → leaves new (lasting old) (lasting old)) → Does old new (Broke session calls ∷ [])
-  unbegun_does old new session calls off on same rose may left =
-      fault_does old new session 0 calls off on (ap (λ e. e.plant) same) rose may left
+      (failed_runs old new session tried calls all came runs)
 
   pub unbegun_runs : (old new : Durable D g) (session : ℕ) (calls : List (Command × ℕ)) →
       ((before : List Event) → keeps old before → passes old new (lasting old) (lasting old)) → RunsThrough old new (Broke session calls ∷ [])
@@ -271,3 +273,11 @@ module _ {D : Type 0} {g : disk.Ghosts D} where
     (inl refl, tt),
     words.passes_wider old.disks new.disks old.engine.plant (lasting old) _ (runs before held),
   )
+
+  -- a disk failed before any step
+  pub unbegun_does : (old new : Durable D g) (session : ℕ) (calls : List (Command × ℕ)) → old.disks.stopped ≡ false → new.disks.stopped ≡ true →
+      new.engine ≡ old.engine → OneRose (counts_of old.disks) (counts_of new.disks) → AllByRecursion (MayCall old.engine.plant) calls →
+      ((before : List Event) → keeps old before → leaves new (lasting old) (lasting old)) →
+      ((before : List Event) → keeps old before → passes old new (lasting old) (lasting old)) → Does old new (Broke session calls ∷ [])
+  unbegun_does old new session calls off on same rose may left runs =
+      fault_does old new session 0 calls off on (ap (λ e. e.plant) same) rose may left (unbegun_runs old new session calls runs)

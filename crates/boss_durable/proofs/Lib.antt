@@ -5,3 +5,4 @@ pub mod Takings
 pub mod Redoing
 pub mod Followings
 pub mod Alone
+pub mod Stories

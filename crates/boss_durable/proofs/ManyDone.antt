@@ -147,9 +147,10 @@ module _ {D : Type 0} {g : disk.Ghosts D} where
   -- a disk failed before any step
   pub all_unbegun : (old new : Durable D g) (session : ℕ) (calls : List (Command × ℕ)) (answers : List Answer) → answers ≡ [] → old.disks.stopped ≡ false →
       new.disks.stopped ≡ true → new.engine ≡ old.engine → OneRose (counts_of old.disks) (counts_of new.disks) → AllByRecursion (MayCall old.engine.plant) calls →
-      ((before : List Event) → keeps old before → leaves new (lasting old) (lasting old)) → Does old new (made_by_all session calls answers (Some DiskFault))
-  all_unbegun old new session calls answers none off on same rose may left =
-      subst (Does old new) (sym (broke_alone session calls answers none)) (unbegun_does old new session calls off on same rose may left)
+      ((before : List Event) → keeps old before → leaves new (lasting old) (lasting old)) →
+      ((before : List Event) → keeps old before → passes old new (lasting old) (lasting old)) → Does old new (made_by_all session calls answers (Some DiskFault))
+  all_unbegun old new session calls answers none off on same rose may left runs =
+      subst (Does old new) (sym (broke_alone session calls answers none)) (unbegun_does old new session calls off on same rose may left runs)
 
   pub all_unbegun_runs : (old new : Durable D g) (session : ℕ) (calls : List (Command × ℕ)) (answers : List Answer) → answers ≡ [] →
       ((before : List Event) → keeps old before → passes old new (lasting old) (lasting old)) → RunsThrough old new (made_by_all session calls answers (Some DiskFault))
@@ -170,7 +171,8 @@ module _ {D : Type 0} {g : disk.Ghosts D} where
         pair.rests new.disks old.engine.plant (lasting new) (count + length (events old.engine.plant (done_by session (take many calls) answers) old.engine.state))) →
         Does old new (made_by_all session calls answers rest)
     all_done rest fine off on same stood rests =
-        subst (Does old new) (sym (made_is rest fine)) (done_does old new (done_by session (take many calls) answers) batch off on same stood taken rests)
+        subst (Does old new) (sym (made_is rest fine)) (done_does old new (done_by session (take many calls) answers) batch off on same stood taken rests
+        (done_runs old new (done_by session (take many calls) answers) batch taken runs))
 
     pub all_done_runs : (rest : Option Outcome) → has_failed_rest rest ≡ false → RunsThrough old new (made_by_all session calls answers rest)
     all_done_runs rest fine = subst (RunsThrough old new) (sym (made_is rest fine)) (done_runs old new (done_by session (take many calls) answers) batch taken runs)
@@ -183,9 +185,10 @@ module _ {D : Type 0} {g : disk.Ghosts D} where
     -- and then a disk failed
     pub all_failed : (left : List Answer) → left ≡ [] → length answers ≤ length calls → AllByRecursion (MayCall old.engine.plant) calls → old.disks.stopped ≡ false →
         new.disks.stopped ≡ true → new.engine.plant ≡ old.engine.plant → OneRose (counts_of old.disks) (counts_of new.disks) →
-        Does old new (made_by_all session calls left (Some DiskFault))
-    all_failed left none within may off on same rose =
-        subst (Does old new) (sym (broke_alone session calls left none)) (failed_does old new session (length answers) calls off on same rose may (came within) runs)
+        (length answers < length calls → is_growing_at calls (length answers) ≡ true) → Does old new (made_by_all session calls left (Some DiskFault))
+    all_failed left none within may off on same rose wants =
+        subst (Does old new) (sym (broke_alone session calls left none))
+        (failed_does old new session (length answers) calls off on same rose may (came within) runs (all_tried calls (length answers) within wants))
 
     pub all_failed_runs : (left : List Answer) → left ≡ [] → length answers ≤ length calls → (length answers < length calls → is_growing_at calls (length answers) ≡ true) →
         RunsThrough old new (made_by_all session calls left (Some DiskFault))

@@ -1,26 +1,17 @@
 -- Source: own.
 -- What is said of an engine with its disks, and of a call of it, where the disks tell what they hold. Nothing above looks into
 -- these words.
-use Rattle.std.specs.Prelude.{◌≡◌, ◌⊎◌, ℕ, ◌+◌, ◌-◌, true, List, [], ◌∷◌, length}
+use Rattle.std.specs.Prelude.{◌≡◌, ℕ, ◌+◌, ◌-◌, List, length}
 use Rattle.boss_disk.specs.declared.disk.Disk as disk
 use Rattle.def_history.specs.declared.entry.Entry.{Entry}
-use Rattle.def_history.specs.declared.entry.Entry.TheVariants.{Did, Broke}
-use Rattle.def_history.specs.History.{run_tried}
 use Rattle.boss_model.specs.declared.event.Event.{Event}
 use Rattle.boss_model.specs.declared.state.Actuator.{Actuator}
 use Rattle.boss_model.specs.State.{Persistent}
-use Rattle.boss_shared.specs.Calls.{is_growing_at}
-use Rattle.boss_shared.specs.Keeping.{shortened, Keeps}
+use Rattle.boss_shared.specs.Keeping.{Keeps}
+use Rattle.boss_shared.specs.Walking as walking
 use Rattle.boss_disk_pair.specs.Causes.{counts_of}
 use Rattle.boss_disk_pair.specs.Rests as pair
 use Rattle.boss_durable.specs.declared.durable.Durable.{Durable}
-
--- Of the commands that were under way as a disk failed so many were tried: all of them, or those before one that may want memory, for
--- which there was none.
-abbrev pub AreTried : ℕ → List Entry → Type 0
-AreTried tried [] = Unit {0}
-AreTried tried (Did session command moment answer ∷ entries) = AreTried tried entries
-AreTried tried (Broke session commands ∷ entries) = ((tried ≡ length commands) ⊎ (is_growing_at commands tried ≡ true)) × AreTried tried entries
 
 module _ {D : Type 0} {g : disk.Ghosts D} where
   abbrev pub lasting : Durable D g → Persistent
@@ -38,8 +29,12 @@ module _ {D : Type 0} {g : disk.Ghosts D} where
   unfoldable pub passes : Durable D g → Durable D g → Persistent → Persistent → Type 0
   passes old new a b = pair.passes old.disks new.disks old.engine.plant a b
 
-  -- The same where the plant changes too: each image opens to what lasted, under the plant and digest of before, or to another
-  -- state under a new plant and digest.
+  -- The same, of an engine whose plant stays.
+  abbrev pub passes_in_plant : Durable D g → Durable D g → Persistent → Persistent → Type 0
+  passes_in_plant old new a b = (new.engine.plant ≡ old.engine.plant) × passes old new a b
+
+  -- The same as the first where the plant changes too: each image opens to what lasted, under the plant and digest of before, or to
+  -- another state under a new plant and digest.
   unfoldable pub changes : Durable D g → Durable D g → List Actuator → List ℕ → Persistent → Type 0
   changes old new plant digest b = pair.changes old.disks new.disks old.engine.plant (lasting old) plant digest b
 
@@ -53,9 +48,8 @@ module _ {D : Type 0} {g : disk.Ghosts D} where
 
   -- one call that made these entries
   abbrev pub Does : Durable D g → Durable D g → List Entry → Type 0
-  Does old new made = Keeps (λ durable. durable.engine.plant) (λ durable. durable.engine.state) (λ durable. durable.disks.stopped) faults leaves keeps old new made
+  Does old new made = Keeps (λ durable. durable.engine.plant) (λ durable. durable.engine.state) (λ durable. durable.disks.stopped) faults leaves passes_in_plant keeps old new made
 
   -- while it ran, each image opened to what lasted before it, or to what all commands that were tried make of that
   abbrev pub RunsThrough : Durable D g → Durable D g → List Entry → Type 0
-  RunsThrough old new made = (before : List Event) → keeps old before →
-      (tried : ℕ) × AreTried tried made × passes old new (lasting old) (run_tried old.engine.plant (shortened tried made) old.engine.state).persistent
+  RunsThrough old new made = (before : List Event) → keeps old before → walking.RunsThrough old.engine.plant passes old.engine.state old made new

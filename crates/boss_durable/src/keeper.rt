@@ -1,4 +1,4 @@
-ghost use Rattle.boss_durable.specs.Words.{faults, keeps, leaves};
+ghost use Rattle.boss_durable.specs.Words.{faults, keeps, leaves, passes_in_plant};
 
 use crate::Durable;
 use boss_disk::Disk;
@@ -16,6 +16,8 @@ impl<D: Disk> Keeper for Durable<D> {
     ghost faults = { λ durable. faults durable };
 
     ghost leaves = { λ durable first second. leaves durable first second };
+
+    ghost passes = { λ old new first second. passes_in_plant old new first second };
 
     ghost keeps = { λ durable events. keeps durable events };
 

@@ -61,6 +61,8 @@ impl Keeper for Unkept {
 
     ghost leaves = { λ keeper first second. Unit {0} };
 
+    ghost passes = { λ old new first second. Unit {0} };
+
     ghost keeps = { λ keeper events. keeper.events ≡ min (length events) last_number };
 
     fn wanting(&self) -> Option<DriverId> {

@@ -9,7 +9,9 @@ use Rattle.def_history.specs.declared.entry.Entry.{Entry}
 use Rattle.def_history.specs.declared.entry.Entry.TheVariants.{Did, Broke}
 use Rattle.def_history.specs.History.{events, is_broken, IsLegal, run, run_tried}
 use Rattle.def_history.proofs.Going.{run_append, events_append, broken_append, tried_append, tried_whole, legal_append}
-use Rattle.boss_shared.specs.Keeping.{shortened, Keeps, IsHeld}
+use Rattle.boss_shared.specs.Keeping.{Keeps, IsHeld}
+use Rattle.boss_shared.specs.Walking.{AreTried, shortened, Walks}
+use Rattle.boss_shared.proofs.Walks.{walks_join, walks_nowhere}
 
 -- a history without a mark stays as it is
 pub whole_shortened : (tried : ℕ) (log : List Entry) → is_broken log ≡ false → shortened tried log ≡ log
@@ -23,11 +25,20 @@ shortened_append tried (Did session command moment answer ∷ log) made whole =
     ap (λ es. Did session command moment answer ∷ es) (shortened_append tried log made whole)
 shortened_append tried (Broke session commands ∷ log) made whole = absurd cc
 
+-- where no disk failed, all that was tried was done
+pub tried_same : (plant : List Actuator) (made : List Entry) (s : State) → is_broken made ≡ false → run_tried plant (shortened 0 made) s ≡ run plant made s
+tried_same plant made s whole = ap (λ es. run_tried plant es s) (whole_shortened 0 made whole) ∙ tried_whole plant made s whole
+
+pub none_tried : (made : List Entry) → is_broken made ≡ false → AreTried 0 made
+none_tried [] whole = tt
+none_tried (Did session command moment answer ∷ made) whole = none_tried made whole
+none_tried (Broke session commands ∷ made) whole = absurd cc
+
 module _ {V : Type 0} (plant : V → List Actuator) (state : V → State) (stopped : V → Bool) (faults : V → ℕ)
-    (leaves : V → Persistent → Persistent → Type 0) (keeps : V → List Event → Type 0) where
+    (leaves : V → Persistent → Persistent → Type 0) (passes : V → V → Persistent → Persistent → Type 0) (keeps : V → List Event → Type 0) where
   -- a value that stands for nothing yet
   pub holds_first : (v : V) → stopped v ≡ false → IsSound (plant v) (state v) → leaves v (state v).persistent (state v).persistent →
-      (before : List Event) × keeps v before → IsHeld plant state stopped faults leaves keeps v v []
+      (before : List Event) × keeps v before → IsHeld plant state stopped faults leaves passes keeps v v []
   holds_first v off sound images known = record {
     sound = sound;
     known = known;
@@ -38,16 +49,17 @@ module _ {V : Type 0} (plant : V → List Actuator) (state : V → State) (stopp
     rose = λ on. let clash : true ≡ false = sym on ∙ off in absurd cc;
     stood = λ _. refl;
     images = (0, images);
+    through = walks_nowhere (plant v) passes (state v) v;
     gained = λ _ before has. subst (keeps v) (sym (append-nil before)) has;
   }
 
-  stopped_holds : (start old new : V) (log made : List Entry) → stopped old ≡ true → IsHeld plant state stopped faults leaves keeps start old log →
-      Keeps plant state stopped faults leaves keeps old new made → IsHeld plant state stopped faults leaves keeps start new (log ++ made)
+  stopped_holds : (start old new : V) (log made : List Entry) → stopped old ≡ true → IsHeld plant state stopped faults leaves passes keeps start old log →
+      Keeps plant state stopped faults leaves passes keeps old new made → IsHeld plant state stopped faults leaves passes keeps start new (log ++ made)
   stopped_holds start old new log made s h k =
       let on : stopped new ≡ true = k.marked ∙ ap (λ b. b || is_broken made) s in
       let never : stopped new ≡ false → ⊥ = λ off. let clash : true ≡ false = sym on ∙ off in cc in
       let same : log ++ made ≡ log = ap (λ m. log ++ m) (k.none s) ∙ append-nil log in
-      subst (λ l. IsHeld plant state stopped faults leaves keeps start new l) (sym same) (record {
+      subst (λ l. IsHeld plant state stopped faults leaves passes keeps start new l) (sym same) (record {
         sound = h.sound;
         known = h.known;
         legal = h.legal;
@@ -57,11 +69,12 @@ module _ {V : Type 0} (plant : V → List Actuator) (state : V → State) (stopp
         rose = λ _. subst (λ n. Rose (faults start) n) (sym (k.stood (on ∙ sym s))) (h.rose s);
         stood = λ off. absurd (never off);
         images = (h.images.0, k.images_stay s _ _ h.images.1);
+        through = subst (λ value. Walks (plant start) passes (state start) start log value) (sym (k.still s)) h.through;
         gained = λ off. absurd (never off);
       })
 
-  running_holds : (start old new : V) (log made : List Entry) → stopped old ≡ false → IsHeld plant state stopped faults leaves keeps start old log →
-      Keeps plant state stopped faults leaves keeps old new made → IsHeld plant state stopped faults leaves keeps start new (log ++ made)
+  running_holds : (start old new : V) (log made : List Entry) → stopped old ≡ false → IsHeld plant state stopped faults leaves passes keeps start old log →
+      Keeps plant state stopped faults leaves passes keeps old new made → IsHeld plant state stopped faults leaves passes keeps start new (log ++ made)
   running_holds start old new log made s h k =
       let whole : is_broken log ≡ false = sym h.marked ∙ s in
       let p : plant old ≡ plant start = h.same_plant in
@@ -87,6 +100,9 @@ module _ {V : Type 0} (plant : V → List Actuator) (state : V → State) (stopp
         rose = λ on. subst (λ n. Rose n (faults new)) (h.stood s) (k.rose s on);
         stood = λ off. k.stood (off ∙ sym s) ∙ h.stood s;
         images = (left.0, subst (λ (q : State × State). leaves new q.0.persistent q.1.persistent) (λ i. (ran i, tried left.0 i)) left.1);
+        through = walks_join (plant start) passes (state start) start old new log made h.through
+            (subst (λ (q : List Actuator × State). Walks q.0 passes q.1 old made new) (λ i. (p i, d i))
+            (k.through s (h.known.0 ++ events (plant start) log (state start)) (h.gained s h.known.0 h.known.1)));
         gained = λ off before has.
             let all : (before ++ events (plant start) log (state start)) ++ events (plant old) made (state old) ≡ before ++ events (plant start) (log ++ made) (state start) =
             append_assoc before (events (plant start) log (state start)) (events (plant old) made (state old))
@@ -95,14 +111,14 @@ module _ {V : Type 0} (plant : V → List Actuator) (state : V → State) (stopp
       }
 
   -- a value that is found to be the one that is held
-  pub held_as : (start held found : V) (log : List Entry) → found ≡ held → IsHeld plant state stopped faults leaves keeps start held log →
-      IsHeld plant state stopped faults leaves keeps start found log
-  held_as start held found log same h = subst (λ value. IsHeld plant state stopped faults leaves keeps start value log) (sym same) h
+  pub held_as : (start held found : V) (log : List Entry) → found ≡ held → IsHeld plant state stopped faults leaves passes keeps start held log →
+      IsHeld plant state stopped faults leaves passes keeps start found log
+  held_as start held found log same h = subst (λ value. IsHeld plant state stopped faults leaves passes keeps start value log) (sym same) h
 
-  pub holds_on : (start old new : V) (log made : List Entry) → IsHeld plant state stopped faults leaves keeps start old log →
-      Keeps plant state stopped faults leaves keeps old new made → IsHeld plant state stopped faults leaves keeps start new (log ++ made)
+  pub holds_on : (start old new : V) (log made : List Entry) → IsHeld plant state stopped faults leaves passes keeps start old log →
+      Keeps plant state stopped faults leaves passes keeps old new made → IsHeld plant state stopped faults leaves passes keeps start new (log ++ made)
   holds_on start old new log made h k = cases (stopped old) refl
     where
-      cases : (b : Bool) → stopped old ≡ b → IsHeld plant state stopped faults leaves keeps start new (log ++ made)
+      cases : (b : Bool) → stopped old ≡ b → IsHeld plant state stopped faults leaves passes keeps start new (log ++ made)
       cases true s = stopped_holds start old new log made s h k
       cases false s = running_holds start old new log made s h k

@@ -4,3 +4,4 @@ pub mod Joins
 pub mod Telling
 pub mod Turns
 pub mod Ungated
+pub mod Walks

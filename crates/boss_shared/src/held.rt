@@ -18,7 +18,7 @@ impl<K: Keeper> Stands for Held<K> {
 
     ghost start = { λ held. held.keeper.value };
 
-    ghost stands = { λ held start log. IsHeld K.plant K.state K.stopped K.faults K.leaves K.keeps start held.keeper.value log
+    ghost stands = { λ held start log. IsHeld K.plant K.state K.stopped K.faults K.leaves K.passes K.keeps start held.keeper.value log
         × (K.under held.keeper.value ≡ K.under start) };
 }
 

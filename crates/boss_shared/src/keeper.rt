@@ -31,6 +31,10 @@ pub trait Keeper {
     /// nothing.
     ghost leaves: { Self → Persistent → Persistent → Type 0 };
 
+    /// From the one moment to the other each image that a crash may leave of the disk opens to one of these two. Where the disk
+    /// doesn't tell its images, this says nothing.
+    ghost passes: { Self → Self → Persistent → Persistent → Type 0 };
+
     /// The disk has as many events as there are in this list. Where the disk doesn't tell, this says nothing.
     ghost keeps: { Self → List Event → Type 0 };
 
@@ -50,7 +54,7 @@ pub trait Keeper {
     /// memory is wanted for a submit, an attach and notices alone. It has no rules, so it denies nothing.
     fn apply(&mut self, session: SessionId, command: &Command, moment: u64) -> Outcome
         requires may { MayCall (plant self.old) (command.now, moment) }
-        ensures kept { Keeps plant state stopped faults leaves keeps self.old self.new (made_by session command.now moment result) }
+        ensures kept { Keeps plant state stopped faults leaves passes keeps self.old self.new (made_by session command.now moment result) }
         ensures under { under self.new ≡ under self.old }
         ensures stops { is_stopped result ≡ stopped self.old }
         ensures memory { MayWant command.now result }
@@ -70,7 +74,7 @@ pub trait Keeper {
         requires few { length commands.now ≤ 16 }
         requires may { AllByRecursion (MayCall (plant self.old)) commands.now }
         requires room { length commands.now ≤ vec_capacity answers.old }
-        ensures kept { Keeps plant state stopped faults leaves keeps self.old self.new
+        ensures kept { Keeps plant state stopped faults leaves passes keeps self.old self.new
             (made_by_all session commands.now answers.new.items result.rest) }
         ensures under { under self.new ≡ under self.old }
         ensures stops { is_stopped_rest result.rest ≡ stopped self.old }

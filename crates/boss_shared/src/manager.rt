@@ -91,7 +91,7 @@ impl<K: Keeper, R: Wait + Sync + Drop> Manager<K, R> {
     pub fn close(self, pass: Pass<K>) -> K
         requires own { ⟦<Manager<K, R> as Desk>⟧.owns self pass }
         requires all_parts { pass.parts ≡ self.lock.seats }
-        ensures held { IsHeld K.plant K.state K.stopped K.faults K.leaves K.keeps self.lock.start result pass.seen }
+        ensures held { IsHeld K.plant K.state K.stopped K.faults K.leaves K.passes K.keeps self.lock.start result pass.seen }
         ensures under { K.under result ≡ K.under self.lock.start }
         ensures places { pass.places ≡ numbers_from 0 (length pass.seen) }
     {

@@ -10,7 +10,7 @@ use Rattle.boss_model.specs.declared.state.Actuator.{Actuator}
 use Rattle.boss_model.specs.State.{Persistent, State}
 use Rattle.def_disk_pair.specs.Pairs.{Opens}
 use Rattle.def_disk_pair.proofs.Disks.{clean_opens, opens_to_one}
-use Rattle.boss_shared.specs.Keeping.{shortened}
+use Rattle.boss_shared.specs.Walking.{shortened}
 
 pub found : (plant : List Actuator) (digest : List ℕ) (span : Span) (first second : List ℕ) (d : Persistent) → IsLeftBehind plant digest span first second →
     Opens plant digest d first second → (d ≡ done plant span) ⊎ (d ≡ tried plant span)

@@ -8,7 +8,7 @@ use Rattle.boss_model.specs.declared.state.Actuator.{Actuator}
 use Rattle.boss_model.specs.Settle.{opened}
 use Rattle.boss_model.specs.State.{Persistent, State}
 use Rattle.def_disk_pair.specs.Pairs.{Opens}
-use Rattle.boss_shared.specs.Keeping.{shortened}
+use Rattle.boss_shared.specs.Walking.{shortened}
 use Rattle.boss_disk_pair.specs.Images.{OpensToOne}
 
 -- The bytes of both disks as they were opened, what was found, and what was done then. Where a stop came in the middle of a call, or a

@@ -1,5 +1,5 @@
 -- What a keeper owes for a call where it had stopped, and where its disk fails; and what one without a disk may answer.
-use Rattle.std.proofs.Common.{◌≡◌, Bool, true, false, ◌||◌, ℕ, List, [], ◌∷◌, Ok, Err, None, Result, OnOk, refl, sym, ap, ◌∙◌, subst}
+use Rattle.std.proofs.Common.{◌≡◌, Bool, true, false, ◌||◌, ℕ, List, [], ◌∷◌, length, inl, Ok, Err, None, Result, OnOk, refl, sym, ap, ◌∙◌, subst}
 use Rattle.std.specs.List.{AllByRecursion}
 use Rattle.boss_model.specs.declared.answer.Answer.{Answer}
 use Rattle.boss_model.specs.declared.command.Command.{Command}
@@ -16,39 +16,45 @@ use Rattle.def_history.specs.Made.{made_by}
 use Rattle.boss_shared.specs.Calls.{is_stopped}
 use Rattle.boss_shared.specs.Gates.{denial_of}
 use Rattle.boss_shared.specs.Keeping.{Keeps}
+use Rattle.boss_shared.proofs.Walks.{walks_once}
 
 module _ {V : Type 0} (plant : V → List Actuator) (state : V → State) (stopped : V → Bool) (faults : V → ℕ)
-    (leaves : V → Persistent → Persistent → Type 0) (keeps : V → List Event → Type 0) where
+    (leaves : V → Persistent → Persistent → Type 0) (passes : V → V → Persistent → Persistent → Type 0) (keeps : V → List Event → Type 0) where
   never : (v : V) → stopped v ≡ true → stopped v ≡ false → ⊥
   never v on off = let clash : true ≡ false = sym on ∙ off in cc
 
-  pub idle_keeps : (v : V) (made : List Entry) → stopped v ≡ true → made ≡ [] → Keeps plant state stopped faults leaves keeps v v made
-  idle_keeps v made on nil = subst (Keeps plant state stopped faults leaves keeps v v) (sym nil) (record {
+  pub idle_keeps : (v : V) (made : List Entry) → stopped v ≡ true → made ≡ [] → Keeps plant state stopped faults leaves passes keeps v v made
+  idle_keeps v made on nil = subst (Keeps plant state stopped faults leaves passes keeps v v) (sym nil) (record {
     legal = tt;
     same_plant = refl;
     marked = on ∙ sym (ap (λ b. b || false) on);
     none = λ _. refl;
+    still = λ _. refl;
     state_is = λ off. absurd (never v on off);
     rose = λ off _. absurd (never v on off);
     stood = λ _. refl;
     images = λ off. absurd (never v on off);
     images_stay = λ _ first second there. there;
+    through = λ off. absurd (never v on off);
     gained = λ off. absurd (never v on off);
   })
 
   pub fault_keeps : (old new : V) (session : ℕ) (calls : List (Command × ℕ)) (made : List Entry) → stopped old ≡ false → stopped new ≡ true → plant new ≡ plant old →
       Rose (faults old) (faults new) → AllByRecursion (MayCall (plant old)) calls → made ≡ Broke session calls ∷ [] →
-      ((second : Persistent) → leaves new (state old).persistent second) → Keeps plant state stopped faults leaves keeps old new made
-  fault_keeps old new session calls made off on same rose may is there = subst (Keeps plant state stopped faults leaves keeps old new) (sym is) (record {
+      ((second : Persistent) → leaves new (state old).persistent second) → ((second : Persistent) → passes old new (state old).persistent second) →
+      Keeps plant state stopped faults leaves passes keeps old new made
+  fault_keeps old new session calls made off on same rose may is there goes = subst (Keeps plant state stopped faults leaves passes keeps old new) (sym is) (record {
     legal = (may, refl, tt);
     same_plant = same;
     marked = on ∙ sym (ap (λ b. b || true) off);
     none = λ was. absurd (never old was off);
+    still = λ was. absurd (never old was off);
     state_is = λ not. absurd (never new on not);
     rose = λ _ _. rose;
     stood = λ equal. absurd (never new on (equal ∙ off));
     images = λ _ _ before _. (0, there _);
     images_stay = λ was. absurd (never old was off);
+    through = λ _ before _. walks_once (plant old) passes (state old) old (Broke session calls ∷ []) new (length calls, (inl refl, tt), goes _);
     gained = λ not. absurd (never new on not);
   })
 

@@ -122,6 +122,9 @@ impl Keeper for FailingKeeper {
 
     ghost leaves = { λ keeper first second. (keeper.unkept.engine.state.persistent ≡ first) ⊎ (keeper.unkept.engine.state.persistent ≡ second) };
 
+    ghost passes = { λ old new first second. (old.unkept.engine.state.persistent ≡ first)
+        × ((new.unkept.engine.state.persistent ≡ first) ⊎ (new.unkept.engine.state.persistent ≡ second)) };
+
     ghost keeps = { λ keeper events. Unit {0} };
 
     fn wanting(&self) -> Option<DriverId> {

@@ -53,6 +53,7 @@ returns-in-Err-clause-kept g c =
     all_failed c.args.self.now _ c.args.session c.args.many c.args.commands.now c.take_steps.new.answers.items c.take_steps.new.batch many c.take_steps.ensures.taken
     (λ count at. c.append_to.ensures.passes _ _ _ _ count at c.take_steps.ensures.taken few) _ c.clear-in-Err.ensures.items (omega (arith, many, c.requires.within)) c.requires.may c.requires.going
     c.in-Err.ensures.stops c.take_steps.ensures.plant c.in-Err.ensures.cause
+    (stops_at c.args.commands.now c.args.many (length c.take_steps.new.answers.items) c.take_steps.ensures.many c.requires.within c.take_steps.ensures.rest c.requires.wants)
 
 pub returns-in-Err-clause-images : goal.returns-in-Err-clause-images
 returns-in-Err-clause-images g c =

@@ -17,6 +17,6 @@ returns-clause-kept c =
     let gains : (before : List Event) → c.args.self.now.events ≡ min (length before) last_number →
     c.step_all.new.count ≡ min (length (before ++ events c.args.self.now.engine.plant made c.args.self.now.engine.state)) last_number =
     λ before had. count_more _ (length before) _ _ _ had step.count (length-append before (events c.args.self.now.engine.plant made c.args.self.now.engine.state)) in
-    let kept = done_keeps _ _ _ _ _ _ c.args.self.now (record { engine = c.step_all.new.engine; events = c.step_all.new.count; few = _ }) made refl refl step.plant refl
-    (done_whole c.args.session done c.step_all.new.answers.items) step.legal step.state tt gains in
+    let kept = done_keeps _ _ _ _ _ _ _ c.args.self.now (record { engine = c.step_all.new.engine; events = c.step_all.new.count; few = _ }) made refl refl step.plant refl
+    (done_whole c.args.session done c.step_all.new.answers.items) step.legal step.state tt tt gains in
     rw is kept

@@ -1,4 +1,4 @@
-use Rattle.std.proofs.Common.{◌≡◌, Bool, [], ◌++◌, Some, if◌then◌else◌, inl, refl, sym, ap, ◌∙◌, subst, arith}
+use Rattle.std.proofs.Common.{◌≡◌, Bool, [], ◌++◌, Some, if◌then◌else◌, inl, inr, refl, sym, ap, ◌∙◌, subst, arith}
 use Rattle.boss_outside.specs.Counts.{Rose}
 use Rattle.def_history.specs.History.{run, IsLegal}
 use Rattle.def_history.specs.Made.{done_by, mark_by, made_by_all}
@@ -11,16 +11,17 @@ use Rattle.trial_keeper.proofs.keeper.FailingKeeperKeeper.apply_all.Goals as goa
 pub returns-then-self-clause-kept : goal.returns-then-self-clause-kept
 returns-then-self-clause-kept c =
     let nothing = ap (done_by c.args.session c.args.commands.now) c.clear.ensures.items ∙ done_none c.args.session c.args.commands.now in
-    idle_keeps _ _ _ _ _ _ _ _ c.if-self.true (ap (λ es. es ++ []) nothing)
+    idle_keeps _ _ _ _ _ _ _ _ _ c.if-self.true (ap (λ es. es ++ []) nothing)
 
 pub returns-then-fails-clause-kept : goal.returns-then-fails-clause-kept
 returns-then-fails-clause-kept c =
     let off = c.if-self.false in
     let on = c.fails.ensures.stopped ∙ c.if-fails.true in
     let nothing = ap (done_by c.args.session c.args.commands.now) c.clear.ensures.items ∙ done_none c.args.session c.args.commands.now in
-    fault_keeps _ _ _ _ _ _ _ _ c.args.session c.args.commands.now _ off on (ap (λ k. k.engine.plant) c.fails.ensures.unkept)
+    fault_keeps _ _ _ _ _ _ _ _ _ c.args.session c.args.commands.now _ off on (ap (λ k. k.engine.plant) c.fails.ensures.unkept)
     (subst (λ (q : Bool × Bool). Rose (if q.0 then 1 else 0) (if q.1 then 1 else 0)) (λ i. (sym off i, sym on i)) (omega arith))
     c.requires.may (ap (λ es. es ++ mark_by c.args.session c.args.commands.now (Some DiskFault)) nothing) (λ _. inl (ap (λ k. k.engine.state.persistent) c.fails.ensures.unkept))
+    (λ _. (refl, inl (ap (λ k. k.engine.state.persistent) c.fails.ensures.unkept)))
 
 pub returns-clause-kept : goal.returns-clause-kept
 returns-clause-kept c =
@@ -33,10 +34,10 @@ returns-clause-kept c =
     let done = c.slice-calls.result.now in
     let made = done_by c.args.session done answers in
     let is = ap (λ calls. made_by_all c.args.session calls answers rest) (sym c.slice-calls.ensures) ∙ made_fine c.args.session done answers rest step.no_fault in
-    let kept = done_keeps _ _ _ _ _ _ c.args.self.now c.note.new.self made off (c.note.ensures.stopped ∙ on)
+    let kept = done_keeps _ _ _ _ _ _ _ c.args.self.now c.note.new.self made off (c.note.ensures.stopped ∙ on)
     (ap (λ k. k.engine.plant) c.note.ensures.unkept ∙ step.plant ∙ ap (λ e. e.plant) same)
     (ap (λ (b : Bool). if b then 1 else 0) (c.note.ensures.stopped ∙ on ∙ sym off)) (done_whole c.args.session done answers)
     (subst (λ e. IsLegal e.plant made e.state) same step.legal)
     (ap (λ k. k.engine.state) c.note.ensures.unkept ∙ subst (λ e. c.step_all-outcomes.new.unkept.engine.state ≡ run e.plant made e.state) same step.state)
-    (inl refl) (λ _ _. tt) in
+    (inl refl) (refl, inr refl) (λ _ _. tt) in
     rw is kept
