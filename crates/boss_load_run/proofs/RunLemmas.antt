@@ -12,7 +12,7 @@ use Rattle.boss_lines.specs.declared.reader.Next.{Next}
 use Rattle.boss_lines.specs.declared.reader.Next.TheVariants.{Line, Finish, TooLong, ReadFault}
 use Rattle.boss_shared.specs.declared.keeper.Keeper as keeper
 use Rattle.boss_scripts.specs.Ends.{CarriesOut, EndsOver}
-use Rattle.boss_scripts.specs.Outside.{Outside, Trace}
+use Rattle.boss_scripts.specs.Outside.{Outside}
 use Rattle.boss_scripts.specs.Scripts.{RanScript, script_with}
 use Rattle.boss_load_run.specs.Load.{Ran, run_over}
 use Rattle.boss_load_run.specs.Plant.{plant}
@@ -37,9 +37,9 @@ module _ (all : List (List ℕ)) (s : State) (entries : List Entry) (first : s �
   same results = ap₂ (λ t b. script plant t all results (if b then Some (length (deeds entries)) else None)) first whole
 
   -- where no device's count rose, a sink that had taken nothing took the script's text
-  ran : (is_over : Bool) (old new : Trace) (now : State) → now ≡ run (actuators plant) entries s → old.taken ≡ []
-      → ((device : ℕ) → ¬ Rose (slice_index_or old.faults device 0) (slice_index_or new.faults device 0))
-      → RanScript plant s all is_over entries old new → Ran all new.taken now.persistent
+  ran : (is_over : Bool) (old new : Outside) (now : State) → now ≡ run (actuators plant) entries s → old.trace.taken ≡ []
+      → ((device : ℕ) → ¬ Rose (slice_index_or old.trace.faults device 0) (slice_index_or new.trace.faults device 0))
+      → RanScript plant s all is_over entries old new → Ran all new.trace.taken now.persistent
   ran is_over old new now at empty fine it =
       let is = same it.results in
       record {
@@ -57,8 +57,8 @@ IsEnd end = (end ≡ Finish) ⊎ (end ≡ TooLong)
 
 module _ {V : Type 0} (v : keeper.Ghosts V) (before now : V) (old new : Outside) where
   over-end : (entries : List Entry) (end : Next) → IsEnd end → old.sink_tells
-      → EndsOver (λ all is_over. RanScript plant (v.state before) all is_over entries old.trace new.trace) old new end
-      → (is_over : Bool) × RanScript plant (v.state before) (lines old.left) is_over entries old.trace new.trace
+      → EndsOver (λ all is_over. RanScript plant (v.state before) all is_over entries old new) old new end
+      → (is_over : Bool) × RanScript plant (v.state before) (lines old.left) is_over entries old new
   over-end entries Finish is tells ends = (false, ends.2 tells)
   over-end entries TooLong is tells ends = (true, ends.4 tells)
   over-end entries ReadFault is tells ends = elim is [ inl other ↦ absurd cc | inr other ↦ absurd cc ]
@@ -71,4 +71,4 @@ module _ {V : Type 0} (v : keeper.Ghosts V) (before now : V) (old new : Outside)
   carried end is points first off source sink empty fine it =
       let over = over-end it.entries end is sink (it.ended source) in
       let at : v.state now ≡ run (actuators plant) it.entries (v.state before) = it.kept.state_is off ∙ ap (λ p. run p it.entries (v.state before)) points in
-      ran (lines old.left) (v.state before) it.entries first (sym it.stopped ∙ off) over.0 old.trace new.trace (v.state now) at empty fine over.1
+      ran (lines old.left) (v.state before) it.entries first (sym it.stopped ∙ off) over.0 old new (v.state now) at empty fine over.1

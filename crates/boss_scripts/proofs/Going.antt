@@ -13,12 +13,12 @@ use Rattle.boss_scripts.proofs.RunLemmas.{broke-nothing, broke-then, did-nothing
 
 module _ {V : Type 0} (v : keeper.Ghosts V) {plant : List Actuator} where
   module _ {k k' k'' : V} {first second : List Entry} (same : v.plant k ≡ plant) (one : Kept v k k' first) (two : Kept v k' k'' second) where
-    pub through-then : {G H K : Run → Run} {old mid new : Trace} → Through v plant G H k first old mid → Through v plant H K k' second mid new → Through v plant G K k (first ++ second) old new
+    unfoldable pub through-then : {G H K : Run → Run} {old mid new : Trace} → Through v plant G H k first old mid → Through v plant H K k' second mid new → Through v plant G K k (first ++ second) old new
     through-then before behind start is =
         let there = is-after v k k' first one plant start same is in
         did-then (λ on. two.none (there.stopped ∙ on)) (before start is) (behind (after plant first start) there)
 
-    pub breaks-then : {G H : Run → Run} {old mid new : Trace} → Through v plant G H k first old mid → Breaks v plant H k' second mid new → Breaks v plant G k (first ++ second) old new
+    unfoldable pub breaks-then : {G H : Run → Run} {old mid new : Trace} → Through v plant G H k first old mid → Breaks v plant H k' second mid new → Breaks v plant G k (first ++ second) old new
     breaks-then before behind start is =
         let there = is-after v k k' first one plant start same is in
         broke-then (λ on. two.none (there.stopped ∙ on)) (before start is) (behind (after plant first start) there)

@@ -9,8 +9,9 @@ use Rattle.def_history.specs.History.{events, is_broken, IsLegal, run, run_tried
 use Rattle.def_history.proofs.Going.{run_append, events_append, broken_append, tried_append, tried_whole, legal_append}
 use Rattle.def_history.proofs.Sound.{legal-sound}
 use Rattle.boss_shared.specs.declared.keeper.Keeper as keeper
-use Rattle.boss_shared.specs.Keeping.{shortened}
+use Rattle.boss_shared.specs.Walking.{shortened, Walks}
 use Rattle.boss_shared.proofs.Holding.{shortened_append, whole_shortened}
+use Rattle.boss_shared.proofs.Walks.{walks_join, walks_nowhere}
 use Rattle.boss_scripts.specs.Keepers.{IsAt, Kept}
 use Rattle.boss_scripts.specs.Runs.{after, Under}
 
@@ -45,11 +46,13 @@ module _ {V : Type 0} (v : keeper.Ghosts V) where
     same_plant = refl;
     marked = or-nothing (v.stopped k);
     none = λ _. refl;
+    still = λ _. refl;
     state_is = λ _. refl;
     rose = λ off on. not-both (v.stopped k) on off;
     stood = λ _. refl;
     images = λ _ here before has. (0, here);
     images_stay = λ _ first second there. there;
+    through = λ _ _ _. walks_nowhere (v.plant k) v.passes (v.state k) k;
     gained = λ _ before has. subst (v.keeps k) (sym (append-nil before)) has;
   }
 
@@ -58,19 +61,22 @@ module _ {V : Type 0} (v : keeper.Ghosts V) where
     stopped-then : v.stopped mid ≡ true → Kept v old new (first ++ second)
     stopped-then on =
         let nil : second ≡ [] = two.none on in
-        let still : v.stopped new ≡ true = two.marked ∙ ap (λ b. b || is_broken second) on in
+        let stays : v.stopped new ≡ true = two.marked ∙ ap (λ b. b || is_broken second) on in
         subst (Kept v old new) (sym (ap (λ es. first ++ es) nil ∙ append-nil first)) (record {
           legal = one.legal;
           same_plant = two.same_plant ∙ one.same_plant;
-          marked = still ∙ sym on ∙ one.marked;
+          marked = stays ∙ sym on ∙ one.marked;
           none = one.none;
-          state_is = λ off. not-both (v.stopped new) still off;
-          rose = λ off _. subst (λ n. Rose (v.faults old) n) (sym (two.stood (still ∙ sym on))) (one.rose off on);
-          stood = λ same. two.stood (still ∙ sym on) ∙ one.stood (on ∙ sym still ∙ same);
+          still = λ was. two.still on ∙ one.still was;
+          state_is = λ off. not-both (v.stopped new) stays off;
+          rose = λ off _. subst (λ n. Rose (v.faults old) n) (sym (two.stood (stays ∙ sym on))) (one.rose off on);
+          stood = λ same. two.stood (stays ∙ sym on) ∙ one.stood (on ∙ sym stays ∙ same);
           images = λ off here before has.
               let there = one.images off here before has in (there.0, two.images_stay on _ _ there.1);
           images_stay = λ was left right there. two.images_stay on left right (one.images_stay was left right there);
-          gained = λ off. not-both (v.stopped new) still off;
+          through = λ off before has.
+              subst (λ value. Walks (v.plant old) v.passes (v.state old) old first value) (sym (two.still on)) (one.through off before has);
+          gained = λ off. not-both (v.stopped new) stays off;
         })
 
     -- it had not
@@ -94,6 +100,7 @@ module _ {V : Type 0} (v : keeper.Ghosts V) where
           marked = two.marked ∙ ap (λ b. b || is_broken second) one.marked ∙ or-assoc (v.stopped old) (is_broken first) (is_broken second)
               ∙ ap (λ b. v.stopped old || b) (sym (broken_append first second));
           none = λ on. not-both (v.stopped old) on was;
+          still = λ on. not-both (v.stopped old) on was;
           state_is = λ still. two.state_is still ∙ ran;
           rose = λ _ on. subst (λ n. Rose n (v.faults new)) (one.stood (off ∙ sym was)) (two.rose off on);
           stood = λ same. two.stood (same ∙ was ∙ sym off) ∙ one.stood (off ∙ sym was);
@@ -105,6 +112,10 @@ module _ {V : Type 0} (v : keeper.Ghosts V) where
               let more = two.images off there (before ++ events (v.plant old) first (v.state old)) (one.gained off before has) in
               (more.0, subst (λ (q : State × State). v.leaves new q.0.persistent q.1.persistent) (λ i. (ran i, tried more.0 i)) more.1);
           images_stay = λ on. not-both (v.stopped old) on was;
+          through = λ _ before has.
+              walks_join (v.plant old) v.passes (v.state old) old mid new first second (one.through was before has)
+              (subst (λ (q : List Actuator × State). Walks q.0 v.passes q.1 mid second new) (λ i. (p i, d i))
+              (two.through off (before ++ events (v.plant old) first (v.state old)) (one.gained off before has)));
           gained = λ still before has.
               let all : (before ++ events (v.plant old) first (v.state old)) ++ events (v.plant mid) second (v.state mid) ≡ before ++ events (v.plant old) (first ++ second) (v.state old) =
               append_assoc before (events (v.plant old) first (v.state old)) (events (v.plant mid) second (v.state mid))

@@ -12,3 +12,4 @@ pub mod RunLemmas
 pub mod ScriptLemmas
 pub mod ServeLemmas
 pub mod StepLemmas
+pub mod TimeLemmas

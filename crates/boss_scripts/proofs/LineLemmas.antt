@@ -140,26 +140,26 @@ module _ (catalogue : Catalogue) (line : List ℕ) (short : is_too_long line ≡
 
 -- ---- lines
 
-taken-append : (catalogue : Catalogue) (first rest : List (List ℕ)) (run : Run) → lines_taken catalogue (first ++ rest) run ≡ lines_taken catalogue rest (lines_taken catalogue first run)
+pub taken-append : (catalogue : Catalogue) (first rest : List (List ℕ)) (run : Run) → lines_taken catalogue (first ++ rest) run ≡ lines_taken catalogue rest (lines_taken catalogue first run)
 taken-append catalogue [] rest run = refl
 taken-append catalogue (line ∷ first) rest run = taken-append catalogue first rest (line_read catalogue run line)
 
 module _ {V : Type 0} (v : keeper.Ghosts V) (catalogue : Catalogue) (given : List (List ℕ)) {k k' : V} {entries : List Entry} {old mid : Trace} (same : v.plant k ≡ actuators catalogue)
     (kept : Kept v k k' entries) (first : Through v (actuators catalogue) (lines_taken catalogue given) stop k entries old mid) where
   -- lines and then others
-  pub through-before : (more : List (List ℕ)) → Through v (actuators catalogue) (lines_taken catalogue (given ++ more)) (lines_taken catalogue more) k entries old mid
+  unfoldable pub through-before : (more : List (List ℕ)) → Through v (actuators catalogue) (lines_taken catalogue (given ++ more)) (lines_taken catalogue more) k entries old mid
   through-before more start is =
       did-same (lines_taken catalogue (given ++ more)) (λ text earlier before results left. taken-append catalogue given more (at start text earlier before results left))
       (did-under (lines_taken catalogue more) (first start is))
 
   module _ (line : List ℕ) {k'' : V} {last : List Entry} {new : Trace} (behind : Kept v k' k'' last) where
     -- one line more
-    pub through-one-more : Through v (actuators catalogue) (line_taken catalogue line) stop k' last mid new →
+    unfoldable pub through-one-more : Through v (actuators catalogue) (line_taken catalogue line) stop k' last mid new →
         Through v (actuators catalogue) (lines_taken catalogue (given ++ line ∷ [])) stop k (entries ++ last) old new
     through-one-more second = through-then v same kept behind (through-before (line ∷ [])) second
 
     -- the next line broke off
-    pub breaks-next : (more : List (List ℕ)) → Breaks v (actuators catalogue) (line_taken catalogue line) k' last mid new →
+    unfoldable pub breaks-next : (more : List (List ℕ)) → Breaks v (actuators catalogue) (line_taken catalogue line) k' last mid new →
         Breaks v (actuators catalogue) (lines_taken catalogue (given ++ line ∷ more)) k (entries ++ last) old new
     breaks-next more broke =
         breaks-then v same kept behind (through-before (line ∷ more)) (λ start is. broke-under (lines_taken catalogue more) (lines-cover catalogue more) (broke start is))

@@ -20,7 +20,7 @@ use Rattle.boss_scripts.proofs.Fronts.{covers-trans, front-trans, front-under, G
 
 -- ---- entries one after another
 
-left-append : (first second : List Entry) (left : Option ℕ) → left_before (first ++ second) left ≡ left_before first (left_before second left)
+pub left-append : (first second : List Entry) (left : Option ℕ) → left_before (first ++ second) left ≡ left_before first (left_before second left)
 left-append [] second left = refl
 left-append (entry.Did session command moment answer ∷ first) second left = ap one_step_more (left-append first second left)
 left-append (entry.Broke session commands ∷ first) second left = left-append first second left
@@ -32,14 +32,14 @@ or-apart false true c = refl
 or-apart false false c = refl
 
 module _ (plant : List Actuator) (first second : List Entry) (s : Under) where
-  after-append : after plant (first ++ second) s ≡ after plant second (after plant first s)
+  pub after-append : after plant (first ++ second) s ≡ after plant second (after plant first s)
   after-append =
       let stopped : (is_broken (first ++ second) || s.stopped) ≡ (is_broken second || (is_broken first || s.stopped)) =
       ap (λ b. b || s.stopped) (broken_append first second) ∙ or-apart (is_broken first) (is_broken second) s.stopped in
       λ i. record { state = run_append plant first second s.state i; stopped = stopped i }
 
   -- where no step was made once one was not made, the steps that are left behind the first are those of the second
-  left-between : (left : Option ℕ) → ((after plant first s).stopped ≡ true → second ≡ []) → IsLeft (after plant (first ++ second) s) left → IsLeft (after plant first s) (left_before second left)
+  pub left-between : (left : Option ℕ) → ((after plant first s).stopped ≡ true → second ≡ []) → IsLeft (after plant (first ++ second) s) left → IsLeft (after plant first s) (left_before second left)
   left-between left still ends on =
       let nil : second ≡ [] = still on in
       ap (λ es. left_before es left) nil
@@ -119,7 +119,7 @@ gains calls whole call (d ∷ ds) (suc driver) old new within is go all =
 -- ---- what parts did that came to their end
 
 -- calls, and then others
-devices-then : (plant : List Actuator) (first second : List DeviceCall) (old mid new : Trace) → (mid.whole → old.whole × (mid.calls ≡ dealt plant first old.calls)) →
+pub devices-then : (plant : List Actuator) (first second : List DeviceCall) (old mid new : Trace) → (mid.whole → old.whole × (mid.calls ≡ dealt plant first old.calls)) →
     (new.whole → mid.whole × (new.calls ≡ dealt plant second mid.calls)) → new.whole → old.whole × (new.calls ≡ dealt plant (first ++ second) old.calls)
 devices-then plant first second old mid new earlier later all =
     let last = later all in
@@ -129,21 +129,21 @@ devices-then plant first second old mid new earlier later all =
 -- a part of a script, from one moment to another
 module _ {plant : List Actuator} where
   -- what was led to and told
-  pub did-told : {G H : Run → Run} {s : Under} {entries : List Entry} (told : List ℕ) (calls : List DeviceCall) (results : List Bool) (old new : Trace) →
+  unfoldable pub did-told : {G H : Run → Run} {s : Under} {entries : List Entry} (told : List ℕ) (calls : List DeviceCall) (results : List Bool) (old new : Trace) →
       Leads G H plant s entries told calls results → new.taken ≡ old.taken ++ told → Answered results old.faults new.faults → (new.whole → old.whole × (new.calls ≡ dealt plant calls old.calls)) →
       Did plant G H s entries old new
   did-told told calls results old new leads text answered devices =
       record { results = results; told = told; calls = calls; leads = leads; text = text; answered = answered; devices = devices }
 
   -- no device was called
-  pub did-tell : {G H : Run → Run} {s : Under} {entries : List Entry} (told : List ℕ) (old : Trace) (taken : List ℕ) →
+  unfoldable pub did-tell : {G H : Run → Run} {s : Under} {entries : List Entry} (told : List ℕ) (old : Trace) (taken : List ℕ) →
       Leads G H plant s entries told [] [] → taken ≡ old.taken ++ told → Did plant G H s entries old (record old { taken = taken })
   did-tell told old taken leads text = did-told told [] [] old (record old { taken = taken }) leads text (answered-nothing old.faults) (λ all. (all, sym (dealt-none plant old.calls)))
 
-  pub did-nothing : (G : Run → Run) (s : Under) (old : Trace) → Did plant G G s [] old old
+  unfoldable pub did-nothing : (G : Run → Run) (s : Under) (old : Trace) → Did plant G G s [] old old
   did-nothing G s old = did-tell [] old old.taken (leads-nothing G plant s) (sym (append-nil old.taken))
 
-  pub did-then : {G H K : Run → Run} {s : Under} {first second : List Entry} {old mid new : Trace} → ((after plant first s).stopped ≡ true → second ≡ []) →
+  unfoldable pub did-then : {G H K : Run → Run} {s : Under} {first second : List Entry} {old mid new : Trace} → ((after plant first s).stopped ≡ true → second ≡ []) →
       Did plant G H s first old mid → Did plant H K (after plant first s) second mid new → Did plant G K s (first ++ second) old new
   did-then {G} {H} {K} {s} {first} {second} {old} {mid} {new} still one two = record {
     results = one.results ++ two.results;
@@ -156,7 +156,7 @@ module _ {plant : List Actuator} where
   }
 
   -- where what H does first is F
-  pub did-under : {F : Run → Run} (H : Run → Run) {s : Under} {entries : List Entry} {old new : Trace} → Did plant F stop s entries old new → Did plant (λ run. H (F run)) H s entries old new
+  unfoldable pub did-under : {F : Run → Run} (H : Run → Run) {s : Under} {entries : List Entry} {old new : Trace} → Did plant F stop s entries old new → Did plant (λ run. H (F run)) H s entries old new
   did-under H did = record {
     results = did.results;
     told = did.told;
@@ -168,7 +168,7 @@ module _ {plant : List Actuator} where
   }
 
   -- where G does the same as F
-  pub did-same : (G : Run → Run) {F H : Run → Run} {s : Under} {entries : List Entry} {old new : Trace} →
+  unfoldable pub did-same : (G : Run → Run) {F H : Run → Run} {s : Under} {entries : List Entry} {old new : Trace} →
       ((text : List ℕ) (earlier : List DeviceCall) (before : List Event) (results : List Bool) (left : Option ℕ) → G (at s text earlier before results left) ≡ F (at s text earlier before results left)) →
       Did plant F H s entries old new → Did plant G H s entries old new
   did-same G {F} {H} {s} {entries} {old} {new} same did = record {
@@ -210,7 +210,7 @@ module _ {plant : List Actuator} where
   pub broke-nothing : (G : Run → Run) (s : Under) (old : Trace) → GoesOn G → Broke plant G s [] old old
   broke-nothing G s old goes = broke-tell G [] old old.taken (leads-nothing G plant s) goes ([], [], refl, sym (append-nil old.taken))
 
-  pub broke-then : {G H : Run → Run} {s : Under} {first second : List Entry} {old mid new : Trace} → ((after plant first s).stopped ≡ true → second ≡ []) →
+  unfoldable pub broke-then : {G H : Run → Run} {s : Under} {first second : List Entry} {old mid new : Trace} → ((after plant first s).stopped ≡ true → second ≡ []) →
       Did plant G H s first old mid → Broke plant H (after plant first s) second mid new → Broke plant G s (first ++ second) old new
   broke-then {G} {H} {s} {first} {second} {old} {mid} {new} still one two = record {
     results = one.results ++ two.results;
@@ -236,7 +236,7 @@ module _ {plant : List Actuator} where
   }
 
   -- where what H does first is F
-  pub broke-under : {F : Run → Run} (H : Run → Run) {s : Under} {entries : List Entry} {old new : Trace} → GoesOn H → Broke plant F s entries old new →
+  unfoldable pub broke-under : {F : Run → Run} (H : Run → Run) {s : Under} {entries : List Entry} {old new : Trace} → GoesOn H → Broke plant F s entries old new →
       Broke plant (λ run. H (F run)) s entries old new
   broke-under {F} H {s} {entries} goes broke = record {
     results = broke.results;

@@ -9,8 +9,10 @@ use Rattle.def_wire.specs.Texts.{line_of, too_long_text}
 use Rattle.def_history.specs.declared.entry.Entry.{Entry}
 use Rattle.def_history.specs.declared.entry.Entry.TheVariants as entry
 use Rattle.def_history.specs.History.{deeds, events, is_broken}
+use Rattle.boss_outside.proofs.Noting.{notes-nothing}
 use Rattle.boss_outside.specs.Streams.{TakesFront}
-use Rattle.boss_scripts.specs.Outside.{Trace}
+use Rattle.boss_scripts.specs.InTime.{AreInTime}
+use Rattle.boss_scripts.specs.Outside.{Outside, Trace}
 use Rattle.boss_scripts.specs.Runs.{after, at, Did, Broke, Covers, dealt, IsFrontOf, IsLeft, left_before, lines_taken, one_step_more, served, stop, Under}
 use Rattle.boss_scripts.specs.Scripts.{BrokeScript, RanScript, script_with, steps_of}
 use Rattle.boss_scripts.proofs.Answering.{answered-nothing}
@@ -40,7 +42,7 @@ as-many (entry.Broke session commands ∷ entries) = as-many entries
 abbrev left_if : Bool → Option ℕ
 left_if b = if b then Some 0 else None
 
-abbrev left_behind : List Entry → Option ℕ
+abbrev pub left_behind : List Entry → Option ℕ
 left_behind entries = left_if (is_broken entries)
 
 steps-are : (entries : List Entry) → left_before entries (left_behind entries) ≡ steps_of entries
@@ -54,14 +56,14 @@ module _ (catalogue : Catalogue) (s : State) (entries : List Entry) where
   abbrev end : Under
   end = after (actuators catalogue) entries (begun s)
 
-  is-left : IsLeft end (left_behind entries)
+  pub is-left : IsLeft end (left_behind entries)
   is-left = by (is_broken entries)
     where
       by : (b : Bool) → (b || false) ≡ true → left_if b ≡ Some 0
       by true on = refl
       by false on = absurd cc
 
-  script-is : (all : List (List ℕ)) (results : List Bool) →
+  pub script-is : (all : List (List ℕ)) (results : List Bool) →
       script_with catalogue s all entries results ≡ opened catalogue all (at (begun s) [] [] [] (results ++ []) (left_before entries (left_behind entries)))
   unfolding script
   script-is all results =
@@ -93,7 +95,7 @@ or-none true = refl
 or-none false = refl
 
 -- nothing was told, called and made yet
-pub nothing : (catalogue : Catalogue) (s : State) (all : List (List ℕ)) (old : Trace) → BrokeScript catalogue s all [] old old
+pub nothing : (catalogue : Catalogue) (s : State) (all : List (List ℕ)) (old : Outside) → BrokeScript catalogue s all [] old old
 nothing catalogue s all old = record {
   results = [];
   told = [];
@@ -101,15 +103,21 @@ nothing catalogue s all old = record {
   front = ((script_with catalogue s all [] []).text, refl);
   first = ((script_with catalogue s all [] []).calls, refl);
   earliest = ((script_with catalogue s all [] []).events, refl);
-  text = sym (append-nil old.taken);
-  answered = answered-nothing old.faults;
-  devices = λ whole. (whole, sym (dealt-none (actuators catalogue) old.calls));
+  text = sym (append-nil old.trace.taken);
+  answered = answered-nothing old.trace.faults;
+  devices = λ whole. (whole, sym (dealt-none (actuators catalogue) old.trace.calls));
+  in_time = notes-nothing _ old.reads;
 }
 
-module _ (catalogue : Catalogue) (s : State) (all : List (List ℕ)) {entries : List Entry} {old new : Trace} where
+-- the reads of a script that leaves these entries were in time
+abbrev pub ReadsInTime : Catalogue → State → List Entry → Outside → Outside → List Bool → Type 0
+ReadsInTime catalogue s entries old new results = AreInTime (λ come. script_with catalogue s come entries results) old.left (length old.trace.taken) old.reads new.reads
+
+module _ (catalogue : Catalogue) (s : State) (all : List (List ℕ)) {entries : List Entry} (old new : Outside) where
   -- what broke off is a script that broke off
-  pub broke-whole : Broke (actuators catalogue) (opened catalogue all) (begun s) entries old new → BrokeScript catalogue s all entries old new
-  broke-whole broke =
+  pub broke-whole : (broke : Broke (actuators catalogue) (opened catalogue all) (begun s) entries old.trace new.trace) → ReadsInTime catalogue s entries old new broke.results →
+      BrokeScript catalogue s all entries old new
+  broke-whole broke reads =
       let covers : Covers (script_with catalogue s all entries broke.results) broke.told broke.calls (events (actuators catalogue) entries s) =
       subst (λ r. Covers r broke.told broke.calls (events (actuators catalogue) entries s)) (sym (script-is catalogue s entries all broke.results))
       (broke.begins [] [] [] [] (left_behind entries) (is-left catalogue s entries)) in
@@ -123,11 +131,13 @@ module _ (catalogue : Catalogue) (s : State) (all : List (List ℕ)) {entries : 
         text = broke.text;
         answered = broke.answered;
         devices = broke.devices;
+        in_time = reads;
       }
 
   -- what came to its end is a script
-  pub ran-whole : Did (actuators catalogue) (opened catalogue all) stop (begun s) entries old new → RanScript catalogue s all false entries old new
-  ran-whole did =
+  pub ran-whole : (did : Did (actuators catalogue) (opened catalogue all) stop (begun s) entries old.trace new.trace) → ReadsInTime catalogue s entries old new did.results →
+      RanScript catalogue s all false entries old new
+  ran-whole did reads =
       let run = led catalogue s entries all did in
       record {
         results = did.results;
@@ -135,45 +145,52 @@ module _ (catalogue : Catalogue) (s : State) (all : List (List ℕ)) {entries : 
         over = ap (λ r. r.over) run;
         used = ap (λ r. r.results) run;
         stopped = ap (λ r. r.stopped) run ∙ or-none (is_broken entries);
-        text = did.text ∙ ap (λ r. old.taken ++ r.text) (sym run);
+        text = did.text ∙ ap (λ r. old.trace.taken ++ r.text) (sym run);
         events = ap (λ r. r.events) run;
         state = ap (λ r. r.state) run;
         answered = did.answered;
-        devices = λ whole. let done = did.devices whole in (done.0, done.1 ∙ ap (λ r. dealt (actuators catalogue) r.calls old.calls) (sym run));
+        devices = λ whole. let done = did.devices whole in (done.0, done.1 ∙ ap (λ r. dealt (actuators catalogue) r.calls old.trace.calls) (sym run));
+        in_time = reads;
       }
 
-  module _ (line : List ℕ) (more : List (List ℕ)) (did : Did (actuators catalogue) (opened catalogue all) (lines_taken catalogue (line ∷ more)) (begun s) entries old new)
-      (long : is_too_long line ≡ true) where
+  module _ (line : List ℕ) (more : List (List ℕ)) (did : Did (actuators catalogue) (opened catalogue all) (lines_taken catalogue (line ∷ more)) (begun s) entries old.trace new.trace)
+      (reads : ReadsInTime catalogue s entries old new did.results) (told : List ℕ) (faults : ℕ) (long : is_too_long line ≡ true) where
     over-run : script_with catalogue s all entries did.results
         ≡ over_at (end catalogue s entries) (did.told ++ line_of too_long_text) did.calls (events (actuators catalogue) entries s) (left_behind entries)
     over-run = led catalogue s entries all did
         ∙ over-here catalogue line more (end catalogue s entries) did.told did.calls (events (actuators catalogue) entries s) (left_behind entries) long
 
+    -- more was told
+    abbrev pub last : Outside
+    last = record new { write_faults = faults; trace = record new.trace { taken = told } }
+
     -- a line that is too long is told
-    pub ran-over : (told : List ℕ) → told ≡ new.taken ++ line_of too_long_text → RanScript catalogue s all true entries old (record new { taken = told })
-    ran-over told tells = record {
+    pub ran-over : told ≡ new.trace.taken ++ line_of too_long_text → RanScript catalogue s all true entries old last
+    ran-over tells = record {
       results = did.results;
       finished = ap (λ r. r.short) over-run;
       over = ap (λ r. r.over) over-run;
       used = ap (λ r. r.results) over-run;
       stopped = ap (λ r. r.stopped) over-run ∙ or-none (is_broken entries);
-      text = tells ∙ ap (λ t. t ++ line_of too_long_text) did.text ∙ append_assoc old.taken did.told (line_of too_long_text) ∙ ap (λ r. old.taken ++ r.text) (sym over-run);
+      text = tells ∙ ap (λ t. t ++ line_of too_long_text) did.text ∙ append_assoc old.trace.taken did.told (line_of too_long_text) ∙ ap (λ r. old.trace.taken ++ r.text) (sym over-run);
       events = ap (λ r. r.events) over-run;
       state = ap (λ r. r.state) over-run;
       answered = did.answered;
-      devices = λ whole. let done = did.devices whole in (done.0, done.1 ∙ ap (λ r. dealt (actuators catalogue) r.calls old.calls) (sym over-run));
+      devices = λ whole. let done = did.devices whole in (done.0, done.1 ∙ ap (λ r. dealt (actuators catalogue) r.calls old.trace.calls) (sym over-run));
+      in_time = reads;
     }
 
     -- or told in part
-    pub broke-over : (told : List ℕ) → TakesFront new.taken told (line_of too_long_text) → BrokeScript catalogue s all entries old (record new { taken = told })
-    broke-over told takes = record {
+    pub broke-over : TakesFront new.trace.taken told (line_of too_long_text) → BrokeScript catalogue s all entries old last
+    broke-over takes = record {
       results = did.results;
       told = did.told ++ takes.0;
       calls = did.calls;
       front = subst (λ r. IsFrontOf (did.told ++ takes.0) r.text) (sym over-run) (front-under did.told takes.0 (line_of too_long_text) (takes.1, takes.2));
       first = subst (λ r. IsFrontOf did.calls r.calls) (sym over-run) (front-whole did.calls);
       earliest = subst (λ r. IsFrontOf (events (actuators catalogue) entries s) r.events) (sym over-run) (front-whole (events (actuators catalogue) entries s));
-      text = takes.3 ∙ ap (λ t. t ++ takes.0) did.text ∙ append_assoc old.taken did.told takes.0;
+      text = takes.3 ∙ ap (λ t. t ++ takes.0) did.text ∙ append_assoc old.trace.taken did.told takes.0;
       answered = did.answered;
       devices = did.devices;
+      in_time = reads;
     }

@@ -1,11 +1,12 @@
 -- Source: own.
 -- What a script has to do with, as each part of it tells of itself at one moment.
-use Rattle.std.specs.Prelude.{◌≡◌, ◌⊎◌, ℕ, Bool, true, List, map, slice_index_or}
+use Rattle.std.specs.Prelude.{◌≡◌, ◌⊎◌, ℕ, Bool, true, List, map, Option, slice_index_or}
 use Rattle.std.specs.List.{AllByRecursion}
 use Rattle.boss_model.specs.DeviceCall.{DeviceCall}
 use Rattle.boss_outside.specs.Counts.{Rose}
 use Rattle.boss_outside.specs.declared.actuators.Actuators as actuators
 use Rattle.boss_outside.specs.declared.sink.Sink as sink
+use Rattle.boss_outside.specs.declared.source.ReadAt.{ReadAt}
 use Rattle.boss_outside.specs.declared.source.Source as source
 
 -- the bytes that a sink took; and of each device, driver 0's first, its calls and how many of its writes failed
@@ -16,10 +17,12 @@ pub record Trace : Type 1 where
   -- the devices tell their calls, and none is missing among them
   pub whole : Type 0
 
--- the same, and what is left of a source; and how many reads and writes failed
+-- the same, and what is left of a source, and at which point each read of it was made, as far as this is noted; and how many reads and
+-- writes failed
 pub record Outside : Type 1 where
   pub source_tells : Type 0
   pub left : List ℕ
+  pub reads : Option (List ReadAt)
   pub read_faults : ℕ
   pub sink_tells : Type 0
   pub write_faults : ℕ
@@ -39,6 +42,7 @@ module _ {S K A : Type 0} (s : source.Ghosts S) (k : sink.Ghosts K) (a : actuato
   outside source sink devices = record {
     source_tells = s.tells;
     left = s.left source;
+    reads = s.reads source;
     read_faults = s.faults source;
     sink_tells = k.tells;
     write_faults = k.faults sink;

@@ -1,22 +1,21 @@
 ghost use Rattle.std.specs.Prelude.{◌≡◌, ◌≤◌, ◌++◌, false, length, OnOk, OnErr, IfOk, vec_len, None};
 ghost use Rattle.boss_model.specs.Catalogue.{actuators};
 ghost use Rattle.boss_model.specs.Limits.{answer_room, last_moment, longest_line};
-ghost use Rattle.boss_model.specs.Lines.{lines};
 ghost use Rattle.boss_model.specs.Sound.{IsAllowed, IsSound};
 ghost use Rattle.def_wire.specs.Script.{answered};
 ghost use Rattle.boss_scripts.specs.Causes.{ReadCause, WriteCause};
 ghost use Rattle.boss_scripts.specs.Devices.{HasDevices};
-ghost use Rattle.boss_scripts.specs.Ends.{CarriesOut, LeavesOff, TookLines};
+ghost use Rattle.boss_scripts.specs.Ends.{BrokeLines, CarriesOut, LeavesOff, TookLines};
 ghost use Rattle.boss_scripts.specs.Keepers.{BrokeOff, Went};
 ghost use Rattle.boss_scripts.specs.Outside.{outside, trace};
-ghost use Rattle.boss_scripts.specs.Runs.{line_taken, lines_taken, stop};
+ghost use Rattle.boss_scripts.specs.Runs.{line_taken, stop};
 
 use crate::broken::Broken;
 use crate::draining::drain;
 use boss_answers::{tell_answer, tell_stopped, tell_too_long};
 use boss_lines::{Lines, Next};
 use boss_model::{ANSWER_ROOM, Answer, Buffer, Command, MOST_LINES, SessionId};
-use boss_outside::{Actuators, Sink, Source};
+use boss_outside::{Actuators, Hears, Sink, Source};
 use boss_points::Catalogue;
 use boss_requests::{Ask, Form, ReadRefusal, RequestReader, is_blank, read_by};
 use boss_shared::Keeper;
@@ -29,7 +28,7 @@ use std::alloc::Global;
 ///
 /// Where the disk fails in a command, the line that asked for it is told `stopped`, and so is every later one that is not blank
 /// and not too long. No device is called any more, and the lines are read on.
-pub fn run_script<V: Keeper, S: Source, K: Sink, A: Actuators>(
+pub fn run_script<V: Keeper, S: Hears<K>, K: Sink, A: Actuators>(
     alloc: Global,
     catalogue: &Catalogue,
     keeper: &mut V,
@@ -76,8 +75,9 @@ pub fn run_script<V: Keeper, S: Source, K: Sink, A: Actuators>(
     }
 }
 
-/// Takes the lines of a source, one after another, and says what came behind them.
-fn take_lines<V: Keeper, S: Source, K: Sink, A: Actuators>(
+/// Takes the lines of a source, one after another, and says what came behind them. Before each read the source is shown what the sink
+/// has taken: whatever is read is read when all that came whole before has its answer.
+fn take_lines<V: Keeper, S: Hears<K>, K: Sink, A: Actuators>(
     alloc: Global,
     catalogue: &Catalogue,
     keeper: &mut V,
@@ -96,29 +96,32 @@ fn take_lines<V: Keeper, S: Source, K: Sink, A: Actuators>(
 
     ensures under { V.under keeper.new ≡ V.under keeper.old }
     ensures took { IfOk result (λ end. TookLines ⟦<V as Keeper>⟧ catalogue.now keeper.old keeper.new
-        S.tells (reader.old.ahead ++ S.left source.old) (S.left source.new) K.tells
+        S.tells (reader.old.ahead ++ S.left source.old) (S.left source.new) (S.reads source.old) (S.reads source.new) K.tells
         (trace ⟦<K as Sink>⟧ ⟦<A as Actuators>⟧ sink.old devices.old.items)
         (trace ⟦<K as Sink>⟧ ⟦<A as Actuators>⟧ sink.new devices.new.items) end) }
-    ensures broke { OnErr result (BrokeOff ⟦<V as Keeper>⟧ (actuators catalogue.now)
-        (lines_taken catalogue.now (lines (reader.old.ahead ++ S.left source.old)))
-        keeper.old keeper.new (S.tells × K.tells)
+    ensures broke { OnErr result (BrokeLines ⟦<V as Keeper>⟧ catalogue.now keeper.old keeper.new
+        S.tells (reader.old.ahead ++ S.left source.old) (S.reads source.old) (S.reads source.new) K.tells
         (trace ⟦<K as Sink>⟧ ⟦<A as Actuators>⟧ sink.old devices.old.items)
         (trace ⟦<K as Sink>⟧ ⟦<A as Actuators>⟧ sink.new devices.new.items)) }
     ensures write { WriteCause (K.faults sink.old) (K.faults sink.new) result }
     ensures read { ReadCause (S.faults source.old) (S.faults source.new) result }
 {
+    source.show(sink);
     for _ in 0..MOST_LINES {
         match reader.next(source) {
-            Next::Line => take_line(
-                alloc,
-                catalogue,
-                keeper,
-                reader.line(),
-                requests,
-                text,
-                sink,
-                devices,
-            )?,
+            Next::Line => {
+                take_line(
+                    alloc,
+                    catalogue,
+                    keeper,
+                    reader.line(),
+                    requests,
+                    text,
+                    sink,
+                    devices,
+                )?;
+                source.show(sink);
+            }
             end => return Ok(end),
         }
     }

@@ -2,6 +2,7 @@ pub mod GatheredLemmas
 pub mod HoldingLemmas
 pub mod PlaceLemmas
 pub mod PutLemmas
+pub mod ReadLemmas
 pub mod RequestLemmas
 pub mod AnsweredLemmas
 pub mod CauseLemmas

@@ -12,6 +12,7 @@ use Rattle.def_history.specs.declared.outcome.Outcome.TheVariants as came
 use Rattle.def_history.specs.History.{deeds, is_broken}
 use Rattle.def_history.specs.Made.{made_by}
 use Rattle.def_history.proofs.Going.{broken_append}
+use Rattle.boss_outside.specs.declared.source.ReadAt.{ReadAt}
 use Rattle.boss_sessions.specs.Places.{Place}
 use Rattle.def_lanes.proofs.Choices.{deeds-append}
 use Rattle.boss_shared.specs.Calls.{is_stopped}
@@ -22,7 +23,7 @@ use Rattle.boss_sessions.specs.declared.end.SessionEnd.TheVariants as end
 use Rattle.boss_sessions.specs.Connected.{Connected}
 use Rattle.boss_sessions.specs.Ends.{is_stop_end, ReadCause, WriteCause, ClockCause, DiskCause}
 use Rattle.boss_sessions.specs.Parting.{LeavesBy, Parts, attached_among, BreaksAtLast, FailsLast}
-use Rattle.boss_sessions.specs.Rounds.{named, Ended}
+use Rattle.boss_sessions.specs.Rounds.{named, EndedAnswered}
 use Rattle.boss_sessions.proofs.ReplyLemmas.{denial-attaches, memory-attaches, stop-attaches}
 use Rattle.boss_sessions.proofs.SessionLemmas.{connected-of}
 
@@ -154,31 +155,31 @@ parts-fails session moment first own own' before was broken (came.Denied index r
 -- ---- a session that ended
 
 module _ (speech : Speech) (number : ℕ) (heeds tells ticks : Type 0) (place place' : Place) (own : List Entry) (taken : List ℕ) (faults : ℕ) (given : List ℕ) (attached : Bool) (last : ℕ)
-    (own' : List Entry) (taken' : List ℕ) (faults' : ℕ) (given' : List ℕ) (attached' : Bool) (last' : ℕ) (name' : Option (List ℕ)) (e : SessionEnd)
+    (own' : List Entry) (taken' : List ℕ) (faults' : ℕ) (given' : List ℕ) (attached' : Bool) (last' : ℕ) (name' : Option (List ℕ)) (r r' : Option (List ReadAt)) (e : SessionEnd)
     (empty : place.ahead ≡ []) (count : place.lines ≡ most_lines) (fresh : attached ≡ false) (first : last ≡ 0)
-    (ended : Ended speech number heeds tells ticks false place place' (standing own taken faults given attached last) (named (standing own' taken' faults' given' attached' last') name') e) where
-  anew : Ended speech number heeds tells ticks false place place' (standing own taken faults given false 0) (named (standing own' taken' faults' given' attached' last') name') e
-  anew = subst (λ t. Ended speech number heeds tells ticks false place place' (standing own taken faults given false t) (named (standing own' taken' faults' given' attached' last') name') e) first
-      (subst (λ t. Ended speech number heeds tells ticks false place place' (standing own taken faults given t last) (named (standing own' taken' faults' given' attached' last') name') e) fresh ended)
+    (ended : EndedAnswered speech number heeds tells ticks false place place' (standing own taken faults given attached last) (named (standing own' taken' faults' given' attached' last') name') r r' e) where
+  anew : EndedAnswered speech number heeds tells ticks false place place' (standing own taken faults given false 0) (named (standing own' taken' faults' given' attached' last') name') r r' e
+  anew = subst (λ t. EndedAnswered speech number heeds tells ticks false place place' (standing own taken faults given false t) (named (standing own' taken' faults' given' attached' last') name') r r' e) first
+      (subst (λ t. EndedAnswered speech number heeds tells ticks false place place' (standing own taken faults given t last) (named (standing own' taken' faults' given' attached' last') name') r r' e) fresh ended)
 
   -- without a last call
   pub connected-whole : attached' ≡ false →
-      Connected speech number heeds tells ticks place.left place'.left (standing own taken faults given false 0) (standing own' taken' faults' given' false 0) e
+      Connected speech number heeds tells ticks place.left place'.left r r' (standing own taken faults given false 0) (standing own' taken' faults' given' false 0) e
   connected-whole apart = connected-of speech number heeds tells ticks place place' (standing own taken faults given false 0) (named (standing own' taken' faults' given' attached' last') name')
-      (standing own' taken' faults' given' false 0) None e e empty count refl refl refl anew (sym (append-nil (deeds own'))) refl refl refl (λ is. refl)
+      (standing own' taken' faults' given' false 0) r r' None e e empty count refl refl refl anew (sym (append-nil (deeds own'))) refl refl refl (λ is. refl)
       (inl (refl, apart))
 
   pub fails-whole : attached' ≡ false → FailsLast number own own' e
   fails-whole apart = fails-where number own own' e (λ is more grew among.
-      let stops = anew.stops in
+      let stops = anew.ended.stops in
       let same : deeds_in number stops.talk ≡ more = append_cancel_left (deeds own) (deeds_in number stops.talk) more (sym stops.grew ∙ grew) in
       absurd (let other : false ≡ true = sym apart ∙ stops.attached ∙ sym (attached-deeds number stops.talk) ∙ ap attached_among same ∙ among in cc))
 
   -- with it
   pub connected-parted : (own'' : List Entry) (was broken : Bool) (e' : SessionEnd) → attached' ≡ true → Parts number last' own' own'' was broken e e' →
-      Connected speech number heeds tells ticks place.left place'.left (standing own taken faults given false 0) (standing own'' taken' faults' given' false 0) e'
+      Connected speech number heeds tells ticks place.left place'.left r r' (standing own taken faults given false 0) (standing own'' taken' faults' given' false 0) e'
   connected-parted own'' was broken e' is parts = connected-of speech number heeds tells ticks place place' (standing own taken faults given false 0) (named (standing own' taken' faults' given' attached' last') name')
-      (standing own'' taken' faults' given' false 0) (answer_in parts.outcome) e e' empty count refl refl refl anew (parting-deeds number last' own' own'' parts.outcome parts.grew) refl refl refl
+      (standing own'' taken' faults' given' false 0) r r' (answer_in parts.outcome) e e' empty count refl refl refl anew (parting-deeds number last' own' own'' parts.outcome parts.grew) refl refl refl
       (λ no. absurd (let other : true ≡ false = sym is ∙ no in cc))
       (subst (λ t. ((e' ≡ e) × (is_unparted t (answer_in parts.outcome) ≡ false)) ⊎ ((is_stop_end e' ≡ true) × (is_unparted t (answer_in parts.outcome) ≡ true))) (sym is)
       (parts-same parts.outcome broken e e' parts.leaves))

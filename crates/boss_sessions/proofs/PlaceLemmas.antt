@@ -4,6 +4,7 @@ use Rattle.std.specs.List.{filter}
 use Rattle.std.proofs.lemmas.Bool.{lt-ltb}
 use Rattle.std.proofs.lemmas.Bool.Decides.{nat_tests}
 use Rattle.std.proofs.lemmas.List.{length-append}
+use Rattle.std.proofs.lemmas.List.Elements.{filter-append}
 use Rattle.boss_model.specs.Lines.{lines, whole_lines, before_first, is_blank}
 use Rattle.boss_model.specs.Limits.{longest_line}
 use Rattle.def_connection.specs.Losing.{spoken_of, is_too_long, BeginsLong}
@@ -98,6 +99,9 @@ module _ (heeds : Type 0) where
   ready-line old new line stops ends = record { going = stops; over = λ told is. none-after old (to_come new) line new.stopped (ends told) is }
 
 -- ---- blank lines
+
+pub spoken-append : (xs ys : List (List ℕ)) → spoken_of (xs ++ ys) ≡ spoken_of xs ++ spoken_of ys
+spoken-append xs ys = filter-append (λ line. not (is_blank line)) xs ys
 
 pub spoken-blank : (line : List ℕ) → is_blank line ≡ true → spoken_of (line ∷ []) ≡ []
 spoken-blank line is = ap (λ b. filter (λ other. b) (line ∷ [])) (ap not is)

@@ -1,28 +1,29 @@
 -- Rounds one after another, and the whole session.
-use Rattle.std.proofs.Common.{◌≡◌, ◌⊎◌, inl, inr, ℕ, Bool, true, false, ◌||◌, not, List, [], ◌++◌, Option, Some, None, refl, ap, sym, ◌∙◌, subst, append-nil, arith}
-use Rattle.std.proofs.lemmas.List.Elements.{filter-append}
+use Rattle.std.proofs.Common.{◌≡◌, ◌⊎◌, inl, inr, ℕ, Bool, true, false, ◌||◌, List, [], ◌++◌, length, Option, Some, None, refl, ap, sym, ◌∙◌, subst, append-nil, arith}
 use Rattle.boss_model.specs.declared.answer.Answer.{Answer}
 use Rattle.boss_model.specs.Limits.{most_lines}
-use Rattle.boss_model.specs.Lines.{lines, whole_lines, is_blank}
+use Rattle.boss_model.specs.Lines.{lines, whole_lines}
 use Rattle.def_history.specs.History.{deeds}
+use Rattle.boss_outside.specs.declared.source.ReadAt.{ReadAt}
+use Rattle.boss_outside.specs.Notes.{NotesEach}
+use Rattle.boss_outside.proofs.Noting.{notes-nothing}
 use Rattle.boss_lines.specs.declared.reader.Next.TheVariants as next
-use Rattle.boss_sessions.specs.Places.{Place, Advances, to_come}
-use Rattle.boss_sessions.proofs.PlaceLemmas.{advances-then, advances-nothing, begins-long, loses, Loses, none-behind, open-lines}
+use Rattle.boss_sessions.specs.Places.{Place, Advances, IsReadAt, to_come}
+use Rattle.boss_sessions.proofs.PlaceLemmas.{advances-then, advances-nothing, begins-long, loses, Loses, none-behind, open-lines, spoken-append}
+use Rattle.boss_sessions.proofs.ReadLemmas.{answered-then}
+use Rattle.def_connection.specs.Answered.{IsAnswered}
 use Rattle.def_connection.specs.Losing.{spoken_of, Lost, LostAt}
-use Rattle.def_connection.specs.Speech.{Speech, is_later, parting_of}
+use Rattle.def_connection.specs.Speech.{Speech, Exchange, is_later, parting_of}
 use Rattle.def_connection.specs.Stopping.{Stop, finish, watching, read_fault, write_fault, clock_fault, long_line, long_untold, limit, disk, nothing, is_disk}
 use Rattle.def_connection.specs.Talks.{Standing, Goes, Stops, Talked, is_unparted}
 use Rattle.def_connection.proofs.Lasting.{later-append}
-use Rattle.def_connection.proofs.TalkLemmas.{goes-nothing, goes-then, stops-then, stops-here, talked-of}
+use Rattle.def_connection.proofs.TalkLemmas.{goes-nothing, goes-talk, goes-then, stops-talk, stops-then, stops-here, talked-of, talked-talk}
 use Rattle.def_connection.proofs.Telling.{told-whole}
 use Rattle.boss_sessions.specs.declared.end.SessionEnd.{SessionEnd}
 use Rattle.boss_sessions.specs.declared.end.SessionEnd.TheVariants as end
 use Rattle.boss_sessions.specs.Connected.{Connected}
 use Rattle.boss_sessions.specs.Ends.{is_stop_end}
-use Rattle.boss_sessions.specs.Rounds.{EndsAt, Ended, GoesOn}
-
-pub spoken-append : (xs ys : List (List ℕ)) → spoken_of (xs ++ ys) ≡ spoken_of xs ++ spoken_of ys
-spoken-append xs ys = filter-append (λ line. not (is_blank line)) xs ys
+use Rattle.boss_sessions.specs.Rounds.{EndsAt, Ended, EndedAnswered, GoesOn, GoesOnAnswered}
 
 -- ---- the bytes that were lost
 
@@ -65,50 +66,83 @@ or-true true = refl
 or-true false = refl
 
 module _ (speech : Speech) (number : ℕ) (heeds tells ticks : Type 0) where
-  pub goes-on-nothing : (later : Bool) (place : Place) (s : Standing) → (heeds → place.stopped ≡ Some next.Finish → to_come place ≡ []) →
-      GoesOn speech number heeds tells ticks later later place place s s
-  goes-on-nothing later place s closed = record {
-    taken = [];
-    advances = advances-nothing heeds place place refl (λ told. refl) (λ is. is) closed;
-    later_is = refl;
-    goes = goes-nothing speech number tells ticks later s;
+  pub goes-on-nothing : (later : Bool) (place : Place) (s : Standing) (reads : Option (List ReadAt)) → (heeds → place.stopped ≡ Some next.Finish → to_come place ≡ []) →
+      GoesOnAnswered speech number heeds tells ticks later later place place s s reads reads
+  goes-on-nothing later place s reads closed = record {
+    goes_on = record {
+      taken = [];
+      advances = advances-nothing heeds place place refl (λ told. refl) (λ is. is) closed;
+      later_is = refl;
+      goes = goes-nothing speech number tells ticks later s;
+    };
+    answered = λ heard told. notes-nothing _ reads;
   }
 
-  pub goes-on-then : (l l' l'' : Bool) (p p' p'' : Place) (a b c : Standing) → GoesOn speech number heeds tells ticks l l' p p' a b → GoesOn speech number heeds tells ticks l' l'' p' p'' b c →
-      GoesOn speech number heeds tells ticks l l'' p p'' a c
-  goes-on-then l l' l'' p p' p'' a b c one other = record {
-    taken = one.taken ++ other.taken;
-    advances = advances-then heeds p p' p'' one.taken other.taken one.advances other.advances;
-    later_is = other.later_is ∙ ap (λ t. is_later t (spoken_of other.taken)) one.later_is ∙ sym (later-append l (spoken_of one.taken) (spoken_of other.taken))
-        ∙ ap (is_later l) (sym (spoken-append one.taken other.taken));
-    goes = subst (λ heard. Goes speech number tells ticks l heard a c) (sym (spoken-append one.taken other.taken))
-        (goes-then speech number tells ticks l (spoken_of one.taken) (spoken_of other.taken) a b c one.goes
-        (subst (λ t. Goes speech number tells ticks t (spoken_of other.taken) b c) one.later_is other.goes));
-  }
+  -- the same talk over the same lines
+  goes-over : (later later' : Bool) (xs ys : List (List ℕ)) (a b : Standing) (talk : List Exchange) → later ≡ later' → xs ≡ ys → (one : Goes speech number tells ticks later xs a b) → one.talk ≡ talk →
+      (goes : Goes speech number tells ticks later' ys a b) × (goes.talk ≡ talk)
+  goes-over later later' xs ys a b talk when same one is =
+      subst (λ heard. (goes : Goes speech number tells ticks later' heard a b) × (goes.talk ≡ talk)) same
+      (subst (λ t. (goes : Goes speech number tells ticks t xs a b) × (goes.talk ≡ talk)) when (one, is))
 
-  pub ended-then : (l l' : Bool) (p p' p'' : Place) (a b c : Standing) (e : SessionEnd) → GoesOn speech number heeds tells ticks l l' p p' a b →
-      Ended speech number heeds tells ticks l' p' p'' b c e → Ended speech number heeds tells ticks l p p'' a c e
-  ended-then l l' p p' p'' a b c e one other = record {
-    taken = one.taken ++ other.taken;
-    stop = other.stop;
-    advances = advances-then heeds p p' p'' one.taken other.taken one.advances other.advances;
-    stops = subst (λ heard. Stops speech number tells ticks l heard other.stop a c) (sym (spoken-append one.taken other.taken))
-        (stops-then speech number tells ticks l (spoken_of one.taken) (spoken_of other.taken) other.stop a b c one.goes
-        (subst (λ t. Stops speech number tells ticks t (spoken_of other.taken) other.stop b c) one.later_is other.stops));
-    at = other.at;
-    broken = other.broken;
-    end_is = other.end_is;
-  }
+  stops-over : (later later' : Bool) (xs ys : List (List ℕ)) (stop : Stop) (a b : Standing) (talk : List Exchange) → later ≡ later' → xs ≡ ys →
+      (one : Stops speech number tells ticks later xs stop a b) → one.talk ≡ talk → (stops : Stops speech number tells ticks later' ys stop a b) × (stops.talk ≡ talk)
+  stops-over later later' xs ys stop a b talk when same one is =
+      subst (λ heard. (stops : Stops speech number tells ticks later' heard stop a b) × (stops.talk ≡ talk)) same
+      (subst (λ t. (stops : Stops speech number tells ticks t xs stop a b) × (stops.talk ≡ talk)) when (one, is))
+
+  pub goes-on-then : (l l' l'' : Bool) (p p' p'' : Place) (a b c : Standing) (r r' r'' : Option (List ReadAt)) → GoesOnAnswered speech number heeds tells ticks l l' p p' a b r r' →
+      GoesOn speech number heeds tells ticks l' l'' p' p'' b c → (heeds → tells → NotesEach (IsReadAt p' (length b.taken)) r' r'') →
+      GoesOnAnswered speech number heeds tells ticks l l'' p p'' a c r r''
+  goes-on-then l l' l'' p p' p'' a b c r r' r'' before other reads =
+      let one = before.goes_on in
+      let second = goes-over l' (is_later l (spoken_of one.taken)) (spoken_of other.taken) (spoken_of other.taken) b c other.goes.talk one.later_is refl other.goes refl in
+      let both = goes-over l l (spoken_of one.taken ++ spoken_of other.taken) (spoken_of (one.taken ++ other.taken)) a c (one.goes.talk ++ other.goes.talk) refl
+      (sym (spoken-append one.taken other.taken)) (goes-then speech number tells ticks l (spoken_of one.taken) (spoken_of other.taken) a b c one.goes second.0)
+      (goes-talk speech number tells ticks l (spoken_of one.taken) (spoken_of other.taken) a b c one.goes second.0 ∙ ap (λ rest. one.goes.talk ++ rest) second.1) in
+      record {
+        goes_on = record {
+          taken = one.taken ++ other.taken;
+          advances = advances-then heeds p p' p'' one.taken other.taken one.advances other.advances;
+          later_is = other.later_is ∙ ap (λ t. is_later t (spoken_of other.taken)) one.later_is ∙ sym (later-append l (spoken_of one.taken) (spoken_of other.taken))
+              ∙ ap (is_later l) (sym (spoken-append one.taken other.taken));
+          goes = both.0;
+        };
+        answered = answered-then speech number heeds tells ticks l l' p p' a b one other.goes.talk both.0.talk both.1 r r' r'' before.answered reads;
+      }
+
+  pub ended-then : (l l' : Bool) (p p' p'' : Place) (a b c : Standing) (r r' r'' : Option (List ReadAt)) (e : SessionEnd) → GoesOnAnswered speech number heeds tells ticks l l' p p' a b r r' →
+      Ended speech number heeds tells ticks l' p' p'' b c e → (heeds → tells → NotesEach (IsReadAt p' (length b.taken)) r' r'') →
+      EndedAnswered speech number heeds tells ticks l p p'' a c r r'' e
+  ended-then l l' p p' p'' a b c r r' r'' e before other reads =
+      let one = before.goes_on in
+      let second = stops-over l' (is_later l (spoken_of one.taken)) (spoken_of other.taken) (spoken_of other.taken) other.stop b c other.stops.talk one.later_is refl other.stops refl in
+      let both = stops-over l l (spoken_of one.taken ++ spoken_of other.taken) (spoken_of (one.taken ++ other.taken)) other.stop a c (one.goes.talk ++ other.stops.talk) refl
+      (sym (spoken-append one.taken other.taken)) (stops-then speech number tells ticks l (spoken_of one.taken) (spoken_of other.taken) other.stop a b c one.goes second.0)
+      (stops-talk speech number tells ticks l (spoken_of one.taken) (spoken_of other.taken) other.stop a b c one.goes second.0 ∙ ap (λ rest. one.goes.talk ++ rest) second.1) in
+      record {
+        ended = record {
+          taken = one.taken ++ other.taken;
+          stop = other.stop;
+          advances = advances-then heeds p p' p'' one.taken other.taken one.advances other.advances;
+          stops = both.0;
+          at = other.at;
+          broken = other.broken;
+          end_is = other.end_is;
+        };
+        answered = answered-then speech number heeds tells ticks l l' p p' a b one other.stops.talk both.0.talk both.1 r r' r'' before.answered reads;
+      }
 
   -- ---- the whole session
 
   -- A session that ended, and whose process was told to be lost, if it was. The end is then the same, and that call was answered or there
   -- was none; or the call was not answered, and the end is a disk that failed
-  pub connected-of : (place place' : Place) (a b c : Standing) (parting : Option Answer) (e e' : SessionEnd) → place.ahead ≡ [] → place.lines ≡ most_lines →
-      a.attached ≡ false → a.last ≡ 0 → a.name ≡ None → Ended speech number heeds tells ticks false place place' a b e → deeds c.own ≡ deeds b.own ++ parting_of number b.last parting →
+  pub connected-of : (place place' : Place) (a b c : Standing) (r r' : Option (List ReadAt)) (parting : Option Answer) (e e' : SessionEnd) → place.ahead ≡ [] → place.lines ≡ most_lines →
+      a.attached ≡ false → a.last ≡ 0 → a.name ≡ None → EndedAnswered speech number heeds tells ticks false place place' a b r r' e → deeds c.own ≡ deeds b.own ++ parting_of number b.last parting →
       c.taken ≡ b.taken → c.faults ≡ b.faults → c.given ≡ b.given → (b.attached ≡ false → parting ≡ None) →
-      ((e' ≡ e) × (is_unparted b.attached parting ≡ false)) ⊎ ((is_stop_end e' ≡ true) × (is_unparted b.attached parting ≡ true)) → Connected speech number heeds tells ticks place.left place'.left a c e'
-  connected-of place place' a b c parting e e' empty count fresh first anonymous ended parts taken faults given unattached parted =
+      ((e' ≡ e) × (is_unparted b.attached parting ≡ false)) ⊎ ((is_stop_end e' ≡ true) × (is_unparted b.attached parting ≡ true)) → Connected speech number heeds tells ticks place.left place'.left r r' a c e'
+  connected-of place place' a b c r r' parting e e' empty count fresh first anonymous done parts taken faults given unattached parted =
+      let ended = done.ended in
       let broken : is_stop_end e' ≡ (is_disk ended.stop || is_unparted b.attached parting) = elim parted [
         | inl same ↦ ap is_stop_end same.0 ∙ ended.broken ∙ or-false (is_disk ended.stop) ∙ ap (λ t. is_disk ended.stop || t) (sym same.1)
         | inr fails ↦ fails.0 ∙ or-true (is_disk ended.stop) ∙ ap (λ t. is_disk ended.stop || t) (sym fails.1)
@@ -142,11 +176,17 @@ module _ (speech : Speech) (number : ℕ) (heeds tells ticks : Type 0) where
           | inr fails ↦ λ calm. absurd (let no : true ≡ false = sym fails.0 ∙ calm in cc)
         ];
         lost = λ told. lost-of heeds place place' ended.taken ended.advances empty count told ended.stop ended.at;
+        answered = λ heard told.
+            subst (λ bytes. NotesEach (IsAnswered speech bytes (length a.taken) said.talk) r r') (ap (λ front. front ++ place.left) empty)
+            (subst (λ talk. NotesEach (IsAnswered speech (to_come place) (length a.taken) talk) r r')
+            (sym (talked-talk speech number tells ticks (spoken_of ended.taken) ended.stop (is_stop_end e') a b c.own parting ended.stops fresh first anonymous parts unattached broken))
+            (done.answered heard told));
       }
 
   -- no memory was to be had to begin
-  pub connected-none : (left : List ℕ) (s : Standing) → s.attached ≡ false → s.last ≡ 0 → s.name ≡ None → Connected speech number heeds tells ticks left left s s end.NoMemory
-  connected-none left s fresh first anonymous =
+  pub connected-none : (left : List ℕ) (s : Standing) (reads : Option (List ReadAt)) → s.attached ≡ false → s.last ≡ 0 → s.name ≡ None →
+      Connected speech number heeds tells ticks left left reads reads s s end.NoMemory
+  connected-none left s reads fresh first anonymous =
       let talked : Talked speech number tells ticks [] nothing false s (record s { own = s.own }) =
       talked-of speech number tells ticks [] nothing false s s s.own None
       (stops-here speech number tells ticks false [] nothing s s (refl, refl) refl refl (λ told. told-whole s.taken s.taken s.faults s.faults [] (sym (append-nil s.taken))) (λ told. refl) refl refl)
@@ -157,4 +197,5 @@ module _ (speech : Speech) (number : ℕ) (heeds tells ticks : Type 0) where
         talked = talked;
         end_is = λ calm. refl;
         lost = λ told. record { lost = []; more = []; split = refl; lines_are = refl; short = tt; whole = λ some. ([], refl); at = refl };
+        answered = λ heard told. notes-nothing _ reads;
       }

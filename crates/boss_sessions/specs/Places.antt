@@ -4,11 +4,12 @@ use Rattle.std.specs.Prelude.{◌≡◌, ℕ, ◌+◌, ◌≤◌, false, List, [
 use Rattle.std.specs.List.{AllByRecursion}
 use Rattle.boss_model.specs.Lines.{lines, whole_lines}
 use Rattle.boss_outside.specs.Counts.{Rose}
+use Rattle.boss_outside.specs.declared.source.ReadAt.{ReadAt}
 use Rattle.boss_lines.specs.declared.reader.Next.{Next}
 use Rattle.boss_lines.specs.declared.reader.Next.TheVariants as next
 use Rattle.boss_lines.specs.Lines.{StopsAt}
 use Rattle.boss_lines.specs.Window.{IsTooLong, NoLineEnd}
-use Rattle.def_connection.specs.Losing.{is_too_long}
+use Rattle.def_connection.specs.Losing.{is_too_long, spoken_of}
 use Rattle.boss_sessions.specs.declared.hearing.Hearing.{Hearing}
 use Rattle.boss_sessions.specs.declared.heard.Heard.{Heard}
 use Rattle.boss_sessions.specs.declared.heard.Heard.TheVariants.{Limit, Finish, TooLong, ReadFault}
@@ -74,3 +75,14 @@ SourceCause before now other = now ≡ before
 abbrev pub SourceStops : ℕ → ℕ → Option Heard → Type 0
 SourceStops before now None = now ≡ before
 SourceStops before now (Some heard) = SourceCause before now heard
+
+-- A read was made when the bytes that had come by then had no whole line but blank ones; and so many bytes the sink had taken, as far as
+-- the source was shown
+pub record IsReadAt (place : Place) (told : ℕ) (at : ReadAt) : Type 0 where
+  pub going : place.stopped ≡ None
+  pub come : List ℕ
+  pub rest : List ℕ
+  pub split : to_come place ≡ come ++ rest
+  pub left : at.left ≡ length rest
+  pub silent : spoken_of (whole_lines come) ≡ []
+  pub shown : at.told ≡ told

@@ -1,12 +1,15 @@
 -- Source: own.
 -- A session line by line: as far as it goes on, and where it ends.
-use Rattle.std.specs.Prelude.{◌≡◌, ℕ, ◌≤◌, Bool, false, List, Option, Some, None, vec_capacity}
+use Rattle.std.specs.Prelude.{◌≡◌, ℕ, ◌≤◌, Bool, false, List, length, Option, Some, None, vec_capacity}
 use Rattle.boss_model.specs.Limits.{last_moment}
+use Rattle.boss_outside.specs.declared.source.ReadAt.{ReadAt}
+use Rattle.boss_outside.specs.Notes.{NotesEach}
 use Rattle.boss_sessions.specs.Ends.{end_for, is_stop_end}
-use Rattle.boss_sessions.specs.Places.{Place, Advances, IsAtStop, IsOpen}
+use Rattle.boss_sessions.specs.Places.{Place, Advances, IsAtStop, IsOpen, to_come}
 use Rattle.boss_sessions.specs.Replies.{reply_room}
+use Rattle.def_connection.specs.Answered.{IsAnswered}
 use Rattle.def_connection.specs.Losing.{spoken_of}
-use Rattle.def_connection.specs.Speech.{Speech, is_later}
+use Rattle.def_connection.specs.Speech.{Speech, Exchange, is_later}
 use Rattle.def_connection.specs.Stopping.{Stop, finish, read_fault, long_line, long_untold, limit, nothing, is_disk}
 use Rattle.def_connection.specs.Talks.{Standing, Goes, Stops}
 use Rattle.boss_sessions.specs.declared.end.SessionEnd.{SessionEnd}
@@ -54,3 +57,15 @@ module _ (speech : Speech) (number : ℕ) (heeds tells ticks : Type 0) where
   abbrev pub Rounded : Bool → Bool → Place → Place → Standing → Standing → Option SessionEnd → Type 0
   Rounded later later' place place' old new None = GoesOn later later' place place' old new × IsOpen heeds place'
   Rounded later later' place place' old new (Some end) = Ended later place place' old new end
+
+  -- each read was made when all that had come whole was answered by this talk
+  abbrev pub AreAnswered : Place → List ℕ → List Exchange → Option (List ReadAt) → Option (List ReadAt) → Type 0
+  AreAnswered place taken talk reads reads' = heeds → tells → NotesEach (IsAnswered speech (to_come place) (length taken) talk) reads reads'
+
+  pub record GoesOnAnswered (later later' : Bool) (place place' : Place) (old new : Standing) (reads reads' : Option (List ReadAt)) : Type 0 where
+    pub goes_on : GoesOn later later' place place' old new
+    pub answered : AreAnswered place old.taken goes_on.goes.talk reads reads'
+
+  pub record EndedAnswered (later : Bool) (place place' : Place) (old new : Standing) (reads reads' : Option (List ReadAt)) (end : SessionEnd) : Type 0 where
+    pub ended : Ended later place place' old new end
+    pub answered : AreAnswered place old.taken ended.stops.talk reads reads'

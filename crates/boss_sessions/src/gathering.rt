@@ -1,9 +1,11 @@
-ghost use Rattle.std.specs.Prelude.{◌≡◌, ◌+◌, ◌≤◌, [], length};
+ghost use Rattle.std.specs.Prelude.{◌≡◌, ◌+◌, ◌≤◌, true, [], length};
 ghost use Rattle.std.specs.List.{AllByRecursion};
 ghost use Rattle.boss_model.specs.Catalogue.{actuators};
 ghost use Rattle.def_history.specs.History.{MayCall};
+ghost use Rattle.boss_outside.specs.Notes.{NotesEach};
+ghost use Rattle.boss_lines.specs.Lines.{is_at_hand};
 ghost use Rattle.boss_sessions.specs.Gathered.{Gathered, HeardEnd, GoesOn};
-ghost use Rattle.boss_sessions.specs.Places.{place_of, IsOpen, SourceCause};
+ghost use Rattle.boss_sessions.specs.Places.{place_of, IsOpen, IsReadAt, SourceCause};
 ghost use Rattle.boss_sessions.specs.Requests.{ClockCause};
 ghost use Rattle.boss_sessions.specs.Speaking.{reading_in};
 
@@ -38,6 +40,9 @@ pub fn gather<S: Source, C: Clock>(
     ensures few { length commands.new.items ≤ 16 }
     ensures goes_on { GoesOn hearing.old.lines hearing.new.lines result }
     ensures held { S.tells → S.held source.new ≡ S.held source.old }
+    // It reads only as long as no line has come whole but blank ones.
+    ensures reads { S.tells → NotesEach (IsReadAt (place_of hearing.old (S.left source.old)) (S.told source.old)) (S.reads source.old) (S.reads source.new) }
+    ensures shown { S.told source.new ≡ S.told source.old }
     ensures read { SourceCause (S.faults source.old) (S.faults source.new) result }
     ensures clocked { ClockCause (C.faults clock.old) (C.faults clock.new) result }
 {
@@ -70,6 +75,9 @@ fn take_line<S: Source, C: Clock>(
     ensures one { length commands.new.items ≤ length commands.old.items + 1 }
     ensures goes_on { GoesOn hearing.old.lines hearing.new.lines result }
     ensures held { S.tells → S.held source.new ≡ S.held source.old }
+    ensures reads { S.tells → NotesEach (IsReadAt (place_of hearing.old (S.left source.old)) (S.told source.old)) (S.reads source.old) (S.reads source.new) }
+    ensures shown { S.told source.new ≡ S.told source.old }
+    ensures at_hand { is_at_hand hearing.old.reader.stopped hearing.old.reader.ahead ≡ true → source.new ≡ source.old }
     ensures read { SourceCause (S.faults source.old) (S.faults source.new) result }
     ensures clocked { ClockCause (C.faults clock.old) (C.faults clock.new) result }
 {

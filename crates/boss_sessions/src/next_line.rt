@@ -1,5 +1,7 @@
-ghost use Rattle.std.specs.Prelude.{◌≡◌, ◌∷◌, []};
-ghost use Rattle.boss_sessions.specs.Places.{place_of, Advances, IsOpen, taken_by, StopsFor, SourceStops};
+ghost use Rattle.std.specs.Prelude.{◌≡◌, true, ◌∷◌, []};
+ghost use Rattle.boss_outside.specs.Notes.{NotesEach};
+ghost use Rattle.boss_lines.specs.Lines.{is_at_hand};
+ghost use Rattle.boss_sessions.specs.Places.{place_of, Advances, IsOpen, IsReadAt, taken_by, StopsFor, SourceStops};
 
 use crate::{Heard, Hearing};
 use boss_lines::Next;
@@ -13,6 +15,9 @@ pub(crate) fn next_line<S: Source>(hearing: &mut Hearing, source: &mut S) -> Opt
     ensures stops { StopsFor S.tells (place_of hearing.new (S.left source.new)) result }
     ensures later { hearing.new.later ≡ hearing.old.later }
     ensures held { S.tells → S.held source.new ≡ S.held source.old }
+    ensures reads { S.tells → NotesEach (IsReadAt (place_of hearing.old (S.left source.old)) (S.told source.old)) (S.reads source.old) (S.reads source.new) }
+    ensures shown { S.told source.new ≡ S.told source.old }
+    ensures at_hand { is_at_hand hearing.old.reader.stopped hearing.old.reader.ahead ≡ true → source.new ≡ source.old }
     ensures cause { SourceStops (S.faults source.old) (S.faults source.new) result }
 {
     if hearing.lines == 0 {

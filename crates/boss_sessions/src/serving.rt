@@ -9,14 +9,14 @@ ghost use Rattle.boss_sessions.specs.Connected.{Connected};
 ghost use Rattle.boss_sessions.specs.Ends.{ReadCause, WriteCause, ClockCause, DiskCause};
 ghost use Rattle.boss_sessions.specs.Parting.{FailsLast};
 ghost use Rattle.boss_sessions.specs.Holding.{Holds, LeavesOthers, Named};
-ghost use Rattle.boss_sessions.specs.Rounds.{named, Ended, HasRoom};
+ghost use Rattle.boss_sessions.specs.Rounds.{named, EndedAnswered, HasRoom};
 
 use crate::SessionEnd;
 use crate::parting::part;
 use crate::rounds::round;
 use crate::session::Session;
 use boss_model::SessionId;
-use boss_outside::{Sink, Source};
+use boss_outside::{Hears, Sink};
 use boss_outside_server::Clock;
 use boss_points::Catalogue;
 use boss_shared::Desk;
@@ -28,16 +28,18 @@ use std::alloc::Global;
 /// clock gave for it; another line why it is refused; and one for which there was no memory is told so, and changes nothing. Exactly
 /// a submit that a gate of the desk denies to the process that the session then has, by the name of its last accepted attach, is
 /// told so, with its first write that is denied and the rule; it is not done, and the talk goes on.
-/// Requests that have come together are done in one call. Where an attach was accepted, the last call tells that the process is
-/// lost, at the last moment that the clock gave, and where it is not answered, its outcome is the end: Stopped where the disk had
-/// failed before it, also in a call of this session, and DiskFault where it failed in it.
+/// Requests that have come together are done in one call. Nothing is read while a line waits for its reply: at each read every line
+/// that had come whole, but blank ones, had its reply, and the sink had taken these.
+/// Where an attach was accepted, the last call tells that the process is lost, at the last moment that the clock gave, and where it is
+/// not answered, its outcome is the end: Stopped where the disk had failed before it, also in a call of this session, and DiskFault
+/// where it failed in it.
 ///
 /// Of the lines that were taken few have no reply: the one that asks to watch; the one at which the clock failed; those behind the
 /// reply that the disk has failed, which is the last and comes there alone; and where a write failed, requests that are held behind
 /// one that was not done, and one line behind them. Where a read failed, a piece without a line end is no line. No line is taken
 /// behind one that is too long, which is told so, or behind the 2^32nd. The clock is read once for each request. Where there was no
 /// memory to begin, nothing is read, done or told.
-pub fn serve_connection<G: Desk, S: Source, K: Sink, C: Clock>(
+pub fn serve_connection<G: Desk, S: Hears<K>, K: Sink, C: Clock>(
     alloc: Global,
     desk: &G,
     pass: &mut G::Pass,
@@ -53,6 +55,7 @@ pub fn serve_connection<G: Desk, S: Source, K: Sink, C: Clock>(
     ensures own { G.owns desk.now pass.new }
     ensures parts { G.parts pass.new ≡ G.parts pass.old }
     ensures connected { Connected (speech_of catalogue.now (G.denies desk.now)) session S.tells K.tells C.tells (S.left source.old) (S.left source.new)
+        (S.reads source.old) (S.reads source.new)
         (standing (entries_at (G.seen pass.old) (G.mine pass.old)) (K.taken sink.old) (K.faults sink.old) (C.given clock.old) false 0)
         (standing (entries_at (G.seen pass.new) (G.mine pass.new)) (K.taken sink.new) (K.faults sink.new) (C.given clock.new) false 0)
         result }
@@ -77,7 +80,7 @@ pub fn serve_connection<G: Desk, S: Source, K: Sink, C: Clock>(
 }
 
 /// Takes and answers lines until something ends the session.
-fn talk<G: Desk, S: Source, K: Sink, C: Clock>(
+fn talk<G: Desk, S: Hears<K>, K: Sink, C: Clock>(
     alloc: Global,
     catalogue: &Catalogue,
     desk: &G,
@@ -98,11 +101,11 @@ fn talk<G: Desk, S: Source, K: Sink, C: Clock>(
     ensures parts { G.parts pass.new ≡ G.parts pass.old }
     ensures room { HasRoom session.new }
     ensures ended { Named (G.denies desk.now) number (G.held pass.new) (λ name.
-        Ended (speech_of catalogue.now (G.denies desk.now)) number S.tells K.tells C.tells false
+        EndedAnswered (speech_of catalogue.now (G.denies desk.now)) number S.tells K.tells C.tells false
         (place_of session.old.hearing (S.left source.old)) (place_of session.new.hearing (S.left source.new))
         (standing (entries_at (G.seen pass.old) (G.mine pass.old)) (K.taken sink.old) (K.faults sink.old) (C.given clock.old) session.old.attached session.old.last)
         (named (standing (entries_at (G.seen pass.new) (G.mine pass.new)) (K.taken sink.new) (K.faults sink.new) (C.given clock.new) session.new.attached session.new.last) name)
-        result) }
+        (S.reads source.old) (S.reads source.new) result) }
     ensures others { LeavesOthers (G.denies desk.now) number (G.held pass.old) (G.held pass.new) }
     ensures held { S.tells → S.held source.new ≡ S.held source.old }
     ensures read { ReadCause (S.faults source.old) (S.faults source.new) (Some result) }

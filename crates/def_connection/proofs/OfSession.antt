@@ -16,7 +16,9 @@ use Rattle.def_lanes.specs.Parts.{AreTimed, Added}
 use Rattle.def_lanes.specs.Works.{Cut, not_cut}
 use Rattle.def_lanes.proofs.Lists.{each-append}
 use Rattle.def_lanes.proofs.Moments.{both-timed, one-timed, timed-front, timed-behind, timed-next}
+use Rattle.boss_outside.specs.Notes.{AllRead}
 use Rattle.boss_outside_server.specs.Hosts.{Served}
+use Rattle.def_connection.specs.Answered.{IsAnswered}
 use Rattle.def_connection.specs.Speech.{Reply, of_answer, of_memory, of_stop, of_denial, Speech, watches, Exchange, unread, refused, called, line_in, is_later, text_in, deeds_of, deeds_in, moments_of, moments_in, last_or, attached_in, parting_of, entry_of}
 use Rattle.def_connection.specs.Losing.{spoken_of, Lost}
 use Rattle.def_connection.specs.Stopping.{Stop, watching, Leaves, moments_with}
@@ -115,19 +117,26 @@ module _ (plant : List Actuator) (speech : Speech) (session : ℕ) (tells ticks 
       (timed-front (moments_in is.talk) unused (deeds_in session is.talk) (talk-timed session is.talk))
       (parting-timed session is.talk unused is.parting (attached_in is.talk) refl is.unattached)))
 
-  -- a talk adds to its session's lane, and says of what it added what an exchange says
-  pub talk-added : (heard : List (List ℕ)) (stop : Stop) (broken : Bool) (old new : Standing) → Talked speech session tells ticks heard stop broken old new →
-      Added plant (of_session session) (λ more. (moments : List ℕ) × Exchanged speech session tells heard stop broken old.taken new.taken old.faults new.faults more moments) ticks
-      old.own new.own old.given new.given
-  talk-added heard stop broken old new talked = record {
+  -- a talk adds to its session's lane, whatever is said of what it added
+  pub talk-says : (heard : List (List ℕ)) (stop : Stop) (broken : Bool) (old new : Standing) → (talked : Talked speech session tells ticks heard stop broken old new) →
+      (says : List Entry → Type 0) → says talked.more → Added plant (of_session session) says ticks old.own new.own old.given new.given
+  talk-says heard stop broken old new talked says said = record {
     more = talked.more;
     grew = talked.grew;
     of_lane = exchanged-lane heard stop broken old.taken new.taken old.faults new.faults talked.more talked.moments talked.exchanged;
-    agrees = (talked.moments, talked.exchanged);
+    agrees = said;
     gains = talked.moments;
     gave = talked.gave;
     timed = λ told. exchanged-timed heard stop broken old.taken new.taken old.faults new.faults talked.more talked.moments talked.exchanged;
   }
+
+  -- it says what an exchange says
+  pub talk-added : (heard : List (List ℕ)) (stop : Stop) (broken : Bool) (old new : Standing) → Talked speech session tells ticks heard stop broken old new →
+      Added plant (of_session session) (λ more. (moments : List ℕ) × Exchanged speech session tells heard stop broken old.taken new.taken old.faults new.faults more moments) ticks
+      old.own new.own old.given new.given
+  talk-added heard stop broken old new talked =
+      talk-says heard stop broken old new talked (λ more. (moments : List ℕ) × Exchanged speech session tells heard stop broken old.taken new.taken old.faults new.faults more moments)
+      (talked.moments, talked.exchanged)
 
   pub watch-added : (notes : Answer → List ℕ) (unanswered : Bool) (name : List ℕ) (from : ℕ) (old new : Standing) → Watched notes session name tells ticks unanswered from old new →
       Added plant (of_session session) (λ more. (moments : List ℕ) × Noticed notes session name tells unanswered from old.taken new.taken old.faults new.faults more moments) ticks
@@ -146,35 +155,30 @@ module _ (plant : List Actuator) (speech : Speech) (session : ℕ) (tells ticks 
 
 -- an ended connection agrees with what was added for it
 pub talk-agrees : (plant : List Actuator) (speech : Speech) (tells ticks : Type 0) (served : Served) (taken_are : List (List ℕ)) (stop : Stop) (broken : Bool) (cut : Cut) (old new : Standing) →
-    0 < served.session → Talked speech served.session tells ticks (spoken_of taken_are) stop broken old new → old.taken ≡ [] → old.faults ≡ 0 → new.taken ≡ served.taken →
-    new.faults ≡ served.write_faults → IsEnded served taken_are stop broken cut →
+    0 < served.session → (talked : Talked speech served.session tells ticks (spoken_of taken_are) stop broken old new) → old.taken ≡ [] → old.faults ≡ 0 → new.taken ≡ served.taken →
+    new.faults ≡ served.write_faults → IsEnded served taken_are stop broken cut → (tells → AllRead (IsAnswered speech served.held 0 talked.exchanged.talk) served.reads) →
     Added plant (of_session served.session) (IsTalkOf speech tells served cut) ticks old.own new.own old.given new.given
-talk-agrees plant speech tells ticks served taken_are stop broken cut old new some talked empty quiet taken faults ended =
-    let added = talk-added plant speech served.session tells ticks some (spoken_of taken_are) stop broken old new talked in
-    record {
-      more = added.more;
-      grew = added.grew;
-      of_lane = added.of_lane;
-      agrees = record {
-        taken = taken_are;
-        stop = stop;
-        broken = broken;
-        moments = added.agrees.0;
-        ended = ended;
-        exchanged = moved old.taken [] new.taken served.taken old.faults 0 new.faults served.write_faults empty taken quiet faults added.more added.agrees.0 added.agrees.1;
-      };
-      gains = added.gains;
-      gave = added.gave;
-      timed = added.timed;
-    }
+talk-agrees plant speech tells ticks served taken_are stop broken cut old new some talked empty quiet taken faults ended answered =
+    let said = moved old.taken [] new.taken served.taken old.faults 0 new.faults served.write_faults empty taken quiet faults talked.more talked.moments talked.exchanged answered in
+    talk-says plant speech served.session tells ticks some (spoken_of taken_are) stop broken old new talked (IsTalkOf speech tells served cut) (record {
+      taken = taken_are;
+      stop = stop;
+      broken = broken;
+      moments = talked.moments;
+      ended = ended;
+      exchanged = said.0;
+      answered = said.1;
+    })
   where
+    -- the same between other bytes and counts, with what holds of its talk
     moved : (a a' b b' : List ℕ) (f f' g g' : ℕ) → a ≡ a' → b ≡ b' → f ≡ f' → g ≡ g' → (entries : List Entry) (moments : List ℕ) →
-        Exchanged speech served.session tells (spoken_of taken_are) stop broken a b f g entries moments → Exchanged speech served.session tells (spoken_of taken_are) stop broken a' b' f' g' entries moments
-    moved a a' b b' f f' g g' p q r s entries moments is =
-        subst (λ x. Exchanged speech served.session tells (spoken_of taken_are) stop broken a' b' f' x entries moments) s
-        (subst (λ x. Exchanged speech served.session tells (spoken_of taken_are) stop broken a' b' x g entries moments) r
-        (subst (λ x. Exchanged speech served.session tells (spoken_of taken_are) stop broken a' x f g entries moments) q
-        (subst (λ x. Exchanged speech served.session tells (spoken_of taken_are) stop broken x b f g entries moments) p is)))
+        (is : Exchanged speech served.session tells (spoken_of taken_are) stop broken a b f g entries moments) → (tells → AllRead (IsAnswered speech served.held 0 is.talk) served.reads) →
+        (said : Exchanged speech served.session tells (spoken_of taken_are) stop broken a' b' f' g' entries moments) × (tells → AllRead (IsAnswered speech served.held 0 said.talk) served.reads)
+    moved a a' b b' f f' g g' p q r s entries moments is holds =
+        subst (λ x. (said : Exchanged speech served.session tells (spoken_of taken_are) stop broken a' b' f' x entries moments) × (tells → AllRead (IsAnswered speech served.held 0 said.talk) served.reads)) s
+        (subst (λ x. (said : Exchanged speech served.session tells (spoken_of taken_are) stop broken a' b' x g entries moments) × (tells → AllRead (IsAnswered speech served.held 0 said.talk) served.reads)) r
+        (subst (λ x. (said : Exchanged speech served.session tells (spoken_of taken_are) stop broken a' x f g entries moments) × (tells → AllRead (IsAnswered speech served.held 0 said.talk) served.reads)) q
+        (subst (λ x. (said : Exchanged speech served.session tells (spoken_of taken_are) stop broken x b f g entries moments) × (tells → AllRead (IsAnswered speech served.held 0 said.talk) served.reads)) p (is, holds))))
 
 pub watch-agrees : (plant : List Actuator) (speech : Speech) (notes : Answer → List ℕ) (tells ticks : Type 0) (served : Served) (taken_are : List (List ℕ)) (line : List ℕ) (name : List ℕ) (from : ℕ) (cut : Cut) (old new : Standing) →
     0 < served.session → Watched notes served.session name tells ticks (is_unanswered cut) from old new → spoken_of taken_are ≡ line ∷ [] → speech.reading false line ≡ watches name from →

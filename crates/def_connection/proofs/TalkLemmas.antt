@@ -116,6 +116,12 @@ module _ (speech : Speech) (session : ℕ) (tells ticks : Type 0) where
       each-on [] ys first then = then
       each-on (x ∷ xs) ys first then = (first.0, each-on xs ys first.1 then)
 
+  -- what was said is one after the other
+  pub goes-talk : (later : Bool) (xs ys : List (List ℕ)) (a b c : Standing) (one : Goes speech session tells ticks later xs a b) (other : Goes speech session tells ticks (is_later later xs) ys b c) →
+      (goes-then later xs ys a b c one other).talk ≡ one.talk ++ other.talk
+  unfolding goes-then
+  goes-talk later xs ys a b c one other = refl
+
   -- what is left behind another part
   leaves-then : (later : Bool) (xs ys : List (List ℕ)) (stop : Stop) (failed failed' : Type 0) (talk more : List Exchange) (uncalled : List (Command × ℕ)) → xs ≡ map line_in talk →
       AreRead speech.reading later talk → AllByRecursion (λ exchange. is_end exchange ≡ false) talk → (failed → failed') → Leaves speech (is_later later xs) ys stop failed more uncalled →
@@ -159,6 +165,11 @@ module _ (speech : Speech) (session : ℕ) (tells ticks : Type 0) where
     where
       moments-then : (xs ys : List Exchange) (uncalled : List (Command × ℕ)) → moments_in xs ++ moments_with ys uncalled ≡ moments_with (xs ++ ys) uncalled
       moments-then xs ys uncalled = sym (append_assoc (moments_in xs) (moments_in ys) (map (λ call. call.1) uncalled)) ∙ ap (λ front. front ++ map (λ call. call.1) uncalled) (sym (moments-append xs ys))
+
+  pub stops-talk : (later : Bool) (xs ys : List (List ℕ)) (stop : Stop) (a b c : Standing) (one : Goes speech session tells ticks later xs a b)
+      (other : Stops speech session tells ticks (is_later later xs) ys stop b c) → (stops-then later xs ys stop a b c one other).talk ≡ one.talk ++ other.talk
+  unfolding stops-then
+  stops-talk later xs ys stop a b c one other = refl
 
   -- nothing more has a reply
   pub stops-here : (later : Bool) (behind : List (List ℕ)) (stop : Stop) (b c : Standing) → BehindAt speech.reading later stop behind → is_disk stop ≡ false → deeds c.own ≡ deeds b.own →
@@ -301,3 +312,11 @@ module _ (speech : Speech) (session : ℕ) (tells ticks : Type 0) where
           judged = subst (λ name. AreJudged speech.denies name stops.talk) anonymous stops.judged;
         };
       }
+
+  -- what was said is what was said when the talk stopped
+  pub talked-talk : (heard : List (List ℕ)) (stop : Stop) (broken : Bool) (a b : Standing) (own : List Entry) (parting : Option Answer) (stops : Stops speech session tells ticks false heard stop a b)
+      (fresh : a.attached ≡ false) (first : a.last ≡ 0) (anonymous : a.name ≡ None) (parts : deeds own ≡ deeds b.own ++ parting_of session b.last parting)
+      (unattached : b.attached ≡ false → parting ≡ None) (is : broken ≡ (is_disk stop || is_unparted b.attached parting)) →
+      (talked-of heard stop broken a b own parting stops fresh first anonymous parts unattached is).exchanged.talk ≡ stops.talk
+  unfolding talked-of
+  talked-talk heard stop broken a b own parting stops fresh first anonymous parts unattached is = refl

@@ -7,9 +7,11 @@ use Rattle.boss_model.specs.declared.command.Command.{Command}
 use Rattle.def_history.specs.declared.entry.Entry.{Entry}
 use Rattle.def_history.specs.History.{deeds}
 use Rattle.boss_outside.specs.Counts.{Rose}
+use Rattle.boss_outside.specs.Notes.{AllRead}
 use Rattle.boss_outside.specs.Streams.{TakesFront}
 use Rattle.boss_outside_server.specs.Hosts.{Served}
 use Rattle.def_lanes.specs.Works.{Cut, not_cut, by_disk, by_clock, by_memory}
+use Rattle.def_connection.specs.Answered.{IsAnswered}
 use Rattle.def_connection.specs.Judging.{AreJudged, name_in}
 use Rattle.def_connection.specs.Losing.{spoken_of, Lost}
 use Rattle.def_connection.specs.Speech.{Speech, Exchange, line_in, AreRead, text_in, deeds_in, moments_in, last_or, attached_in, parting_of, is_end}
@@ -131,7 +133,7 @@ pub record IsEnded (served : Served) (taken : List (List ℕ)) (stop : Stop) (br
   pub writes : broken ≡ false → WritesAt stop served.write_faults
 
 -- an ended connection agrees with these entries: they and the bytes that its output took are a whole talk over the lines that were taken
--- of its input
+-- of its input, and this was read only when all that had come whole was answered
 pub record IsTalkOf (speech : Speech) (tells : Type 0) (served : Served) (cut : Cut) (entries : List Entry) : Type 0 where
   pub taken : List (List ℕ)
   pub stop : Stop
@@ -139,3 +141,4 @@ pub record IsTalkOf (speech : Speech) (tells : Type 0) (served : Served) (cut : 
   pub moments : List ℕ
   pub ended : IsEnded served taken stop broken cut
   pub exchanged : Exchanged speech served.session tells (spoken_of taken) stop broken [] served.taken 0 served.write_faults entries moments
+  pub answered : tells → AllRead (IsAnswered speech served.held 0 exchanged.talk) served.reads

@@ -8,6 +8,8 @@ ghost use Rattle.boss_model.specs.declared.state.Actuator.{Actuator};
 ghost use Rattle.def_connection.specs.Losing.{spoken_of, Lost};
 ghost use Rattle.def_connection.specs.Speech.{Speech, watches};
 ghost use Rattle.def_connection.specs.Stopping.{Stop, watching};
+ghost use Rattle.boss_outside.specs.Notes.{AllRead};
+ghost use Rattle.def_connection.specs.Answered.{IsAnswered};
 ghost use Rattle.def_connection.specs.Talks.{Standing, Talked, IsEnded, IsTalkOf};
 ghost use Rattle.def_connection.specs.Watching.{is_unanswered, Watched, IsWatchOf};
 ghost use Rattle.boss_outside_server.specs.Hosts.{Served};
@@ -19,8 +21,9 @@ use boss_outside_server::Clock;
 /// connection as it ended: with the bytes that its input lost and those that its output took, from the first on.
 pub fn a_connection_adds_to_its_lane<K: Sink, C: Clock>()
     ensures talk { (plant : List Actuator) (speech : Speech) (served : Served) (taken : List (List ℕ)) (stop : Stop) (broken : Bool) (cut : Cut)
-        (old new : Standing) → 0 < served.session → Talked speech served.session K.tells C.tells (spoken_of taken) stop broken old new → old.taken ≡ [] → old.faults ≡ 0 →
+        (old new : Standing) → 0 < served.session → (talked : Talked speech served.session K.tells C.tells (spoken_of taken) stop broken old new) → old.taken ≡ [] → old.faults ≡ 0 →
         new.taken ≡ served.taken → new.faults ≡ served.write_faults → IsEnded served taken stop broken cut →
+        (K.tells → AllRead (IsAnswered speech served.held 0 talked.exchanged.talk) served.reads) →
         Added plant (of_session served.session) (IsTalkOf speech K.tells served cut) C.tells old.own new.own old.given new.given }
     ensures watch { (plant : List Actuator) (speech : Speech) (notes : Answer → List ℕ) (served : Served) (taken : List (List ℕ)) (line : List ℕ)
         (name : List ℕ) (from : ℕ) (cut : Cut) (old new : Standing) → 0 < served.session → Watched notes served.session name K.tells C.tells (is_unanswered cut) from old new →

@@ -1,7 +1,8 @@
 //! A source whose bytes come in pieces.
 
+use crate::counting::CountingSink;
 use boss_model::Items;
-use boss_outside::{FaultPlan, Got, Source};
+use boss_outside::{FaultPlan, Got, Hears, Source};
 
 /// What one read gives, as far as there is room.
 #[derive(Clone, Copy, Debug, PartialEq, Eq)]
@@ -81,4 +82,8 @@ impl Source for Pieces<'_> {
     }
 
     ghost suffix = { λ source tells. absurd tells };
+}
+
+impl Hears<CountingSink> for Pieces<'_> {
+    fn show(&mut self, _sink: &CountingSink) {}
 }

@@ -1,10 +1,6 @@
-use Rattle.std.proofs.Common.{◌≡◌, ◌++◌, ap, subst, ◌∙◌}
-use Rattle.boss_scripts.specs.Ends.{TookLines}
-use Rattle.boss_scripts.specs.Keepers.{BrokeOff}
+use Rattle.std.proofs.Common.{◌≡◌, ◌++◌, ap, refl, subst, ◌∙◌}
+use Rattle.boss_scripts.specs.Ends.{BrokeLines, TookLines}
 use Rattle.boss_scripts.specs.Outside.{outside, trace}
-use Rattle.boss_model.specs.Catalogue.{actuators}
-use Rattle.boss_model.specs.Lines.{lines}
-use Rattle.boss_scripts.specs.Runs.{lines_taken}
 use Rattle.boss_scripts.proofs.CarryLemmas.{carries-out, carries-over, leaves-lines, leaves-nothing, leaves-opening, leaves-over}
 use Rattle.boss_scripts.proofs.Keeping.{kept-sound}
 use Rattle.boss_scripts.proofs.Results.{on-err}
@@ -24,7 +20,7 @@ pub returns-in_err-drain-clause-broke : goal.returns-in_err-drain-clause-broke
 returns-in_err-drain-clause-broke g c = on-err c.from_residual-in_err-drain.result _
     (leaves-opening g.V.Keeper c.args.catalogue.now c.requires.plant c.requires.running
     (outside g.S.Source g.K.Sink g.A.Actuators c.args.source.now c.args.sink.now c.args.devices.now.items)
-    (outside g.S.Source g.K.Sink g.A.Actuators c.args.source.now c.drain.new.sink c.drain.new.devices.items) c.in_err-drain.ensures.broke)
+    (outside g.S.Source g.K.Sink g.A.Actuators c.args.source.now c.drain.new.sink c.drain.new.devices.items) refl c.in_err-drain.ensures.broke)
 
 pub take_lines-requires-clause-plant : goal.take_lines-requires-clause-plant
 take_lines-requires-clause-plant g c = c.in_ok-drain.ensures.did.kept.same_plant ∙ c.requires.plant
@@ -40,8 +36,8 @@ returns-in_err-end-clause-broke g c =
     (outside g.S.Source g.K.Sink g.A.Actuators c.args.source.now c.args.sink.now c.args.devices.now.items)
     (trace g.K.Sink g.A.Actuators c.drain.new.sink c.drain.new.devices.items) c.in_ok-drain.ensures.did
     (outside g.S.Source g.K.Sink g.A.Actuators c.take_lines.new.source c.take_lines.new.sink c.take_lines.new.devices.items)
-    (subst (λ bytes. BrokeOff g.V.Keeper (actuators c.args.catalogue.now) (lines_taken c.args.catalogue.now (lines bytes)) c.drain.new.keeper c.take_lines.new.keeper
-    (g.S.Source.tells × g.K.Sink.tells) (trace g.K.Sink g.A.Actuators c.drain.new.sink c.drain.new.devices.items)
+    (subst (λ bytes. BrokeLines g.V.Keeper c.args.catalogue.now c.drain.new.keeper c.take_lines.new.keeper g.S.Source.tells bytes (g.S.Source.reads c.args.source.now)
+    (g.S.Source.reads c.take_lines.new.source) g.K.Sink.tells (trace g.K.Sink g.A.Actuators c.drain.new.sink c.drain.new.devices.items)
     (trace g.K.Sink g.A.Actuators c.take_lines.new.sink c.take_lines.new.devices.items)) none c.in_err-end.ensures.broke))
 
 pub returns-clause-ran : goal.returns-clause-ran
@@ -51,7 +47,8 @@ returns-clause-ran g c =
     (outside g.S.Source g.K.Sink g.A.Actuators c.args.source.now c.args.sink.now c.args.devices.now.items)
     (trace g.K.Sink g.A.Actuators c.drain.new.sink c.drain.new.devices.items) c.in_ok-drain.ensures.did
     (outside g.S.Source g.K.Sink g.A.Actuators c.take_lines.new.source c.take_lines.new.sink c.take_lines.new.devices.items) c.in_ok-end.end
-    (subst (λ bytes. TookLines g.V.Keeper c.args.catalogue.now c.drain.new.keeper c.take_lines.new.keeper g.S.Source.tells bytes (g.S.Source.left c.take_lines.new.source) g.K.Sink.tells
+    (subst (λ bytes. TookLines g.V.Keeper c.args.catalogue.now c.drain.new.keeper c.take_lines.new.keeper g.S.Source.tells bytes (g.S.Source.left c.take_lines.new.source)
+    (g.S.Source.reads c.args.source.now) (g.S.Source.reads c.take_lines.new.source) g.K.Sink.tells
     (trace g.K.Sink g.A.Actuators c.drain.new.sink c.drain.new.devices.items) (trace g.K.Sink g.A.Actuators c.take_lines.new.sink c.take_lines.new.devices.items) c.in_ok-end.end)
     none c.in_ok-end.ensures.took) c.in_default.not-TooLong
 
@@ -63,7 +60,8 @@ returns-in_err-tell_too_long-in-TooLong-clause-broke g c =
     (outside g.S.Source g.K.Sink g.A.Actuators c.args.source.now c.args.sink.now c.args.devices.now.items)
     (trace g.K.Sink g.A.Actuators c.drain.new.sink c.drain.new.devices.items) c.in_ok-drain.ensures.did
     (outside g.S.Source g.K.Sink g.A.Actuators c.take_lines.new.source c.take_lines.new.sink c.take_lines.new.devices.items) c.in_ok-end.end
-    (subst (λ bytes. TookLines g.V.Keeper c.args.catalogue.now c.drain.new.keeper c.take_lines.new.keeper g.S.Source.tells bytes (g.S.Source.left c.take_lines.new.source) g.K.Sink.tells
+    (subst (λ bytes. TookLines g.V.Keeper c.args.catalogue.now c.drain.new.keeper c.take_lines.new.keeper g.S.Source.tells bytes (g.S.Source.left c.take_lines.new.source)
+    (g.S.Source.reads c.args.source.now) (g.S.Source.reads c.take_lines.new.source) g.K.Sink.tells
     (trace g.K.Sink g.A.Actuators c.drain.new.sink c.drain.new.devices.items) (trace g.K.Sink g.A.Actuators c.take_lines.new.sink c.take_lines.new.devices.items) c.in_ok-end.end)
     none c.in_ok-end.ensures.took) c.in-TooLong.is (g.K.Sink.taken c.tell_too_long.new.sink) (g.K.Sink.faults c.tell_too_long.new.sink) c.in_err-tell_too_long-in-TooLong.ensures.bytes)
 
@@ -74,6 +72,7 @@ returns-in-TooLong-clause-ran g c =
     (outside g.S.Source g.K.Sink g.A.Actuators c.args.source.now c.args.sink.now c.args.devices.now.items)
     (trace g.K.Sink g.A.Actuators c.drain.new.sink c.drain.new.devices.items) c.in_ok-drain.ensures.did
     (outside g.S.Source g.K.Sink g.A.Actuators c.take_lines.new.source c.take_lines.new.sink c.take_lines.new.devices.items) c.in_ok-end.end
-    (subst (λ bytes. TookLines g.V.Keeper c.args.catalogue.now c.drain.new.keeper c.take_lines.new.keeper g.S.Source.tells bytes (g.S.Source.left c.take_lines.new.source) g.K.Sink.tells
+    (subst (λ bytes. TookLines g.V.Keeper c.args.catalogue.now c.drain.new.keeper c.take_lines.new.keeper g.S.Source.tells bytes (g.S.Source.left c.take_lines.new.source)
+    (g.S.Source.reads c.args.source.now) (g.S.Source.reads c.take_lines.new.source) g.K.Sink.tells
     (trace g.K.Sink g.A.Actuators c.drain.new.sink c.drain.new.devices.items) (trace g.K.Sink g.A.Actuators c.take_lines.new.sink c.take_lines.new.devices.items) c.in_ok-end.end)
     none c.in_ok-end.ensures.took) c.in-TooLong.is (g.K.Sink.taken c.tell_too_long.new.sink) (g.K.Sink.faults c.tell_too_long.new.sink) c.in_ok-tell_too_long-in-TooLong.ensures.bytes

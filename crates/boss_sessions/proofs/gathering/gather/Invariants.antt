@@ -4,7 +4,8 @@ use Rattle.boss_model.specs.Catalogue.{actuators}
 use Rattle.def_history.specs.History.{MayCall}
 use Rattle.boss_sessions.specs.declared.heard.Heard.TheVariants.{Requests}
 use Rattle.boss_sessions.specs.Gathered.{Gathered}
-use Rattle.boss_sessions.specs.Places.{place_of, IsOpen}
+use Rattle.boss_outside.specs.Notes.{NotesEach}
+use Rattle.boss_sessions.specs.Places.{place_of, IsOpen, IsReadAt}
 use Rattle.boss_sessions.specs.Speaking.{reading_in}
 use Rattle.boss_sessions.proofs.gathering.gather.Given as goal
 
@@ -20,6 +21,9 @@ invariant-loop-commands g l = record {
   fewer : l.hearing.lines ≤ l.initial.hearing.lines;
   some : 0 < length l.commands.items → l.hearing.lines < l.initial.hearing.lines;
   held : g.S.Source.tells → g.S.Source.held l.source ≡ g.S.Source.held l.initial.source;
+  reads : g.S.Source.tells → NotesEach (IsReadAt (place_of l.initial.hearing (g.S.Source.left l.initial.source)) (g.S.Source.told l.initial.source))
+      (g.S.Source.reads l.initial.source) (g.S.Source.reads l.source);
+  shown : g.S.Source.told l.source ≡ g.S.Source.told l.initial.source;
   read : g.S.Source.faults l.source ≡ g.S.Source.faults l.initial.source;
   clocked : g.C.Clock.faults l.clock ≡ g.C.Clock.faults l.initial.clock;
 }

@@ -16,44 +16,44 @@ use Rattle.boss_sessions.proofs.rounds.round.Goals as goal
 
 pub returns-in-Err-clause-room : goal.returns-in-Err-clause-room
 returns-in-Err-clause-room g c =
-    let calls = c.gather-heard.new.commands.items in
+    let calls = c.hear-heard.new.commands.items in
     let last : c.last_moment-session.result ≡ last_or c.args.session.now.last (map (λ call. call.1) calls) =
     c.last_moment-session.ensures ∙ ap (λ list. last_or c.args.session.now.last (map (λ call. call.1) list)) c.as_slice.ensures.value in
     record {
       answers = omega (arith, c.answer_all-answered.ensures.room, c.requires.room.answers);
       text = omega (arith, c.answer_all-answered.ensures.text, c.requires.room.text);
-      soon = omega (arith, last, last-soon (actuators c.args.catalogue.now) calls c.args.session.now.last c.gather-heard.ensures.may c.requires.room.soon);
+      soon = omega (arith, last, last-soon (actuators c.args.catalogue.now) calls c.args.session.now.last c.hear-heard.ensures.may c.requires.room.soon);
     }
 
 pub returns-in-Ok-clause-room : goal.returns-in-Ok-clause-room
 returns-in-Ok-clause-room g c =
-    let calls = c.gather-heard.new.commands.items in
+    let calls = c.hear-heard.new.commands.items in
     let last : c.last_moment-session.result ≡ last_or c.args.session.now.last (map (λ call. call.1) calls) =
     c.last_moment-session.ensures ∙ ap (λ list. last_or c.args.session.now.last (map (λ call. call.1) list)) c.as_slice.ensures.value in
     record {
       answers = omega (arith, c.answer_all-answered.ensures.room, c.requires.room.answers);
       text = omega (arith, c.tell_behind-told.ensures.room, c.answer_all-answered.ensures.text, c.requires.room.text);
-      soon = omega (arith, last, last-soon (actuators c.args.catalogue.now) calls c.args.session.now.last c.gather-heard.ensures.may c.requires.room.soon);
+      soon = omega (arith, last, last-soon (actuators c.args.catalogue.now) calls c.args.session.now.last c.hear-heard.ensures.may c.requires.room.soon);
     }
 
 pub returns-in-Err-clause-rounded : goal.returns-in-Err-clause-rounded
 returns-in-Err-clause-rounded g c name holds =
     let gates = g.G.Desk.denies c.args.desk.now in
     let speech = speech_of c.args.catalogue.now gates in
-    let calls = c.gather-heard.new.commands.items in
+    let calls = c.hear-heard.new.commands.items in
     let given = g.C.Clock.given c.args.clock.now in
-    let given' = g.C.Clock.given c.gather-heard.new.clock in
+    let given' = g.C.Clock.given c.hear-heard.new.clock in
     let place = place_of c.args.session.now.hearing (g.S.Source.left c.args.source.now) in
-    let place' = place_of c.gather-heard.new.hearing (g.S.Source.left c.gather-heard.new.source) in
+    let place' = place_of c.hear-heard.new.hearing (g.S.Source.left c.hear-heard.new.source) in
     let later = c.args.session.now.hearing.later in
-    let later' = c.gather-heard.new.hearing.later in
-    let heard = c.gather-heard.result in
+    let later' = c.hear-heard.new.hearing.later in
+    let heard = c.hear-heard.result in
     let held = g.G.Desk.held c.args.pass.now in
     let held' = g.G.Desk.held c.answer_all-answered.new.pass in
     let last : c.last_moment-session.result ≡ last_or c.args.session.now.last (map (λ call. call.1) calls) =
     c.last_moment-session.ensures ∙ ap (λ list. last_or c.args.session.now.last (map (λ call. call.1) list)) c.as_slice.ensures.value in
     let gathered : Gathered speech.reading g.S.Source.tells g.C.Clock.tells later later' [] calls given given' place place' heard =
-    subst (λ cs. Gathered speech.reading g.S.Source.tells g.C.Clock.tells later later' cs calls given given' place place' heard) c.new-commands.ensures.items c.gather-heard.ensures.gathered in
+    subst (λ cs. Gathered speech.reading g.S.Source.tells g.C.Clock.tells later later' cs calls given given' place place' heard) c.new-commands.ensures.items c.hear-heard.ensures.gathered in
     let r = c.in-Err.ensures.replied in
     let judged = batch-judged speech.reading gates c.args.number name later gathered.waiting calls r.replies held held'
     (subst (λ cs. AreAsked speech.reading later gathered.waiting cs) (sym gathered.held) gathered.asked) r.judged holds in
@@ -64,21 +64,21 @@ returns-in-Err-clause-rounded g c name holds =
       name_in name (batch gathered.waiting calls r.replies),
       judged.1,
       subst (λ e. Ended speech c.args.number g.S.Source.tells g.K.Sink.tells g.C.Clock.tells later place place' a b e) (sym c.end_at.ensures)
-          (round-halted speech c.args.number g.S.Source.tells g.K.Sink.tells g.C.Clock.tells later later' place place' heard c.in-Err.halt calls a b _ _ held held' gathered last c.gather-heard.ensures.few r judged.0),
+          (round-halted speech c.args.number g.S.Source.tells g.K.Sink.tells g.C.Clock.tells later later' place place' heard c.in-Err.halt calls a b _ _ held held' gathered last c.hear-heard.ensures.few r judged.0),
     )
 
 pub returns-in-Ok-clause-rounded : goal.returns-in-Ok-clause-rounded
 returns-in-Ok-clause-rounded g c name holds =
     let gates = g.G.Desk.denies c.args.desk.now in
     let speech = speech_of c.args.catalogue.now gates in
-    let calls = c.gather-heard.new.commands.items in
+    let calls = c.hear-heard.new.commands.items in
     let given = g.C.Clock.given c.args.clock.now in
-    let given' = g.C.Clock.given c.gather-heard.new.clock in
+    let given' = g.C.Clock.given c.hear-heard.new.clock in
     let place = place_of c.args.session.now.hearing (g.S.Source.left c.args.source.now) in
-    let place' = place_of c.gather-heard.new.hearing (g.S.Source.left c.gather-heard.new.source) in
+    let place' = place_of c.hear-heard.new.hearing (g.S.Source.left c.hear-heard.new.source) in
     let later = c.args.session.now.hearing.later in
-    let later' = c.gather-heard.new.hearing.later in
-    let heard = c.gather-heard.result in
+    let later' = c.hear-heard.new.hearing.later in
+    let heard = c.hear-heard.result in
     let own' = entries_at (g.G.Desk.seen c.answer_all-answered.new.pass) (g.G.Desk.mine c.answer_all-answered.new.pass) in
     let taken = g.K.Sink.taken c.tell_behind-told.new.sink in
     let faults = g.K.Sink.faults c.tell_behind-told.new.sink in
@@ -87,7 +87,7 @@ returns-in-Ok-clause-rounded g c name holds =
     let last : c.last_moment-session.result ≡ last_or c.args.session.now.last (map (λ call. call.1) calls) =
     c.last_moment-session.ensures ∙ ap (λ list. last_or c.args.session.now.last (map (λ call. call.1) list)) c.as_slice.ensures.value in
     let gathered : Gathered speech.reading g.S.Source.tells g.C.Clock.tells later later' [] calls given given' place place' heard =
-    subst (λ cs. Gathered speech.reading g.S.Source.tells g.C.Clock.tells later later' cs calls given given' place place' heard) c.new-commands.ensures.items c.gather-heard.ensures.gathered in
+    subst (λ cs. Gathered speech.reading g.S.Source.tells g.C.Clock.tells later later' cs calls given given' place place' heard) c.new-commands.ensures.items c.hear-heard.ensures.gathered in
     let r = c.in-Ok.ensures.replied in
     let judged = batch-judged speech.reading gates c.args.number name later gathered.waiting calls r.replies held held'
     (subst (λ cs. AreAsked speech.reading later gathered.waiting cs) (sym gathered.held) gathered.asked) r.judged holds in
@@ -102,14 +102,14 @@ returns-in-Ok-clause-rounded g c name holds =
           (round-ends speech c.args.number g.S.Source.tells g.K.Sink.tells g.C.Clock.tells later later' place place' gathered.waiting gathered.behind gathered.all a m taken faults
           gathered.spoken gathered.advances gathered.later_is
           (batch-goes speech c.args.number g.S.Source.tells g.K.Sink.tells g.C.Clock.tells later later' place place' heard calls a m _ _ held held' gathered last r judged.0 refl)
-          heard c.tell_behind-told.result gathered.behind_is c.gather-heard.ensures.end
+          heard c.tell_behind-told.result gathered.behind_is c.hear-heard.ensures.end
           (λ told. c.tell_behind-told.ensures.bytes c.args.catalogue.now gates told) c.tell_behind-told.ensures.cause),
     )
 
 pub returns-in-Err-clause-others : goal.returns-in-Err-clause-others
-returns-in-Err-clause-others g c = others-judged (g.G.Desk.denies c.args.desk.now) c.args.number c.gather-heard.new.commands.items c.in-Err.ensures.replied.replies
+returns-in-Err-clause-others g c = others-judged (g.G.Desk.denies c.args.desk.now) c.args.number c.hear-heard.new.commands.items c.in-Err.ensures.replied.replies
     (g.G.Desk.held c.args.pass.now) (g.G.Desk.held c.answer_all-answered.new.pass) c.in-Err.ensures.replied.judged
 
 pub returns-in-Ok-clause-others : goal.returns-in-Ok-clause-others
-returns-in-Ok-clause-others g c = others-judged (g.G.Desk.denies c.args.desk.now) c.args.number c.gather-heard.new.commands.items c.in-Ok.ensures.replied.replies
+returns-in-Ok-clause-others g c = others-judged (g.G.Desk.denies c.args.desk.now) c.args.number c.hear-heard.new.commands.items c.in-Ok.ensures.replied.replies
     (g.G.Desk.held c.args.pass.now) (g.G.Desk.held c.answer_all-answered.new.pass) c.in-Ok.ensures.replied.judged

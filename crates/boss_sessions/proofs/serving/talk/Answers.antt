@@ -3,7 +3,7 @@ use Rattle.boss_sessions.specs.Places.{place_of}
 use Rattle.boss_sessions.specs.Speaking.{speech_of}
 use Rattle.boss_lock.specs.Places.{entries_at}
 use Rattle.def_connection.specs.Talks.{standing}
-use Rattle.boss_sessions.specs.Rounds.{named, Ended}
+use Rattle.boss_sessions.specs.Rounds.{named, EndedAnswered}
 use Rattle.boss_sessions.proofs.SessionLemmas.{ended-then, goes-on-nothing, goes-on-then}
 use Rattle.boss_sessions.proofs.serving.talk.Goals as goal
 
@@ -16,7 +16,7 @@ loop-end-init g c = record {
   rounds = (
     None,
     c.requires.unheld,
-    goes-on-nothing (speech_of c.args.catalogue.now (g.G.Desk.denies c.args.desk.now)) c.args.number g.S.Source.tells g.K.Sink.tells g.C.Clock.tells _ _ _ c.requires.ready.over,
+    goes-on-nothing (speech_of c.args.catalogue.now (g.G.Desk.denies c.args.desk.now)) c.args.number g.S.Source.tells g.K.Sink.tells g.C.Clock.tells _ _ _ _ c.requires.ready.over,
   );
   others = λ other apart holds. holds;
   held = λ told. refl;
@@ -39,8 +39,9 @@ returns-in-Some-clause-ended g c =
     (g.C.Clock.given c.round.new.clock) c.round.new.session.attached c.round.new.session.last) done.0 in (
       done.0,
       done.1,
-      subst (λ first. Ended speech c.args.number g.S.Source.tells g.K.Sink.tells g.C.Clock.tells first place place' old new c.in-Some.end) c.requires.first
-          (ended-then speech c.args.number g.S.Source.tells g.K.Sink.tells g.C.Clock.tells _ _ _ _ place' _ _ new c.in-Some.end before.2 done.2),
+      subst (λ first. EndedAnswered speech c.args.number g.S.Source.tells g.K.Sink.tells g.C.Clock.tells first place place' old new
+          (g.S.Source.reads c.args.source.now) (g.S.Source.reads c.round.new.source) c.in-Some.end) c.requires.first
+          (ended-then speech c.args.number g.S.Source.tells g.K.Sink.tells g.C.Clock.tells _ _ _ _ place' _ _ new _ _ _ c.in-Some.end before.2 done.2 c.round.ensures.reads),
     )
 
 pub returns-in-Some-clause-others : goal.returns-in-Some-clause-others
@@ -58,7 +59,7 @@ loop-end-preserved g c =
       rounds = (
         done.0,
         done.1,
-        goes-on-then (speech_of c.args.catalogue.now (g.G.Desk.denies c.args.desk.now)) c.args.number g.S.Source.tells g.K.Sink.tells g.C.Clock.tells _ _ _ _ _ _ _ _ _ inv.rounds.2 done.2.0,
+        goes-on-then (speech_of c.args.catalogue.now (g.G.Desk.denies c.args.desk.now)) c.args.number g.S.Source.tells g.K.Sink.tells g.C.Clock.tells _ _ _ _ _ _ _ _ _ _ _ _ inv.rounds.2 done.2.0 c.round.ensures.reads,
       );
       others = λ other apart holds. c.in_default.ensures.others other apart (inv.others other apart holds);
       held = λ told. c.in_default.ensures.held told ∙ inv.held told;
