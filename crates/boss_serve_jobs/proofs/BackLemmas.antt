@@ -1,5 +1,5 @@
 -- Every connection that was handed out came back, however a server ended.
-use Rattle.std.proofs.Common.{◌≡◌, ◌⊎◌, inl, inr, ℕ, suc, ◌+◌, ◌<◌, ◌==◌, Bool, true, false, cond, List, [], ◌∷◌, ◌++◌, length, refl, ap, sym, ◌∙◌, subst, arith}
+use Rattle.std.proofs.Common.{◌≡◌, inl, inr, ℕ, ◌+◌, ◌<◌, ◌==◌, Bool, true, false, cond, List, [], ◌∷◌, ◌++◌, length, refl, ap, sym, ◌∙◌, subst, arith}
 use Rattle.std.proofs.lemmas.Bool.{cond-true}
 use Rattle.std.proofs.lemmas.Bool.Decides.{nat_tests}
 use Rattle.std.proofs.lemmas.List.{append-nil}
@@ -20,10 +20,9 @@ use Rattle.boss_shared.specs.Gates.{Gate}
 use Rattle.boss_worker.specs.Visits.{sessions_in, GoBySteps}
 use Rattle.def_lanes.specs.Works.{Work, visit, beat, drive, owner, served_in}
 use Rattle.boss_server.specs.Hosted.{RoseBy}
-use Rattle.boss_server.specs.Making.{StaysHost}
 use Rattle.boss_server.specs.Together.{works_of}
 use Rattle.boss_server.proofs.TogetherLemmas.{rose-both, rose-none}
-use Rattle.boss_serve_jobs.specs.Serving.{CameBack, Outside, Served, ServedFrom, ServesMemory, ServesOver}
+use Rattle.boss_serve_jobs.specs.Serving.{Begins, CameBack, Outside, ServedFrom, ServesMemory, ServesOver}
 
 -- ---- no session is 0
 
@@ -63,7 +62,7 @@ some-all workers (drive driver calls waited ∷ works) some = some-all workers w
 -- ---- by each end
 
 module _ {H In Out : Type 0} (h : host.Ghosts H In Out) where
-  none-back : (old new : H) → StaysHost h old new → CameBack h old new
+  none-back : (old new : H) → Begins h old new → CameBack h old new
   none-back old new stays = record {
     connections = [];
     served = λ told. stays.served told ∙ sym (append-nil (h.served old));

@@ -25,8 +25,9 @@ use Rattle.boss_serve_jobs.specs.Preparing.{listed, TakesPlan, TakesRules}
 use Rattle.boss_jobs.specs.Programs.{usable}
 use Rattle.boss_serve_jobs.specs.ServeJobs.{DoesServe, EndsBy, Faults, faults_at, NoneRose, outside_at, ServedCatalogue, ServedFiles, ServerWorld, ServesInMemory, ServesNone}
 use Rattle.boss_serve_jobs.proofs.BackLemmas.{memory-back, over-back, same-back}
+use Rattle.boss_serve_jobs.proofs.ListenLemmas.{nowhere, unprepared-unheard}
 use Rattle.boss_serve_jobs.proofs.PreparingLemmas.{not-refused, one-catalogue, plan-not-refused, rules-not-refused}
-use Rattle.boss_serve_jobs.specs.Serving.{after_write_fault, Outside, Served, ServedFrom, ServesMemory, ServesOver, status_of}
+use Rattle.boss_serve_jobs.specs.Serving.{after_write_fault, Listened, Outside, Served, ServedFrom, ServesMemory, ServesOver, status_of}
 
 -- ---- statuses
 
@@ -133,7 +134,7 @@ module _ {K A H In Out C W P Runtime : Type 0} (k : sink.Ghosts K) (a : actuator
 
 module _ {F D S K A H In Out C W P Runtime : Type 0} (f : files.Ghosts F D) (s : source.Ghosts S) (k : sink.Ghosts K) (a : actuators_of.Ghosts A)
     (h : host.Ghosts H In Out) (i : source.Ghosts In) (o : sink.Ghosts Out) (c : clock.Ghosts C) (w : waiter.Ghosts W) (p : spawner.Ghosts P Runtime)
-    (name : List ℕ) (rules plan : Option (List ℕ)) (count workers connections : ℕ) (old new : ServerWorld F S K A C H W P) (status : ℕ) where
+    (name address : List ℕ) (rules plan : Option (List ℕ)) (count workers connections : ℕ) (old new : ServerWorld F S K A C H W P) (status : ℕ) where
   abbrev was : Faults
   was = faults_at f s k a h i o c w p old
 
@@ -155,6 +156,9 @@ module _ {F D S K A H In Out C W P Runtime : Type 0} (f : files.Ghosts F D) (s :
     | inr (inr (inr refused)) ↦ elim (line-ends _ 17 refused.ends.tells) [ inl ends ↦ inl ends | inr told ↦ inr (inr (inr told)) ]
   ]
 
+  none-listens : ServesNone f s k a h i o c w p name rules plan count old new status → Listened h address old.host new.host status
+  none-listens none = nowhere h address old.host new.host status none.1.host (unprepared-unheard f k name rules plan count _ _ status none.0)
+
   none-fine : (catalogue : Catalogue) (file : List ℕ) → f.tells → f.holds old.world.files name ≡ Some file → usable count file ≡ Ok catalogue → TakesRules f rules old.world.files → TakesPlan f plan catalogue old.world.files →
       ServesNone f s k a h i o c w p name rules plan count old new status → NoneRose was now → (status ≡ 0) ⊎ (status ≡ 8)
   none-fine catalogue file tells holds used ruled takes none fine = elim none.0 [
@@ -166,54 +170,58 @@ module _ {F D S K A H In Out C W P Runtime : Type 0} (f : files.Ghosts F D) (s :
         plan-not-refused f old.world.files tells plan refused.catalogue refused.refusal (subst (λ one. TakesPlan f plan one old.world.files) (sym same) takes) refused.refuses
   ]
 
-  pub does-serve : (journal : List ℕ) → ServesNone f s k a h i o c w p name rules plan count old new status ⊎ ServedFiles f s k a h i o c w p name journal rules plan count workers connections old new status →
+  pub does-serve : (journal : List ℕ) → ServesNone f s k a h i o c w p name rules plan count old new status
+      ⊎ (ServedFiles f s k a h i o c w p name journal address rules plan count workers connections old new status × (h.tells → Listened h address old.host new.host status)) →
       new.world.source ≡ old.world.source → (f.tells → AsksFront ((name ∷ listed rules ++ listed plan) ++ journal ∷ second_name journal ∷ []) (f.asked old.world.files) (f.asked new.world.files)) →
       (f.tells → (file : List ℕ) → file ≢ journal → file ≢ second_name journal → f.holds new.world.files file ≡ f.holds old.world.files file) →
-      DoesServe f s k a h i o c w p name journal rules plan count workers connections old new status
+      DoesServe f s k a h i o c w p name journal address rules plan count workers connections old new status
   does-serve journal did source asks others = record {
-    did = did;
+    did = elim did [ inl none ↦ inl none | inr served ↦ inr served.0 ];
     source = source;
     asks = asks;
     came_back = elim did [
       | inl none ↦ same-back h old.host new.host none.1.host
-      | inr served ↦ over-back k a h i o c w p served.catalogue (gates_of served.catalogue served.given) workers connections (record (outside_at old) { devices = served.devices }) (outside_at new) status _ _ served.serves
+      | inr served ↦ over-back k a h i o c w p served.0.catalogue (gates_of served.0.catalogue served.0.given) workers connections (record (outside_at old) { devices = served.0.devices }) (outside_at new) status _ _ served.0.serves
     ];
+    listens = elim did [ inl none ↦ λ tells. none-listens none | inr served ↦ served.1 ];
     others = others;
     causes = elim did [
       | inl none ↦ elim (none-ends none) [ inl ends ↦ inl ends | inr (inl refused) ↦ inr (inl refused) | inr (inr refused) ↦ inr (inr (inr refused)) ]
       | inr served ↦
-          elim (over-ends k a h i o c w p served.catalogue (gates_of served.catalogue served.given) workers connections (record (outside_at old) { devices = served.devices }) (outside_at new) status _ _ served.serves)
+          elim (over-ends k a h i o c w p served.0.catalogue (gates_of served.0.catalogue served.0.given) workers connections (record (outside_at old) { devices = served.0.devices }) (outside_at new) status _ _ served.0.serves)
           [ inl ends ↦ inl ends | inr refused ↦ inr (inr (inl refused)) ]
     ];
     complete = λ catalogue file tells holds used ruled takes opens fine. elim did [
       | inl none ↦ none-fine catalogue file tells holds used ruled takes none fine
       | inr served ↦
-          let same : served.catalogue ≡ catalogue = one-catalogue f old.world.files tells name count file catalogue holds used served.catalogue served.comes in
-          over-fine k a h i o c w p served.catalogue (gates_of served.catalogue served.given) workers connections (record (outside_at old) { devices = served.devices }) (outside_at new) status _ _ served.serves tells
+          let same : served.0.catalogue ≡ catalogue = one-catalogue f old.world.files tells name count file catalogue holds used served.0.catalogue served.0.comes in
+          over-fine k a h i o c w p served.0.catalogue (gates_of served.0.catalogue served.0.given) workers connections (record (outside_at old) { devices = served.0.devices }) (outside_at new) status _ _ served.0.serves tells
           (λ refusal refused. opens refusal (subst (λ one. IsRefused one (in_files f journal old.world.files) refusal) same refused)) fine
     ];
   }
 
-  pub serves-memory : ServesNone f s k a h i o c w p name rules plan count old new status ⊎ ServedCatalogue f s k a h i o c w p name rules plan count workers connections old new status →
+  pub serves-memory : ServesNone f s k a h i o c w p name rules plan count old new status
+      ⊎ (ServedCatalogue f s k a h i o c w p name address rules plan count workers connections old new status × (h.tells → Listened h address old.host new.host status)) →
       new.world.source ≡ old.world.source → (f.tells → AsksFront (name ∷ listed rules ++ listed plan) (f.asked old.world.files) (f.asked new.world.files)) →
-      (f.tells → (file : List ℕ) → f.holds new.world.files file ≡ f.holds old.world.files file) → ServesInMemory f s k a h i o c w p name rules plan count workers connections old new status
+      (f.tells → (file : List ℕ) → f.holds new.world.files file ≡ f.holds old.world.files file) → ServesInMemory f s k a h i o c w p name address rules plan count workers connections old new status
   serves-memory did source asks others = record {
-    did = did;
+    did = elim did [ inl none ↦ inl none | inr served ↦ inr served.0 ];
     source = source;
     asks = asks;
     others = others;
+    listens = elim did [ inl none ↦ λ tells. none-listens none | inr served ↦ served.1 ];
     came_back = elim did [
       | inl none ↦ same-back h old.host new.host none.1.host
-      | inr served ↦ memory-back k a h i o c w p served.catalogue (gates_of served.catalogue served.given) workers connections (record (outside_at old) { devices = served.devices }) (outside_at new) status served.serves
+      | inr served ↦ memory-back k a h i o c w p served.0.catalogue (gates_of served.0.catalogue served.0.given) workers connections (record (outside_at old) { devices = served.0.devices }) (outside_at new) status served.0.serves
     ];
-    causes = elim did [ inl none ↦ none-ends none | inr served ↦ inl (memory-causes served) ];
+    causes = elim did [ inl none ↦ none-ends none | inr served ↦ inl (memory-causes served.0) ];
     complete = λ catalogue file tells holds used ruled takes fine. elim did [
       | inl none ↦ none-fine catalogue file tells holds used ruled takes none fine
-      | inr served ↦ ends-fine was now status (memory-causes served) fine
+      | inr served ↦ ends-fine was now status (memory-causes served.0) fine
     ];
   }
     where
-      memory-causes : ServedCatalogue f s k a h i o c w p name rules plan count workers connections old new status → EndsBy was now status
+      memory-causes : ServedCatalogue f s k a h i o c w p name address rules plan count workers connections old new status → EndsBy was now status
       memory-causes served =
           subst (λ n. EndsBy was (record { files = n; sink = now.sink; host = now.host; spawner = now.spawner; clock = now.clock }) status) (sym served.files)
           (memory-ends k a h i o c w p served.catalogue (gates_of served.catalogue served.given) workers connections (record (outside_at old) { devices = served.devices }) (outside_at new) status (f.faults old.world.files) served.serves)

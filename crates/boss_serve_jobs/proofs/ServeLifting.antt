@@ -13,7 +13,7 @@ use Rattle.boss_shared.specs.Gates.{Gate}
 use Rattle.boss_opening.specs.Opens.{digest_of, OpenedAt}
 use Rattle.boss_jobs.specs.Journals.{HoldsAfter, Pair}
 use Rattle.boss_serve_jobs.specs.Serving.{Outside, outside, ServedFrom, ServedJournal, ServesMemory, ServesOver}
-use Rattle.boss_jobs.proofs.Lifting.{Follows, none-so, refused-so, same-two, stands-so}
+use Rattle.boss_jobs.proofs.Lifting.{Follows, none-so, refused-so, run-carried, same-two, stands-so}
 
 module _ {K A H In Out C W P Runtime : Type 0} (k : sink.Ghosts K) (a : actuators_of.Ghosts A) (h : host.Ghosts H In Out) (i : source.Ghosts In) (o : sink.Ghosts Out)
     (c : clock.Ghosts C) (w : waiter.Ghosts W) (p : spawner.Ghosts P Runtime) (catalogue : Catalogue) (gates : List Gate) (workers connections : ℕ) (old new : Outside K A H C W P) (status : ℕ) where
@@ -50,6 +50,9 @@ module _ {K A H In Out C W P Runtime : Type 0} (k : sink.Ghosts K) (a : actuator
       disk_fault = λ broken. so.rose (it.disk_fault broken);
       no_disk_fault = λ whole. so.stood (it.no_disk_fault whole);
       holds = λ told. same-two (HoldsAfter catalogue it.state it.number it.served.log) _ _ _ _ (so.left told) (it.holds (so.tells told));
+      images = λ told whole.
+          run-carried (actuators catalogue) (digest_of catalogue) was.first was.second was'.first was'.second (so.began told) it.state it.served.log
+          was'.stories now'.stories was.stories now.stories (so.carries told whole) (it.images (so.tells told) (so.whole told whole));
     }
 
     pub serves-so : ServesOver k a h i o c w p catalogue was' now' gates workers connections old new status → ServesOver k a h i o c w p catalogue was now gates workers connections old new status

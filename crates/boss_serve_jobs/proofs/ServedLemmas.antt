@@ -26,7 +26,7 @@ use Rattle.boss_serve_jobs.specs.Serving.{EndsRun, NoneRan, NotBound, Outside, o
 
 -- what a keeper is after the history that it stands for, where no disk failed in it
 module _ {V : Type 0} (plant : V → List Actuator) (state : V → State) (stopped : V → Bool) (faults : V → ℕ) (leaves : V → Persistent → Persistent → Type 0)
-    (keeps : V → List Event → Type 0) (points : List Actuator) (start now : V) (log : List Entry) (held : IsHeld plant state stopped faults leaves keeps start now log)
+    (passes : V → V → Persistent → Persistent → Type 0) (keeps : V → List Event → Type 0) (points : List Actuator) (start now : V) (log : List Entry) (held : IsHeld plant state stopped faults leaves passes keeps start now log)
     (same : plant start ≡ points) where
   pub legal-so : IsLegal points log (state start)
   legal-so = subst (λ p. IsLegal p log (state start)) same held.legal
@@ -39,7 +39,7 @@ module _ {V : Type 0} (plant : V → List Actuator) (state : V → State) (stopp
 
 -- the same of an engine in memory that had done nothing
 module _ (points : List Actuator) (start now : Unkept) (log : List Entry)
-    (held : IsHeld unkept.plant unkept.state unkept.stopped unkept.faults unkept.leaves unkept.keeps start now log)
+    (held : IsHeld unkept.plant unkept.state unkept.stopped unkept.faults unkept.leaves unkept.passes unkept.keeps start now log)
     (new : start.engine ≡ record { plant = points; state = first_state points }) where
   pub memory-legal : IsLegal points log (first_state points)
   memory-legal = subst (λ e. IsLegal e.plant log e.state) new held.legal

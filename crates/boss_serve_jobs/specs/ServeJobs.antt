@@ -25,7 +25,7 @@ use Rattle.boss_access.specs.declared.rule.Rule.{Rule}
 use Rattle.boss_server.specs.Sites.{gates_of}
 use Rattle.boss_serve_jobs.specs.Preparing.{AreRuled, AreSet, Comes, listed, Setting, setting, TakesPlan, TakesRules, Unprepared}
 use Rattle.boss_jobs.specs.Programs.{usable}
-use Rattle.boss_serve_jobs.specs.Serving.{CameBack, Outside, outside, ServesMemory, ServesOver}
+use Rattle.boss_serve_jobs.specs.Serving.{CameBack, Listened, Outside, outside, ServesMemory, ServesOver}
 
 -- whether the words ask for a server
 abbrev pub is_serve : Option Job → Bool
@@ -123,7 +123,7 @@ module _ {F D S K A H In Out C W P Runtime : Type 0} (f : files.Ghosts F D) (s :
   ServesNone name rules plan count old new status = Unprepared f k name rules plan count (setting_at old) (setting_at new) status × StaysApart old new
 
   -- over a journal in two files, where there are so many devices
-  module _ (name journal : List ℕ) (rules plan : Option (List ℕ)) (count workers connections : ℕ) (old new : ServerWorld F S K A C H W P) (status : ℕ) where
+  module _ (name journal address : List ℕ) (rules plan : Option (List ℕ)) (count workers connections : ℕ) (old new : ServerWorld F S K A C H W P) (status : ℕ) where
     -- The catalogue and the rules can be used, and the devices are as the plan assigns them; then the journal of this name was served, as far as
     -- there is one.
     pub record ServedFiles : Type 0 where
@@ -144,6 +144,8 @@ module _ {F D S K A H In Out C W P Runtime : Type 0} (f : files.Ghosts F D) (s :
       pub asks : f.tells → AsksFront ((name ∷ listed rules ++ listed plan) ++ journal ∷ second_name journal ∷ []) (f.asked old.world.files) (f.asked new.world.files)
       -- at each status, every connection that was handed out came back
       pub came_back : CameBack h old.host new.host
+      -- it listens at the address of the words and at no other
+      pub listens : h.tells → Listened h address old.host new.host status
       -- no other file changes
       pub others : f.tells → (file : List ℕ) → file ≢ journal → file ≢ second_name journal → f.holds new.world.files file ≡ f.holds old.world.files file
       -- the status has its cause, or tells that the catalogue, the journal, the rules or the plan is refused
@@ -155,7 +157,7 @@ module _ {F D S K A H In Out C W P Runtime : Type 0} (f : files.Ghosts F D) (s :
           → NoneRose (faults_at old) (faults_at new) → (status ≡ 0) ⊎ (status ≡ 8)
 
   -- over memory alone, where there are so many devices
-  module _ (name : List ℕ) (rules plan : Option (List ℕ)) (count workers connections : ℕ) (old new : ServerWorld F S K A C H W P) (status : ℕ) where
+  module _ (name address : List ℕ) (rules plan : Option (List ℕ)) (count workers connections : ℕ) (old new : ServerWorld F S K A C H W P) (status : ℕ) where
     -- the catalogue and the rules can be used, and the devices are as the plan assigns them; then it was served
     pub record ServedCatalogue : Type 0 where
       pub catalogue : Catalogue
@@ -174,6 +176,7 @@ module _ {F D S K A H In Out C W P Runtime : Type 0} (f : files.Ghosts F D) (s :
       pub asks : f.tells → AsksFront (name ∷ listed rules ++ listed plan) (f.asked old.world.files) (f.asked new.world.files)
       pub others : f.tells → (file : List ℕ) → f.holds new.world.files file ≡ f.holds old.world.files file
       pub came_back : CameBack h old.host new.host
+      pub listens : h.tells → Listened h address old.host new.host status
       pub causes : EndsBy (faults_at old) (faults_at new) status ⊎ (status ≡ 3) ⊎ (status ≡ 16) ⊎ (status ≡ 17)
       pub complete : (catalogue : Catalogue) (file : List ℕ) → f.tells → f.holds old.world.files name ≡ Some file → usable count file ≡ Ok catalogue
           → TakesRules f rules old.world.files → TakesPlan f plan catalogue old.world.files → NoneRose (faults_at old) (faults_at new) → (status ≡ 0) ⊎ (status ≡ 8)

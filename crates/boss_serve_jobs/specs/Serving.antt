@@ -3,7 +3,7 @@
 use denote.Ref.{MutBor}
 use Rattle.std.specs.declared.alloc.Global.{Global}
 use Rattle.std.specs.declared.vec.Vec.{Vec}
-use Rattle.std.specs.Prelude.{◌≡◌, ◌⊎◌, ℕ, ◌+◌, ◌<◌, true, false, nat_eq, Bool, if◌then◌else◌, List, [], ◌++◌, length, take, drop}
+use Rattle.std.specs.Prelude.{◌≡◌, ◌⊎◌, ℕ, ◌+◌, ◌<◌, true, false, nat_eq, Bool, ◌||◌, if◌then◌else◌, List, [], ◌∷◌, ◌++◌, length, take, drop}
 use Rattle.std.specs.List.{AllByRecursion}
 use Rattle.boss_model.specs.Catalogue.{Catalogue, actuators}
 use Rattle.boss_model.specs.declared.event.Event.{Event}
@@ -30,7 +30,7 @@ use Rattle.boss_shared.specs.Gates.{Gate}
 use Rattle.boss_server.specs.Accounts.{Account}
 use Rattle.boss_server.specs.Hosted.{hosted_at, RoseBy}
 use Rattle.boss_server.specs.Kept.{drives_of}
-use Rattle.boss_server.specs.Making.{GainsNoPause, StaysClock, StaysHost}
+use Rattle.boss_server.specs.Making.{GainsNoPause, StaysClock}
 use Rattle.boss_server.specs.Together.{RoseWhere}
 use Rattle.boss_server.specs.declared.outside.Outside.{Outside as Given}
 use Rattle.boss_disk_pair.specs.Rests.{counted}
@@ -39,6 +39,7 @@ use Rattle.boss_journal_lines.specs.Reports.{summary_line}
 use Rattle.boss_serve_jobs.specs.declared.world.Surroundings.{Surroundings}
 use Rattle.boss_serve_jobs.specs.declared.serving.Run.{Run}
 use Rattle.boss_serve_jobs.specs.declared.serving.Run.TheVariants.{NotBound as not_bound, NoMemory, Ended}
+use Rattle.boss_jobs.specs.Crashes.{WhileRun}
 use Rattle.boss_jobs.specs.Journals.{HadNoJournal, HoldsAfter, Pair, RefusedJournal, StillStands}
 
 -- ---- what a server has beside its files
@@ -80,6 +81,10 @@ status_of flags unstarted =
 abbrev pub after_write_fault : ℕ → ℕ
 after_write_fault told = if nat_eq told 0 then 7 else told
 
+-- only a server that listens gives these: all connections were served, a worker was not started, the clock failed
+abbrev pub has_listened : ℕ → Bool
+has_listened status = nat_eq status 0 || nat_eq status 11 || nat_eq status 12
+
 module _ {K : Type 0} (k : sink.Ghosts K) where
   -- a line was told; or a write failed, and the front of it was told
   abbrev pub TellsLast : List ℕ → ℕ → K → K → ℕ → Type 0
@@ -112,6 +117,26 @@ module _ {H In Out : Type 0} (h : host.Ghosts H In Out) where
     pub handed : RoseBy (length connections) (h.handed old) (h.handed new)
     pub numbered : AllByRecursion (λ connection. 0 < connection.session) connections
 
+  -- the host began to listen, and nothing else came to it
+  pub record Begins (old new : H) : Type 0 where
+    pub served : h.tells → h.served new ≡ h.served old
+    pub faults : h.faults new ≡ h.faults old
+    pub handed : RoseBy 0 (h.handed old) (h.handed new)
+
+  -- By how workers ran: the host was made to listen at this address, once, and nowhere else; or it could not, and handed out no
+  -- connection.
+  abbrev pub ListensBy : List ℕ → H → H → Run → Type 0
+  ListensBy address old new not_bound = (h.listens new ≡ h.listens old) × (h.handed new ≡ h.handed old)
+  ListensBy address old new NoMemory = h.listens new ≡ h.listens old ++ address ∷ []
+  ListensBy address old new (Ended ended) = h.listens new ≡ h.listens old ++ address ∷ []
+
+  -- The host was made to listen at this address, once, and nowhere else; or nowhere at all, and then it handed out no connection, and the
+  -- status is none that only a server gives which listens.
+  abbrev pub Listened : List ℕ → H → H → ℕ → Type 0
+  Listened address old new status =
+      (h.listens new ≡ h.listens old ++ address ∷ [])
+      ⊎ ((h.listens new ≡ h.listens old) × (h.handed new ≡ h.handed old) × (has_listened status ≡ false))
+
   -- the host could not listen at its address: nothing ran, and nothing was told
   pub record NotBound {K A C W P : Type 0} (log : List Entry) (old new : Outside K A H C W P) (status : ℕ) : Type 0 where
     pub nothing : log ≡ []
@@ -130,7 +155,7 @@ module _ {H In Out : Type 0} (h : host.Ghosts H In Out) where
     pub record NoneRan {K A P : Type 0} (log : List Entry) (old new : Outside K A H C W P) (status : ℕ) : Type 0 where
       pub nothing : log ≡ []
       pub told : status ≡ 8
-      pub host : StaysHost h old.host new.host
+      pub host : Begins old.host new.host
       pub clock : StaysClock c old.clock new.clock
       pub waiter : GainsNoPause w.tells (w.waits old.waiter) (w.waits new.waiter)
       pub sink : new.sink ≡ old.sink
@@ -144,7 +169,7 @@ module _ {A H In Out C W P Runtime : Type 0} (a : actuators_of.Ghosts A) (h : ho
   pub record Worked {K : Type 0} (catalogue : Catalogue) (gates : List Gate) (workers connections : ℕ) (log : List Entry) (old new : Outside K A H C W P) (flags : Flags) (unstarted : Bool) : Type 0 where
     -- the host as it listens
     pub bound : H
-    pub listens : StaysHost h old.host bound
+    pub listens : Begins h old.host bound
     pub account : Account a.calls (λ device. a.tells × a.whole device) (terms_of catalogue gates workers i.tells o.tells h.tells c.tells w.tells) w.tells
         (workers + 1 + drives_of catalogue old.devices) connections log log (h.served bound) (h.served new.host) (c.given old.clock) (c.given new.clock)
         (hosted_at h bound) (hosted_at h new.host) (c.faults old.clock) (c.faults new.clock) (w.waits old.waiter) (w.waits new.waiter)
@@ -161,7 +186,7 @@ module _ {A H In Out C W P Runtime : Type 0} (a : actuators_of.Ghosts A) (h : ho
   -- workers ran over a keeper, which stands for one history that is all that they did
   pub record RanWorkers {V : Type 0} (v : keeper.Ghosts V) (catalogue : Catalogue) (start now : V) (gates : List Gate) (workers connections : ℕ) (old new : Outside (Unit {0}) A H C W P) (result : Run) : Type 0 where
     pub log : List Entry
-    pub held : IsHeld v.plant v.state v.stopped v.faults v.leaves v.keeps start now log
+    pub held : IsHeld v.plant v.state v.stopped v.faults v.leaves v.passes v.keeps start now log
     pub end : EndsRun catalogue gates workers connections log old new result
 
 module _ {K A H In Out C W P Runtime : Type 0} (k : sink.Ghosts K) (a : actuators_of.Ghosts A) (h : host.Ghosts H In Out) (i : source.Ghosts In) (o : sink.Ghosts Out)
@@ -185,7 +210,7 @@ module _ {K A H In Out C W P Runtime : Type 0} (k : sink.Ghosts K) (a : actuator
   -- A server ran over a keeper, which came back, and stands for one history from the keeper as it was: all that was done is of it.
   pub record ServesKeeper {V : Type 0} (v : keeper.Ghosts V) (known : Type 0) (catalogue : Catalogue) (start now : V) (gates : List Gate) (workers connections : ℕ) (old new : Outside K A H C W P) (status : ℕ) : Type 0 where
     pub log : List Entry
-    pub held : IsHeld v.plant v.state v.stopped v.faults v.leaves v.keeps start now log
+    pub held : IsHeld v.plant v.state v.stopped v.faults v.leaves v.passes v.keeps start now log
     -- where the keeper had come by so many events
     pub end : (number : ℕ) (before : List Event) → v.keeps start before → length before ≡ number →
         NotBound h log old new status ⊎ NoneRan h c w log old new status ⊎ Served catalogue known (v.state start) number gates workers connections log old new status
@@ -201,6 +226,8 @@ module _ {K A H In Out C W P Runtime : Type 0} (k : sink.Ghosts K) (a : actuator
       pub disk_fault : is_broken served.log ≡ true → Rose was.faults now.faults
       pub no_disk_fault : is_broken served.log ≡ false → now.faults ≡ was.faults
       pub holds : was.tells → HoldsAfter catalogue state number served.log now.first now.second
+      -- what a crash may leave meanwhile
+      pub images : was.tells → now.whole → WhileRun (actuators catalogue) (digest_of catalogue) was.first was.second was.stories state served.log now.stories
 
     -- a server over a journal
     abbrev pub ServesOver : Type 0

@@ -30,6 +30,7 @@ pub fn prepare<F: Files, K: Sink, A: Actuators>(
         (setting files.old sink.old devices.old.items) (setting files.new sink.new devices.new.items) result }
     ensures asks { F.tells → AsksNames (name.now ∷ listed rules.now ++ listed plan.now) (F.asked files.old) (F.asked files.new) result }
     ensures stays { F.tells → (file : List ℕ) → F.holds files.new file ≡ F.holds files.old file }
+    ensures past { F.tells → (file : List ℕ) → F.past files.new file ≡ F.past files.old file }
 {
     let catalogue = match load(alloc, files, name, devices.len()) {
         Ok(catalogue) => catalogue,
@@ -57,6 +58,7 @@ fn take_rules<F: Files, K: Sink>(
     ensures gives { GivesRules F.Files K.Sink rules.now (reading files.old sink.old) (reading files.new sink.new) result }
     ensures asks { F.tells → AsksNames (listed rules.now) (F.asked files.old) (F.asked files.new) result }
     ensures stays { F.tells → (file : List ℕ) → F.holds files.new file ≡ F.holds files.old file }
+    ensures past { F.tells → (file : List ℕ) → F.past files.new file ≡ F.past files.old file }
 {
     let Some(name) = rules else {
         return Ok(None);
@@ -82,6 +84,7 @@ fn take_plan<F: Files, K: Sink, A: Actuators>(
         (setting files.old sink.old devices.old.items) (setting files.new sink.new devices.new.items) result }
     ensures asks { F.tells → AsksNames (listed plan.now) (F.asked files.old) (F.asked files.new) result }
     ensures stays { F.tells → (file : List ℕ) → F.holds files.new file ≡ F.holds files.old file }
+    ensures past { F.tells → (file : List ℕ) → F.past files.new file ≡ F.past files.old file }
 {
     let Some(name) = plan else {
         return Ok(());

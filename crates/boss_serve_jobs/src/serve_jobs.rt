@@ -3,7 +3,7 @@ ghost use Rattle.boss_files.specs.Names.{second_name};
 ghost use Rattle.boss_jobs.specs.Journals.{AsksFront, in_files};
 ghost use Rattle.boss_server.specs.Sites.{gates_of};
 ghost use Rattle.boss_serve_jobs.specs.ServeJobs.{all_at_end, all_at_start, DoesServe, ServesInMemory};
-ghost use Rattle.boss_serve_jobs.specs.Serving.{at_end, at_start, ServesOver};
+ghost use Rattle.boss_serve_jobs.specs.Serving.{at_end, at_start, Listened, ServesOver};
 
 use crate::preparing::prepare;
 use crate::serving::{serve_in_memory, serve_on_disks};
@@ -45,7 +45,7 @@ where
     requires few { service.workers ≤ 32 }
     ensures sound { H.sound (all_at_end world.exit).host }
     ensures serves { DoesServe F.Files S.Source K.Sink A.Actuators H.Host H.In.Source H.Out.Sink
-        C.Clock W.Waiter P.Spawner name.now journal.now service.entry.rules.now service.entry.plan.now (vec_len world.entry.devices.now) service.entry.workers service.entry.connections
+        C.Clock W.Waiter P.Spawner name.now journal.now service.entry.address.now service.entry.rules.now service.entry.plan.now (vec_len world.entry.devices.now) service.entry.workers service.entry.connections
         (all_at_start world.entry)
         (all_at_end world.exit) result.0 }
 {
@@ -117,6 +117,7 @@ where
         (in_files F.Files journal.now files.old) (in_files F.Files journal.now files.new) (gates_of site.entry.catalogue.now site.entry.rules) service.entry.workers service.entry.connections
         (at_start surroundings.entry)
         (at_end surroundings.exit) result.0 }
+    ensures listens { H.tells → Listened H.Host service.entry.address.now (at_start surroundings.entry).host (at_end surroundings.exit).host result.0 }
     ensures asks { F.tells → AsksFront (journal.now ∷ second_name journal.now ∷ []) (F.asked files.old) (F.asked files.new) }
     ensures others { F.tells → (file : List ℕ) → file ≢ journal.now → file ≢ second_name journal.now → F.holds files.new file ≡ F.holds files.old file }
 {
@@ -169,7 +170,7 @@ where
     requires few { service.workers ≤ 32 }
     ensures sound { H.sound (all_at_end world.exit).host }
     ensures serves { ServesInMemory F.Files S.Source K.Sink A.Actuators H.Host H.In.Source H.Out.Sink
-        C.Clock W.Waiter P.Spawner name.now service.entry.rules.now service.entry.plan.now (vec_len world.entry.devices.now) service.entry.workers service.entry.connections
+        C.Clock W.Waiter P.Spawner name.now service.entry.address.now service.entry.rules.now service.entry.plan.now (vec_len world.entry.devices.now) service.entry.workers service.entry.connections
         (all_at_start world.entry)
         (all_at_end world.exit) result.0 }
 {

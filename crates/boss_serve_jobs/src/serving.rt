@@ -9,6 +9,8 @@ ghost use Rattle.boss_server.specs.Sites.{gates_of};
 ghost use Rattle.boss_serve_jobs.specs.Serving.{
   at_end,
   at_start,
+  Listened,
+  ListensBy,
   parts_of,
   RanWorkers,
   ServesKeeper,
@@ -72,6 +74,7 @@ where
     requires some { 1 ≤ service.workers }
     requires few { service.workers ≤ 32 }
     ensures sound { H.sound (at_end surroundings.exit).host }
+    ensures listens { H.tells → Listened H.Host service.entry.address.now (at_start surroundings.entry).host (at_end surroundings.exit).host result.1.0 }
     ensures serves { ServesOver K.Sink A.Actuators H.Host H.In.Source H.Out.Sink C.Clock W.Waiter P.Spawner site.entry.catalogue.now
         (on_disks D.Disk (first, second)) (on_disks D.Disk result.0) (gates_of site.entry.catalogue.now site.entry.rules) service.entry.workers service.entry.connections
         (at_start surroundings.entry) (at_end surroundings.exit) result.1.0 }
@@ -123,6 +126,7 @@ where
     requires some { 1 ≤ service.workers }
     requires few { service.workers ≤ 32 }
     ensures sound { H.sound (at_end surroundings.exit).host }
+    ensures listens { H.tells → Listened H.Host service.entry.address.now (at_start surroundings.entry).host (at_end surroundings.exit).host result.0 }
     ensures serves { ServesMemory K.Sink A.Actuators H.Host H.In.Source H.Out.Sink C.Clock W.Waiter P.Spawner site.entry.catalogue.now
         (gates_of site.entry.catalogue.now site.entry.rules) service.entry.workers service.entry.connections (at_start surroundings.entry) (at_end surroundings.exit) result.0 }
 {
@@ -172,6 +176,7 @@ where
     requires some { 1 ≤ service.workers }
     requires few { service.workers ≤ 32 }
     ensures sound { H.sound (at_end surroundings.exit).host }
+    ensures listens { H.tells → Listened H.Host service.entry.address.now (at_start surroundings.entry).host (at_end surroundings.exit).host result.1.0 }
     ensures under { V.under result.0 ≡ V.under keeper }
     ensures serves { ServesKeeper K.Sink A.Actuators H.Host H.In.Source H.Out.Sink C.Clock W.Waiter P.Spawner V.Keeper V.known
         site.entry.catalogue.now keeper result.0 (gates_of site.entry.catalogue.now site.entry.rules) service.entry.workers service.entry.connections
@@ -222,6 +227,7 @@ where
     requires few { service.workers ≤ 32 }
     ensures references { KeepsReferences outside.old outside.new }
     ensures sound { H.sound outside.new.host.now }
+    ensures listens { H.tells → ListensBy H.Host service.entry.address.now outside.old.host.now outside.new.host.now result.1 }
     ensures under { V.under result.0 ≡ V.under keeper }
     ensures ran { RanWorkers A.Actuators H.Host H.In.Source H.Out.Sink C.Clock W.Waiter P.Spawner V.Keeper site.entry.catalogue.now keeper result.0
         (gates_of site.entry.catalogue.now site.entry.rules) service.entry.workers service.entry.connections (parts_of outside.old) (parts_of outside.new) result.1 }

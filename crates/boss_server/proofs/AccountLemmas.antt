@@ -25,6 +25,7 @@ on-ok (Err it) P holds fine = absurd (let no : true ≡ false = fine in cc)
 pub host-stays : {H In Out : Type 0} (h : host.Ghosts H In Out) (old between new : H) → StaysHost h old between → StaysHost h between new → StaysHost h old new
 host-stays h old between new first then = record {
   served = λ told. then.served told ∙ first.served told;
+  listens = λ told. then.listens told ∙ first.listens told;
   faults = then.faults ∙ first.faults;
   handed = rose-both 0 0 (h.handed old) (h.handed between) (h.handed new) first.handed then.handed;
 }

@@ -61,7 +61,7 @@ module _ {A : Type 0} (calls : A → List DeviceCall) (whole : A → Type 0) (te
 
   pub kept-ran : {K : Type 0} (k : keeper.Ghosts K) (start end : K) (own : List Entry) → own ≡ log →
       Account calls whole terms pausing n shares own log served served' given given' hosted hosted' ticked ticked' waits waits' was others devices flags unrun →
-      IsHeld k.plant k.state k.stopped k.faults k.leaves k.keeps start end log → stopped ≡ k.stopped end →
+      IsHeld k.plant k.state k.stopped k.faults k.leaves k.passes k.keeps start end log → stopped ≡ k.stopped end →
       Ran k calls whole terms pausing n shares start end served served' given given' hosted hosted' ticked ticked' waits waits' was others devices (told_flags stopped flags) unrun
   kept-ran k start end own all account held told =
       let same : stopped ≡ is_broken log = told ∙ held.marked in

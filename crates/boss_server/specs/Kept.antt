@@ -24,6 +24,6 @@ module _ {K A : Type 0} (k : keeper.Ghosts K) (calls : A → List DeviceCall) (w
   pub record Ran (shares : ℕ) (start end : K) (served served' : List Served) (given given' : List ℕ) (hosted hosted' : Hosted) (ticked ticked' : ℕ)
       (waits waits' : List Waited) (was others devices : List A) (flags : Flags) (unrun : Bool) : Type 0 where
     pub log : List Entry
-    pub held : IsHeld k.plant k.state k.stopped k.faults k.leaves k.keeps start end log
+    pub held : IsHeld k.plant k.state k.stopped k.faults k.leaves k.passes k.keeps start end log
     pub account : Account calls whole terms pausing n shares log log served served' given given' hosted hosted' ticked ticked' waits waits' was others devices flags unrun
     pub disk : flags.disk ≡ is_broken log

@@ -32,6 +32,7 @@ module _ {W : Type 0} (w : waiter.Ghosts W) where
 module _ {H In Out : Type 0} (h : host.Ghosts H In Out) where
   pub record StaysHost (old new : H) : Type 0 where
     pub served : h.tells → h.served new ≡ h.served old
+    pub listens : h.tells → h.listens new ≡ h.listens old
     pub faults : h.faults new ≡ h.faults old
     pub handed : RoseBy 0 (h.handed old) (h.handed new)
 

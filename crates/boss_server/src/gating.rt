@@ -56,6 +56,7 @@ where
     ensures own { G.owns server.entry.desk.now result.0 }
     ensures parts { G.parts result.0 ≡ G.parts pass }
     ensures sound { H.sound outside.new.host.now }
+    ensures listens { H.tells → H.listens outside.new.host.now ≡ H.listens outside.old.host.now }
     ensures account { IfOk result.1 (λ told. Account A.calls (λ device. A.tells × A.whole device)
         (terms_of server.entry.catalogue.now (gates_of server.entry.catalogue.now rules) server.entry.workers H.In.tells H.Out.tells H.tells C.tells W.tells) W.tells
         (server.entry.workers + 1 + drives) connections (own_of G.Desk result.0) (G.seen result.0)
@@ -111,6 +112,7 @@ where
     ensures own { G.owns server.entry.desk.now result.0 }
     ensures parts { G.parts result.0 ≡ G.parts pass }
     ensures sound { H.sound outside.new.host.now }
+    ensures listens { H.tells → H.listens outside.new.host.now ≡ H.listens outside.old.host.now }
     ensures account { IfOk result.1 (λ told. Account A.calls (λ device. A.tells × A.whole device)
         (terms_of server.entry.catalogue.now [] server.entry.workers H.In.tells H.Out.tells H.tells C.tells W.tells) W.tells
         (server.entry.workers + 1 + drives) connections (own_of G.Desk result.0) (G.seen result.0)
@@ -166,6 +168,7 @@ where
     ensures own { G.owns server.entry.desk.now result.0 }
     ensures parts { G.parts result.0 ≡ G.parts pass }
     ensures sound { H.sound outside.new.host.now }
+    ensures listens { H.tells → H.listens outside.new.host.now ≡ H.listens outside.old.host.now }
     ensures account { IfOk result.1 (λ told. Account A.calls (λ device. A.tells × A.whole device)
         (terms_of server.entry.catalogue.now (first_denied rules server.entry.catalogue.now.points ∷ []) server.entry.workers H.In.tells H.Out.tells H.tells C.tells W.tells) W.tells
         (server.entry.workers + 1 + drives) connections (own_of G.Desk result.0) (G.seen result.0)

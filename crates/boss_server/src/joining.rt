@@ -37,6 +37,7 @@ fn join_duty<H: Host, A: Actuators + Drop>(host: &mut H, devices: &mut Vec<A>, d
     ensures room { vec_capacity devices.old ≤ vec_capacity devices.new }
     ensures sound { H.sound host.new }
     ensures served { H.tells → H.served host.new ≡ H.served host.old ++ served_at H.Host duty }
+    ensures listens { H.tells → H.listens host.new ≡ H.listens host.old }
     ensures count { Joins (H.faults host.old) (faults_at H.Host duty) (H.faults host.new) }
     ensures handed { RoseBy (handed_at H.Host duty) (H.handed host.old) (H.handed host.new) }
 {
@@ -68,6 +69,7 @@ pub(crate) fn join_one<'a, G: Desk, H: Host, C: Clock, W: Waiter, A: Actuators +
     ensures nothing { own_of G.Desk pass.old ≡ [] → own_of G.Desk worker.entry.pass ≡ [] → own_of G.Desk pass.new ≡ [] }
     ensures sound { H.sound outside.new.host.now }
     ensures served { H.tells → H.served outside.new.host.now ≡ H.served outside.old.host.now ++ served_at H.Host worker.entry.duty }
+    ensures listens { H.tells → H.listens outside.new.host.now ≡ H.listens outside.old.host.now }
     ensures hosted { Joins (H.faults outside.old.host.now) (faults_at H.Host worker.entry.duty) (H.faults outside.new.host.now) }
     ensures handed { RoseBy (handed_at H.Host worker.entry.duty) (H.handed outside.old.host.now) (H.handed outside.new.host.now) }
     ensures given { C.tells → C.given outside.new.clock.now ≡ C.given outside.old.clock.now ++ C.given worker.entry.clock }
@@ -121,6 +123,7 @@ pub(crate) fn join_all<'a, G: Desk, H: Host, C: Clock, W: Waiter, A: Actuators +
     ensures own { G.owns server.now.desk pass.new }
     ensures parts { G.parts pass.new ≡ G.parts pass.old + length done.entry.items }
     ensures sound { H.sound outside.new.host.now }
+    ensures listens { H.tells → H.listens outside.new.host.now ≡ H.listens outside.old.host.now }
     ensures spawner { outside.new.spawner.now ≡ outside.old.spawner.now }
     ensures account { Account A.calls (λ device. A.tells × A.whole device) (terms_of server.now.catalogue.now (G.denies server.now.desk) server.now.workers H.In.tells H.Out.tells H.tells C.tells W.tells) W.tells
         (length done.entry.items) (shares_in done.entry.items (λ worker. share_at H.Host worker.duty)) (own_of G.Desk pass.new) (G.seen pass.new)

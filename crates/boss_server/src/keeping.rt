@@ -75,6 +75,7 @@ where
     requires few { workers ≤ 32 }
     ensures references { KeepsReferences outside.old outside.new }
     ensures sound { H.sound outside.new.host.now }
+    ensures listens { H.tells → H.listens outside.new.host.now ≡ H.listens outside.old.host.now }
     ensures under { K.under result.0 ≡ K.under keeper }
     ensures ran { IfOk result.1 (λ ended. Ran K.Keeper A.calls (λ device. A.tells × A.whole device)
         (terms_of site.entry.catalogue.now (gates_of site.entry.catalogue.now site.entry.rules) workers H.In.tells H.Out.tells H.tells C.tells W.tells) W.tells
@@ -86,7 +87,7 @@ where
         (drop (drives_of site.entry.catalogue.now outside.old.devices.now.items) outside.old.devices.now.items)
         outside.new.devices.now.items ended.flags ended.unstarted) }
     ensures started { IfOk result.1 (λ ended. RoseWhere ended.unstarted (P.faults outside.old.spawner.now) (P.faults outside.new.spawner.now)) }
-    ensures nothing { OnErr result.1 (IsHeld K.plant K.state K.stopped K.faults K.leaves K.keeps keeper result.0 []) }
+    ensures nothing { OnErr result.1 (IsHeld K.plant K.state K.stopped K.faults K.leaves K.passes K.keeps keeper result.0 []) }
     ensures host { OnErr result.1 (StaysHost H.Host outside.old.host.now outside.new.host.now) }
     ensures clock { OnErr result.1 (StaysClock C.Clock outside.old.clock.now outside.new.clock.now) }
     ensures waiter { OnErr result.1 (GainsNoPause W.tells (W.waits outside.old.waiter.now) (W.waits outside.new.waiter.now)) }

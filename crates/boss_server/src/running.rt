@@ -47,6 +47,7 @@ where
     ensures references { KeepsReferences outside.old outside.new }
     ensures own { G.owns server.now.desk pass.new }
     ensures sound { H.sound outside.new.host.now }
+    ensures listens { H.tells → H.listens outside.new.host.now ≡ H.listens outside.old.host.now }
     ensures parts { IfOk result (λ told. G.parts pass.new ≡ G.parts pass.old + length workers.entry.items) }
     ensures account { IfOk result (λ told. Account A.calls (λ device. A.tells × A.whole device)
         (terms_of server.now.catalogue.now (G.denies server.now.desk) server.now.workers H.In.tells H.Out.tells H.tells C.tells W.tells) W.tells

@@ -53,6 +53,7 @@ where
     ensures own { G.owns server.now.desk pass.new }
     ensures parts { G.parts pass.new ≡ G.parts pass.old }
     ensures sound { H.sound outside.new.host.now }
+    ensures listens { H.tells → H.listens outside.new.host.now ≡ H.listens outside.old.host.now }
     ensures account { IfOk result (λ told. Account A.calls (λ device. A.tells × A.whole device)
         (terms_of server.now.catalogue.now (G.denies server.now.desk) server.now.workers H.In.tells H.Out.tells H.tells C.tells W.tells) W.tells
         (server.now.workers + 1 + drives) connections (own_of G.Desk pass.new) (G.seen pass.new)

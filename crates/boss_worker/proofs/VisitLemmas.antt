@@ -1,5 +1,5 @@
 -- What a connection added, by how it was served, or watched.
-use Rattle.std.proofs.Common.{◌≡◌, inl, inr, ℕ, ◌<◌, Bool, false, List, [], ◌++◌, length, Some, refl, ap, sym, ◌∙◌, subst, arith}
+use Rattle.std.proofs.Common.{◌≡◌, inl, inr, ℕ, ◌<◌, Bool, false, List, [], ◌++◌, length, Option, Some, refl, ap, sym, ◌∙◌, subst, arith}
 use Rattle.std.proofs.lemmas.List.{append-nil}
 use Rattle.boss_model.specs.declared.answer.Answer.{Answer}
 use Rattle.boss_model.specs.Catalogue.{actuators, Catalogue}
@@ -8,14 +8,18 @@ use Rattle.def_history.specs.History.{deeds}
 use Rattle.def_lanes.specs.Lanes.{of_session}
 use Rattle.def_lanes.specs.Parts.{Added}
 use Rattle.def_lanes.specs.Works.{not_cut, by_disk, by_clock, by_memory}
-use Rattle.def_lanes.proofs.Adding.{added-nothing, added-says, added-then}
+use Rattle.def_lanes.proofs.Adding.{added-nothing, added-then}
+use Rattle.boss_outside.specs.declared.source.ReadAt.{ReadAt}
+use Rattle.boss_outside.specs.Notes.{AllRead, IsUnread}
+use Rattle.boss_outside.proofs.Noting.{notes-all}
 use Rattle.boss_outside_server.specs.Hosts.{Served}
-use Rattle.def_connection.specs.Speech.{Speech}
+use Rattle.def_connection.specs.Answered.{IsAnswered}
+use Rattle.def_connection.specs.Speech.{Speech, Exchange}
 use Rattle.def_connection.specs.Losing.{spoken_of, Lost}
 use Rattle.def_connection.specs.Stopping.{Stop, watching}
 use Rattle.def_connection.specs.Talks.{Told, standing, Exchanged, Talked, IsEnded, IsTalkOf}
 use Rattle.def_connection.specs.Watching.{notes_in, is_unanswered, Watched, Noticed, IsWatchOf}
-use Rattle.def_connection.proofs.OfSession.{talk-added, talk-silent, watch-added, watch-line}
+use Rattle.def_connection.proofs.OfSession.{talk-says, talk-silent, watch-added, watch-line}
 use Rattle.boss_shared.specs.Gates.{Gate}
 use Rattle.boss_sessions.specs.Speaking.{speech_of}
 use Rattle.boss_sessions.specs.declared.end.SessionEnd.{SessionEnd}
@@ -52,13 +56,13 @@ unanswered-trouble watch.Stopped = refl
 unanswered-trouble watch.DiskFault = refl
 unanswered-trouble watch.NoMemory = refl
 
--- what was said is said from the beginning of a connection on
+-- what was said is said from the beginning of a connection on, with what holds of it
 exchanged-fresh : (speech : Speech) (session : ℕ) (tells : Type 0) (heard : List (List ℕ)) (stop : Stop) (broken : Bool) (before taken : List ℕ) (count faults : ℕ) (entries : List Entry) (moments : List ℕ) →
-    before ≡ [] → count ≡ 0 → Exchanged speech session tells heard stop broken before taken count faults entries moments →
-    Exchanged speech session tells heard stop broken [] taken 0 faults entries moments
-exchanged-fresh speech session tells heard stop broken before taken count faults entries moments empty quiet is =
-    subst (λ n. Exchanged speech session tells heard stop broken [] taken n faults entries moments) quiet
-    (subst (λ bytes. Exchanged speech session tells heard stop broken bytes taken count faults entries moments) empty is)
+    before ≡ [] → count ≡ 0 → (P : List Exchange → Type 0) → (is : Exchanged speech session tells heard stop broken before taken count faults entries moments) → P is.talk →
+    (said : Exchanged speech session tells heard stop broken [] taken 0 faults entries moments) × P said.talk
+exchanged-fresh speech session tells heard stop broken before taken count faults entries moments empty quiet P is holds =
+    subst (λ n. (said : Exchanged speech session tells heard stop broken [] taken n faults entries moments) × P said.talk) quiet
+    (subst (λ bytes. (said : Exchanged speech session tells heard stop broken bytes taken count faults entries moments) × P said.talk) empty (is, holds))
 
 noticed-fresh : (notes_of : Answer → List ℕ) (session : ℕ) (name : List ℕ) (tells : Type 0) (unanswered : Bool) (from : ℕ) (before taken : List ℕ) (count faults : ℕ) (entries : List Entry) (moments : List ℕ) →
     (tells → before ≡ []) → count ≡ 0 → Noticed notes_of session name tells unanswered from before taken count faults entries moments → Noticed notes_of session name tells unanswered from [] taken 0 faults entries moments
@@ -88,54 +92,59 @@ longer-some old new more grew longer none = let same : length new ≡ length old
 module _ (catalogue : Catalogue) (gates : List Gate) (heeds tells ticks : Type 0) (served : Served) (some : 0 < served.session) (bytes : List ℕ) (held : heeds → served.held ≡ bytes)
     (own own' : List Entry) (before : List ℕ) (count : ℕ) (empty : before ≡ []) (quiet : count ≡ 0) (given given' : List ℕ) where
   -- a connection that was served up to its end
-  pub talk-visit : (reads : ℕ) (end : SessionEnd) →
-      Connected (speech_of catalogue gates) served.session heeds tells ticks bytes served.left (standing own before count given false 0) (standing own' served.taken served.write_faults given' false 0) end →
+  pub talk-visit : (begun : Option (List ReadAt)) (reads : ℕ) (end : SessionEnd) → IsUnread begun →
+      Connected (speech_of catalogue gates) served.session heeds tells ticks bytes served.left begun served.reads
+      (standing own before count given false 0) (standing own' served.taken served.write_faults given' false 0) end →
       reads ≡ 0 → ReadCause reads served.read_faults (Some end) → WriteCause count served.write_faults (Some end) → is_watch end ≡ false →
       Added (actuators catalogue) (of_session served.session) (λ entries. heeds → IsVisit catalogue gates tells served (cut_by (trouble_of end)) entries) ticks own own' given given'
-  talk-visit reads end connected unread read write watched =
-      added-says (actuators catalogue) (of_session served.session) ticks
-      (λ more. (moments : List ℕ) × Exchanged (speech_of catalogue gates) served.session tells (spoken_of connected.taken) connected.stop (is_stop_end end) before served.taken count served.write_faults more moments)
-      (λ entries. heeds → IsVisit catalogue gates tells served (cut_by (trouble_of end)) entries)
-      (λ more said told. inl (talk-of more said.0 said.1 told)) own own' given given'
-      (talk-added (actuators catalogue) (speech_of catalogue gates) served.session tells ticks some (spoken_of connected.taken) connected.stop (is_stop_end end)
-      (standing own before count given false 0) (standing own' served.taken served.write_faults given' false 0) connected.talked)
+  talk-visit begun reads end unheard connected unread read write watched =
+      talk-says (actuators catalogue) (speech_of catalogue gates) served.session tells ticks some (spoken_of connected.taken) connected.stop (is_stop_end end)
+      (standing own before count given false 0) (standing own' served.taken served.write_faults given' false 0) connected.talked
+      (λ entries. heeds → IsVisit catalogue gates tells served (cut_by (trouble_of end)) entries) (λ told. inl (talk-of told))
     where
-      talk-of : (more : List Entry) (moments : List ℕ) →
-          Exchanged (speech_of catalogue gates) served.session tells (spoken_of connected.taken) connected.stop (is_stop_end end) before served.taken count served.write_faults more moments →
-          heeds → IsTalkOf (speech_of catalogue gates) tells served (cut_by (trouble_of end)) more
-      talk-of more moments said told =
+      answered : heeds → tells → AllRead (IsAnswered (speech_of catalogue gates) served.held 0 connected.talked.exchanged.talk) served.reads
+      answered told now =
+          subst (λ b. AllRead (IsAnswered (speech_of catalogue gates) b 0 connected.talked.exchanged.talk) served.reads) (sym (held told))
+          (subst (λ n. AllRead (IsAnswered (speech_of catalogue gates) bytes n connected.talked.exchanged.talk) served.reads) (ap length empty)
+          (notes-all (IsAnswered (speech_of catalogue gates) bytes (length before) connected.talked.exchanged.talk) begun served.reads unheard (connected.answered told now)))
+
+      talk-of : heeds → IsTalkOf (speech_of catalogue gates) tells served (cut_by (trouble_of end)) connected.talked.more
+      talk-of told =
           let lost : Lost served.held served.left connected.taken connected.stop =
           subst (λ b. Lost b served.left connected.taken connected.stop) (sym (held told)) (connected.lost told) in
+          let said = exchanged-fresh (speech_of catalogue gates) served.session tells (spoken_of connected.taken) connected.stop (is_stop_end end) before served.taken count served.write_faults
+          connected.talked.more connected.talked.moments empty quiet (λ talk. tells → AllRead (IsAnswered (speech_of catalogue gates) served.held 0 talk) served.reads)
+          connected.talked.exchanged (answered told) in
           record {
             taken = connected.taken;
             stop = connected.stop;
             broken = is_stop_end end;
-            moments = moments;
+            moments = connected.talked.moments;
             ended = subst (λ cut. IsEnded served connected.taken connected.stop (is_stop_end end) cut) (sym (cut-trouble end))
                 (has-ended served connected.taken connected.stop end lost connected.end_is
                 (subst (λ n. ReadCause n served.read_faults (Some end)) unread read)
                 (subst (λ n. WriteCause n served.write_faults (Some end)) quiet write) watched);
-            exchanged = exchanged-fresh (speech_of catalogue gates) served.session tells (spoken_of connected.taken) connected.stop (is_stop_end end) before served.taken count served.write_faults
-                more moments empty quiet said;
+            exchanged = said.0;
+            answered = said.1;
           }
 
   -- the talk stopped since its first line asked to watch
-  talked-watch : (mid : List Entry) (between : List ℕ) (counted : ℕ) (gave : List ℕ) (name : List ℕ) (from : ℕ) →
-      (connected : Connected (speech_of catalogue gates) served.session heeds tells ticks bytes served.left (standing own before count given false 0) (standing mid between counted gave false 0) (session.Watch name from)) →
+  talked-watch : (begun reads : Option (List ReadAt)) (mid : List Entry) (between : List ℕ) (counted : ℕ) (gave : List ℕ) (name : List ℕ) (from : ℕ) →
+      (connected : Connected (speech_of catalogue gates) served.session heeds tells ticks bytes served.left begun reads (standing own before count given false 0) (standing mid between counted gave false 0) (session.Watch name from)) →
       Talked (speech_of catalogue gates) served.session tells ticks (spoken_of connected.taken) (watching name from) false (standing own before count given false 0) (standing mid between counted gave false 0)
-  talked-watch mid between counted gave name from connected =
+  talked-watch begun reads mid between counted gave name from connected =
       subst (λ stop. Talked (speech_of catalogue gates) served.session tells ticks (spoken_of connected.taken) stop false (standing own before count given false 0) (standing mid between counted gave false 0))
       (watch-stop name from connected.stop (connected.end_is refl)) connected.talked
 
   -- a connection whose first line asked to watch, and which then did
-  pub watch-visit : (mid : List Entry) (between : List ℕ) (counted : ℕ) (gave : List ℕ) (name : List ℕ) (from idle : ℕ) (end : WatchEnd) →
-      (connected : Connected (speech_of catalogue gates) served.session heeds tells ticks bytes served.left (standing own before count given false 0) (standing mid between counted gave false 0) (session.Watch name from)) →
+  pub watch-visit : (begun reads : Option (List ReadAt)) (mid : List Entry) (between : List ℕ) (counted : ℕ) (gave : List ℕ) (name : List ℕ) (from idle : ℕ) (end : WatchEnd) →
+      (connected : Connected (speech_of catalogue gates) served.session heeds tells ticks bytes served.left begun reads (standing own before count given false 0) (standing mid between counted gave false 0) (session.Watch name from)) →
       counted ≡ count → Watched (notes catalogue) served.session name tells ticks (is_unanswered_end end) from (standing mid between counted gave false 0) (standing own' served.taken served.write_faults given' false 0) →
       0 < idle → HasCalled idle mid own' end →
       Added (actuators catalogue) (of_session served.session) (λ entries. heeds → IsVisit catalogue gates tells served (cut_by (trouble_of_watch end)) entries) ticks own own' given given'
-  watch-visit mid between counted gave name from idle end connected calm watched some_turns called =
+  watch-visit begun reads mid between counted gave name from idle end connected calm watched some_turns called =
       let silent = talk-silent (speech_of catalogue gates) served.session tells ticks (spoken_of connected.taken) name from false (standing own before count given false 0)
-      (standing mid between counted gave false 0) (talked-watch mid between counted gave name from connected) in
+      (standing mid between counted gave false 0) (talked-watch begun reads mid between counted gave name from connected) in
       added-then (actuators catalogue) (of_session served.session) ticks (λ entries. entries ≡ [])
       (λ more. (deeds own' ≡ deeds mid ++ more) × ((moments : List ℕ) × Noticed (notes catalogue) served.session name tells (is_unanswered_end end) from between served.taken counted served.write_faults more moments))
       (λ entries. heeds → IsVisit catalogue gates tells served (cut_by (trouble_of_watch end)) entries)
@@ -152,7 +161,7 @@ module _ (catalogue : Catalogue) (gates : List Gate) (heeds tells ticks : Type 0
           let is_watching = watch-stop name from connected.stop (connected.end_is refl) in
           let lost : Lost served.held served.left connected.taken (watching name from) =
           subst (λ stop. Lost served.held served.left connected.taken stop) is_watching (subst (λ b. Lost b served.left connected.taken connected.stop) (sym (held told)) (connected.lost told)) in
-          let first = watch-line (speech_of catalogue gates) (spoken_of connected.taken) name from _ _ _ (talked-watch mid between counted gave name from connected).exchanged.leaves in
+          let first = watch-line (speech_of catalogue gates) (spoken_of connected.taken) name from _ _ _ (talked-watch begun reads mid between counted gave name from connected).exchanged.leaves in
           record {
             name = name;
             from = from;

@@ -15,7 +15,7 @@ ghost use Rattle.boss_worker.specs.Troubles.{cut_by, ClockTrouble};
 use crate::Trouble;
 use crate::trouble::{session_trouble, watch_trouble};
 use boss_model::SessionId;
-use boss_outside::{Sink, Source};
+use boss_outside::{Hears, Sink};
 use boss_outside_server::{Clock, Waiter};
 use boss_points::Catalogue;
 use boss_sessions::{SessionEnd, serve_connection};
@@ -25,7 +25,7 @@ use std::alloc::Global;
 
 /// Serves a connection that was handed out, which watches a process where its first line asks for it, and tells what of its end
 /// concerns the server. The connection agrees with all that was done for it.
-pub(crate) fn attend<G: Desk, S: Source, K: Sink, C: Clock, W: Waiter>(
+pub(crate) fn attend<G: Desk, S: Hears<K>, K: Sink, C: Clock, W: Waiter>(
     alloc: Global,
     desk: &G,
     pass: &mut G::Pass,

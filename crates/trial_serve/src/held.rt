@@ -2,7 +2,7 @@
 
 ghost use Rattle.std.specs.Prelude.{◌≡◌, []};
 
-use boss_outside::{BytesSink, Failed, Got, Sink, Source};
+use boss_outside::{BytesSink, Failed, Got, Hears, Sink, Source};
 use std::sync::atomic::{AtomicBool, Ordering};
 use std::time::Duration;
 use std::{thread, time};
@@ -72,6 +72,11 @@ impl<R: time::Clock> Source for Held<'_, R> {
     }
 
     ghost suffix = { λ source tells. absurd tells };
+}
+
+/// It tells of no read, and has nothing to be shown.
+impl<R: time::Clock> Hears<Raising<'_>> for Held<'_, R> {
+    fn show(&mut self, _sink: &Raising<'_>) {}
 }
 
 /// A sink in memory that raises a flag when it has taken so many lines; with none it never does.

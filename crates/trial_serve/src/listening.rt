@@ -28,6 +28,8 @@ impl<R: Net<Listener = TcpListener, Stream = TcpStream> + Eprint + Copy + Drop> 
 
     ghost served = { λ listening. [] };
 
+    ghost listens = { λ listening. [] };
+
     ghost handed = { λ listening. ⟦<RealHost<R> as Host>⟧.handed listening.host };
 
     ghost share = { λ listening. ⟦<RealHost<R> as Host>⟧.share listening.host };

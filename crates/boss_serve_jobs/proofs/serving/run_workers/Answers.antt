@@ -26,3 +26,12 @@ returns-in-Ok-ended-clause-ran g c =
         disk = ran.disk;
       };
     }
+
+-- it listens at the address, and went on to do so while the workers ran
+pub returns-in-Ok-ended-clause-listens : goal.returns-in-Ok-ended-clause-listens
+returns-in-Ok-ended-clause-listens g c told =
+    c.serve_keeper-keeper.ensures.listens told ∙ c.announce.ensures.address told ∙ c.in-Ok.ensures.address told
+
+pub returns-in-Err-ended-clause-listens : goal.returns-in-Err-ended-clause-listens
+returns-in-Err-ended-clause-listens g c told =
+    c.serve_keeper-keeper.ensures.listens told ∙ c.announce.ensures.address told ∙ c.in-Ok.ensures.address told

@@ -1,4 +1,4 @@
-use Rattle.std.proofs.Common.{◌≡◌, inr, List, [], length, min}
+use Rattle.std.proofs.Common.{◌≡◌, inr, refl, List, [], length, min}
 use Rattle.boss_model.specs.declared.event.Event.{Event}
 use Rattle.boss_model.specs.Limits.{last_number}
 use Rattle.boss_server.specs.Sites.{gates_of}
@@ -14,3 +14,9 @@ pub returns-in-Ok-clause-serves : goal.returns-in-Ok-clause-serves
 returns-in-Ok-clause-serves g c =
     inr (served-memory g.K.Sink g.A.Actuators g.H.Host g.H.In.Source g.H.Out.Sink g.C.Clock g.W.Waiter g.P.Spawner c.args.site.catalogue.now c.in-Ok.unkept _
     (gates_of c.args.site.catalogue.now c.args.site.rules) c.args.service.workers c.args.service.connections _ _ _ c.in-Ok.ensures.new c.in-Ok.ensures.events c.serve_over.ensures.serves)
+
+pub returns-then-is_err-clause-listens : goal.returns-then-is_err-clause-listens
+returns-then-is_err-clause-listens g c told = inr (refl, refl, refl)
+
+pub returns-in-Err-clause-listens : goal.returns-in-Err-clause-listens
+returns-in-Err-clause-listens g c told = inr (refl, refl, refl)

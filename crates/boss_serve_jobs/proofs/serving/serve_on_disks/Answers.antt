@@ -6,16 +6,20 @@ use Rattle.boss_model.specs.Catalogue.{actuators}
 use Rattle.boss_model.specs.declared.event.Event.{Event}
 use Rattle.boss_model.specs.Limits.{last_number}
 use Rattle.boss_outside.specs.Counts.{Rose}
-use Rattle.boss_pair_find.specs.Two.{counts}
-use Rattle.boss_shared.specs.Keeping.{shortened}
-use Rattle.boss_disk_pair.specs.Rests.{counted}
+use Rattle.boss_pair_find.specs.Two.{counts, two}
+use Rattle.boss_shared.specs.Walking.{shortened}
+use Rattle.boss_disk_pair.specs.Rests.{counted, stories}
+use Rattle.boss_durable.proofs.Stories.{walks_stories}
+use Rattle.boss_pair_find.proofs.Orders.{stories_are}
+use Rattle.boss_jobs.specs.Crashes.{Steps}
 use Rattle.boss_jobs.specs.Journals.{on_disks}
-use Rattle.boss_serve_jobs.specs.Serving.{at_start, outside}
-use Rattle.boss_jobs.proofs.OpenedLemmas.{holds-so, many-events, some-events, within-last}
+use Rattle.boss_serve_jobs.specs.Serving.{at_start, has_listened, outside}
+use Rattle.boss_jobs.proofs.OpenedLemmas.{holds-so, many-events, run-so, some-events, within-last}
 use Rattle.boss_jobs.proofs.Refusals.{both, told-so}
 use Rattle.boss_jobs.proofs.RunLemmas.{one-as, opens-as}
 use Rattle.boss_serve_jobs.proofs.ServedLemmas.{gained-so, legal-so, sink-alone, state-so}
-use Rattle.boss_jobs.proofs.StandingLemmas.{disks-stand, same-stands}
+use Rattle.boss_jobs.proofs.StandingLemmas.{disks-stand, nothing-stands}
+use Rattle.boss_serve_jobs.proofs.ListenLemmas.{five-eight-unheard, line-unheard}
 use Rattle.boss_serve_jobs.proofs.serving.serve_on_disks.Goals as goal
 
 pub serve_over-durable-requires-clause-events : goal.serve_over-durable-requires-clause-events
@@ -29,7 +33,7 @@ serve_over-durable-requires-clause-events g c =
 pub returns-then-is_err-clause-serves : goal.returns-then-is_err-clause-serves
 returns-then-is_err-clause-serves g c =
     let disks = on_disks g.D.Disk (c.args.first, c.args.second) in
-    inl (record { why = inr (refl, refl); untouched = refl }, λ told lasts. same-stands c.args.site.catalogue.now disks disks (refl, refl))
+    inl (record { why = inr (refl, refl); untouched = refl }, λ told lasts. nothing-stands c.args.site.catalogue.now disks)
 
 pub returns-in-Ok-clause-serves : goal.returns-in-Ok-clause-serves
 returns-in-Ok-clause-serves g c =
@@ -48,9 +52,9 @@ returns-in-Ok-clause-serves g c =
     let more = events plant log s in
     let disks = c.close.result in
     let off : is_broken log ≡ false → now.disks.stopped ≡ false = λ fine. it.held.marked ∙ fine in
-    let state : is_broken log ≡ false → now.engine.state ≡ run plant log s = state-so _ _ _ _ _ _ plant start now log it.held c.in-Ok.ensures.plant in
+    let state : is_broken log ≡ false → now.engine.state ≡ run plant log s = state-so _ _ _ _ _ _ _ plant start now log it.held c.in-Ok.ensures.plant in
     let gained : is_broken log ≡ false → (before : List Event) → keeps start before → keeps now (before ++ more) =
-    gained-so _ _ _ _ _ _ plant start now log it.held c.in-Ok.ensures.plant in
+    gained-so _ _ _ _ _ _ _ plant start now log it.held c.in-Ok.ensures.plant in
     let parts = c.close.ensures.disks in
     let sum : d.faults disks.0 + d.faults disks.1 ≡ faults now = λ i. d.faults (parts.0 i) + d.faults (parts.1 i) in
     let same : now.engine.plant ≡ plant = it.held.same_plant ∙ c.in-Ok.ensures.plant in
@@ -60,7 +64,7 @@ returns-in-Ok-clause-serves g c =
       opened = c.in-Ok.ensures.opens;
       served = record {
         log = log;
-        legal = legal-so _ _ _ _ _ _ plant start now log it.held c.in-Ok.ensures.plant;
+        legal = legal-so _ _ _ _ _ _ _ plant start now log it.held c.in-Ok.ensures.plant;
         end = it.end number any kept (many-events number);
       };
       disk_fault = λ broken. subst (λ n. Rose n (d.faults disks.0 + d.faults disks.1)) before (subst (Rose (faults start)) (sym sum) (it.held.rose (it.held.marked ∙ broken)));
@@ -77,6 +81,14 @@ returns-in-Ok-clause-serves g c =
                 (ap (λ p. (run p log s).persistent) c.in-Ok.ensures.plant) (ap (λ p. (run_tried p (shortened it.held.images.0 log) s).persistent) c.in-Ok.ensures.plant)
                 (c.close.ensures.left told (run start.engine.plant log s).persistent (run_tried start.engine.plant (shortened it.held.images.0 log) s).persistent it.held.images.1),
           ));
+      images = λ told _.
+          run-so d c.args.site.catalogue.now c.args.first c.args.second start c.in-Ok.ensures.keeps c.in-Ok.ensures.leaves c.in-Ok.ensures.digest c.in-Ok.ensures.plant
+          c.in-Ok.ensures.images told log (two (d.story disks.0) (d.story disks.1))
+          (λ before held.
+          subst (λ at. Steps plant start.disks.digest s (stories start.disks) log at)
+          (stories_are d.story now.disks.second now.disks.journal.disk now.disks.spare ∙ (λ i. two (d.story (sym parts.0 i)) (d.story (sym parts.1 i))))
+          (subst (λ p. Steps p start.disks.digest s (stories start.disks) log (stories now.disks)) c.in-Ok.ensures.plant
+          (walks_stories start.engine.plant start.disks.digest told s start now log refl refl it.held.through)));
     }))
 
 pub returns-in-Err-clause-serves : goal.returns-in-Err-clause-serves
@@ -93,3 +105,23 @@ returns-in-Err-clause-serves g c =
       )
       | inr refused ↦ inr (inl (refused, sink-alone around.sink c.say_journal-status.new.sink around.devices around.clock around.host around.waiter around.spawner))
     ]
+
+pub returns-then-is_err-clause-listens : goal.returns-then-is_err-clause-listens
+returns-then-is_err-clause-listens g c told = inr (refl, refl, refl)
+
+pub returns-in-Ok-clause-listens : goal.returns-in-Ok-clause-listens
+returns-in-Ok-clause-listens g c = c.serve_over-durable.ensures.listens
+
+pub returns-in-Err-clause-listens : goal.returns-in-Err-clause-listens
+returns-in-Err-clause-listens g c told =
+    let d = g.D.Disk in
+    let around = at_start c.args.surroundings in
+    let it = told-so g.K.Sink c.args.site.catalogue.now (on_disks d (c.args.first, c.args.second)) (on_disks d c.in-Err.disks) around.sink c.say_journal-status.new.sink c.say_journal-status.result.0
+    (counts (d.faults c.args.first) (d.faults c.args.second)) (counts (d.faults c.in-Err.disks.0) (d.faults c.in-Err.disks.1)) refl refl c.in-Err.refusal
+    c.in-Err.ensures.refuses c.in-Err.ensures.unchanged c.say_journal-status.ensures c.in-Err.ensures.cause in
+    let unheard : has_listened c.say_journal-status.result.0 ≡ false =
+    elim it [
+      | inl none ↦ five-eight-unheard c.say_journal-status.result.0 none.why
+      | inr refused ↦ line-unheard g.K.Sink _ 4 around.sink c.say_journal-status.new.sink c.say_journal-status.result.0 refl refused.tells
+    ] in
+    inr (refl, refl, unheard)

@@ -7,6 +7,7 @@ use Rattle.boss_disk_pair.specs.Rests.{counted}
 use Rattle.boss_serve_jobs.specs.Serving.{parts_of}
 use Rattle.boss_server.specs.Sites.{gates_of}
 use Rattle.boss_serve_jobs.proofs.ServedLemmas.{gained-so, parts-so, served-end, state-so, summary-so}
+use Rattle.boss_serve_jobs.proofs.ListenLemmas.{listened}
 use Rattle.boss_serve_jobs.proofs.serving.serve_over.Goals as goal
 
 pub returns-clause-serves : goal.returns-clause-serves
@@ -21,7 +22,7 @@ returns-clause-serves g c =
     let told = c.standing.result in
     let more = events plant log s in
     let same : v.plant start ≡ plant = sym c.requires.plant in
-    let state : is_broken log ≡ false → v.state now ≡ run plant log s = state-so _ _ _ _ _ _ plant start now log ran.held same in
+    let state : is_broken log ≡ false → v.state now ≡ run plant log s = state-so _ _ _ _ _ _ _ plant start now log ran.held same in
     record {
       log = log;
       held = ran.held;
@@ -31,7 +32,7 @@ returns-clause-serves g c =
           (summary_line told.events told.now told.leases told.pending) c.tell_end-status.result.0 log
           (λ fine. summary-so told.events told.now told.leases told.pending (v.state now) (run plant log s)
           c.standing.ensures.now c.standing.ensures.leases c.standing.ensures.pending (state fine))
-          (λ fine known. c.standing.ensures.events known (before ++ more) (gained-so _ _ _ _ _ _ plant start now log ran.held same fine before kept)
+          (λ fine known. c.standing.ensures.events known (before ++ more) (gained-so _ _ _ _ _ _ _ plant start now log ran.held same fine before kept)
           ∙ ap counted (length-append before more ∙ ap (λ n. n + length more) many))
           (parts_of c.new-outside.result) (parts_of c.run_workers-keeper.new.outside) c.run_workers-keeper.result.1 ran.end
           (parts-so (ap (λ v. v.items) c.new-outside.ensures.devices.1) c.new-outside.ensures.clock.1 c.new-outside.ensures.host.1
@@ -39,3 +40,8 @@ returns-clause-serves g c =
           (parts-so (search rules) (search rules) (search rules) (search rules) (search rules))
           c.tell_end-status.ensures;
     }
+
+pub returns-clause-listens : goal.returns-clause-listens
+returns-clause-listens g c told =
+    listened g.H.Host c.args.service.address.now g.K.Sink _ _ _ c.new-outside.result.host.now c.run_workers-keeper.new.outside.host.now _ _
+    c.tell_end-status.result.0 c.run_workers-keeper.result.1 c.new-outside.ensures.host.1 (search rules) (c.run_workers-keeper.ensures.listens told) c.tell_end-status.ensures

@@ -26,6 +26,7 @@ loop-ran-init g c =
       parts = omega arith;
       references = references-same c.args.outside.now;
       sound = c.requires.sound;
+      listens = λ told. refl;
       spawner = refl;
       left = subst (λ items. EachInTurn items 0 (λ ran number worker. (worker.server.now ≡ c.args.server.now) × (worker.number ≡ number)
           × HasLeft g.G.Desk g.H.Host g.C.Clock g.W.Waiter g.A.Actuators ran (terms_of c.args.server.now.catalogue.now (g.G.Desk.denies c.args.server.now.desk) c.args.server.now.workers g.H.In.Source.tells g.H.Out.Sink.tells g.H.Host.tells g.C.Clock.tells g.W.Waiter.tells) c.args.server.now.desk number worker.pass worker.duty worker.clock worker.waiter worker.flags)) (sym same) c.requires.left;
@@ -99,6 +100,7 @@ loop-ran-preserved g c =
       parts = omega (arith, c.join_one.ensures.parts, facts.0.2.one, inv.parts, more);
       references = references-then c.args.outside.now c.loop-ran.outside c.join_one.new.outside inv.references c.join_one.ensures.references;
       sound = c.join_one.ensures.sound;
+      listens = λ told. c.join_one.ensures.listens told ∙ inv.listens told;
       spawner = c.join_one.ensures.spawner ∙ inv.spawner;
       left = subst (λ n. EachInTurn c.next.new.self.rest.items n (λ ran number worker. (worker.server.now ≡ c.args.server.now) × (worker.number ≡ number)
           × HasLeft g.G.Desk g.H.Host g.C.Clock g.W.Waiter g.A.Actuators ran (terms_of c.args.server.now.catalogue.now (g.G.Desk.denies c.args.server.now.desk) c.args.server.now.workers g.H.In.Source.tells g.H.Out.Sink.tells g.H.Host.tells g.C.Clock.tells g.W.Waiter.tells) c.args.server.now.desk number worker.pass worker.duty worker.clock worker.waiter worker.flags)) more facts.1;

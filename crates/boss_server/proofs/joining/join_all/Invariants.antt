@@ -17,6 +17,7 @@ invariant-loop-ran g l = record {
   parts : g.G.Desk.parts l.pass ≡ g.G.Desk.parts l.fn.pass + length l.yielded;
   references : KeepsReferences l.fn.outside l.outside;
   sound : g.H.Host.sound l.outside.host.now;
+  listens : g.H.Host.tells → g.H.Host.listens l.outside.host.now ≡ g.H.Host.listens l.fn.outside.host.now;
   spawner : l.outside.spawner.now ≡ l.fn.outside.spawner.now;
   left : EachInTurn l.ran-iterator.rest.items (length l.yielded) (λ ran number worker. (worker.server.now ≡ l.server) × (worker.number ≡ number)
       × HasLeft g.G.Desk g.H.Host g.C.Clock g.W.Waiter g.A.Actuators ran (terms_of l.server.catalogue.now (g.G.Desk.denies l.server.desk) l.server.workers g.H.In.Source.tells g.H.Out.Sink.tells g.H.Host.tells g.C.Clock.tells g.W.Waiter.tells)

@@ -16,7 +16,7 @@ pub returns-in-Ok-told-clause-ran : goal.returns-in-Ok-told-clause-ran
 returns-in-Ok-told-clause-ran g c =
     let pass = c.serve_behind-pass.result.0 in
     let whole : entries_at pass.seen pass.places ≡ pass.seen = ap (entries_at pass.seen) c.close-keeper.ensures.places ∙ entries_at_all pass.seen in
-    let held = subst (λ start. IsHeld g.K.Keeper.plant g.K.Keeper.state g.K.Keeper.stopped g.K.Keeper.faults g.K.Keeper.leaves g.K.Keeper.keeps start c.close-keeper.result pass.seen)
+    let held = subst (λ start. IsHeld g.K.Keeper.plant g.K.Keeper.state g.K.Keeper.stopped g.K.Keeper.faults g.K.Keeper.leaves g.K.Keeper.passes g.K.Keeper.keeps start c.close-keeper.result pass.seen)
     c.in-Ok.ensures.start c.close-keeper.ensures.held in
     subst (λ drives. Ran g.K.Keeper g.A.Actuators.calls (λ device. g.A.Actuators.tells × g.A.Actuators.whole device)
     (terms_of c.args.site.catalogue.now (gates_of c.args.site.catalogue.now c.args.site.rules) c.args.workers g.H.In.Source.tells g.H.Out.Sink.tells g.H.Host.tells g.C.Clock.tells g.W.Waiter.tells) g.W.Waiter.tells
@@ -37,7 +37,7 @@ pub returns-in-Err-told-clause-nothing : goal.returns-in-Err-told-clause-nothing
 returns-in-Err-told-clause-nothing g c =
     let pass = c.serve_behind-pass.result.0 in
     let whole : entries_at pass.seen pass.places ≡ pass.seen = ap (entries_at pass.seen) c.close-keeper.ensures.places ∙ entries_at_all pass.seen in
-    subst (λ log. IsHeld g.K.Keeper.plant g.K.Keeper.state g.K.Keeper.stopped g.K.Keeper.faults g.K.Keeper.leaves g.K.Keeper.keeps c.args.keeper c.close-keeper.result log)
+    subst (λ log. IsHeld g.K.Keeper.plant g.K.Keeper.state g.K.Keeper.stopped g.K.Keeper.faults g.K.Keeper.leaves g.K.Keeper.passes g.K.Keeper.keeps c.args.keeper c.close-keeper.result log)
     (sym whole ∙ (rw c.in-Err-told.is at c.serve_behind-pass.ensures.nothing))
-    (subst (λ start. IsHeld g.K.Keeper.plant g.K.Keeper.state g.K.Keeper.stopped g.K.Keeper.faults g.K.Keeper.leaves g.K.Keeper.keeps start c.close-keeper.result pass.seen)
+    (subst (λ start. IsHeld g.K.Keeper.plant g.K.Keeper.state g.K.Keeper.stopped g.K.Keeper.faults g.K.Keeper.leaves g.K.Keeper.passes g.K.Keeper.keeps start c.close-keeper.result pass.seen)
     c.in-Ok.ensures.start c.close-keeper.ensures.held)

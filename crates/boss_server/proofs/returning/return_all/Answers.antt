@@ -22,7 +22,7 @@ loop-worker-init g c =
       references = references-same c.args.outside.now;
       sound = c.requires.sound;
       spawner = refl;
-      host = record { served = λ told. refl; faults = refl; handed = rose-none (g.H.Host.handed c.args.outside.now.host.now) };
+      host = record { served = λ told. refl; listens = λ told. refl; faults = refl; handed = rose-none (g.H.Host.handed c.args.outside.now.host.now) };
       clock = record { given = λ told. refl; faults = refl };
       waiter = record { notes = []; noted = λ told. sym (append-nil (g.W.Waiter.waits c.args.outside.now.waiter.now)); unpaused = λ told. tt };
       ready = subst (λ items. AllInTurn items 0 (λ number worker. (worker.server.now ≡ c.args.server.now) × (worker.number ≡ number)
@@ -82,6 +82,7 @@ loop-worker-preserved g c =
       host = record {
         served = λ told. c.join_one.ensures.served told ∙ ap (λ list. g.H.Host.served c.loop-worker.outside.host.now ++ list) (fresh-served g.H.Host c.args.server.now.workers (length c.loop-worker.yielded) c.in-Some.worker.duty ready.fresh told)
             ∙ append-nil (g.H.Host.served c.loop-worker.outside.host.now) ∙ inv.host.served told;
+        listens = λ told. c.join_one.ensures.listens told ∙ inv.host.listens told;
         faults = c.join_one.ensures.hosted.fine (fresh-faults g.H.Host c.args.server.now.workers (length c.loop-worker.yielded) c.in-Some.worker.duty ready.fresh) ∙ inv.host.faults;
         handed = rose-both 0 0 (g.H.Host.handed c.args.outside.now.host.now) (g.H.Host.handed c.loop-worker.outside.host.now) (g.H.Host.handed c.join_one.new.outside.host.now) inv.host.handed
             (subst (λ more. RoseBy more (g.H.Host.handed c.loop-worker.outside.host.now) (g.H.Host.handed c.join_one.new.outside.host.now))

@@ -16,6 +16,9 @@ returns-then-is_err-clause-waiter g c = record { notes = []; noted = λ told. sy
 pub returns-then-is_err-2-clause-host : goal.returns-then-is_err-2-clause-host
 returns-then-is_err-2-clause-host g c = host-stays g.H.Host c.args.outside.now.host.now c.make_all.new.outside.host.now c.return_all.new.outside.host.now c.make_all.ensures.host c.return_all.ensures.host
 
+pub returns-then-is_err-2-clause-listens : goal.returns-then-is_err-2-clause-listens
+returns-then-is_err-2-clause-listens g c told = c.return_all.ensures.host.listens told ∙ c.make_all.ensures.host.listens told
+
 pub returns-then-is_err-2-clause-clock : goal.returns-then-is_err-2-clause-clock
 returns-then-is_err-2-clause-clock g c = clock-stays g.C.Clock c.args.outside.now.clock.now c.make_all.new.outside.clock.now c.return_all.new.outside.clock.now c.make_all.ensures.clock c.return_all.ensures.clock
 
@@ -40,6 +43,9 @@ return_all-requires-in-Err-clause-room g c =
       length-append (devices_of c.make_all.new.made.items (λ worker. was_at worker.duty)) c.make_all.new.outside.devices.now.items,
       c.make_all.ensures.devices_room,
     )
+
+pub returns-in-Ok-clause-listens : goal.returns-in-Ok-clause-listens
+returns-in-Ok-clause-listens g c told = c.run_and_join.ensures.listens told ∙ c.make_all.ensures.host.listens told
 
 pub returns-in-Ok-clause-account : goal.returns-in-Ok-clause-account
 returns-in-Ok-clause-account g c =
@@ -69,6 +75,10 @@ returns-in-Ok-clause-account g c =
 pub returns-in-Err-clause-host : goal.returns-in-Err-clause-host
 returns-in-Err-clause-host g c = host-stays g.H.Host c.args.outside.now.host.now c.make_all.new.outside.host.now c.return_all-in-Err.new.outside.host.now c.make_all.ensures.host
     (subst (λ host. StaysHost g.H.Host host c.return_all-in-Err.new.outside.host.now) c.in-Err.ensures.refused.2 c.return_all-in-Err.ensures.host)
+
+pub returns-in-Err-clause-listens : goal.returns-in-Err-clause-listens
+returns-in-Err-clause-listens g c told =
+    c.return_all-in-Err.ensures.host.listens told ∙ ap g.H.Host.listens c.in-Err.ensures.refused.2 ∙ c.make_all.ensures.host.listens told
 
 pub returns-in-Err-clause-clock : goal.returns-in-Err-clause-clock
 returns-in-Err-clause-clock g c = clock-stays g.C.Clock c.args.outside.now.clock.now c.make_all.new.outside.clock.now c.return_all-in-Err.new.outside.clock.now c.make_all.ensures.clock

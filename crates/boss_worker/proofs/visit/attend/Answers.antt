@@ -24,6 +24,7 @@ returns-in-Watch-clause-added g c =
     (λ told. c.serve_connection.ensures.held told ∙ sym c.requires.fresh.whole)
     (own_of g.G.Desk c.args.pass.now) (own_of g.G.Desk c.watch_connection.new.pass) (g.K.Sink.taken c.args.output.now) (g.K.Sink.faults c.args.output.now)
     c.requires.fresh.empty c.requires.fresh.no_write_failed (g.C.Clock.given c.args.clock.now) (g.C.Clock.given c.watch_connection.new.clock)
+    (g.S.Source.reads c.args.input.now) (g.S.Source.reads c.serve_connection.new.source)
     (own_of g.G.Desk c.serve_connection.new.pass) (g.K.Sink.taken c.serve_connection.new.sink) (g.K.Sink.faults c.serve_connection.new.sink) (g.C.Clock.given c.serve_connection.new.clock)
     c.in-Watch.name c.in-Watch.from 600 c.watch_connection.result c.in-Watch.ensures.connected c.in-Watch.ensures.written c.watch_connection.ensures.watched (lit< tt) c.watch_connection.ensures.called)
 
@@ -45,7 +46,7 @@ returns-in_default-clause-added g c =
     (λ told. c.serve_connection.ensures.held told ∙ sym c.requires.fresh.whole)
     (own_of g.G.Desk c.args.pass.now) (own_of g.G.Desk c.serve_connection.new.pass) (g.K.Sink.taken c.args.output.now) (g.K.Sink.faults c.args.output.now)
     c.requires.fresh.empty c.requires.fresh.no_write_failed (g.C.Clock.given c.args.clock.now) (g.C.Clock.given c.serve_connection.new.clock)
-    (g.S.Source.faults c.args.input.now) c.serve_connection.result c.serve_connection.ensures.connected c.requires.fresh.no_read_failed c.serve_connection.ensures.read c.serve_connection.ensures.written
+    (g.S.Source.reads c.args.input.now) (g.S.Source.faults c.args.input.now) c.serve_connection.result c.requires.fresh.unread c.serve_connection.ensures.connected c.requires.fresh.no_read_failed c.serve_connection.ensures.read c.serve_connection.ensures.written
     (not-watch c.serve_connection.result c.in_default.not-Watch))
 
 pub returns-in_default-clause-clocked : goal.returns-in_default-clause-clocked
