@@ -9,8 +9,8 @@ use Rattle.boss_disk_pair.specs.Images.{OpensEither, OpensTo}
 use Rattle.boss_pair_find.specs.Holds.{IsNewPair}
 use Rattle.boss_opening.specs.Opens.{digest_of, OpenedAt}
 use Rattle.boss_jobs.specs.Journals.{Pair}
-use Rattle.boss_jobs.proofs.Lifting.{Follows, holds-so, none-so, refused-so, same-two, stands-so}
-use Rattle.boss_adopt_jobs.specs.Adoptions.{AdoptsOver, ComesTo, taken_over}
+use Rattle.boss_jobs.proofs.Lifting.{Follows, holds-so, moved-carried, none-so, refused-so, same-two, stands-so}
+use Rattle.boss_adopt_jobs.specs.Adoptions.{AdoptsOver, ComesTo, OpensToEither, taken_over}
 use Rattle.boss_adopt_jobs.specs.Openings.{OpensToAdopt}
 
 module _ (was now was' now' : Pair) {K : Type 0} (k : sink.Ghosts K) (old new : Catalogue) (before after : K) (status : ℕ) where
@@ -60,6 +60,9 @@ module _ (was now was' now' : Pair) {K : Type 0} (k : sink.Ghosts K) (old new : 
         not_new = not_new;
         opened = λ told. same-two (λ a b. OpenedAt (actuators old) (digest_of old) a b found.state found.number) _ _ _ _ (so.began told) (found.opened (so.tells told));
         comes = comes-so so.tells so.left so.rose so.stood found.state.persistent found.number found.comes;
+        images = λ told whole.
+            moved-carried (actuators old) (digest_of old) was.first was.second was'.first was'.second (so.began told) (OpensToEither old new found.state.persistent)
+            was'.stories now'.stories was.stories now.stories (so.carries told whole) (found.images (so.tells told) (so.whole told whole));
       })))
     ]
 
@@ -79,5 +82,8 @@ module _ (was now was' now' : Pair) {K : Type 0} (k : sink.Ghosts K) (old new : 
         not_new = λ told is. found.not_new (so.tells told) (same-two IsNewPair _ _ _ _ (sym (so.began told).0, sym (so.began told).1) is);
         opened = λ told. same-two (λ a b. OpenedAt (actuators old) (digest_of old) a b found.state found.number) _ _ _ _ (so.began told) (found.opened (so.tells told));
         comes = comes-so so.tells so.left so.rose so.stood found.state.persistent found.number found.comes;
+        images = λ told whole.
+            moved-carried (actuators old) (digest_of old) was.first was.second was'.first was'.second (so.began told) (OpensToEither old new found.state.persistent)
+            was'.stories now'.stories was.stories now.stories (so.carries told whole) (found.images (so.tells told) (so.whole told whole));
       })))
     ]

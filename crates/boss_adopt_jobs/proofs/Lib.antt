@@ -3,3 +3,4 @@ pub mod Coming
 pub mod Completing
 pub mod Following
 pub mod Loading
+pub mod Moving

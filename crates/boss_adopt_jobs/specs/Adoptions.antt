@@ -1,6 +1,6 @@
 -- Source: own.
 -- The adoption of a changed catalogue, by what two disks or a journal's two files hold.
-use Rattle.std.specs.Prelude.{◌≡◌, ◌⊎◌, ℕ, ◌<◌, length, Err}
+use Rattle.std.specs.Prelude.{◌≡◌, ◌⊎◌, ℕ, ◌<◌, List, length, Err}
 use Rattle.boss_model.specs.Catalogue.{Catalogue, actuators}
 use Rattle.boss_model.specs.Limits.{last_number}
 use Rattle.boss_model.specs.State.{Persistent, State}
@@ -18,6 +18,7 @@ use Rattle.boss_adopting.specs.declared.refusal.AdoptRefusal.{AdoptRefusal}
 use Rattle.boss_changing.specs.Adoptions.{MayAdopt}
 use Rattle.boss_journal_lines.specs.Adoption.{adopted_line}
 use Rattle.boss_journal_lines.specs.Reports.{new_line}
+use Rattle.boss_jobs.specs.Crashes.{WhileMoved}
 use Rattle.boss_jobs.specs.Jobs.{TellsLine}
 use Rattle.boss_jobs.specs.Journals.{HadNoJournal, HoldSame, Pair, RefusedJournal, StillStands}
 use Rattle.boss_adopt_jobs.specs.Telling.{TellsRefusal}
@@ -30,6 +31,10 @@ OpensUnder catalogue d pair = OpensTo (actuators catalogue) (digest_of catalogue
 -- the state of the old catalogue on the points of the new one
 abbrev pub taken_over : Catalogue → Catalogue → Persistent → Persistent
 taken_over old new d = adopted (renumbered old new) d
+
+-- with the old catalogue to this state, or with the new one to what is taken over of it
+abbrev pub OpensToEither : Catalogue → Catalogue → Persistent → List ℕ → List ℕ → Type 0
+OpensToEither old new d first second = OpensEither (actuators old) (digest_of old) d (actuators new) (digest_of new) (taken_over old new d) first second
 
 -- ---- what comes of a journal that was opened at a state, after so many events
 
@@ -88,6 +93,8 @@ module _ {K : Type 0} (k : sink.Ghosts K) (old new : Catalogue) (was now : Pair)
     pub not_new : was.tells → IsNewPair was.first was.second → ⊥
     pub opened : was.tells → OpenedAt (actuators old) (digest_of old) was.first was.second state number
     pub comes : ComesTo k old new state.persistent number was now before after status
+    -- what a crash may leave meanwhile
+    pub images : was.tells → now.whole → WhileMoved (actuators old) (digest_of old) was.first was.second was.stories (OpensToEither old new state.persistent) now.stories
 
   -- where it was not opened, what it stands for under the old catalogue is still there
   abbrev pub AdoptsOver : Type 0

@@ -5,8 +5,9 @@ use Rattle.boss_model.specs.Catalogue.{Catalogue, actuators}
 use Rattle.boss_model.specs.State.{State}
 use Rattle.boss_outside.specs.declared.sink.Sink as sink
 use Rattle.boss_opening.specs.Opens.{digest_of, OpenedAt}
+use Rattle.boss_jobs.specs.Crashes.{WhileMoved}
 use Rattle.boss_jobs.specs.Journals.{HadNoJournal, Pair, RefusedJournal, StillStands}
-use Rattle.boss_adopt_jobs.specs.Adoptions.{ComesTo}
+use Rattle.boss_adopt_jobs.specs.Adoptions.{ComesTo, OpensToEither}
 
 module _ {K : Type 0} (k : sink.Ghosts K) (old new : Catalogue) (was now : Pair) (before after : K) (status : ℕ) where
   -- It was opened with the old catalogue at the state that its bytes stand for.
@@ -15,6 +16,7 @@ module _ {K : Type 0} (k : sink.Ghosts K) (old new : Catalogue) (was now : Pair)
     pub number : ℕ
     pub opened : was.tells → OpenedAt (actuators old) (digest_of old) was.first was.second state number
     pub comes : ComesTo k old new state.persistent number was now before after status
+    pub images : was.tells → now.whole → WhileMoved (actuators old) (digest_of old) was.first was.second was.stories (OpensToEither old new state.persistent) now.stories
 
   abbrev pub OpensToAdopt : Type 0
   OpensToAdopt = (HadNoJournal was now before after status × (was.tells → was.lasts → StillStands old was now))

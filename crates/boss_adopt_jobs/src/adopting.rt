@@ -3,12 +3,14 @@ ghost use Rattle.boss_durable.specs.Words.{keeps, lasting, leaves};
 ghost use Rattle.boss_model.specs.Catalogue.{actuators};
 ghost use Rattle.boss_model.specs.declared.event.Event.{Event};
 ghost use Rattle.boss_disk_pair.specs.Causes.{first_disk, second_disk};
-ghost use Rattle.boss_disk_pair.specs.Rests.{counted};
+ghost use Rattle.boss_disk.specs.Legs.{Legs, LeaveBoth};
+ghost use Rattle.boss_disk_pair.specs.Rests.{counted, stories};
+ghost use Rattle.boss_pair_find.specs.Two.{two};
 ghost use Rattle.boss_opening.specs.Opens.{digest_of};
 ghost use Rattle.boss_adopting.specs.Counts.{removed};
 ghost use Rattle.boss_journal_lines.specs.Adoption.{adopted_line};
 ghost use Rattle.boss_jobs.specs.Journals.{on_disks};
-ghost use Rattle.boss_adopt_jobs.specs.Adoptions.{AdoptsOver, ComesTo};
+ghost use Rattle.boss_adopt_jobs.specs.Adoptions.{AdoptsOver, ComesTo, OpensToEither};
 ghost use Rattle.boss_adopt_jobs.specs.Openings.{OpensToAdopt};
 
 use crate::saying::say_fault;
@@ -87,8 +89,10 @@ fn adopt_opened<D: Disk, K: Sink>(
     requires going { durable.disks.stopped ≡ false }
     requires keeps { (any : List Event) → counted (length any) ≡ durable.disks.events → keeps durable any }
     requires leaves { leaves durable (lasting durable) (lasting durable) }
-    ensures { ComesTo K.Sink old.now new.now (lasting durable) durable.disks.events
+    ensures comes { ComesTo K.Sink old.now new.now (lasting durable) durable.disks.events
         (on_disks D.Disk (first_disk durable.disks, second_disk durable.disks)) (on_disks D.Disk result.0) sink.old sink.new result.1.0 }
+    ensures moves { D.tells → Legs (LeaveBoth (OpensToEither old.now new.now (lasting durable)))
+        (stories durable.disks) (two (D.story result.0.0) (D.story result.0.1)) }
 {
     let removed = removed_points(old, new);
     let added = added_points(old, new);
@@ -113,8 +117,10 @@ fn adopt_and_say<D: Disk, K: Sink>(
     requires keeps { (any : List Event) → counted (length any) ≡ durable.disks.events → keeps durable any }
     requires leaves { leaves durable (lasting durable) (lasting durable) }
     requires line { line.now ≡ adopted_line durable.disks.events (length new.now.points) (length (removed old.now new.now)) (length (removed new.now old.now)) }
-    ensures { ComesTo K.Sink old.now new.now (lasting durable) durable.disks.events
+    ensures comes { ComesTo K.Sink old.now new.now (lasting durable) durable.disks.events
         (on_disks D.Disk (first_disk durable.disks, second_disk durable.disks)) (on_disks D.Disk result.0) sink.old sink.new result.1.0 }
+    ensures moves { D.tells → Legs (LeaveBoth (OpensToEither old.now new.now (lasting durable)))
+        (stories durable.disks) (two (D.story result.0.0) (D.story result.0.1)) }
 {
     match adopt(alloc, durable, old, new) {
         Ok(durable) => {

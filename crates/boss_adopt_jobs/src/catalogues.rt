@@ -25,6 +25,7 @@ pub fn load_both<F: Files>(
     ensures loads { LoadsBoth F.Files devices files.old old_name.now new_name.now result }
     ensures asks { F.tells → AsksBoth old_name.now new_name.now (F.asked files.old) (F.asked files.new) result }
     ensures stays { F.tells → (file : List ℕ) → F.holds files.new file ≡ F.holds files.old file }
+    ensures past { F.tells → (file : List ℕ) → F.past files.new file ≡ F.past files.old file }
     ensures cause { BothCause (F.faults files.old) (F.faults files.new) result }
 {
     match load(alloc, files, old_name, devices) {

@@ -117,7 +117,7 @@ module _ {F D S K A : Type 0} (f : files.Ghosts F D) (s : source.Ghosts S) (k : 
           by-broken ran true e = absurd (fine (ran.disk_fault e))
           by-broken ran false e =
               let is : status ≡ status_of ran.end = ran.told ∙ ap (λ b. if b then 5 else status_of ran.end) e in
-              subst (λ n. (n ≡ 0) ⊎ (n ≡ 8)) (sym is) (completes-over (λ all is_over. RanScript catalogue ran.state all is_over ran.made (outside_of s k a first).trace (outside_of s k a last).trace) (outside_of s k a first) (outside_of s k a last) ran.end (ran.ended left) ran.read_fault ran.write_fault fine' fine'' short few)
+              subst (λ n. (n ≡ 0) ⊎ (n ≡ 8)) (sym is) (completes-over (λ all is_over. RanScript catalogue ran.state all is_over ran.made (outside_of s k a first) (outside_of s k a last)) (outside_of s k a first) (outside_of s k a last) ran.end (ran.ended left) ran.read_fault ran.write_fault fine' fine'' short few)
 
       pub does-kept : HadNoCatalogue f s k a old new status ⊎ RefusedCatalogue f s k a name count old new status ⊎ RanKept f s k a name journal count old new status →
           (f.tells → AsksFront (name ∷ journal ∷ second_name journal ∷ []) (f.asked old.files) (f.asked new.files)) →

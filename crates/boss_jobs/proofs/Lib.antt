@@ -1,3 +1,4 @@
+pub mod Carrying
 pub mod JobLemmas
 pub mod KeptLemmas
 pub mod Lifting

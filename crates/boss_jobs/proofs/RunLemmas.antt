@@ -24,8 +24,8 @@ module _ {V : Type 0} (v : keeper.Ghosts V) (catalogue : Catalogue) (before now 
     pub kept : Kept v before now made
     pub stopped : v.stopped now ≡ is_broken made
     pub disk_fault : is_broken made ≡ true → Rose (v.faults before) (v.faults now)
-    pub ended : old.source_tells → IfOk end (EndsOver (λ all is_over. RanScript catalogue (v.state before) all is_over made old.trace new.trace) old new)
-    pub broke : old.source_tells → old.sink_tells → OnErr end (BrokeScript catalogue (v.state before) (lines old.left) made old.trace new.trace)
+    pub ended : old.source_tells → IfOk end (EndsOver (λ all is_over. RanScript catalogue (v.state before) all is_over made old new) old new)
+    pub broke : old.source_tells → old.sink_tells → OnErr end (BrokeScript catalogue (v.state before) (lines old.left) made old new)
 
   pub ran-so : (end : Result Next Broken) → IfOk end (λ next. CarriesOut v catalogue before now old new next) → OnErr end (LeavesOff v catalogue before now old new) → Ran end
   ran-so (Ok next) it _ =

@@ -25,7 +25,7 @@ status_of (Ok Line) = 14
 
 -- how a script ended whose journal does not fail, by what it came to behind its last line
 abbrev pub Ended : Catalogue → Outside → Outside → Result Next Broken → Type 0
-Ended catalogue old new (Ok next) = EndsOver (λ all is_over. RanScript catalogue all is_over old.trace new.trace) old new next
+Ended catalogue old new (Ok next) = EndsOver (λ all is_over. RanScript catalogue all is_over old new) old new next
 Ended catalogue old new (Err broken) = Unit {0}
 
 -- A script over what was left of a source ended with this status, which tells its end: 0, 6, 13 and 14 that of its lines, 7 and 8
@@ -34,7 +34,7 @@ pub record EndsScript (catalogue : Catalogue) (old new : Outside) (status : ℕ)
   pub end : Result Next Broken
   pub told : status ≡ status_of end
   pub ended : old.source_tells → Ended catalogue old new end
-  pub broke : OnErr end (old.source_tells → old.sink_tells → BrokeScript catalogue (lines old.left) old.trace new.trace)
+  pub broke : OnErr end (old.source_tells → old.sink_tells → BrokeScript catalogue (lines old.left) old new)
   pub read_fault : ReadCause old.read_faults new.read_faults end
   pub write_fault : WriteCause old.write_faults new.write_faults end
   -- where nothing failed, no line is too long and the lines are not too many, it runs to its end, or memory is wanting

@@ -10,13 +10,15 @@ use Rattle.boss_outside.specs.declared.actuators.Actuators as actuators_of
 use Rattle.boss_outside.specs.declared.sink.Sink as sink
 use Rattle.boss_outside.specs.declared.source.Source as source
 use Rattle.boss_disk.specs.declared.disk.Disk as disk
+use Rattle.boss_disk.specs.Legs.{Two}
+use Rattle.boss_disk.specs.Story.{Story}
 use Rattle.boss_disk.specs.Window.{settled}
 use Rattle.boss_files.specs.declared.files.Files as files
 use Rattle.boss_files.specs.Names.{second_name}
 use Rattle.boss_lines.specs.declared.reader.Next.{Next}
 use Rattle.def_history.specs.declared.entry.Entry.{Entry}
 use Rattle.def_history.specs.History.{events, is_broken, IsLegal, run, run_tried}
-use Rattle.boss_shared.specs.Keeping.{shortened}
+use Rattle.boss_shared.specs.Walking.{shortened}
 use Rattle.boss_scripts.specs.declared.broken.Broken.{Broken}
 use Rattle.boss_scripts.specs.Causes.{ReadCause, WriteCause}
 use Rattle.boss_scripts.specs.Ends.{EndsOver}
@@ -33,15 +35,20 @@ use Rattle.boss_opening.specs.Checks.{ChecksPair}
 use Rattle.boss_opening.specs.Opens.{digest_of, OpenedAt, OpenRefuses}
 use Rattle.boss_opening.specs.UnderWay.{MayComeTo}
 use Rattle.boss_journal_lines.specs.Reports.{new_line, refusal_line, summary_line}
+use Rattle.boss_pair_find.specs.Two.{two}
+use Rattle.boss_jobs.specs.Crashes.{WhileOpened, WhileRun}
 use Rattle.boss_jobs.specs.Ends.{status_of}
 use Rattle.boss_jobs.specs.Jobs.{TellsLine, World}
 
 -- ---- what holds a journal
 
--- Two disks, or a journal's two files, at one moment: the bytes of each, whether all of them outlast a crash, and how many calls failed.
+-- Two disks, or a journal's two files, at one moment: the bytes of each, whether all of them outlast a crash, what a crash may leave now
+-- and might have left before, whether none of that is missing, and how many calls failed.
 pub record Pair : Type 1 where
   pub tells : Type 0
   pub lasts : Type 0
+  pub whole : Type 0
+  pub stories : Two
   pub first : List ℕ
   pub second : List ℕ
   pub faults : ℕ
@@ -55,17 +62,25 @@ module _ {D : Type 0} (d : disk.Ghosts D) where
   on_disks disks = record {
     tells = d.tells;
     lasts = ((d.story disks.0).window ≡ settled (d.reads disks.0)) × ((d.story disks.1).window ≡ settled (d.reads disks.1));
+    whole = Unit {0};
+    stories = two (d.story disks.0) (d.story disks.1);
     first = d.reads disks.0;
     second = d.reads disks.1;
     faults = d.faults disks.0 + d.faults disks.1;
   }
 
 module _ {F D : Type 0} (f : files.Ghosts F D) where
+  -- a file between two jobs: the windows of the stores that were given back, and then what it holds, of which a store is opened
+  abbrev pub file_story : List ℕ → F → Story
+  file_story name files = record { past = f.past files name; window = settled (unwrap_or (f.holds files name) []) }
+
   -- the files of the journal of this name; one that is not there counts as empty
   abbrev pub in_files : List ℕ → F → Pair
   in_files name files = record {
     tells = f.tells;
     lasts = Unit {0};
+    whole = f.whole files;
+    stories = two (file_story name files) (file_story (second_name name) files);
     first = unwrap_or (f.holds files name) [];
     second = unwrap_or (f.holds files (second_name name)) [];
     faults = f.faults files;
@@ -80,11 +95,12 @@ abbrev pub AsksFront : List (List ℕ) → List (List ℕ) → List (List ℕ) �
 AsksFront names old new = (asked : List (List ℕ)) × IsFrontOf asked names × (new ≡ old ++ asked)
 
 -- What the pair stands for is still there: where it opens cleanly, it does so after all to the same, or to what a record that was under
--- way makes of that.
+-- way makes of that. So does each image meanwhile, but for what a crash might have left before.
 pub record StillStands (catalogue : Catalogue) (was now : Pair) : Type 0 where
   pub stands : (d : Persistent) (count : ℕ) → OpensCleanly (actuators catalogue) (digest_of catalogue) d count was.first was.second →
       (after : Persistent) × MayComeTo (actuators catalogue) (digest_of catalogue) d count after was.first was.second
       × OpensToOne (actuators catalogue) (digest_of catalogue) d after now.first now.second
+  pub meanwhile : now.whole → WhileOpened (actuators catalogue) (digest_of catalogue) was.first was.second was.stories now.stories
 
 -- ---- what a job has beside its files
 
@@ -160,14 +176,16 @@ module _ {S K A : Type 0} (s : source.Ghosts S) (k : sink.Ghosts K) (a : actuato
       pub legal : IsLegal (actuators catalogue) made state
       pub end : Result Next Broken
       pub told : status ≡ (if is_broken made then 5 else status_of end)
-      pub ended : s.tells → IfOk end (EndsOver (λ all is_over. RanScript catalogue state all is_over made (outside_of old).trace (outside_of new).trace)
+      pub ended : s.tells → IfOk end (EndsOver (λ all is_over. RanScript catalogue state all is_over made (outside_of old) (outside_of new))
           (outside_of old) (outside_of new))
-      pub broke : s.tells → k.tells → OnErr end (BrokeScript catalogue state (lines (s.left old.source)) made (outside_of old).trace (outside_of new).trace)
+      pub broke : s.tells → k.tells → OnErr end (BrokeScript catalogue state (lines (s.left old.source)) made (outside_of old) (outside_of new))
       pub read_fault : ReadCause (s.faults old.source) (s.faults new.source) end
       pub write_fault : WriteCause (k.faults old.sink) (k.faults new.sink) end
       pub disk_fault : is_broken made ≡ true → Rose was.faults now.faults
       pub no_disk_fault : is_broken made ≡ false → now.faults ≡ was.faults
       pub holds : was.tells → HoldsAfter catalogue state number made now.first now.second
+      -- what a crash may leave meanwhile
+      pub images : was.tells → now.whole → WhileRun (actuators catalogue) (digest_of catalogue) was.first was.second was.stories state made now.stories
 
     -- a script over a journal
     abbrev pub RunsOver : Type 0

@@ -1,4 +1,5 @@
 pub mod Checks
+pub mod Crashes
 pub mod Ends
 pub mod Jobs
 pub mod Journals

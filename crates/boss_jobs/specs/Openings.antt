@@ -15,7 +15,7 @@ use Rattle.boss_durable.specs.Words.{faults, keeps, lasting, leaves}
 use Rattle.boss_lines.specs.declared.reader.Next.{Next}
 use Rattle.def_history.specs.declared.entry.Entry.{Entry}
 use Rattle.def_history.specs.History.{events, is_broken, IsLegal, run, run_tried}
-use Rattle.boss_shared.specs.Keeping.{shortened}
+use Rattle.boss_shared.specs.Walking.{shortened}
 use Rattle.def_disk_pair.specs.Pairs.{OpensCleanly}
 use Rattle.boss_scripts.specs.declared.broken.Broken.{Broken}
 use Rattle.boss_scripts.specs.Causes.{ReadCause, WriteCause}
@@ -26,6 +26,9 @@ use Rattle.boss_pair_find.specs.declared.refusal.DurableRefusal.{DurableRefusal}
 use Rattle.boss_pair_find.specs.declared.refusal.DurableRefusal.TheVariants.{NotAJournal, Version, Catalogue as OtherCatalogue, Damaged, DiskFault, NoMemory}
 use Rattle.boss_opening.specs.declared.checking.Checked.{Checked}
 use Rattle.boss_journal_lines.specs.Reports.{refusal_line}
+use Rattle.boss_disk_pair.specs.Rests.{stories}
+use Rattle.boss_pair_find.specs.Two.{two}
+use Rattle.boss_jobs.specs.Crashes.{Steps}
 use Rattle.boss_jobs.specs.Ends.{status_of}
 use Rattle.boss_jobs.specs.Jobs.{TellsLine}
 use Rattle.boss_jobs.specs.Journals.{Beside, checked_line, outside_of}
@@ -52,10 +55,10 @@ module _ {D S K A : Type 0} (d : disk.Ghosts D) (s : source.Ghosts S) (k : sink.
     pub end : Result Next Broken
     pub told : status ≡ (if is_broken made then 5 else status_of end)
     pub ended : s.tells → IfOk end
-        (EndsOver (λ all is_over. RanScript catalogue durable.engine.state all is_over made (outside_of s k a old).trace (outside_of s k a new).trace)
+        (EndsOver (λ all is_over. RanScript catalogue durable.engine.state all is_over made (outside_of s k a old) (outside_of s k a new))
         (outside_of s k a old) (outside_of s k a new))
     pub broke : s.tells → k.tells → OnErr end
-        (BrokeScript catalogue durable.engine.state (lines (s.left old.source)) made (outside_of s k a old).trace (outside_of s k a new).trace)
+        (BrokeScript catalogue durable.engine.state (lines (s.left old.source)) made (outside_of s k a old) (outside_of s k a new))
     pub read_fault : ReadCause (s.faults old.source) (s.faults new.source) end
     pub write_fault : WriteCause (k.faults old.sink) (k.faults new.sink) end
     pub disk_fault : is_broken made ≡ true → Rose (faults durable) (d.faults disks.0 + d.faults disks.1)
@@ -66,3 +69,5 @@ module _ {D S K A : Type 0} (d : disk.Ghosts D) (s : source.Ghosts S) (k : sink.
     pub torn : d.tells → (before : List Event) → keeps durable before → leaves durable (lasting durable) (lasting durable) →
         (tried : ℕ) × OpensToOne (actuators catalogue) durable.disks.digest (run (actuators catalogue) made durable.engine.state).persistent
         (run_tried (actuators catalogue) (shortened tried made) durable.engine.state).persistent (d.reads disks.0) (d.reads disks.1)
+    pub steps : d.tells → (before : List Event) → keeps durable before →
+        Steps (actuators catalogue) durable.disks.digest durable.engine.state (stories durable.disks) made (two (d.story disks.0) (d.story disks.1))

@@ -36,6 +36,7 @@ pub fn load<F: Files>(
     ensures known { IfOk result (λ catalogue. HasDevices devices (actuators catalogue)) }
     ensures asks { F.tells → AsksFor name.now (F.asked files.old) (F.asked files.new) result }
     ensures stays { F.tells → (file : List ℕ) → F.holds files.new file ≡ F.holds files.old file }
+    ensures past { F.tells → (file : List ℕ) → F.past files.new file ≡ F.past files.old file }
     ensures cause { FaultOnly (F.faults files.old) (F.faults files.new) result }
 {
     let bytes = match files.read(alloc, name, LONGEST_FILE) {

@@ -15,7 +15,7 @@ use boss_journal_lines::refusal_line;
 use boss_lines::Next;
 use boss_model::LOG_LIMIT;
 use boss_opening::open;
-use boss_outside::{Actuators, Sink, Source};
+use boss_outside::{Actuators, Hears, Sink, Source};
 use boss_pair_find::DurableRefusal;
 use boss_points::Catalogue;
 use boss_scripts::{Broken, run_script};
@@ -25,7 +25,7 @@ use std::alloc::Global;
 /// each line of the source is answered, and the wants that it leaves are served, before the next is read.
 ///
 /// Where a disk fails the line that asked for it is told `stopped`, and so is every later one that is not blank and not too long.
-pub fn script_on_disks<D: Disk, S: Source, K: Sink, A: Actuators>(
+pub fn script_on_disks<D: Disk, S: Hears<K>, K: Sink, A: Actuators>(
     alloc: Global,
     catalogue: &Catalogue,
     first: D,
@@ -49,7 +49,7 @@ pub fn script_on_disks<D: Disk, S: Source, K: Sink, A: Actuators>(
 }
 
 /// Runs a script over a journal that was opened.
-fn run_from<D: Disk, S: Source, K: Sink, A: Actuators>(
+fn run_from<D: Disk, S: Hears<K>, K: Sink, A: Actuators>(
     alloc: Global,
     catalogue: &Catalogue,
     durable: Durable<D>,

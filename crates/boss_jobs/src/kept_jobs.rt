@@ -14,13 +14,13 @@ use crate::journal::script_on_disks;
 use crate::saying::say_refusal;
 use boss_files::{FileFault, Files, close_stores, open_stores, second_name};
 use boss_model::NoMemory;
-use boss_outside::{Actuators, Sink, Source};
+use boss_outside::{Actuators, Hears, Sink, Source};
 use boss_points::Catalogue;
 use std::alloc::Global;
 
 /// Runs the script of a catalogue's file over a journal that is kept in two files: that of its name, and that of its name with `.b`
 /// behind it.
-pub fn do_kept_script<F: Files, S: Source, K: Sink, A: Actuators>(
+pub fn do_kept_script<F: Files, S: Hears<K>, K: Sink, A: Actuators>(
     alloc: Global,
     name: &str,
     journal: &str,
@@ -41,7 +41,7 @@ pub fn do_kept_script<F: Files, S: Source, K: Sink, A: Actuators>(
 }
 
 /// Runs a script over the journal of this name.
-fn run_in_files<F: Files, S: Source, K: Sink, A: Actuators>(
+fn run_in_files<F: Files, S: Hears<K>, K: Sink, A: Actuators>(
     alloc: Global,
     catalogue: &Catalogue,
     journal: &str,

@@ -8,11 +8,11 @@ use crate::saying::{say, say_refusal};
 use crate::script::script_run;
 use boss_files::Files;
 use boss_journal_lines::new_line;
-use boss_outside::{Actuators, Sink, Source};
+use boss_outside::{Actuators, Hears, Sink, Source};
 use std::alloc::Global;
 
 /// Runs the script of a catalogue's file, with its journal in memory alone.
-pub fn do_script<F: Files, S: Source, K: Sink, A: Actuators>(
+pub fn do_script<F: Files, S: Hears<K>, K: Sink, A: Actuators>(
     alloc: Global,
     name: &str,
     files: &mut F,

@@ -3,21 +3,21 @@ ghost use Rattle.boss_model.specs.Catalogue.{actuators};
 ghost use Rattle.boss_model.specs.Lines.{lines};
 ghost use Rattle.boss_scripts.specs.Causes.{ReadCause, WriteCause};
 ghost use Rattle.boss_scripts.specs.Devices.{HasDevices};
-ghost use Rattle.boss_scripts.specs.Outside.{outside, trace};
+ghost use Rattle.boss_scripts.specs.Outside.{outside};
 ghost use Rattle.boss_jobs.specs.Ends.{Ended, EndsScript, status_of};
 ghost use Rattle.boss_jobs.specs.Scripts.{BrokeScript};
 
 use crate::Status;
 use boss_lines::Next;
 use boss_memory_keeper::Unkept;
-use boss_outside::{Actuators, Sink, Source};
+use boss_outside::{Actuators, Hears, Sink, Source};
 use boss_points::Catalogue;
 use boss_scripts::{Broken, run_script};
 use std::alloc::Global;
 
 /// Runs a script: the wants of the beginning are served, and then each line of the source is answered, and the wants
 /// that it leaves are served, before the next is read.
-pub fn script_run<S: Source, K: Sink, A: Actuators>(
+pub fn script_run<S: Hears<K>, K: Sink, A: Actuators>(
     alloc: Global,
     catalogue: &Catalogue,
     source: &mut S,
@@ -49,7 +49,7 @@ pub fn status_of(end: Result<Next, Broken>) -> Status
 
 /// Runs a script over an engine that keeps nothing, and says what stopped it, which is a line where there are more than a script
 /// may have.
-fn run<S: Source, K: Sink, A: Actuators>(
+fn run<S: Hears<K>, K: Sink, A: Actuators>(
     alloc: Global,
     catalogue: &Catalogue,
     source: &mut S,
@@ -61,8 +61,8 @@ fn run<S: Source, K: Sink, A: Actuators>(
         (outside ⟦<S as Source>⟧ ⟦<K as Sink>⟧ ⟦<A as Actuators>⟧ source.old sink.old devices.old.items)
         (outside ⟦<S as Source>⟧ ⟦<K as Sink>⟧ ⟦<A as Actuators>⟧ source.new sink.new devices.new.items) result }
     ensures broke { OnErr result (S.tells → K.tells → BrokeScript catalogue.now (lines (S.left source.old))
-        (trace ⟦<K as Sink>⟧ ⟦<A as Actuators>⟧ sink.old devices.old.items)
-        (trace ⟦<K as Sink>⟧ ⟦<A as Actuators>⟧ sink.new devices.new.items)) }
+        (outside ⟦<S as Source>⟧ ⟦<K as Sink>⟧ ⟦<A as Actuators>⟧ source.old sink.old devices.old.items)
+        (outside ⟦<S as Source>⟧ ⟦<K as Sink>⟧ ⟦<A as Actuators>⟧ source.new sink.new devices.new.items)) }
     ensures write { WriteCause (K.faults sink.old) (K.faults sink.new) result }
     ensures read { ReadCause (S.faults source.old) (S.faults source.new) result }
 {

@@ -1,5 +1,5 @@
 -- What is done of the words' job is done of each job that they may ask for.
-use Rattle.std.proofs.Common.{◌≡◌, ◌≢◌, ◌⊎◌, inl, inr, Bool, true, false, if◌then◌else◌, ℕ, List, codes, bytes_eq, Option, Some, None, refl, sym, subst, ◌∙◌}
+use Rattle.std.proofs.Common.{◌≡◌, ◌≢◌, inl, inr, Bool, true, false, if◌then◌else◌, ℕ, List, codes, bytes_eq, Option, Some, None, refl, sym, subst, ◌∙◌}
 use Rattle.std.proofs.lemmas.Bool.{cases_Bool}
 use Rattle.std.proofs.lemmas.Slice.Eq.{bytes_eq-Decides}
 use Rattle.std.specs.Option.{option_and_then}
@@ -12,7 +12,7 @@ use Rattle.boss_jobs.specs.LoadJobs.{DoesLoad}
 use Rattle.boss_jobs.specs.Programs.{catalogue_word, is_served}
 use Rattle.boss_jobs.proofs.KeptLemmas.{checks-kept, checks-memory, does-kept, none-asked}
 use Rattle.boss_manager.specs.ByWords.{ByJournal, DoesJob}
-use Rattle.boss_manager.proofs.Statuses.{NotUsage, of-adopt, of-adopt_memory, of-check, of-check_memory, of-feed, of-feed_memory, of-kept, of-load, of-script, of-serve, of-serve_memory, of-standby, of-standby_memory}
+use Rattle.boss_manager.proofs.Statuses.{NotUsage, of-adopt, of-adopt_memory, of-check, of-check_memory, of-feed, of-feed_memory, of-kept, of-load, of-script, of-serve, of-serve_memory, of-standby, of-standby_memory, wrong}
 use Rattle.boss_outside.specs.declared.actuators.Actuators as actuators
 use Rattle.boss_outside.specs.declared.sink.Sink as sink
 use Rattle.boss_outside.specs.declared.source.Source as source
@@ -33,9 +33,6 @@ use Rattle.boss_words.specs.declared.job.Job.TheVariants.{Script, Serve, Check, 
 
 none-some : {P X : Type 0} {x : X} → None ≡ Some x → P
 none-some e = absurd cc
-
-wrong : {P : Type 0} → true ≡ false → P
-wrong e = absurd cc
 
 some-same : {X : Type 0} {x y : X} → Some x ≡ Some y → x ≡ y
 some-same e = cc
@@ -104,11 +101,11 @@ module _ {F D S K A H In Out C W P Runtime : Type 0} (f : files.Ghosts F D) (s :
     asked-standby_memory name is = (subst Done is did).0.1 refl
 
     pub asked-serve : (name journal address : List ℕ) (workers connections : ℕ) (rules plan : Option (List ℕ)) → job ≡ Some (Serve name journal address workers connections rules plan) → journal ≢ codes "-" →
-        DoesServe f s k a h i o c w p name journal rules plan count workers connections old new status
+        DoesServe f s k a h i o c w p name journal address rules plan count workers connections old new status
     asked-serve name journal address workers connections rules plan is = (subst Done is did).0
 
     pub asked-serve_memory : (name address : List ℕ) (workers connections : ℕ) (rules plan : Option (List ℕ)) → job ≡ Some (Serve name (codes "-") address workers connections rules plan) →
-        ServesInMemory f s k a h i o c w p name rules plan count workers connections old new status
+        ServesInMemory f s k a h i o c w p name address rules plan count workers connections old new status
     asked-serve_memory name address workers connections rules plan is = (subst Done is did).1 refl
 
     pub asked-load : (many seed : ℕ) → job ≡ Some (Load many seed) → DoesLoad f s k a many seed old.world new.world status
@@ -217,9 +214,9 @@ module _ {F D S K A H In Out C W P Runtime : Type 0} (f : files.Ghosts F D) (s :
     apart,
   )
   nothing-done (Some (Serve name journal address workers connections rules plan)) = (
-    λ _. does-serve f s k a h i o c w p name rules plan count workers connections all all 8 journal
+    λ _. does-serve f s k a h i o c w p name address rules plan count workers connections all all 8 journal
         (inl (inl (record { why = inr (refl, refl); sink = refl; devices = refl }), apart)) refl (λ tells. none-asked _ (f.asked all.world.files)) (λ tells file first second. refl),
-    λ _. serves-memory f s k a h i o c w p name rules plan count workers connections all all 8
+    λ _. serves-memory f s k a h i o c w p name address rules plan count workers connections all all 8
         (inl (inl (record { why = inr (refl, refl); sink = refl; devices = refl }), apart)) refl (λ tells. none-asked _ (f.asked all.world.files)) (λ tells file. refl),
   )
   nothing-done (Some (Load many seed)) = (record { tells = inr (refl, refl); files = refl; source = refl; devices = refl }, apart)

@@ -1,3 +1,2 @@
-pub mod WordLemmas
 pub mod Statuses
 pub mod Asked

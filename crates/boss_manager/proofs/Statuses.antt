@@ -1,6 +1,5 @@
 -- No job ends with the status of words that ask for none.
-use Rattle.std.proofs.Common.{◌≡◌, ◌⊎◌, inl, inr, Bool, true, false, ℕ, ◌==◌, if◌then◌else◌, List, Option, Result, Ok, Err, refl, sym, subst, ◌∙◌}
-use Rattle.boss_adopt_jobs.specs.Adoptions.{AdoptsOver, ComesTo}
+use Rattle.std.proofs.Common.{◌≡◌, ◌⊎◌, inl, inr, Bool, true, false, ℕ, ◌==◌, if◌then◌else◌, List, Result, Ok, Err, refl, sym, subst, ◌∙◌}
 use Rattle.boss_adopt_jobs.specs.AdoptJobs.{AdoptsJournal, AdoptsMemory}
 use Rattle.boss_adopt_jobs.specs.Telling.{TellsRefusal}
 use Rattle.boss_adopting.specs.declared.refusal.AdoptRefusal.{AdoptRefusal}
@@ -11,14 +10,13 @@ use Rattle.boss_following.specs.declared.stop.FollowEnd.TheVariants as end
 use Rattle.boss_jobs.specs.Checks.{ChecksJournal, ChecksMemory}
 use Rattle.boss_jobs.specs.Ends.{status_of}
 use Rattle.boss_jobs.specs.Jobs.{DoesScript, HadNoCatalogue, RefusedCatalogue, TellsLine, World}
-use Rattle.boss_jobs.specs.Journals.{ChecksOver, HadNoJournal, Pair, RunsOver, Beside}
+use Rattle.boss_jobs.specs.Journals.{Pair}
 use Rattle.boss_jobs.specs.KeptScripts.{DoesKeptScript}
 use Rattle.boss_jobs.specs.LoadJobs.{DoesLoad}
 use Rattle.boss_lines.specs.declared.reader.Next.{Next}
 use Rattle.boss_lines.specs.declared.reader.Next.TheVariants.{Line, Finish, TooLong, ReadFault}
 use Rattle.boss_model.specs.Catalogue.{Catalogue}
 use Rattle.boss_model.specs.State.{Persistent}
-use Rattle.boss_outside.specs.Counts.{Rose}
 use Rattle.boss_outside.specs.declared.actuators.Actuators as actuators
 use Rattle.boss_outside.specs.declared.sink.Sink as sink
 use Rattle.boss_outside.specs.declared.source.Source as source
@@ -26,8 +24,7 @@ use Rattle.boss_scripts.specs.declared.broken.Broken.{Broken}
 use Rattle.boss_scripts.specs.declared.broken.Broken.TheVariants.{WriteFault, NoMemory}
 use Rattle.boss_serve_jobs.specs.ServeJobs.{EndsBy, Faults}
 use Rattle.boss_standby_jobs.specs.FeedJobs.{FeedsJournal, FeedsMemory}
-use Rattle.boss_standby_jobs.specs.Feeds.{FeedsOver}
-use Rattle.boss_standby_jobs.specs.Followings.{FollowsNew, FollowsOver, Streams}
+use Rattle.boss_standby_jobs.specs.Followings.{FollowsOver, Streams}
 use Rattle.boss_standby_jobs.specs.StandbyJobs.{DoesStandby, StandbyMemory}
 use Rattle.boss_standby_jobs.specs.Telling.{TellsEnd}
 use Rattle.def_history.specs.History.{is_broken}
@@ -35,7 +32,7 @@ use Rattle.def_history.specs.History.{is_broken}
 abbrev pub NotUsage : ℕ → Type 0
 NotUsage status = status ≡ 2 → ⊥
 
-wrong : {P : Type 0} → true ≡ false → P
+pub wrong : {P : Type 0} → true ≡ false → P
 wrong e = absurd cc
 
 -- another number

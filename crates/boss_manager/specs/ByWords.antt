@@ -46,7 +46,7 @@ module _ {F D S K A H In Out C W P Runtime : Type 0} (f : files.Ghosts F D) (s :
       ByJournal journal (DoesStandby f s k a name journal count old.world new.world status) (StandbyMemory f s k a name count old.world new.world status)
       × StaysApart old new
   DoesJob (Some (Serve name journal address workers connections rules plan)) old new status =
-      ByJournal journal (DoesServe f s k a h i o c w p name journal rules plan count workers connections old new status)
-      (ServesInMemory f s k a h i o c w p name rules plan count workers connections old new status)
+      ByJournal journal (DoesServe f s k a h i o c w p name journal address rules plan count workers connections old new status)
+      (ServesInMemory f s k a h i o c w p name address rules plan count workers connections old new status)
   DoesJob (Some (Load many seed)) old new status = DoesLoad f s k a many seed old.world new.world status × StaysApart old new
   DoesJob None old new status = SaysUsage f s k a old.world new.world status × StaysApart old new

@@ -7,7 +7,7 @@ ghost use Rattle.boss_words.specs.Words.{job_of, texts};
 use crate::jobs::{adopt, check, feed, script, serve, standby};
 use boss_files::Files;
 use boss_jobs::{Status, do_load, say_usage};
-use boss_outside::{Actuators, Sink, Source};
+use boss_outside::{Actuators, Hears, Sink, Source};
 use boss_outside_server::{Clock, Host, Spawner, Waiter};
 use boss_serve_jobs::{Service, World};
 use boss_words::{Job, WordsRefusal, read_words};
@@ -18,7 +18,7 @@ use std::sync::Wait;
 pub fn do_words<
     R: Wait + Sync + Drop,
     F: Files,
-    S: Source,
+    S: Hears<K>,
     K: Sink,
     A: Actuators + Drop + Send,
     C: Clock + Send,

@@ -12,7 +12,7 @@ ghost use Rattle.boss_standby_jobs.specs.StandbyJobs.{DoesStandby, StandbyMemory
 use boss_adopt_jobs::{adopt_kept, adopt_memory};
 use boss_files::Files;
 use boss_jobs::{Status, check_kept, check_memory, do_kept_script, do_script};
-use boss_outside::{Actuators, Sink, Source};
+use boss_outside::{Actuators, Hears, Sink, Source};
 use boss_outside_server::{Clock, Host, Spawner, Waiter};
 use boss_serve_jobs::{Service, World, do_kept_serve, do_memory_serve};
 use boss_standby_jobs::{feed_kept, feed_memory, standby_kept, standby_memory};
@@ -21,7 +21,7 @@ use std::alloc::Global;
 use std::sync::Wait;
 
 /// Runs a script over a journal in two files, or with `-` in memory alone.
-pub fn script<F: Files, S: Source, K: Sink, A: Actuators>(
+pub fn script<F: Files, S: Hears<K>, K: Sink, A: Actuators>(
     alloc: Global,
     name: &Word,
     journal: &Word,
@@ -210,10 +210,10 @@ where
     requires few { service.workers ≤ 32 }
     ensures sound { H.sound (all_at_end world.exit).host }
     ensures kept { journal.now ≢ codes "-" → DoesServe F.Files S.Source K.Sink A.Actuators H.Host H.In.Source H.Out.Sink
-        C.Clock W.Waiter P.Spawner name.now journal.now service.entry.rules.now service.entry.plan.now (vec_len world.entry.devices.now) service.entry.workers service.entry.connections
+        C.Clock W.Waiter P.Spawner name.now journal.now service.entry.address.now service.entry.rules.now service.entry.plan.now (vec_len world.entry.devices.now) service.entry.workers service.entry.connections
         (all_at_start world.entry) (all_at_end world.exit) result.0 }
     ensures memory { journal.now ≡ codes "-" → ServesInMemory F.Files S.Source K.Sink A.Actuators H.Host H.In.Source H.Out.Sink
-        C.Clock W.Waiter P.Spawner name.now service.entry.rules.now service.entry.plan.now (vec_len world.entry.devices.now) service.entry.workers service.entry.connections
+        C.Clock W.Waiter P.Spawner name.now service.entry.address.now service.entry.rules.now service.entry.plan.now (vec_len world.entry.devices.now) service.entry.workers service.entry.connections
         (all_at_start world.entry) (all_at_end world.exit) result.0 }
 {
     if journal.text() == "-" {

@@ -14,7 +14,7 @@ ghost use Rattle.boss_serve_jobs.specs.ServeJobs.{DoesServe, is_serve, server_wo
 use crate::doing::do_words;
 use boss_files::Files;
 use boss_jobs::Status;
-use boss_outside::{Actuators, Sink, Source};
+use boss_outside::{Actuators, Hears, Sink, Source};
 use boss_outside_server::{Clock, Host, Spawner, Waiter};
 use std::alloc::Global;
 use std::sync::Wait;
@@ -33,7 +33,7 @@ use std::sync::Wait;
 pub fn boss<
     R: Wait + Sync + Drop,
     F: Files,
-    S: Source,
+    S: Hears<K>,
     K: Sink,
     A: Actuators + Drop + Send,
     C: Clock + Send,
@@ -93,13 +93,13 @@ where
     ensures serve { (name journal address : List ℕ) (workers connections : ℕ) (rules plan : Option (List ℕ))
         → job_of (texts words.now.items) ≡ Some (job.Serve name journal address workers connections rules plan) → journal ≢ codes "-"
         → DoesServe F.Files S.Source K.Sink A.Actuators H.Host H.In.Source H.Out.Sink
-        C.Clock W.Waiter P.Spawner name journal rules plan (vec_len devices.old) workers connections
+        C.Clock W.Waiter P.Spawner name journal address rules plan (vec_len devices.old) workers connections
         (server_world (world files.old source.old sink.old devices.old.items) clock.old host.old waiter.old spawner.old)
         (server_world (world files.new source.new sink.new devices.new.items) clock.new host.new waiter.new spawner.new) result.0 }
     ensures serve_memory { (name address : List ℕ) (workers connections : ℕ) (rules plan : Option (List ℕ))
         → job_of (texts words.now.items) ≡ Some (job.Serve name (codes "-") address workers connections rules plan)
         → ServesInMemory F.Files S.Source K.Sink A.Actuators H.Host H.In.Source H.Out.Sink
-        C.Clock W.Waiter P.Spawner name rules plan (vec_len devices.old) workers connections
+        C.Clock W.Waiter P.Spawner name address rules plan (vec_len devices.old) workers connections
         (server_world (world files.old source.old sink.old devices.old.items) clock.old host.old waiter.old spawner.old)
         (server_world (world files.new source.new sink.new devices.new.items) clock.new host.new waiter.new spawner.new) result.0 }
     ensures load { (count seed : ℕ) → job_of (texts words.now.items) ≡ Some (job.Load count seed)

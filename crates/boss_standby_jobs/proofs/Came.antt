@@ -1,13 +1,14 @@
 -- What comes of a feed that was followed over an engine with its disks, by what these hold once they are back.
-use Rattle.std.proofs.Common.{◌≡◌, inl, inr, true, false, ℕ, ◌<◌, Bool, List, length, sym, ap, subst, ◌∙◌, arith}
+use Rattle.std.proofs.Common.{◌≡◌, inl, inr, true, false, ℕ, ◌<◌, Bool, List, length, refl, sym, ap, subst, ◌∙◌, arith}
 use Rattle.boss_disk.specs.declared.disk.Disk as disk
 use Rattle.boss_disk.specs.Story.{Story}
 use Rattle.boss_disk.specs.Window.{IsImage}
-use Rattle.boss_disk.proofs.Legs.{legs_last}
+use Rattle.boss_disk.specs.Legs.{Legs, LeaveBoth}
+use Rattle.boss_disk.proofs.Legs.{legs_last, weaker_legs}
 use Rattle.boss_disk_pair.specs.Causes.{Counts, counts_of, first_disk, OneRose, second_disk}
 use Rattle.boss_disk_pair.specs.Images.{OpensTo, OpensToOne}
 use Rattle.boss_disk_pair.specs.Orders.{first_of, second_of, stories_of}
-use Rattle.boss_disk_pair.specs.Rests.{counted, rests}
+use Rattle.boss_disk_pair.specs.Rests.{counted, rests, stories}
 use Rattle.boss_durable.specs.declared.durable.Durable.{Durable}
 use Rattle.boss_durable.specs.Words.{keeps, lasting, leaves}
 use Rattle.boss_durable.proofs.Doing.{keeps_leaves}
@@ -26,6 +27,8 @@ use Rattle.boss_model.specs.Limits.{last_number}
 use Rattle.boss_model.specs.State.{Persistent}
 use Rattle.boss_opening.specs.Opens.{digest_of}
 use Rattle.boss_outside.specs.Counts.{Rose}
+use Rattle.boss_pair_find.specs.Two.{two}
+use Rattle.boss_pair_find.proofs.Orders.{stories_are}
 use Rattle.boss_standby_jobs.specs.Followings.{CameOwn, CameTo}
 use Rattle.def_disk_pair.specs.Pairs.{OpensCleanly}
 use Rattle.def_feed.specs.Histories.{IsAfter}
@@ -126,7 +129,19 @@ module _ {D : Type 0} (d : disk.Ghosts D) where
         plant digest (ap d.reads (sym closed.parts.0)) (ap d.reads (sym closed.parts.1)) go
         (last (d.reads (first_disk new.disks)) (d.reads (second_disk new.disks)) both.0 both.1)
 
-    pub came-so : CameTo catalogue (start_of old) bytes left end (lasting new) new.disks.events d.tells (d.reads disks.0) (d.reads disks.1)
+    -- while it ran each image was of a kind
+    runs-so : d.tells → (Is Is' : Persistent → Type 0) → ((e : Persistent) → Is e → Is' e) → Runs Is old new →
+        Legs (LeaveBoth (OpensToSome (actuators catalogue) (digest_of catalogue) Is')) (stories old.disks) (two (d.story disks.0) (d.story disks.1))
+    runs-so told Is Is' go runs =
+        subst (λ at. Legs (LeaveBoth (OpensToSome (actuators catalogue) (digest_of catalogue) Is')) (stories old.disks) at)
+        (stories_are d.story new.disks.second new.disks.journal.disk new.disks.spare ∙ (λ i. two (d.story (sym closed.parts.0 i)) (d.story (sym closed.parts.1 i))))
+        (weaker_legs
+        (λ first second leave a b at there. some-as old.engine.plant (actuators catalogue) old.disks.digest (digest_of catalogue) Is Is' a b a b plant digest refl refl go (leave a b at there)) runs)
+
+    abbrev all_are : (List ℕ → List ℕ → Type 0) → Type 0
+    all_are Is = d.tells → Legs (LeaveBoth Is) (stories old.disks) (two (d.story disks.0) (d.story disks.1))
+
+    pub came-so : CameTo catalogue (start_of old) bytes left end (lasting new) new.disks.events d.tells all_are (d.reads disks.0) (d.reads disks.1)
     came-so = record {
       now = feed.now;
       read = feed.read;
@@ -151,10 +166,13 @@ module _ {D : Type 0} (d : disk.Ghosts D) where
       torn = λ told.
           left-so told (LastsAfterSome old.engine.plant (start_of old) feed.read) (LastsAfterSome (actuators catalogue) (start_of old) feed.read)
           (λ e after. subst (λ p. LastsAfterSome p (start_of old) feed.read e) plant after) (feed.images told any kept);
+      images = λ told.
+          runs-so told (LastsAfterSome old.engine.plant (start_of old) feed.read) (LastsAfterSome (actuators catalogue) (start_of old) feed.read)
+          (λ e after. subst (λ p. LastsAfterSome p (start_of old) feed.read e) plant after) (feed.images told any kept);
     }
 
     pub own-so : (history : List Event) (told : List Item) → FollowedOwn history told old new end →
-        CameOwn catalogue history told old.disks.events end (lasting new) new.disks.events d.tells (d.reads disks.0) (d.reads disks.1)
+        CameOwn catalogue history told old.disks.events end (lasting new) new.disks.events d.tells all_are (d.reads disks.0) (d.reads disks.1)
     own-so history told own =
         let least = old.disks.events in
         let most = known_after least told own.many in
@@ -166,5 +184,8 @@ module _ {D : Type 0} (d : disk.Ghosts D) where
           leads = λ fine. subst (λ p. IsAfter p history new.disks.events (lasting new)) plant (own.leads fine);
           torn = λ told'.
               left-so told' (IsAmong old.engine.plant history least most) (IsAmong (actuators catalogue) history least most)
+              (λ e among. subst (λ p. IsAmong p history least most e) plant among) (own.images told' any kept);
+          images = λ told'.
+              runs-so told' (IsAmong old.engine.plant history least most) (IsAmong (actuators catalogue) history least most)
               (λ e among. subst (λ p. IsAmong p history least most e) plant among) (own.images told' any kept);
         }

@@ -6,8 +6,9 @@ use Rattle.boss_disk_pair.specs.Images.{OpensTo}
 use Rattle.boss_following.specs.declared.stop.FollowEnd.{FollowEnd}
 use Rattle.boss_following.specs.Ends.{LastsAfterSome, OpensToSome}
 use Rattle.boss_following.specs.Owns.{IsAmong, known_after}
+use Rattle.boss_jobs.specs.Crashes.{WhileMoved}
 use Rattle.boss_jobs.specs.Journals.{on_disks, Pair}
-use Rattle.boss_jobs.proofs.Lifting.{Follows, holds-so, none-so, refused-so, same-two, stands-so}
+use Rattle.boss_jobs.proofs.Lifting.{Follows, holds-so, moved-carried, none-so, refused-so, same-two, stands-so}
 use Rattle.boss_model.specs.Catalogue.{Catalogue, actuators}
 use Rattle.boss_model.specs.declared.event.Event.{Event}
 use Rattle.boss_model.specs.State.{Persistent}
@@ -23,10 +24,11 @@ use Rattle.def_feed.specs.Items.{Item}
 
 -- ---- what is left of a pair
 
-module _ (catalogue : Catalogue) (start : Follower) (bytes left : List ℕ) (end : FollowEnd) (d : Persistent) (number : ℕ) (tells tells' : Type 0) (first second first' second' : List ℕ) where
-  came-as : (tells → tells') → (tells → (first' ≡ first) × (second' ≡ second)) → CameTo catalogue start bytes left end d number tells' first' second' →
-      CameTo catalogue start bytes left end d number tells first second
-  came-as told same it = record {
+module _ (catalogue : Catalogue) (start : Follower) (bytes left : List ℕ) (end : FollowEnd) (d : Persistent) (number : ℕ) (tells tells' : Type 0)
+    (all_are all_are' : (List ℕ → List ℕ → Type 0) → Type 0) (first second first' second' : List ℕ) where
+  came-as : (tells → tells') → ((Is : List ℕ → List ℕ → Type 0) → all_are' Is → all_are Is) → (tells → (first' ≡ first) × (second' ≡ second)) →
+      CameTo catalogue start bytes left end d number tells' all_are' first' second' → CameTo catalogue start bytes left end d number tells all_are first second
+  came-as told all same it = record {
     read = it.read;
     unread = it.unread;
     all = it.all;
@@ -38,13 +40,14 @@ module _ (catalogue : Catalogue) (start : Follower) (bytes left : List ℕ) (end
         same-two (λ a b. OpensCleanly (actuators catalogue) (digest_of catalogue) it.now.lasting it.now.count a b) first' second' first second (same t) (it.counted (told t) fine few);
     torn = λ t.
         same-two (λ a b. OpensToSome (actuators catalogue) (digest_of catalogue) (LastsAfterSome (actuators catalogue) start it.read) a b) first' second' first second (same t) (it.torn (told t));
+    images = all (OpensToSome (actuators catalogue) (digest_of catalogue) (LastsAfterSome (actuators catalogue) start it.read)) it.images;
   }
 
 module _ (catalogue : Catalogue) (history : List Event) (told : List Item) (known : ℕ) (end : FollowEnd) (d : Persistent) (number : ℕ)
-    (tells tells' : Type 0) (first second first' second' : List ℕ) where
-  own-as : (tells → tells') → (tells → (first' ≡ first) × (second' ≡ second)) → CameOwn catalogue history told known end d number tells' first' second' →
-      CameOwn catalogue history told known end d number tells first second
-  own-as tell same it = record {
+    (tells tells' : Type 0) (all_are all_are' : (List ℕ → List ℕ → Type 0) → Type 0) (first second first' second' : List ℕ) where
+  own-as : (tells → tells') → ((Is : List ℕ → List ℕ → Type 0) → all_are' Is → all_are Is) → (tells → (first' ≡ first) × (second' ≡ second)) →
+      CameOwn catalogue history told known end d number tells' all_are' first' second' → CameOwn catalogue history told known end d number tells all_are first second
+  own-as tell all same it = record {
     follows = it.follows;
     many = it.many;
     are_read = it.are_read;
@@ -53,14 +56,15 @@ module _ (catalogue : Catalogue) (history : List Event) (told : List Item) (know
     torn = λ t.
         same-two (λ a b. OpensToSome (actuators catalogue) (digest_of catalogue) (IsAmong (actuators catalogue) history known (known_after known told it.many)) a b)
         first' second' first second (same t) (it.torn (tell t));
+    images = all (OpensToSome (actuators catalogue) (digest_of catalogue) (IsAmong (actuators catalogue) history known (known_after known told it.many))) it.images;
   }
 
 module _ (was now was' now' : Pair) where
-  module _ {S K : Type 0} (s : source.Ghosts S) (k : sink.Ghosts K) (catalogue : Catalogue) (d : Persistent) (number : ℕ) (old new : Streams S K) (status : ℕ)
-      (tells : was.tells → was'.tells) (left : was.tells → (now'.first ≡ now.first) × (now'.second ≡ now.second))
+  module _ {S K : Type 0} (s : source.Ghosts S) (k : sink.Ghosts K) (catalogue : Catalogue) (d : Persistent) (number : ℕ) (all_are all_are' : (List ℕ → List ℕ → Type 0) → Type 0) (old new : Streams S K) (status : ℕ)
+      (tells : was.tells → was'.tells) (all : (Is : List ℕ → List ℕ → Type 0) → all_are' Is → all_are Is) (left : was.tells → (now'.first ≡ now.first) × (now'.second ≡ now.second))
       (rose : Rose was'.faults now'.faults → Rose was.faults now.faults) (stood : now'.faults ≡ was'.faults → now.faults ≡ was.faults) where
     -- of a pair only what it holds in the end, and its count, are told
-    pub followed-so : Followed s k catalogue d number was' now' old new status → Followed s k catalogue d number was now old new status
+    pub followed-so : Followed s k catalogue d number all_are' was' now' old new status → Followed s k catalogue d number all_are was now old new status
     followed-so it = record {
       end = it.end;
       lasting = it.lasting;
@@ -70,8 +74,8 @@ module _ (was now was' now' : Pair) where
       disk_fault = λ failed. rose (it.disk_fault failed);
       no_disk_fault = λ fine. stood (it.no_disk_fault fine);
       own = λ st history told begins.
-          own-as catalogue history told number it.end it.lasting it.count was.tells was'.tells now.first now.second now'.first now'.second tells left (it.own st history told begins);
-      came = λ st. came-as catalogue _ _ _ it.end it.lasting it.count was.tells was'.tells now.first now.second now'.first now'.second tells left (it.came st);
+          own-as catalogue history told number it.end it.lasting it.count was.tells was'.tells all_are all_are' now.first now.second now'.first now'.second tells all left (it.own st history told begins);
+      came = λ st. came-as catalogue _ _ _ it.end it.lasting it.count was.tells was'.tells all_are all_are' now.first now.second now'.first now'.second tells all left (it.came st);
     }
 
   module _ (so : Follows was now was' now') where
@@ -122,7 +126,14 @@ module _ (was now was' now' : Pair) where
         state = found.state;
         number = found.number;
         opened = λ told. same-two (λ a b. OpenedAt (actuators catalogue) (digest_of catalogue) a b found.state found.number) _ _ _ _ (so.began told) (found.opened (so.tells told));
-        followed = followed-so s k catalogue found.state.persistent found.number old new status so.tells so.left so.rose so.stood found.followed;
+        followed = followed-so s k catalogue found.state.persistent found.number
+            (λ Is. was.tells → now.whole → WhileMoved (actuators catalogue) (digest_of catalogue) was.first was.second was.stories Is now.stories)
+            (λ Is. was'.tells → now'.whole → WhileMoved (actuators catalogue) (digest_of catalogue) was'.first was'.second was'.stories Is now'.stories)
+            old new status so.tells
+            (λ Is moved told whole.
+            moved-carried (actuators catalogue) (digest_of catalogue) was.first was.second was'.first was'.second (so.began told) Is
+            was'.stories now'.stories was.stories now.stories (so.carries told whole) (moved (so.tells told) (so.whole told whole)))
+            so.left so.rose so.stood found.followed;
       }))
     ]
 
@@ -140,6 +151,8 @@ new-follow d stores back told empty synced fresh =
       left = λ _. (refl, refl);
       rose = λ rose. subst (λ n. Rose n (d.faults back.0 + d.faults back.1)) none rose;
       stood = λ stood. stood ∙ none;
+      whole = λ _ whole. absurd whole;
+      carries = λ _ whole. absurd whole;
     }
 
 pub new-so : {D S K : Type 0} (d : disk.Ghosts D) (s : source.Ghosts S) (k : sink.Ghosts K) (catalogue : Catalogue) (stores back : D × D) (old new : Streams S K) (over : ℕ) →

@@ -1,6 +1,8 @@
 ghost use Rattle.std.specs.Prelude.{◌≡◌, false, List, length};
 ghost use Rattle.boss_disk_pair.specs.Causes.{first_disk, second_disk};
-ghost use Rattle.boss_disk_pair.specs.Rests.{counted};
+ghost use Rattle.boss_disk.specs.Legs.{Legs, LeaveBoth};
+ghost use Rattle.boss_disk_pair.specs.Rests.{counted, stories};
+ghost use Rattle.boss_pair_find.specs.Two.{two};
 ghost use Rattle.boss_durable.specs.Words.{keeps, lasting};
 ghost use Rattle.boss_jobs.specs.Journals.{on_disks};
 ghost use Rattle.boss_model.specs.Catalogue.{actuators};
@@ -54,6 +56,7 @@ fn follow_opened<D: Disk, S: Source, K: Sink>(
     requires going { durable.disks.stopped ≡ false }
     requires keeps { (any : List Event) → counted (length any) ≡ durable.disks.events → keeps durable any }
     ensures { Followed S.Source K.Sink catalogue.now (lasting durable) durable.disks.events
+        (λ Is. D.tells → Legs (LeaveBoth Is) (stories durable.disks) (two (D.story result.0.0) (D.story result.0.1)))
         (on_disks D.Disk (first_disk durable.disks, second_disk durable.disks)) (on_disks D.Disk result.0)
         (streams source.old sink.old) (streams source.new sink.new) result.1.0 }
 {

@@ -1,5 +1,7 @@
 -- Source: own.
-use Rattle.std.specs.Prelude.{◌≡◌, Option, Some, None, Result, Ok, Err}
+use Rattle.std.specs.Prelude.{◌≡◌, ◌≤◌, Option, Some, None, Result, Ok, Err}
+use Rattle.boss_words.specs.declared.job.Job.{Job}
+use Rattle.boss_words.specs.declared.job.Job.TheVariants.{Script, Serve, Check, Adopt, Feed, Standby, Load}
 use Rattle.boss_words.specs.declared.read.WordsRefusal.{WordsRefusal}
 use Rattle.boss_words.specs.declared.read.WordsRefusal.TheVariants.{Usage, NoMemory}
 
@@ -8,3 +10,13 @@ abbrev pub Gives : {A : Type 0} → Result A WordsRefusal → Option A → Type 
 Gives (Ok x) wanted = wanted ≡ Some x
 Gives (Err Usage) wanted = wanted ≡ None
 Gives (Err NoMemory) wanted = Unit {0}
+
+-- a server has 1 to 32 workers; of other jobs nothing is said
+abbrev pub HasWorkers : Job → Type 0
+HasWorkers (Serve catalogue journal address workers connections rules plan) = (1 ≤ workers) × (workers ≤ 32)
+HasWorkers (Script catalogue journal) = Unit {0}
+HasWorkers (Check catalogue journal) = Unit {0}
+HasWorkers (Adopt old new journal) = Unit {0}
+HasWorkers (Feed catalogue journal from) = Unit {0}
+HasWorkers (Standby catalogue journal) = Unit {0}
+HasWorkers (Load count seed) = Unit {0}

@@ -1,4 +1,4 @@
-ghost use Rattle.std.specs.Prelude.{◌≡◌, ◌≤◌};
+ghost use Rattle.std.specs.Prelude.{◌≡◌, ◌≤◌, IfSome};
 ghost use Rattle.std.specs.Char.{is_ascii_digit};
 ghost use Rattle.std.specs.List.{list_all};
 ghost use Rattle.boss_words.specs.Words.{event_number_of, is_event_number, is_number, number_of};
@@ -8,7 +8,8 @@ const EVENT_NUMBERS: u64 = 1 << 62;
 
 /// The number that 1 to 10 decimal digits spell, if it lies within these bounds. A sign is no digit.
 pub(crate) fn number(text: &str, least: u32, most: u32) -> Option<u32>
-    ensures { result ≡ number_of least most text.now }
+    ensures number { result ≡ number_of least most text.now }
+    ensures bounds { IfSome result (λ number. (least ≤ number) × (number ≤ most)) }
 {
     if !is_number(text) {
         return None;

@@ -1,7 +1,7 @@
 ghost use Rattle.boss_words.specs.Words.{texts, job_of, script_of, serve_of, check_of, adopt_of, feed_of, standby_of, load_of, optional_of, file_of};
-ghost use Rattle.boss_words.specs.Given.{Gives};
+ghost use Rattle.boss_words.specs.Given.{Gives, HasWorkers};
 ghost use Rattle.boss_words.specs.declared.read.WordsRefusal.TheVariants.{NoMemory};
-ghost use Rattle.std.specs.Prelude.{◌≡◌};
+ghost use Rattle.std.specs.Prelude.{◌≡◌, IfOk};
 
 use crate::number::{event_number, number};
 use crate::{Job, Word};
@@ -37,9 +37,10 @@ impl From<AllocError> for WordsRefusal {
     }
 }
 
-/// The job that the words ask for; they do not include the program's own name. No word is an option.
+/// The job that the words ask for; they do not include the program's own name. No word is an option. A server has 1 to 32 workers.
 pub fn read_words(alloc: Global, words: &Vec<String>) -> Result<Job, WordsRefusal>
-    ensures { Gives result (job_of (texts words.now.items)) }
+    ensures job { Gives result (job_of (texts words.now.items)) }
+    ensures workers { IfOk result HasWorkers }
 {
     let [job, arguments @ ..] = words.as_slice() else {
         return Err(WordsRefusal::Usage);
@@ -58,7 +59,8 @@ pub fn read_words(alloc: Global, words: &Vec<String>) -> Result<Job, WordsRefusa
 
 /// `script CATALOGUE JOURNAL`
 fn script(alloc: Global, arguments: &[String]) -> Result<Job, WordsRefusal>
-    ensures { Gives result (script_of (texts arguments.now)) }
+    ensures job { Gives result (script_of (texts arguments.now)) }
+    ensures workers { IfOk result HasWorkers }
 {
     let [catalogue, journal] = arguments else {
         return Err(WordsRefusal::Usage);
@@ -70,7 +72,8 @@ fn script(alloc: Global, arguments: &[String]) -> Result<Job, WordsRefusal>
 
 /// `serve CATALOGUE JOURNAL ADDRESS WORKERS CONNECTIONS`, and then RULES and PLAN, the last or both of which may be left out.
 fn serve(alloc: Global, arguments: &[String]) -> Result<Job, WordsRefusal>
-    ensures { Gives result (serve_of (texts arguments.now)) }
+    ensures job { Gives result (serve_of (texts arguments.now)) }
+    ensures workers { IfOk result HasWorkers }
 {
     let [
         catalogue,
@@ -135,7 +138,8 @@ fn file_word(alloc: Global, text: &str) -> Result<Option<Word>, WordsRefusal>
 
 /// `check CATALOGUE JOURNAL`
 fn check(alloc: Global, arguments: &[String]) -> Result<Job, WordsRefusal>
-    ensures { Gives result (check_of (texts arguments.now)) }
+    ensures job { Gives result (check_of (texts arguments.now)) }
+    ensures workers { IfOk result HasWorkers }
 {
     let [catalogue, journal] = arguments else {
         return Err(WordsRefusal::Usage);
@@ -147,7 +151,8 @@ fn check(alloc: Global, arguments: &[String]) -> Result<Job, WordsRefusal>
 
 /// `adopt OLD NEW JOURNAL`
 fn adopt(alloc: Global, arguments: &[String]) -> Result<Job, WordsRefusal>
-    ensures { Gives result (adopt_of (texts arguments.now)) }
+    ensures job { Gives result (adopt_of (texts arguments.now)) }
+    ensures workers { IfOk result HasWorkers }
 {
     let [old, new, journal] = arguments else {
         return Err(WordsRefusal::Usage);
@@ -160,7 +165,8 @@ fn adopt(alloc: Global, arguments: &[String]) -> Result<Job, WordsRefusal>
 
 /// `feed CATALOGUE JOURNAL FROM`
 fn feed(alloc: Global, arguments: &[String]) -> Result<Job, WordsRefusal>
-    ensures { Gives result (feed_of (texts arguments.now)) }
+    ensures job { Gives result (feed_of (texts arguments.now)) }
+    ensures workers { IfOk result HasWorkers }
 {
     let [catalogue, journal, from] = arguments else {
         return Err(WordsRefusal::Usage);
@@ -177,7 +183,8 @@ fn feed(alloc: Global, arguments: &[String]) -> Result<Job, WordsRefusal>
 
 /// `standby CATALOGUE JOURNAL`
 fn standby(alloc: Global, arguments: &[String]) -> Result<Job, WordsRefusal>
-    ensures { Gives result (standby_of (texts arguments.now)) }
+    ensures job { Gives result (standby_of (texts arguments.now)) }
+    ensures workers { IfOk result HasWorkers }
 {
     let [catalogue, journal] = arguments else {
         return Err(WordsRefusal::Usage);
@@ -189,7 +196,8 @@ fn standby(alloc: Global, arguments: &[String]) -> Result<Job, WordsRefusal>
 
 /// `load COUNT SEED`
 fn load(arguments: &[String]) -> Result<Job, WordsRefusal>
-    ensures { Gives result (load_of (texts arguments.now)) }
+    ensures job { Gives result (load_of (texts arguments.now)) }
+    ensures workers { IfOk result HasWorkers }
 {
     let [count, seed] = arguments else {
         return Err(WordsRefusal::Usage);

@@ -3,7 +3,7 @@ ghost use Rattle.std.specs.Prelude.{[]};
 
 use crate::outside::*;
 use boss_manager::Status;
-use boss_outside::{Got, Source};
+use boss_outside::{BytesSink, Got, Hears, Source};
 use std::process::Abort;
 
 const INPUT: &str = "{\"op\":\"attach\",\"process\":\"a\"}
@@ -110,6 +110,10 @@ impl Source for Endless {
     }
 
     ghost suffix = { λ source tells. absurd tells };
+}
+
+impl Hears<BytesSink> for Endless {
+    fn show(&mut self, _sink: &BytesSink) {}
 }
 
 /// It is told once there are as many bytes as no line may have, and nothing is read behind them.

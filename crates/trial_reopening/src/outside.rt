@@ -8,7 +8,7 @@ ghost use Rattle.boss_scripts.specs.Devices.{HasDevices};
 use boss_disk::MemoryDisk;
 use boss_manager::{Status, check_on_disks, script_on_disks};
 use boss_model::{Items, PointId};
-use boss_outside::{BytesSink, BytesSource, SimActuators, Source};
+use boss_outside::{BytesSink, BytesSource, Hears, SimActuators};
 use boss_points::{Catalogue, Point};
 use std::alloc::Global;
 use std::process::Abort;
@@ -133,7 +133,7 @@ pub struct Ran {
 }
 
 /// Runs a script over two disks, with a sink and a device of its own.
-pub fn run_over<S: Source>(
+pub fn run_over<S: Hears<BytesSink>>(
     alloc: Global,
     catalogue: &Catalogue,
     disks: Pair,

@@ -1,13 +1,16 @@
 use Rattle.std.proofs.Common.{◌≡◌, refl, inl, inr, ap, sym, ◌∙◌, subst, Ok, IfErr}
+use Rattle.boss_disk.specs.Legs.{stand}
 use Rattle.boss_disk.specs.Window.{settled}
 use Rattle.boss_model.specs.Catalogue.{actuators}
 use Rattle.boss_outside.specs.Counts.{Rose}
 use Rattle.boss_opening.specs.Checks.{CheckCause}
 use Rattle.boss_opening.specs.declared.checking.Checked.TheVariants.{New, Found}
 use Rattle.boss_opening.specs.Opens.{digest_of, OpenRefuses}
-use Rattle.boss_pair_find.specs.Two.{counts}
+use Rattle.boss_pair_find.specs.Two.{counts, two}
 use Rattle.boss_jobs.specs.Jobs.{TellsLine}
 use Rattle.boss_jobs.specs.Journals.{on_disks}
+use Rattle.boss_jobs.proofs.Carrying.{Quietly}
+use Rattle.boss_jobs.proofs.Lifting.{same-carries}
 use Rattle.boss_jobs.proofs.Refusals.{both, told-so}
 use Rattle.boss_jobs.proofs.StandingLemmas.{same-stands}
 use Rattle.boss_adopt_jobs.proofs.Checking.{is-new, no-fault, not-new}
@@ -59,6 +62,8 @@ returns-in-Ok-Found g c =
       left = λ tells. (refl, refl);
       rose = λ rose. subst (λ n. Rose n now.faults) same rose;
       stood = λ stood. stood ∙ same;
+      whole = λ tells whole. whole;
+      carries = λ tells _. same-carries mid.stories now.stories was.stories (λ i. two (sym (checked.first_story tells) i) (sym (checked.second_story tells) i));
     })
     (λ told. not-new answer (actuators c.args.old.now) (digest_of c.args.old.now) (d.reads c.args.first) (d.reads c.args.second)
     arm.field-0-0 arm.field-0-1 arm.field-0-2 arm.field-0-3 is (checked.tells told)) c.open_and_adopt.ensures
@@ -78,6 +83,10 @@ returns-in-Err g c =
     (λ told. subst (λ r. IfErr r (OpenRefuses (actuators c.args.old.now) (digest_of c.args.old.now) (d.reads c.args.first) (d.reads c.args.second))) c.in-Err.is (checked.refuses told))
     (λ told _. (checked.first_reads told, checked.second_reads told)) c.say_journal-status.ensures (subst (CheckCause before after) c.in-Err.is checked.cause) in
     elim it [
-      | inl none ↦ inl (none, λ told _. same-stands c.args.old.now was now (checked.first_reads told, checked.second_reads told))
+      | inl none ↦ inl (
+        none,
+        λ told _. same-stands c.args.old.now was now (checked.first_reads told, checked.second_reads told)
+            (λ _. subst (λ at. Quietly was.stories at) (λ i. two (sym (checked.first_story told) i) (sym (checked.second_story told) i)) (stand was.stories (λ _ is. is, λ _ is. is))),
+      )
       | inr refused ↦ inr (inl refused)
     ]

@@ -1,9 +1,14 @@
 use Rattle.std.proofs.Common.{refl}
 use Rattle.boss_adopt_jobs.proofs.Coming.{lacked-so}
+use Rattle.boss_adopt_jobs.proofs.Moving.{still-moves}
 use Rattle.boss_adopt_jobs.proofs.adopting.adopt_opened.Goals as goal
 
-pub returns-in-Err : goal.returns-in-Err
-returns-in-Err g c =
+pub returns-in-Err-clause-comes : goal.returns-in-Err-clause-comes
+returns-in-Err-clause-comes g c =
     lacked-so g.D.Disk g.K.Sink c.args.old.now c.args.new.now c.args.durable c.requires.plant c.requires.digest c.requires.keeps c.requires.leaves
     c.args.sink.now c.args.sink.now 8 c.close.result c.args.durable
     (record { parts = c.close.ensures.disks; opens = c.close.ensures.opens; left = c.close.ensures.left }) refl refl refl
+
+pub returns-in-Err-clause-moves : goal.returns-in-Err-clause-moves
+returns-in-Err-clause-moves g c =
+    still-moves g.D.Disk c.args.old.now c.args.new.now c.args.durable c.requires.plant c.requires.digest c.requires.keeps c.requires.leaves c.close.result c.close.ensures.disks

@@ -1,9 +1,11 @@
 use Rattle.std.proofs.Common.{◌≡◌, refl, inl, inr, ap, ◌∙◌, subst}
-use Rattle.boss_pair_find.specs.Two.{counts}
+use Rattle.boss_pair_find.specs.Two.{counts, two}
 use Rattle.boss_outside.specs.Counts.{Rose}
 use Rattle.boss_jobs.specs.Journals.{on_disks}
+use Rattle.boss_jobs.proofs.OpenedLemmas.{moved-so}
 use Rattle.boss_jobs.proofs.Refusals.{both, told-so}
 use Rattle.boss_jobs.proofs.StandingLemmas.{disks-stand}
+use Rattle.boss_adopt_jobs.specs.Adoptions.{OpensToEither}
 use Rattle.boss_adopt_jobs.proofs.Coming.{of_durable}
 use Rattle.boss_adopt_jobs.proofs.Following.{comes-so}
 use Rattle.boss_adopt_jobs.proofs.adopting.open_and_adopt.Goals as goal
@@ -21,7 +23,11 @@ returns-in-Ok g c =
       opened = c.in-Ok.ensures.opens;
       comes = comes-so was now (of_durable d durable) now g.K.Sink c.args.old.now c.args.new.now c.args.sink.now c.adopt_opened.new.sink c.adopt_opened.result.1.0
           (λ tells. tells) (λ _. (refl, refl)) (λ rose. subst (λ n. Rose n now.faults) same rose) (λ stood. stood ∙ same)
-          durable.engine.state.persistent durable.disks.events c.adopt_opened.ensures;
+          durable.engine.state.persistent durable.disks.events c.adopt_opened.ensures.comes;
+      images = λ told _.
+          moved-so d c.args.old.now c.args.first c.args.second durable c.in-Ok.ensures.keeps c.in-Ok.ensures.leaves c.in-Ok.ensures.digest c.in-Ok.ensures.plant c.in-Ok.ensures.images told
+          (OpensToEither c.args.old.now c.args.new.now durable.engine.state.persistent)
+          (two (d.story c.adopt_opened.result.0.0) (d.story c.adopt_opened.result.0.1)) (c.adopt_opened.ensures.moves told);
     }))
 
 pub returns-in-Err : goal.returns-in-Err

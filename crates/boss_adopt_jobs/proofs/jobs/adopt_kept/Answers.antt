@@ -28,7 +28,7 @@ returns-in-Ok g c =
       new_spells = loads.1;
       adopts = adopts-so (in_files f journal c.args.files.now) (in_files f journal c.adopt_in_files.new.files) (in_files f journal c.load_both.new.files) (in_files f journal c.adopt_in_files.new.files)
           g.K.Sink c.in-Ok.change.old c.in-Ok.change.new c.args.sink.now c.adopt_in_files.new.sink c.adopt_in_files.result.0
-          (later-follow f journal c.args.files.now c.load_both.new.files c.adopt_in_files.new.files ends.stays ends.cause) c.adopt_in_files.ensures.adopts;
+          (later-follow f journal c.args.files.now c.load_both.new.files c.adopt_in_files.new.files ends.stays ends.past ends.cause) c.adopt_in_files.ensures.adopts;
     }))))
     refl refl
     (λ tells. both-asked c.args.old_name.now c.args.new_name.now _ _ _ _ (ends.asks tells) (c.adopt_in_files.ensures.asks tells))

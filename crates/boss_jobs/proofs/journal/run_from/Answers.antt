@@ -1,12 +1,17 @@
-use Rattle.std.proofs.Common.{◌≡◌, false, ◌+◌, ◌<◌, ◌++◌, if◌then◌else◌, length, sym, ap, subst, ◌∙◌}
+use Rattle.std.proofs.Common.{◌≡◌, false, ◌+◌, ◌<◌, ◌++◌, if◌then◌else◌, length, refl, sym, ap, subst, ◌∙◌}
 use Rattle.std.proofs.lemmas.List.{length-append}
+use Rattle.boss_disk_pair.specs.Rests.{stories}
 use Rattle.boss_durable.specs.Words.{faults}
+use Rattle.boss_durable.proofs.Stories.{walks_stories}
 use Rattle.def_history.specs.History.{events, IsLegal, run, run_tried}
 use Rattle.boss_model.specs.Catalogue.{actuators}
 use Rattle.boss_model.specs.Limits.{last_number}
 use Rattle.boss_outside.specs.Counts.{Rose}
 use Rattle.boss_scripts.specs.Outside.{outside}
-use Rattle.boss_shared.specs.Keeping.{shortened}
+use Rattle.boss_shared.specs.Walking.{shortened}
+use Rattle.boss_pair_find.specs.Two.{two}
+use Rattle.boss_pair_find.proofs.Orders.{stories_are}
+use Rattle.boss_jobs.specs.Crashes.{Steps}
 use Rattle.boss_jobs.specs.Ends.{status_of}
 use Rattle.boss_jobs.proofs.RunLemmas.{one-as, opens-as, ran-so}
 use Rattle.boss_jobs.proofs.journal.run_from.Goals as goal
@@ -51,4 +56,9 @@ returns g c =
                 (ap (λ p. (run p ran.made start).persistent) c.requires.plant) (ap (λ p. (run_tried p (shortened may.0 ran.made) start).persistent) c.requires.plant)
                 (c.close.ensures.left told _ _ may.1),
           );
+      steps = λ told before held.
+          subst (λ at. Steps plant c.args.durable.disks.digest start (stories c.args.durable.disks) ran.made at)
+          (stories_are d.story now.disks.second now.disks.journal.disk now.disks.spare ∙ (λ i. two (d.story (sym parts.0 i)) (d.story (sym parts.1 i))))
+          (subst (λ p. Steps p c.args.durable.disks.digest start (stories c.args.durable.disks) ran.made (stories now.disks)) c.requires.plant
+          (walks_stories c.args.durable.engine.plant c.args.durable.disks.digest told start c.args.durable now ran.made refl refl (ran.kept.through c.requires.going before held)));
     }

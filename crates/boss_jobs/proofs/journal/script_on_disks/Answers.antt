@@ -9,7 +9,7 @@ use Rattle.boss_jobs.proofs.journal.script_on_disks.Goals as goal
 pub returns-in-Ok : goal.returns-in-Ok
 returns-in-Ok g c =
     inr (inr (ran-journal g.D.Disk g.S.Source g.K.Sink g.A.Actuators c.args.catalogue.now c.args.first c.args.second c.in-Ok.durable c.run_from.result.0 _ _ _
-    c.in-Ok.ensures.opens c.in-Ok.ensures.keeps c.in-Ok.ensures.leaves c.in-Ok.ensures.digest c.in-Ok.ensures.cause c.run_from.ensures))
+    c.in-Ok.ensures.opens c.in-Ok.ensures.keeps c.in-Ok.ensures.leaves c.in-Ok.ensures.digest c.in-Ok.ensures.plant c.in-Ok.ensures.images c.in-Ok.ensures.cause c.run_from.ensures))
 
 pub returns-in-Err : goal.returns-in-Err
 returns-in-Err g c =

@@ -21,7 +21,7 @@ returns-in-Ok g c =
       catalogue = c.in-Ok.catalogue;
       spells = loads;
       checks = checks-so (in_files f journal c.args.files.now) (in_files f journal c.check_in_files.new.files) (in_files f journal c.load.new.files) (in_files f journal c.check_in_files.new.files)
-          (later-follow f journal c.args.files.now c.load.new.files c.check_in_files.new.files c.in-Ok.ensures.stays c.in-Ok.ensures.cause)
+          (later-follow f journal c.args.files.now c.load.new.files c.check_in_files.new.files c.in-Ok.ensures.stays c.in-Ok.ensures.past c.in-Ok.ensures.cause)
           g.K.Sink c.in-Ok.catalogue c.args.sink.now c.check_in_files.new.sink c.check_in_files.result.0 c.check_in_files.ensures.checks;
     })))
     (λ tells file. c.check_in_files.ensures.keeps tells file ∙ ap (λ h. unwrap_or h []) (c.in-Ok.ensures.stays tells file))

@@ -21,7 +21,7 @@ returns-in-Ok g c =
       catalogue = c.in-Ok.catalogue;
       spells = loads;
       runs = runs-so (in_files f journal c.args.files.now) (in_files f journal c.run_in_files.new.files) (in_files f journal c.load.new.files) (in_files f journal c.run_in_files.new.files)
-          (later-follow f journal c.args.files.now c.load.new.files c.run_in_files.new.files c.in-Ok.ensures.stays c.in-Ok.ensures.cause)
+          (later-follow f journal c.args.files.now c.load.new.files c.run_in_files.new.files c.in-Ok.ensures.stays c.in-Ok.ensures.past c.in-Ok.ensures.cause)
           g.S.Source g.K.Sink g.A.Actuators c.in-Ok.catalogue _ _ _ c.run_in_files.ensures.runs;
     })))
     (λ tells. more-asked c.args.name.now _ (f.asked c.args.files.now) (f.asked c.load.new.files) (f.asked c.run_in_files.new.files) (c.in-Ok.ensures.asks tells) (c.run_in_files.ensures.asks tells))

@@ -1,7 +1,6 @@
 use Rattle.std.proofs.Common.{vec_len}
 use Rattle.boss_jobs.specs.Jobs.{world}
 use Rattle.boss_manager.proofs.Asked.{nothing-done}
-use Rattle.boss_manager.proofs.WordLemmas.{workers-fit}
 use Rattle.boss_manager.proofs.doing.do_words.Goals as goal
 use Rattle.boss_serve_jobs.specs.ServeJobs.{server_world}
 use Rattle.boss_words.specs.Words.{job_of, texts}
@@ -9,10 +8,10 @@ use Rattle.boss_words.specs.Words.{job_of, texts}
 -- ---- a server's workers are as many as its row allows
 
 pub serve-requires-clause-some : goal.serve-requires-clause-some
-serve-requires-clause-some g c = λ _ _. (workers-fit (texts c.args.words.now.items) _ _ _ _ _ _ _ (rw c.in-Ok-Serve.field-0-is at c.in-Ok-Serve.ensures)).0
+serve-requires-clause-some g c = λ _ _. (rw c.in-Ok-Serve.field-0-is at c.in-Ok-Serve.ensures.workers).0
 
 pub serve-requires-clause-few : goal.serve-requires-clause-few
-serve-requires-clause-few g c = λ _ _. (workers-fit (texts c.args.words.now.items) _ _ _ _ _ _ _ (rw c.in-Ok-Serve.field-0-is at c.in-Ok-Serve.ensures)).1
+serve-requires-clause-few g c = λ _ _. (rw c.in-Ok-Serve.field-0-is at c.in-Ok-Serve.ensures.workers).1
 
 -- ---- no memory for the words: nothing was done
 

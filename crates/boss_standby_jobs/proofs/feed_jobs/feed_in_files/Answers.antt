@@ -20,7 +20,8 @@ returns-in-Ok-open_stores-clause-feeds g c =
     let again : c.as_str-in-Ok-open_stores.result.now ≡ second_name journal = c.as_str-in-Ok-open_stores.ensures.value ∙ c.in-Ok.ensures.name in
     feeds-so (in_files f journal c.args.files.now) (in_files f journal c.close_stores.new.files) (on_disks d (first, other)) (on_disks d back)
     (stores-follow f d journal c.args.files.now c.open_stores.new.files c.close_stores.new.files c.as_str.result.now c.as_str-in-Ok-open_stores.result.now (first, other) back named again
-    c.in-Ok-open_stores.ensures.told c.in-Ok-open_stores.ensures.first_bytes c.in-Ok-open_stores.ensures.second_bytes c.in-Ok-open_stores.ensures.settled c.in-Ok-open_stores.ensures.fresh
+    c.in-Ok-open_stores.ensures.told c.in-Ok-open_stores.ensures.first_bytes c.in-Ok-open_stores.ensures.second_bytes c.in-Ok-open_stores.ensures.settled
+    c.in-Ok-open_stores.ensures.begin g.met.F.Store.Disk.reads_stay c.in-Ok-open_stores.ensures.past c.close_stores.ensures.gains c.in-Ok-open_stores.ensures.fresh
     c.close_stores.ensures.first_bytes c.close_stores.ensures.second_bytes c.in-Ok-open_stores.ensures.cause c.close_stores.ensures.cause)
     g.K.Sink c.args.catalogue.now c.args.from c.args.sink.now c.feed_on_disks-stores.new.sink c.feed_on_disks-stores.result.1.0 c.feed_on_disks-stores.ensures
 

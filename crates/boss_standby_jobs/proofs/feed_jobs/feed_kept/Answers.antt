@@ -23,7 +23,7 @@ returns-in-Ok g c =
       catalogue = c.in-Ok.catalogue;
       spells = loads;
       feeds = feeds-so (in_files f journal c.args.files.now) (in_files f journal c.feed_in_files.new.files) (in_files f journal c.load.new.files) (in_files f journal c.feed_in_files.new.files)
-          (later-follow f journal c.args.files.now c.load.new.files c.feed_in_files.new.files c.in-Ok.ensures.stays c.in-Ok.ensures.cause)
+          (later-follow f journal c.args.files.now c.load.new.files c.feed_in_files.new.files c.in-Ok.ensures.stays c.in-Ok.ensures.past c.in-Ok.ensures.cause)
           g.K.Sink c.in-Ok.catalogue c.args.from c.args.sink.now c.feed_in_files.new.sink c.feed_in_files.result.0 c.feed_in_files.ensures.feeds;
     })))
     (λ tells file. c.feed_in_files.ensures.keeps tells file ∙ ap (λ h. unwrap_or h []) (c.in-Ok.ensures.stays tells file))

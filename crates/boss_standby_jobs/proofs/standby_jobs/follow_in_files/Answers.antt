@@ -1,8 +1,9 @@
-use Rattle.std.proofs.Common.{◌≡◌, refl, inl, inr, Err, ap, ◌∙◌}
+use Rattle.std.proofs.Common.{◌≡◌, refl, inl, inr, Err, [], ◌∷◌, sym, ap, subst, ◌∙◌}
 use Rattle.boss_files.specs.Names.{second_name}
-use Rattle.boss_jobs.specs.Journals.{in_files, on_disks}
+use Rattle.boss_jobs.specs.Journals.{AsksFront, in_files, on_disks}
+use Rattle.boss_jobs.proofs.KeptLemmas.{front-asked}
 use Rattle.boss_jobs.proofs.Lifting.{stores-follow}
-use Rattle.boss_jobs.proofs.StandingLemmas.{failed-rose, files-stand, lacking-stood, same-stands}
+use Rattle.boss_jobs.proofs.StandingLemmas.{failed-rose, files-stand, lacking-stood, nothing-stands}
 use Rattle.boss_standby_jobs.proofs.Lifted.{follows-so}
 use Rattle.boss_standby_jobs.proofs.standby_jobs.follow_in_files.Goals as goal
 
@@ -18,25 +19,40 @@ returns-in-Ok-open_stores-clause-follows g c =
     let again : c.as_str-in-Ok-open_stores.result.now ≡ second_name journal = c.as_str-in-Ok-open_stores.ensures.value ∙ c.in-Ok.ensures.name in
     follows-so (in_files f journal c.args.files.now) (in_files f journal c.close_stores.new.files) (on_disks d (first, other)) (on_disks d back)
     (stores-follow f d journal c.args.files.now c.open_stores.new.files c.close_stores.new.files c.as_str.result.now c.as_str-in-Ok-open_stores.result.now (first, other) back named again
-    c.in-Ok-open_stores.ensures.told c.in-Ok-open_stores.ensures.first_bytes c.in-Ok-open_stores.ensures.second_bytes c.in-Ok-open_stores.ensures.settled c.in-Ok-open_stores.ensures.fresh
+    c.in-Ok-open_stores.ensures.told c.in-Ok-open_stores.ensures.first_bytes c.in-Ok-open_stores.ensures.second_bytes c.in-Ok-open_stores.ensures.settled
+    c.in-Ok-open_stores.ensures.begin g.met.F.Store.Disk.reads_stay c.in-Ok-open_stores.ensures.past c.close_stores.ensures.gains c.in-Ok-open_stores.ensures.fresh
     c.close_stores.ensures.first_bytes c.close_stores.ensures.second_bytes c.in-Ok-open_stores.ensures.cause c.close_stores.ensures.cause)
     g.S.Source g.K.Sink c.args.catalogue.now _ _ _ c.standby_on_disks-stores.ensures
 
 pub returns-in_default-clause-follows : goal.returns-in_default-clause-follows
 returns-in_default-clause-follows g c =
     let files = in_files g.F.Files c.args.journal.now c.args.files.now in
-    inl (record { why = inr (refl, refl); untouched = refl }, λ told lasts. same-stands c.args.catalogue.now files files (refl, refl))
+    inl (record { why = inr (refl, refl); untouched = refl }, λ told lasts. nothing-stands c.args.catalogue.now files)
 
 pub returns-in-Err-Failed-clause-follows : goal.returns-in-Err-Failed-clause-follows
 returns-in-Err-Failed-clause-follows g c =
     inl (
       record { why = inl (refl, failed-rose _ _ c.open_stores.result (c.in-Err-Failed.is ∙ ap Err c.in-Err-Failed.field-0-is) c.open_stores.ensures.cause); untouched = refl },
-      λ told lasts. files-stand g.F.Files c.args.catalogue.now c.args.journal.now c.args.files.now c.open_stores.new.files c.in-Err-Failed.ensures.keeps told,
+      λ told lasts. files-stand g.F.Files c.args.catalogue.now c.args.journal.now c.args.files.now c.open_stores.new.files c.as_str.result.now (c.as_str.ensures.value ∙ c.in-Ok.ensures.name)
+          (λ is. c.in-Ok.ensures.other (sym is ∙ c.as_str.ensures.value ∙ c.in-Ok.ensures.name)) c.in-Err-Failed.ensures.keeps c.in-Err-Failed.ensures.tried c.in-Err-Failed.ensures.others told,
     )
 
 pub returns-clause-follows : goal.returns-clause-follows
 returns-clause-follows g c =
     inl (
       record { why = inr (refl, lacking-stood _ _ c.open_stores.result (c.in-Err-NoMemory.is ∙ ap Err c.in-Err-NoMemory.field-0-is) c.open_stores.ensures.cause); untouched = refl },
-      λ told lasts. files-stand g.F.Files c.args.catalogue.now c.args.journal.now c.args.files.now c.open_stores.new.files c.in-Err-NoMemory.ensures.keeps told,
+      λ told lasts. files-stand g.F.Files c.args.catalogue.now c.args.journal.now c.args.files.now c.open_stores.new.files c.as_str.result.now (c.as_str.ensures.value ∙ c.in-Ok.ensures.name)
+          (λ is. c.in-Ok.ensures.other (sym is ∙ c.as_str.ensures.value ∙ c.in-Ok.ensures.name)) c.in-Err-NoMemory.ensures.keeps c.in-Err-NoMemory.ensures.tried c.in-Err-NoMemory.ensures.others told,
     )
+
+pub returns-in-Err-Failed-clause-asks : goal.returns-in-Err-Failed-clause-asks
+returns-in-Err-Failed-clause-asks g c tells =
+    let ends = rw c.in-Err-Failed.field-0-is at c.in-Err-Failed.ensures in
+    let named : c.as_str.result.now ≡ second_name c.args.journal.now = c.as_str.ensures.value ∙ c.in-Ok.ensures.name in
+    subst (λ n. AsksFront (c.args.journal.now ∷ n ∷ []) (g.F.Files.asked c.args.files.now) (g.F.Files.asked c.open_stores.new.files)) named (front-asked _ _ _ _ (ends.asks tells))
+
+pub returns-clause-asks : goal.returns-clause-asks
+returns-clause-asks g c tells =
+    let ends = rw c.in-Err-NoMemory.field-0-is at c.in-Err-NoMemory.ensures in
+    let named : c.as_str.result.now ≡ second_name c.args.journal.now = c.as_str.ensures.value ∙ c.in-Ok.ensures.name in
+    subst (λ n. AsksFront (c.args.journal.now ∷ n ∷ []) (g.F.Files.asked c.args.files.now) (g.F.Files.asked c.open_stores.new.files)) named (front-asked _ _ _ _ (ends.asks tells))

@@ -23,7 +23,7 @@ returns-in-Ok g c =
       catalogue = c.in-Ok.catalogue;
       spells = loads;
       follows = follows-so (in_files f journal c.args.files.now) (in_files f journal c.follow_in_files.new.files) (in_files f journal c.load.new.files) (in_files f journal c.follow_in_files.new.files)
-          (later-follow f journal c.args.files.now c.load.new.files c.follow_in_files.new.files c.in-Ok.ensures.stays c.in-Ok.ensures.cause)
+          (later-follow f journal c.args.files.now c.load.new.files c.follow_in_files.new.files c.in-Ok.ensures.stays c.in-Ok.ensures.past c.in-Ok.ensures.cause)
           g.S.Source g.K.Sink c.in-Ok.catalogue _ _ c.follow_in_files.result.0 c.follow_in_files.ensures.follows;
     })))
     refl

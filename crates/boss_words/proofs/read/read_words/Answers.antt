@@ -1,8 +1,8 @@
 use Rattle.boss_words.proofs.Rows.{job_of-unknown}
 use Rattle.boss_words.proofs.read.read_words.Goals as goal
 
-pub returns-in_default-as_str : goal.returns-in_default-as_str
-returns-in_default-as_str c =
+pub returns-in_default-as_str-clause-job : goal.returns-in_default-as_str-clause-job
+returns-in_default-as_str-clause-job c =
     let arm = c.in_default-as_str in
     let bytes = c.as_str.ensures.value in
     rw (← c.as_slice.ensures.value) (job_of-unknown c.as_slice.result.now c.job-item.result c.job-item.is (rw bytes at arm.not-script) (rw bytes at arm.not-serve) (rw bytes at arm.not-check) (rw bytes at arm.not-adopt) (rw bytes at arm.not-feed) (rw bytes at arm.not-standby) (rw bytes at arm.not-load))
