@@ -3,6 +3,7 @@
 //! what they hold, gave, took or did. Why a file, a disk or an address failed is said on the standard error.
 #![tactic(auto)]
 
+mod ahead;
 mod aside;
 mod connection;
 mod console;

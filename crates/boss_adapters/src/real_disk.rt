@@ -1,9 +1,10 @@
 //! A file of this machine, as a disk.
 
-ghost use Rattle.std.specs.Prelude.{◌≡◌, ◌^◌, ◌+◌, ◌<◌, ◌≤◌, [], length, false, is_err, IfOk, OnOk, IsErr, IsTrue};
+ghost use Rattle.std.specs.Prelude.{◌≡◌, ◌^◌, ◌+◌, ◌<◌, ◌≤◌, [], length, false, is_err, IfOk, IfSome, OnOk, IsErr, IsTrue};
 ghost use Rattle.boss_outside.specs.Counts.{HasCause, one_more};
 ghost use Rattle.boss_disk.specs.Window.{settled};
 
+use crate::ahead::Ahead;
 use crate::aside::say_failed;
 use crate::holder::held;
 use boss_disk::{Disk, MOST};
@@ -37,7 +38,12 @@ pub struct RealDisk {
     is_named: bool,
     /// A sync failed. The system may have forgotten what it could not keep, so that a later sync would tell nothing.
     is_lost: bool,
+    /// What was read ahead.
+    ahead: Ahead,
+    /// The number of bytes, where it is known and nobody else may change it.
+    known: Option<u64>,
     faults: u64,
+    ghost few: { IfSome known (λ size. size ≤ 2 ^ 62) },
 }
 
 impl RealDisk {
@@ -57,6 +63,8 @@ impl RealDisk {
             is_writable: false,
             is_named: false,
             is_lost: false,
+            ahead: Ahead::new(alloc),
+            known: None,
             faults: 0,
         })
     }
@@ -84,10 +92,15 @@ impl RealDisk {
         Failed
     }
 
-    /// The number of bytes. A file that is not there has none.
-    fn size(&self) -> io::Result<u64>
-        ensures { IfOk result (λ size. size ≤ 2 ^ 62) }
+    /// The number of bytes. A file that is not there has none. Where the file is locked nobody else changes it, and the system is asked
+    /// once until it is written again.
+    fn size(&mut self) -> io::Result<u64>
+        ensures within { IfOk result (λ size. size ≤ 2 ^ 62) }
+        ensures faults { self.new.faults ≡ self.old.faults }
     {
+        if let Some(size) = self.known {
+            return Ok(size);
+        }
         let Some(file) = &self.file else {
             return Ok(0);
         };
@@ -95,16 +108,29 @@ impl RealDisk {
         if size > MOST {
             return Err(ErrorKind::FileTooLarge.into());
         }
+        if self.is_writable {
+            self.known = Some(size);
+        }
         Ok(size)
     }
 
     /// Fills the slice from this place on.
-    fn fill(&self, at: u64, into: &mut [u8]) -> io::Result<()> {
+    fn fill(&mut self, at: u64, into: &mut [u8]) -> io::Result<()>
+        ensures { self.new.faults ≡ self.old.faults }
+    {
         match &self.file {
-            Some(file) => file.read_exact_at(into, at),
+            Some(file) => self.ahead.fill(file, at, into),
             None if into.is_empty() => Ok(()),
             None => Err(ErrorKind::UnexpectedEof.into()),
         }
+    }
+
+    /// Forgets what was read of the file, which is to be changed.
+    fn forget(&mut self)
+        ensures { self.new.faults ≡ self.old.faults }
+    {
+        self.ahead.forget();
+        self.known = None;
     }
 
     /// Opens the file to be written too, where there is one.
@@ -116,6 +142,7 @@ impl RealDisk {
         }
         self.file = Some(open_file(&self.rt, self.name.as_str(), Purpose::Write)?);
         self.is_writable = true;
+        self.forget();
         Ok(())
     }
 
@@ -146,6 +173,7 @@ impl RealDisk {
             return Err(ErrorKind::FileTooLarge.into());
         }
         self.make()?;
+        self.forget();
         match &self.file {
             Some(file) => file.write_all_at(bytes, at),
             None => Err(ErrorKind::NotFound.into()),
@@ -160,6 +188,7 @@ impl RealDisk {
             return Ok(());
         }
         self.open_to_write()?;
+        self.forget();
         match &self.file {
             Some(file) => file.set_len(size),
             None => Ok(()),
