@@ -4,6 +4,7 @@ pub mod Ends
 pub mod Fits
 pub mod Found
 pub mod Lines
+pub mod Others
 pub mod Printed
 pub mod Spelled
 pub mod Stops

@@ -8,7 +8,7 @@ ghost use Rattle.json.specs.Run.{is_stop};
 ghost use Rattle.json.specs.Value.{items_view, members_view, value_view};
 ghost use Rattle.json.specs.Written.{PlainBetween};
 ghost use Rattle.serde_json.specs.Read.{read};
-ghost use Rattle.boss_json.specs.Compact.{text_of, IsFit};
+ghost use Rattle.boss_json.specs.Compact.{is_other, text_of, IsFit};
 ghost use Rattle.boss_json.specs.Trees.{view};
 
 use json::Value;
@@ -268,6 +268,31 @@ fn plain_end_slowly(text: &[u8], start: usize) -> usize
 /// Where the digits end that stand from a place on.
 #[inline(always)]
 fn digits_end(text: &[u8], start: usize) -> usize
+    ensures after { start ≤ result }
+    ensures digits { (k : ℕ) → start ≤ k → k < result → IsInRange 48 57 (slice_index text.now k) }
+{
+    let mut end = start;
+    while end < text.len() && text.len() - end >= 8 {
+        let others = others(u8x8::from_slice(&text[end..]));
+        if others != 0 {
+            return end + others.trailing_zeros() as usize;
+        }
+        end += 8;
+    }
+    digits_end_slowly(text, end)
+}
+
+/// The bytes of eight that are no digits, as bits.
+#[inline(always)]
+fn others(bytes: u8x8) -> u64
+    ensures { result ≡ mask_l (map is_other bytes) }
+{
+    (bytes.simd_lt(u8x8::splat(b'0')) | bytes.simd_gt(u8x8::splat(b'9'))).to_bitmask()
+}
+
+/// The same as `digits_end`, a byte at a time.
+#[inline(always)]
+fn digits_end_slowly(text: &[u8], start: usize) -> usize
     ensures after { start ≤ result }
     ensures digits { (k : ℕ) → start ≤ k → k < result → IsInRange 48 57 (slice_index text.now k) }
 {

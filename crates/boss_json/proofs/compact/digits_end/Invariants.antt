@@ -1,11 +1,11 @@
-use Rattle.std.proofs.Common.{ℕ, ◌-◌, ◌<◌, ◌≤◌, length, get_or}
-use Rattle.std.specs.Int.{IsInRange}
+use Rattle.std.proofs.Common.{◌-◌, ◌≤◌, length}
+use Rattle.boss_json.proofs.Others.{DigitsBetween}
 use Rattle.boss_json.proofs.compact.digits_end.Given as goal
 
 abbrev pub invariant-loop-end : goal.invariant-loop-end
 invariant-loop-end l = record {
   after : l.start ≤ l.end;
-  digits : (k : ℕ) → l.start ≤ k → k < l.end → IsInRange 48 57 (get_or l.text k 0);
+  digits : DigitsBetween l.text l.start l.end;
 }
 
 abbrev pub decreases-loop-end : goal.decreases-loop-end
