@@ -30,19 +30,36 @@ fn is_key(text: &str, key: &str) -> bool
     text.len() == key.len() && are_same(text.as_bytes(), key.as_bytes())
 }
 
-/// Whether bytes are the same as others that are as many. Their ends are compared first, and are all that one or two have.
+/// Whether bytes are the same as others that are as many. Their ends are compared first, since most that differ do so there.
 #[inline(always)]
 #[tactic(auto, using(crate::proofs::Ends::ends_differ, crate::proofs::Ends::ends_same))]
 fn are_same(bytes: &[u8], other: &[u8]) -> bool
     requires { length bytes.now ≡ length other.now }
     ensures { result ≡ bytes_eq bytes.now other.now }
 {
-    let count = bytes.len();
+    let count = other.len();
     if count == 0 {
         return true;
     }
     if bytes[0] != other[0] || bytes[count - 1] != other[count - 1] {
         return false;
     }
-    count <= 2 || bytes == other
+    are_same_throughout(bytes, other)
+}
+
+/// The same, a byte at a time. A key is short and mostly known where this is compiled, so that no loop is left of it.
+#[inline(always)]
+#[tactic(auto, using(crate::proofs::Ends::ends_differ))]
+fn are_same_throughout(bytes: &[u8], other: &[u8]) -> bool
+    requires { length bytes.now ≡ length other.now }
+    ensures { result ≡ bytes_eq bytes.now other.now }
+{
+    let mut at = 0;
+    while at < other.len() {
+        if bytes[at] != other[at] {
+            return false;
+        }
+        at += 1;
+    }
+    true
 }

@@ -12,6 +12,7 @@ use boss_model::{LAST_NUMBER, MOST_WRITES, Name, Policy, Step};
 const DEFAULT_PRIORITY: i64 = 16;
 
 /// The text under a key.
+#[inline(always)]
 pub(crate) fn text_under<'a, V: JsonValue>(value: &'a V, key: &str) -> Option<&'a str>
     ensures { option_copied result ≡ under key.now as_str (V.meaning value.now) }
 {
@@ -19,6 +20,7 @@ pub(crate) fn text_under<'a, V: JsonValue>(value: &'a V, key: &str) -> Option<&'
 }
 
 /// The whole number under a key.
+#[inline(always)]
 pub(crate) fn whole_under<V: JsonValue>(value: &V, key: &str) -> Option<i64>
     ensures { result ≡ under key.now whole (V.meaning value.now) }
 {
@@ -57,6 +59,7 @@ fn within(low: u32, high: u64, number: i64) -> Option<u64>
 }
 
 /// The number under a key: a whole number of at least 0.
+#[inline(always)]
 pub(crate) fn number_under<V: JsonValue>(value: &V, key: &str) -> Option<u64>
     ensures { result ≡ under key.now (number_from 0) (V.meaning value.now) }
 {
@@ -64,6 +67,7 @@ pub(crate) fn number_under<V: JsonValue>(value: &V, key: &str) -> Option<u64>
 }
 
 /// The number under a key, from `low` up to and with `high`, or the default where the key is missing.
+#[inline(always)]
 pub(crate) fn number_within<V: JsonValue>(
     value: &V,
     key: &str,
