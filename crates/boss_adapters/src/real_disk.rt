@@ -1,6 +1,7 @@
 //! A file of this machine, as a disk.
 
-ghost use Rattle.std.specs.Prelude.{◌≡◌, ◌^◌, ◌+◌, ◌<◌, ◌≤◌, [], length, false, is_err, IfOk, IfSome, OnOk, IsErr, IsTrue};
+ghost use Rattle.std.specs.Prelude.{◌≡◌, ◌^◌, ◌+◌, ◌<◌, ◌≤◌, [], length, false, is_err, IfOk, OnOk, IsErr, IsTrue};
+ghost use Rattle.std.specs.Option.{ForSome};
 ghost use Rattle.boss_outside.specs.Counts.{HasCause, one_more};
 ghost use Rattle.boss_disk.specs.Window.{settled};
 
@@ -38,12 +39,12 @@ pub struct RealDisk {
     is_named: bool,
     /// A sync failed. The system may have forgotten what it could not keep, so that a later sync would tell nothing.
     is_lost: bool,
-    /// What was read ahead.
+    /// What was read ahead. It is forgotten before the file is written, cut or opened anew.
     ahead: Ahead,
-    /// The number of bytes, where it is known and nobody else may change it.
+    /// The number of bytes, where the file is locked, and was not written or cut since the system was asked for it.
     known: Option<u64>,
     faults: u64,
-    ghost few: { IfSome known (λ size. size ≤ 2 ^ 62) },
+    ghost few: { ForSome known (λ size. size ≤ 2 ^ 62) },
 }
 
 impl RealDisk {
@@ -92,8 +93,8 @@ impl RealDisk {
         Failed
     }
 
-    /// The number of bytes. A file that is not there has none. Where the file is locked nobody else changes it, and the system is asked
-    /// once until it is written again.
+    /// The number of bytes. A file that is not there has none. The system is asked each time where the file is only looked at,
+    /// and where it is locked, so that nobody else changes it, once until it is written or cut.
     fn size(&mut self) -> io::Result<u64>
         ensures within { IfOk result (λ size. size ≤ 2 ^ 62) }
         ensures faults { self.new.faults ≡ self.old.faults }
@@ -110,6 +111,8 @@ impl RealDisk {
         }
         if self.is_writable {
             self.known = Some(size);
+        } else {
+            self.ahead.forget_past(size);
         }
         Ok(size)
     }
@@ -125,7 +128,7 @@ impl RealDisk {
         }
     }
 
-    /// Forgets what was read of the file, which is to be changed.
+    /// Forgets what was read of the file, and its length: it is to be changed, or may have been while it was not locked.
     fn forget(&mut self)
         ensures { self.new.faults ≡ self.old.faults }
     {

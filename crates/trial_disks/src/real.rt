@@ -11,13 +11,13 @@ use std::{env, fs, process};
 
 /// A folder of a test's own, which goes when the test has passed.
 #[derive(Drop)]
-struct Folder {
+pub struct Folder {
     rt: HostRuntime,
     path: String,
 }
 
 impl Folder {
-    fn make(rt: HostRuntime, test: &str) -> Result<Folder, Fail> {
+    pub fn make(rt: HostRuntime, test: &str) -> Result<Folder, Fail> {
         let above = env::temp_dir(&rt)?;
         let number = process::id(rt.process());
         let path = format!(in rt.alloc(); "{}/disks-{test}-{number}", above.display())?;
@@ -26,16 +26,17 @@ impl Folder {
     }
 
     /// The path of a name in it.
-    fn path_of(&self, name: &str) -> Result<String, Fail> {
+    pub fn path_of(&self, name: &str) -> Result<String, Fail> {
         Ok(format!(in self.rt.alloc(); "{}/{name}", self.path)?)
     }
 
-    fn remove(self) -> Result<(), Fail> {
+    pub fn remove(self) -> Result<(), Fail> {
         Ok(fs::remove_dir_all(&self.rt, self.path.as_str())?)
     }
 }
 
-fn disk(rt: HostRuntime, name: &str) -> Result<RealDisk, Fail> {
+/// The file of this name, as a disk.
+pub fn disk(rt: HostRuntime, name: &str) -> Result<RealDisk, Fail> {
     Ok(RealDisk::open(rt, rt.alloc(), name)?)
 }
 
