@@ -9,6 +9,8 @@ mod bytes;
 #[cfg(test)]
 mod faults;
 #[cfg(test)]
+mod hearing;
+#[cfg(test)]
 mod limited;
 #[cfg(test)]
 mod outside;
