@@ -12,9 +12,9 @@ ghost use Rattle.boss_scripts.specs.Runs.{line_taken, stop};
 
 use crate::broken::Broken;
 use crate::draining::drain;
-use boss_answers::{tell_answer, tell_stopped, tell_too_long};
+use boss_answers::{tell_answer, tell_refusal, tell_stopped, tell_too_long};
 use boss_lines::{Lines, Next};
-use boss_model::{ANSWER_ROOM, Answer, Buffer, Command, MOST_LINES, SessionId};
+use boss_model::{ANSWER_ROOM, Buffer, Command, MOST_LINES, SessionId};
 use boss_outside::{Actuators, Hears, Sink, Source};
 use boss_points::Catalogue;
 use boss_requests::{Ask, Form, ReadRefusal, RequestReader, is_blank, read_by};
@@ -174,7 +174,7 @@ fn take_line<V: Keeper, K: Sink, A: Actuators>(
             Ask::Watch { .. } => unreachable!(),
         },
         Err(ReadRefusal::Refused(refusal)) => {
-            tell_answer(catalogue, &Answer::Refused(refusal), text, sink)?;
+            tell_refusal(&refusal, text, sink)?;
             Ok(())
         }
         Err(ReadRefusal::NoMemory) => Err(Broken::NoMemory),

@@ -37,26 +37,26 @@ returns-then-has_stopped-clause-did g c = record {
       (sym is.stopped ∙ sym c.has_stopped.ensures ∙ c.if-has_stopped.true) (c.in_ok-tell_stopped.ensures.bytes tells);
 }
 
-pub returns-in_err-tell_answer-in-Err-Refused-clause-broke : goal.returns-in_err-tell_answer-in-Err-Refused-clause-broke
-returns-in_err-tell_answer-in-Err-Refused-clause-broke g c = on-err c.from_residual-in_err-tell_answer-in-Err-Refused.result _ (record {
+pub returns-in_err-tell_refusal-in-Err-Refused-clause-broke : goal.returns-in_err-tell_refusal-in-Err-Refused-clause-broke
+returns-in_err-tell_refusal-in-Err-Refused-clause-broke g c = on-err c.from_residual-in_err-tell_refusal-in-Err-Refused.result _ (record {
   entries = [];
   kept = kept-nothing g.V.Keeper c.args.keeper.now;
   broke = λ tells start is.
       broke-refusal c.args.catalogue.now c.args.line.now (not-long c.args.line.now c.requires.line) start (sym c.is_blank.ensures ∙ c.if-is_blank.false)
-      (trace g.K.Sink g.A.Actuators c.args.sink.now c.args.devices.now.items) (g.K.Sink.taken c.tell_answer.new.sink)
+      (trace g.K.Sink g.A.Actuators c.args.sink.now c.args.devices.now.items) (g.K.Sink.taken c.tell_refusal.new.sink)
       (sym is.stopped ∙ sym c.has_stopped.ensures ∙ c.if-has_stopped.false) c.in-Err-Refused.refusal (rw c.in-Err-Refused.field-0-is at c.in-Err-Refused.ensures.request)
-      (c.in_err-tell_answer-in-Err-Refused.ensures.bytes tells);
+      (c.in_err-tell_refusal-in-Err-Refused.ensures.bytes tells);
 })
 
-pub returns-in_ok-tell_answer-in-Err-Refused-clause-did : goal.returns-in_ok-tell_answer-in-Err-Refused-clause-did
-returns-in_ok-tell_answer-in-Err-Refused-clause-did g c = record {
+pub returns-in_ok-tell_refusal-in-Err-Refused-clause-did : goal.returns-in_ok-tell_refusal-in-Err-Refused-clause-did
+returns-in_ok-tell_refusal-in-Err-Refused-clause-did g c = record {
   entries = [];
   kept = kept-nothing g.V.Keeper c.args.keeper.now;
   did = λ tells start is.
       did-refusal c.args.catalogue.now c.args.line.now (not-long c.args.line.now c.requires.line) start (sym c.is_blank.ensures ∙ c.if-is_blank.false)
-      (trace g.K.Sink g.A.Actuators c.args.sink.now c.args.devices.now.items) (g.K.Sink.taken c.tell_answer.new.sink)
+      (trace g.K.Sink g.A.Actuators c.args.sink.now c.args.devices.now.items) (g.K.Sink.taken c.tell_refusal.new.sink)
       (sym is.stopped ∙ sym c.has_stopped.ensures ∙ c.if-has_stopped.false) c.in-Err-Refused.refusal (rw c.in-Err-Refused.field-0-is at c.in-Err-Refused.ensures.request)
-      (c.in_ok-tell_answer-in-Err-Refused.ensures.bytes tells);
+      (c.in_ok-tell_refusal-in-Err-Refused.ensures.bytes tells);
 }
 
 pub returns-in-Command-clause-did : goal.returns-in-Command-clause-did
