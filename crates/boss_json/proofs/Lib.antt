@@ -8,4 +8,5 @@ pub mod Others
 pub mod Printed
 pub mod Spelled
 pub mod Stops
+pub mod Taken
 pub mod Views

@@ -3,6 +3,7 @@
 #![tactic(auto)]
 
 mod compact;
+mod letting;
 mod member;
 mod number;
 mod plain;
@@ -12,6 +13,7 @@ mod tree;
 mod unread;
 mod value;
 
+pub use letting::let_go;
 pub use plain::read_value;
 pub use reader::ValueReader;
 pub use unread::Unread;

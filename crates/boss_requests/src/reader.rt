@@ -6,7 +6,7 @@ ghost use Rattle.boss_requests.specs.Given.{Gives, IsOfForm, IsSession, MayAsk};
 
 use crate::ReadRefusal;
 use crate::request::request_in;
-use boss_json::ValueReader;
+use boss_json::{ValueReader, let_go};
 use boss_points::Catalogue;
 use def_wire::{Form, Request};
 use std::alloc::Global;
@@ -46,5 +46,7 @@ pub fn read_by(
     ensures watch { IfOk result (λ request. IsOfForm form request.ask) }
 {
     let value = reader.values.read(alloc, line)?;
-    request_in(alloc, catalogue, form, &value)
+    let request = request_in(alloc, catalogue, form, &value);
+    let_go(value);
+    request
 }
