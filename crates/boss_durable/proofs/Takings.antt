@@ -14,6 +14,7 @@ use Rattle.law_machine.proofs.Replay.{step-again, step-unchanged}
 use Rattle.boss_model.specs.declared.answer.Answer.{Answer}
 use Rattle.boss_model.specs.declared.command.Command.{Command}
 use Rattle.boss_model.specs.declared.command.Command.TheVariants as command
+use Rattle.boss_model.specs.declared.event.Effect.{Effect}
 use Rattle.boss_model.specs.declared.event.Event.{Event}
 use Rattle.boss_model.specs.declared.state.Actuator.{Actuator}
 use Rattle.boss_model.specs.Effects.{event_of, step_effect}
@@ -72,6 +73,18 @@ step_taken plant session moment c answer made start now next old new whole sound
       fitting = subst (AllByRecursion (λ e. event.fits e ≡ true)) (sym is) (all_join (λ e. event.fits e ≡ true) before more taken.fitting fits);
       leads = ap (replay_all plant start.persistent) is ∙ replay_join plant start.persistent before more now.persistent taken.leads ∙ leads;
     }
+
+-- the first step of a call
+pub first_taken : (plant : List Actuator) (session moment : ℕ) (c : Command) (answer : Answer) (effect : Effect) (now next : State) (old new : Batch) →
+    IsPlant plant → IsSound plant now → MayCall plant (c, moment) → old.bytes.bytes ≡ [] → old.events ≡ 0 →
+    answer ≡ (step plant session c moment now).answer → next ≡ (step plant session c moment now).state → effect ≡ step_effect plant session c moment now →
+    new.bytes ≡ record old.bytes { bytes = old.bytes.bytes ++ batch_text (if_event (event_of c effect) []) } →
+    new.events ≡ old.events + length (if_event (event_of c effect) []) →
+    Taken plant (Did session c moment answer ∷ []) now next new
+first_taken plant session moment c answer effect now next old new whole sound may none empty given state does bytes count =
+    step_taken plant session moment c answer [] now now next old new whole sound may (nothing_taken plant now old none empty) given state
+    (ap (λ b. b.bytes) bytes ∙ ap (λ e. old.bytes.bytes ++ batch_text (if_event (event_of c e) [])) does)
+    (count ∙ ap (λ e. old.events + length (if_event (event_of c e) [])) does)
 
 -- how many bytes they have
 pub taken_short : (plant : List Actuator) (made : List Entry) (start now : State) (batch : Batch) → Taken plant made start now batch →

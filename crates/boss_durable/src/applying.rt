@@ -12,7 +12,6 @@ ghost use Rattle.boss_disk_pair.specs.Causes.{counts_of};
 
 use crate::Durable;
 use crate::beginning::Begun;
-use crate::stepping::take_step;
 use crate::wanting::may_want;
 use boss_disk::Disk;
 use boss_model::{Command, NoMemory, SessionId};
@@ -93,11 +92,14 @@ impl<D: Disk> Durable<D> {
         ensures digest { self.new.disks.digest ≡ self.old.disks.digest }
     {
         self.batch.clear();
-        match take_step(&mut self.engine, &mut self.batch, session, command, moment) {
-            Ok(answer) => match self.batch.append_to(&mut self.disks) {
-                Ok(()) => Outcome::Done { answer },
-                Err(Failed) => Outcome::DiskFault,
-            },
+        match self.engine.step(session, command, moment) {
+            Ok((answer, effect)) => {
+                self.batch.put(command, &effect);
+                match self.batch.append_to(&mut self.disks) {
+                    Ok(()) => Outcome::Done { answer },
+                    Err(Failed) => Outcome::DiskFault,
+                }
+            }
             Err(NoMemory) => Outcome::NoMemory,
         }
     }
