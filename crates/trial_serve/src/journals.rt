@@ -3,16 +3,19 @@
 
 ghost use Rattle.std.specs.Prelude.{◌<◌, IfSome};
 
+use crate::clocks::call;
 use crate::connections::Talk;
 use crate::rows::PLAIN;
 use crate::stage::{Pair, Setting, run_on_disks};
 use boss_disk::MemoryDisk;
 use boss_manager::check_on_disks;
-use boss_model::{Items, NoMemory};
+use boss_model::Items;
 use boss_outside::BytesSink;
 use boss_points::Catalogue;
 use std::alloc::Global;
-use std::test::Fail;
+use std::process::Abort;
+use std::sync::Wait;
+use std::thread::Threads;
 use trial_parts::THREE_POINTS;
 
 /// Servers one after another over the same two disks, and what comes of them.
@@ -141,49 +144,62 @@ status 0
     },
 ];
 
+/// An empty disk that fails the call of this number, counted from 1; 0 is none.
+fn empty_disk(rt: &impl Abort, alloc: Global, fails: u64) -> MemoryDisk {
+    MemoryDisk::new(alloc, Items::new(alloc), call(rt, alloc, fails)).expect(rt, "memory")
+}
+
 /// Two empty disks, of which the first fails the call of this number, counted from 1; 0 is none.
-pub fn empty_disks(alloc: Global, fails: u64) -> Result<Pair, NoMemory> {
-    let mut calls = Items::new(alloc);
-    calls.try_push(fails)?;
-    let first = MemoryDisk::new(alloc, Items::new(alloc), calls)?;
-    let second = MemoryDisk::new(alloc, Items::new(alloc), Items::new(alloc))?;
-    Ok((first, second))
+pub fn empty_disks(rt: &impl Abort, alloc: Global, fails: u64) -> Pair {
+    (empty_disk(rt, alloc, fails), empty_disk(rt, alloc, 0))
 }
 
 /// The journal of this catalogue with this log.
-pub fn journal(alloc: Global, catalogue: &Catalogue, log: &[&[u8]]) -> Result<Vec<u8>, NoMemory> {
-    let mut bytes = Vec::new(alloc);
-    bytes.extend_from_slice(HEADING)?;
-    bytes.extend_from_slice(&catalogue.digest())?;
+pub fn journal(rt: &impl Abort, alloc: Global, catalogue: &Catalogue, log: &[&[u8]]) -> Vec<u8> {
+    let mut bytes = HEADING.to_vec(alloc).expect(rt, "memory");
+    bytes
+        .extend_from_slice(&catalogue.digest())
+        .expect(rt, "memory");
     for record in log {
-        bytes.extend_from_slice(record)?;
+        bytes.extend_from_slice(record).expect(rt, "memory");
     }
-    Ok(bytes)
+    bytes
+}
+
+/// What servers tell that run one after another over two empty disks, and what the disks have then.
+fn run_all<R: Abort + Threads + Wait + Sync>(
+    rt: &R,
+    alloc: Global,
+    catalogue: &Catalogue,
+    settings: &[Setting],
+) -> (String, Pair) {
+    let mut told = String::new(alloc);
+    let mut disks = empty_disks(rt, alloc, 0);
+    for setting in settings {
+        let (text, left) = run_on_disks(rt, alloc, catalogue, setting, disks);
+        told.push_str(text.as_str()).expect(rt, "memory");
+        disks = left;
+    }
+    (told, disks)
+}
+
+/// The first disk has to have these bytes, and the second none.
+fn expect_disks(rt: &impl Abort, disks: Pair, bytes: &[u8], shows: &str) {
+    let (first, second) = disks;
+    assert!(rt; first.into_bytes().slice() == bytes, "{shows}");
+    assert!(rt; second.into_bytes().slice().is_empty(), "{shows}");
 }
 
 #[test]
-fn servers_over_a_journal(rt: HostRuntime) -> Result<(), Fail> {
+fn servers_over_a_journal(rt: HostRuntime) {
     let alloc = rt.alloc();
-    let catalogue = Catalogue::read(alloc, THREE_POINTS.as_bytes())?;
+    let catalogue = Catalogue::read(alloc, THREE_POINTS.as_bytes()).expect(&rt, "a catalogue");
     for row in ROWS {
-        let mut disks = empty_disks(alloc, 0)?;
-        let mut told = String::new(alloc);
-        for setting in row.settings {
-            let (text, left) = run_on_disks(&rt, alloc, &catalogue, setting, disks)?;
-            told.push_str(text.as_str())?;
-            disks = left;
-        }
+        let (told, disks) = run_all(&rt, alloc, &catalogue, row.settings);
         assert_eq!(rt; told.as_str(), row.told, "{}", row.shows);
-        let (first, second) = disks;
-        let wanted = journal(alloc, &catalogue, row.log)?;
-        assert!(rt;
-            first.into_bytes().slice() == wanted.as_slice(),
-            "{}",
-            row.shows
-        );
-        assert!(rt; second.into_bytes().slice().is_empty(), "{}", row.shows);
+        let wanted = journal(&rt, alloc, &catalogue, row.log);
+        expect_disks(&rt, disks, &wanted, row.shows);
     }
-    Ok(())
 }
 
 /// A worker with a connection behind another.
@@ -283,54 +299,54 @@ fn place_of(told: &str) -> Option<usize>
 
 /// What a check tells of what a crash may leave of two disks: what was not synced is lost for 0, and stays for 1.
 fn checked(
+    rt: &impl Abort,
     alloc: Global,
     catalogue: &Catalogue,
     disks: &Pair,
     pick: u64,
-) -> Result<BytesSink, NoMemory> {
-    let first = disks.0.image(alloc, pick)?;
-    let second = disks.1.image(alloc, pick)?;
-    let mut sink = BytesSink::new(alloc, Items::new(alloc))?;
+) -> BytesSink {
+    let first = disks.0.image(alloc, pick).expect(rt, "memory");
+    let second = disks.1.image(alloc, pick).expect(rt, "memory");
+    let mut sink = BytesSink::new(alloc, Items::new(alloc)).expect(rt, "memory");
     let _disks = check_on_disks(alloc, catalogue, first, second, &mut sink);
-    Ok(sink)
+    sink
 }
 
 /// Whether a crash may leave only what this row has.
 fn may_be_left(
+    rt: &impl Abort,
     alloc: Global,
     catalogue: &Catalogue,
     disks: &Pair,
     held: &[&str; 2],
-) -> Result<bool, NoMemory> {
+) -> bool {
     for pick in 0..2u64 {
-        let sink = checked(alloc, catalogue, disks, pick)?;
+        let sink = checked(rt, alloc, catalogue, disks, pick);
         let told = sink.taken();
         if told != held[0].as_bytes() && told != held[1].as_bytes() {
-            return Ok(false);
+            return false;
         }
     }
-    Ok(true)
+    true
 }
 
 /// Each call of the disk fails in turn, and none of what may be told is missing.
 #[test]
-fn behind_a_disk_that_failed_no_connection_is_taken(rt: HostRuntime) -> Result<(), Fail> {
+fn behind_a_disk_that_failed_no_connection_is_taken(rt: HostRuntime) {
     let alloc = rt.alloc();
-    let catalogue = Catalogue::read(alloc, THREE_POINTS.as_bytes())?;
+    let catalogue = Catalogue::read(alloc, THREE_POINTS.as_bytes()).expect(&rt, "a catalogue");
     let mut place: usize = 0;
     for call in 1..MANY {
-        let disks = empty_disks(alloc, call)?;
-        let (told, left) = run_on_disks(&rt, alloc, &catalogue, &TWO, disks)?;
-        let Some(next) = place_of(told.as_str()) else {
-            return Err(told.into());
-        };
+        let disks = empty_disks(&rt, alloc, call);
+        let (told, left) = run_on_disks(&rt, alloc, &catalogue, &TWO, disks);
+        let next = place_of(told.as_str()).expect(&rt, "what may be told");
         assert!(rt; place <= next && next - place <= 1);
         place = next;
+        let held = &BROKEN[place].held;
         assert!(rt;
-            may_be_left(alloc, &catalogue, &left, &BROKEN[place].held)?,
+            may_be_left(&rt, alloc, &catalogue, &left, held),
             "call {call}"
         );
     }
     assert_eq!(rt; place, 4);
-    Ok(())
 }

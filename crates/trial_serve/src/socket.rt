@@ -4,14 +4,13 @@ use crate::listening::Listening;
 use crate::texts::put;
 use crate::threads::serve_in_threads;
 use boss_adapters::RealHost;
-use boss_model::NoMemory;
 use boss_outside_server::Host;
 use boss_points::Catalogue;
 use std::alloc::Global;
 use std::io::{Eprint, Read, Write};
 use std::net::{Net, Shutdown, TcpListener, TcpStream};
+use std::process::Abort;
 use std::sync::Wait;
-use std::test::Fail;
 use std::thread::Threads;
 use std::time::Duration;
 use std::{io, time};
@@ -45,21 +44,21 @@ fn client<R: Net<Listener = TcpListener, Stream = TcpStream> + Eprint + Copy>(
 }
 
 /// Puts what a client reads, up to the end of the stream, behind the text.
-fn put_answers(text: &mut String, stream: &mut TcpStream) -> Result<(), NoMemory> {
+fn put_answers(rt: &impl Abort, text: &mut String, stream: &mut TcpStream) {
     let mut room = [0; 256];
     for _ in 0..u64::MAX {
         match stream.read(&mut room) {
-            Ok(0) => return Ok(()),
-            Ok(count) => put(text, room.get(..count).unwrap_or(&[]))?,
-            Err(_) => return put(text, b"a read failed\n"),
+            Ok(0) => return,
+            Ok(count) => put(rt, text, room.get(..count).unwrap_or(&[])),
+            Err(_) => return put(rt, text, b"a read failed\n"),
         }
     }
-    Ok(())
 }
 
 /// How the server ended, and what its client read.
 fn serve_client<
     R: Net<Listener = TcpListener, Stream = TcpStream>
+        + Abort
         + Threads
         + Wait
         + time::Clock
@@ -68,23 +67,18 @@ fn serve_client<
         + Drop
         + Send
         + Sync,
->(
-    rt: R,
-    alloc: Global,
-    catalogue: &Catalogue,
-    host: RealHost<R>,
-    mut stream: TcpStream,
-) -> Result<String, NoMemory> {
+>(rt: R, alloc: Global, catalogue: &Catalogue, host: RealHost<R>, mut stream: TcpStream) -> String {
     let mut listening = Listening { host };
     let mut text = String::new(alloc);
-    serve_in_threads(rt, alloc, catalogue, 1, 1, &mut listening, &mut text)?;
-    put_answers(&mut text, &mut stream)?;
-    Ok(text)
+    serve_in_threads(rt, alloc, catalogue, 1, 1, &mut listening, &mut text);
+    put_answers(&rt, &mut text, &mut stream);
+    text
 }
 
 /// The same of a free port of this machine; nothing where a client can't reach it.
 fn run<
     R: Net<Listener = TcpListener, Stream = TcpStream>
+        + Abort
         + Threads
         + Wait
         + time::Clock
@@ -93,22 +87,21 @@ fn run<
         + Drop
         + Send
         + Sync,
->(rt: R, alloc: Global, catalogue: &Catalogue) -> Result<String, NoMemory> {
+>(rt: R, alloc: Global, catalogue: &Catalogue) -> String {
     let mut host = RealHost::new(alloc, rt);
     if host.bind("127.0.0.1:0").is_err() {
-        return Ok(String::new(alloc));
+        return String::new(alloc);
     }
     match client(rt, &host) {
         Ok(Some(stream)) => serve_client(rt, alloc, catalogue, host, stream),
-        _ => Ok(String::new(alloc)),
+        _ => String::new(alloc),
     }
 }
 
 #[test]
-fn a_connection_over_a_socket_is_served(rt: HostRuntime) -> Result<(), Fail> {
+fn a_connection_over_a_socket_is_served(rt: HostRuntime) {
     let alloc = rt.alloc();
-    let catalogue = Catalogue::read(alloc, THREE_POINTS.as_bytes())?;
-    let told = run(&rt, alloc, &catalogue)?;
+    let catalogue = Catalogue::read(alloc, THREE_POINTS.as_bytes()).expect(&rt, "a catalogue");
+    let told = run(&rt, alloc, &catalogue);
     assert_eq!(rt; told.as_str(), TOLD);
-    Ok(())
 }

@@ -8,11 +8,12 @@ use crate::texts::{put, put_number, tell_end};
 use boss_access::{Rules, RulesRefusal};
 use boss_disk::MemoryDisk;
 use boss_manager::{Service, Site, Status, Surroundings, serve_in_memory, serve_on_disks};
-use boss_model::{Items, NoMemory};
+use boss_model::Items;
 use boss_outside::{BytesSink, BytesSource, SimActuators};
 use boss_outside_server::{Host, ListClock, ListHost, ListSpawner, TurnWaiter};
 use boss_points::Catalogue;
 use std::alloc::Global;
+use std::process::Abort;
 use std::sync::Wait;
 use std::thread::Threads;
 
@@ -47,41 +48,27 @@ struct Stage<R> {
     devices: Vec<SimActuators>,
 }
 
-/// A list of this item alone.
-fn only<T: Drop>(alloc: Global, item: T) -> Result<Vec<T>, NoMemory> {
-    let mut all = Vec::new(alloc);
-    all.push(item)?;
-    Ok(all)
-}
-
-fn one_device(alloc: Global) -> Result<Vec<SimActuators>, NoMemory> {
-    match SimActuators::new(alloc, Items::new(alloc)) {
-        Ok(device) => only(alloc, device),
-        Err(none) => Err(none),
-    }
-}
-
-fn devices(alloc: Global, setting: &Setting) -> Result<Vec<SimActuators>, NoMemory> {
+/// The one device, or none.
+fn devices(rt: &impl Abort, alloc: Global, setting: &Setting) -> Vec<SimActuators> {
+    let mut devices = Vec::new(alloc);
     if setting.device {
-        one_device(alloc)
-    } else {
-        Ok(Vec::new(alloc))
+        let device = SimActuators::new(alloc, Items::new(alloc)).expect(rt, "memory");
+        devices.push(device).expect(rt, "memory");
     }
+    devices
 }
 
-impl<R> Stage<R> {
-    fn new(alloc: Global, setting: &Setting) -> Result<Stage<R>, NoMemory> {
-        let spawner = ListSpawner::new(alloc, call(alloc, setting.unstarted)?)?;
-        let sink = BytesSink::new(alloc, call(alloc, setting.sink_fails)?)?;
-        let waiter = TurnWaiter::new(alloc, setting.turns)?;
-        let devices = devices(alloc, setting)?;
-        Ok(Stage {
-            clock: list_clock(alloc, setting.moments, setting.clock_fails)?,
-            waiter,
-            spawner,
-            sink,
-            devices,
-        })
+impl<R: Abort> Stage<R> {
+    fn new(rt: &R, alloc: Global, setting: &Setting) -> Stage<R> {
+        let unstarted = call(rt, alloc, setting.unstarted);
+        let fails = call(rt, alloc, setting.sink_fails);
+        Stage {
+            clock: list_clock(rt, alloc, setting.moments, setting.clock_fails),
+            waiter: TurnWaiter::new(alloc, setting.turns).expect(rt, "memory"),
+            spawner: ListSpawner::new(alloc, unstarted).expect(rt, "memory"),
+            sink: BytesSink::new(alloc, fails).expect(rt, "memory"),
+            devices: devices(rt, alloc, setting),
+        }
     }
 }
 
@@ -105,7 +92,7 @@ fn rules(alloc: Global, text: &str) -> Result<Option<Rules>, RulesRefusal> {
 }
 
 /// Serves all connections, by as many workers as the setting has.
-fn serve<R: Threads + Wait + Sync>(
+fn serve<R: Abort + Threads + Wait + Sync>(
     rt: &R,
     alloc: Global,
     catalogue: &Catalogue,
@@ -138,42 +125,36 @@ fn serve<R: Threads + Wait + Sync>(
 }
 
 /// What is told of a server that is run on these connections.
-fn run_on<R: Threads + Wait + Sync>(
+fn run_on<R: Abort + Threads + Wait + Sync>(
     rt: &R,
     alloc: Global,
     catalogue: &Catalogue,
     setting: &Setting,
     host: &mut Connections,
-) -> Result<String, NoMemory>
+) -> String
     requires { ⟦<ListHost<BytesSource, BytesSink> as Host>⟧.sound host.old }
 {
-    match Stage::new(alloc, setting) {
-        Ok(mut stage) => {
-            let status = serve(rt, alloc, catalogue, setting, host, &mut stage);
-            tell(alloc, host, &stage, status)
-        }
-        Err(none) => Err(none),
-    }
+    let mut stage = Stage::new(rt, alloc, setting);
+    let status = serve(rt, alloc, catalogue, setting, host, &mut stage);
+    tell(rt, alloc, host, &stage, status)
 }
 
 /// What comes of a server, as text.
-pub fn run<R: Threads + Wait + Sync>(
+pub fn run<R: Abort + Threads + Wait + Sync>(
     rt: &R,
     alloc: Global,
     catalogue: &Catalogue,
     setting: &Setting,
-) -> Result<String, NoMemory> {
-    match host(alloc, setting.workers, setting.host_fails) {
-        Ok(mut host) => run_on(rt, alloc, catalogue, setting, &mut host),
-        Err(none) => Err(none),
-    }
+) -> String {
+    let mut host = host(rt, alloc, setting.workers, setting.host_fails);
+    run_on(rt, alloc, catalogue, setting, &mut host)
 }
 
 /// The two disks of a journal.
 pub type Pair = (MemoryDisk, MemoryDisk);
 
 /// Serves all connections over a journal on two disks, without rules.
-fn serve_kept<R: Threads + Wait + Sync>(
+fn serve_kept<R: Abort + Threads + Wait + Sync>(
     rt: &R,
     alloc: Global,
     catalogue: &Catalogue,
@@ -208,60 +189,47 @@ fn serve_kept<R: Threads + Wait + Sync>(
 }
 
 /// What comes of a server over a journal, as text, and its disks afterwards.
-pub fn run_on_disks<R: Threads + Wait + Sync>(
+pub fn run_on_disks<R: Abort + Threads + Wait + Sync>(
     rt: &R,
     alloc: Global,
     catalogue: &Catalogue,
     setting: &Setting,
     disks: Pair,
-) -> Result<(String, Pair), NoMemory> {
-    let mut stage = Stage::new(alloc, setting)?;
-    match host(alloc, setting.workers, setting.host_fails) {
-        Ok(mut host) => {
-            let (disks, status) = serve_kept(
-                rt, alloc, catalogue, setting, disks, &mut host, &mut stage,
-            );
-            let told = tell(alloc, &host, &stage, status)?;
-            Ok((told, disks))
-        }
-        Err(none) => Err(none),
-    }
+) -> (String, Pair) {
+    let mut stage = Stage::new(rt, alloc, setting);
+    let mut host = host(rt, alloc, setting.workers, setting.host_fails);
+    let (disks, status) = serve_kept(rt, alloc, catalogue, setting, disks, &mut host, &mut stage);
+    (tell(rt, alloc, &host, &stage, status), disks)
 }
 
 /// What is left of a server, as lines: each connection that came back with its session and what it was told, each worker's pauses and
 /// whether it was told to close, each call of the device, the server's own line, and the status.
-fn tell<R>(
+fn tell<R: Abort>(
+    rt: &R,
     alloc: Global,
     host: &Connections,
     stage: &Stage<R>,
     status: Status,
-) -> Result<String, NoMemory> {
+) -> String {
     let mut text = String::new(alloc);
-    tell_talks(&mut text, alloc, host)?;
-    tell_pauses(&mut text, alloc, &stage.waiter)?;
-    tell_calls(&mut text, alloc, &stage.devices)?;
-    tell_end(&mut text, stage.sink.taken(), status.0)?;
-    Ok(text)
+    tell_talks(rt, &mut text, alloc, host);
+    tell_pauses(rt, &mut text, alloc, &stage.waiter);
+    tell_calls(rt, &mut text, &stage.devices);
+    tell_end(rt, &mut text, stage.sink.taken(), status.0);
+    text
 }
 
-fn tell_pauses(text: &mut String, alloc: Global, waiter: &TurnWaiter) -> Result<(), NoMemory> {
-    for note in waiter.waits(alloc)? {
-        put_number(text, "pauses ", note.pauses)?;
-        put(text, if note.closed { b" closed\n" } else { b"\n" })?;
+fn tell_pauses(rt: &impl Abort, text: &mut String, alloc: Global, waiter: &TurnWaiter) {
+    for note in waiter.waits(alloc).expect(rt, "memory") {
+        put_number(rt, text, "pauses ", note.pauses);
+        put(rt, text, if note.closed { b" closed\n" } else { b"\n" });
     }
-    Ok(())
 }
 
-fn tell_calls(
-    text: &mut String,
-    alloc: Global,
-    devices: &Vec<SimActuators>,
-) -> Result<(), NoMemory> {
+fn tell_calls(rt: &impl Abort, text: &mut String, devices: &Vec<SimActuators>) {
     for device in devices {
         for call in device.calls() {
-            let line = format!(in alloc; "point {} {}\n", call.point.0, call.value)?;
-            put(text, line.as_bytes())?;
+            writeln!(text, "point {} {}", call.point.0, call.value).expect(rt, "memory");
         }
     }
-    Ok(())
 }

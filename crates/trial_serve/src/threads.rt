@@ -6,17 +6,18 @@ use crate::clocks::list_clock;
 use crate::texts::tell_end;
 use boss_adapters::{RealSpawner, RealWaiter};
 use boss_manager::{Service, Site, Status, Surroundings, serve_in_memory};
-use boss_model::{Items, NoMemory};
+use boss_model::Items;
 use boss_outside::{BytesSink, SimActuators};
 use boss_outside_server::{Host, ListClock};
 use boss_points::Catalogue;
 use std::alloc::Global;
+use std::process::Abort;
 use std::sync::Wait;
 use std::thread::Threads;
 use std::time;
 
 /// Serves connections of a host, without a device.
-fn serve<R: Threads + Wait + time::Clock + Copy + Drop + Send + Sync, H: Host + Send>(
+fn serve<R: Abort + Threads + Wait + time::Clock + Copy + Drop + Send + Sync, H: Host + Send>(
     rt: R,
     alloc: Global,
     catalogue: &Catalogue,
@@ -24,7 +25,7 @@ fn serve<R: Threads + Wait + time::Clock + Copy + Drop + Send + Sync, H: Host + 
     host: &mut H,
     sink: &mut BytesSink,
     clock: &mut ListClock,
-) -> Result<Status, NoMemory>
+) -> Status
 where
     H::In: Send,
     H::Out: Send,
@@ -35,29 +36,25 @@ where
 {
     let mut devices: Vec<SimActuators> = Vec::new(alloc);
     let mut spawner = RealSpawner::new(rt);
-    match RealWaiter::new(alloc, rt) {
-        Ok(mut waiter) => {
-            let surroundings = Surroundings {
-                sink,
-                devices: &mut devices,
-                clock,
-                host,
-                waiter: &mut waiter,
-                spawner: &mut spawner,
-            };
-            let site = Site {
-                catalogue,
-                rules: None,
-            };
-            Ok(serve_in_memory(rt, alloc, site, service, surroundings))
-        }
-        Err(none) => Err(none),
-    }
+    let mut waiter = RealWaiter::new(alloc, rt).expect(&rt, "memory");
+    let surroundings = Surroundings {
+        sink,
+        devices: &mut devices,
+        clock,
+        host,
+        waiter: &mut waiter,
+        spawner: &mut spawner,
+    };
+    let site = Site {
+        catalogue,
+        rules: None,
+    };
+    serve_in_memory(rt, alloc, site, service, surroundings)
 }
 
 /// Serves so many connections of a host by so many workers in threads of their own, always at the moment 1,000, and tells how that ended.
 pub fn serve_in_threads<
-    R: Threads + Wait + time::Clock + Copy + Drop + Send + Sync,
+    R: Abort + Threads + Wait + time::Clock + Copy + Drop + Send + Sync,
     H: Host + Send,
 >(
     rt: R,
@@ -67,7 +64,7 @@ pub fn serve_in_threads<
     connections: u32,
     host: &mut H,
     text: &mut String,
-) -> Result<(), NoMemory>
+)
 where
     H::In: Send,
     H::Out: Send,
@@ -76,8 +73,8 @@ where
     requires few { workers ≤ 32 }
     ensures sound { H.sound host.new }
 {
-    let mut sink = BytesSink::new(alloc, Items::new(alloc))?;
-    let mut clock = list_clock(alloc, &[1_000], 0)?;
+    let mut sink = BytesSink::new(alloc, Items::new(alloc)).expect(&rt, "memory");
+    let mut clock = list_clock(&rt, alloc, &[1_000], 0);
     let none = None;
     let service = Service {
         address: "here",
@@ -86,6 +83,6 @@ where
         rules: &none,
         plan: &none,
     };
-    let status = serve(rt, alloc, catalogue, service, host, &mut sink, &mut clock)?;
-    tell_end(text, sink.taken(), status.0)
+    let status = serve(rt, alloc, catalogue, service, host, &mut sink, &mut clock);
+    tell_end(&rt, text, sink.taken(), status.0);
 }

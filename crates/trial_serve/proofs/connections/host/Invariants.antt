@@ -5,4 +5,4 @@ use Rattle.boss_outside_server.specs.Hosts.{AreUntouched}
 use Rattle.trial_serve.proofs.connections.host.Given as goal
 
 abbrev pub invariant-loop-talks : goal.invariant-loop-talks
-invariant-loop-talks l = record { untouched : AllByRecursion (AreUntouched gives takes) l.parts }
+invariant-loop-talks g l = record { untouched : AllByRecursion (AreUntouched gives takes) l.parts }

@@ -4,4 +4,4 @@ use Rattle.boss_outside_server.specs.Hosts.{AreUntouched}
 use Rattle.trial_serve.proofs.connections.part.Given as goal
 
 abbrev pub invariant-loop-talk : goal.invariant-loop-talk
-invariant-loop-talk l = record { untouched : AreUntouched gives takes l.part }
+invariant-loop-talk g l = record { untouched : AreUntouched gives takes l.part }
