@@ -1,7 +1,7 @@
 //! Servers in memory, whose workers run one after another: those for connections, then time, then the driver.
 
 use crate::connections::Talk;
-use crate::stage::{Setting, run};
+use crate::stage::{Setting, addresses, run};
 use boss_points::Catalogue;
 use trial_parts::THREE_POINTS;
 
@@ -336,4 +336,23 @@ fn servers_in_memory(rt: HostRuntime) {
         let told = run(&rt, alloc, &catalogue, &row.setting);
         assert_eq!(rt; told.as_str(), row.told, "{}", row.shows);
     }
+}
+
+/// The words have its address; a host that fails at it listens nowhere.
+#[test]
+fn a_server_listens_at_its_address_once(rt: HostRuntime) {
+    let alloc = rt.alloc();
+    let catalogue = Catalogue::read(alloc, THREE_POINTS.as_bytes()).expect(&rt, "a catalogue");
+    let one = Setting {
+        workers: &[&[ATTACH_A]],
+        ..PLAIN
+    };
+    let unbound = Setting {
+        host_fails: 1,
+        ..one
+    };
+    let bound = addresses(&rt, alloc, &catalogue, &one);
+    assert_eq!(rt; bound.as_str(), "here ");
+    let unbound = addresses(&rt, alloc, &catalogue, &unbound);
+    assert_eq!(rt; unbound.as_str(), "");
 }

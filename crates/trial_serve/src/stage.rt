@@ -150,6 +150,27 @@ pub fn run<R: Abort + Threads + Wait + Sync>(
     run_on(rt, alloc, catalogue, setting, &mut host)
 }
 
+/// The addresses that a server's host was made to listen at, each with a blank behind it.
+pub fn addresses<R: Abort + Threads + Wait + Sync>(
+    rt: &R,
+    alloc: Global,
+    catalogue: &Catalogue,
+    setting: &Setting,
+) -> String {
+    let mut host = host(rt, alloc, setting.workers, setting.host_fails);
+    let mut text = run_on(rt, alloc, catalogue, setting, &mut host);
+    text.clear();
+    tell_addresses(rt, &mut text, &host);
+    text
+}
+
+fn tell_addresses(rt: &impl Abort, text: &mut String, host: &Connections) {
+    for address in host.listens() {
+        put(rt, text, address.slice());
+        put(rt, text, b" ");
+    }
+}
+
 /// The two disks of a journal.
 pub type Pair = (MemoryDisk, MemoryDisk);
 
