@@ -10,8 +10,8 @@ abbrev pub text_of : Json → List ℕ
 text_of j = print (json_tokens j)
 
 -- a byte that is no digit
-abbrev pub is_other : ℕ → Bool
-is_other x = nat_lt x 48 || nat_lt 57 x
+abbrev pub is_no_digit : ℕ → Bool
+is_no_digit x = nat_lt x 48 || nat_lt 57 x
 
 -- each number is one and in range, and arrays and objects nest no deeper than this
 pub record IsFit (levels : ℕ) (j : Json) : Type 0 where

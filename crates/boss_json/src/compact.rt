@@ -8,7 +8,7 @@ ghost use Rattle.json.specs.Run.{is_stop};
 ghost use Rattle.json.specs.Value.{items_view, members_view, value_view};
 ghost use Rattle.json.specs.Written.{PlainBetween};
 ghost use Rattle.serde_json.specs.Read.{read};
-ghost use Rattle.boss_json.specs.Compact.{is_other, text_of, IsFit};
+ghost use Rattle.boss_json.specs.Compact.{is_no_digit, text_of, IsFit};
 ghost use Rattle.boss_json.specs.Trees.{view};
 
 use json::Value;
@@ -285,7 +285,7 @@ fn digits_end(text: &[u8], start: usize) -> usize
 /// The bytes of eight that are no digits, as bits.
 #[inline(always)]
 fn others(bytes: u8x8) -> u64
-    ensures { result ≡ mask_l (map is_other bytes) }
+    ensures { result ≡ mask_l (map is_no_digit bytes) }
 {
     (bytes.simd_lt(u8x8::splat(b'0')) | bytes.simd_gt(u8x8::splat(b'9'))).to_bitmask()
 }
