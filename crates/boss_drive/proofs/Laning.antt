@@ -93,7 +93,7 @@ left-timed driver Closed (at_report w told) = timed-next 0 w.moment (Next driver
 left-timed driver ClockFault (at_report w told) = timed-next 0 w.moment (Next driver) (Want w.point w.version w.value) (told ∷ []) [] refl
 left-timed driver Stopped (at_report w told) = timed-next 0 w.moment (Next driver) (Want w.point w.version w.value) (told ∷ []) [] refl
 left-timed driver DiskFault (at_report w told) =
-    timed-next 0 w.moment (Next driver) (Want w.point w.version w.value) (told ∷ []) (Broke 0 ((Report w.point w.version w.ok, told) ∷ []) ∷ []) refl
+    timed-next 0 w.moment (Next driver) (Want w.point w.version w.value) (told ∷ []) (Broke 0 ((Report w.point w.version w.ok, told) ∷ []) [] ∷ []) refl
 
 made-timed : (driver : ℕ) (turns : List Turn) (last : Made) → AreTimed last.moments last.entries → AreTimed (made_by driver turns last).moments (made_by driver turns last).entries
 made-timed driver [] last timed = timed

@@ -81,8 +81,8 @@ module _ (driver : ℕ) (clocking recording : Type 0) (own own' own'' : List Ent
       cut = at_report w told;
       fits = tt;
       gained = record {
-        entries = is.0 ∙ ap (λ es. es ++ Broke 0 ((Report w.point w.version w.ok, told) ∷ []) ∷ []) ask
-            ∙ append_assoc own (asked driver w ∷ []) (Broke 0 ((Report w.point w.version w.ok, told) ∷ []) ∷ []);
+        entries = is.0 ∙ ap (λ es. es ++ Broke 0 ((Report w.point w.version w.ok, told) ∷ []) [] ∷ []) ask
+            ∙ append_assoc own (asked driver w ∷ []) (Broke 0 ((Report w.point w.version w.ok, told) ∷ []) [] ∷ []);
         gave = λ tells. reading tells ∙ ap (λ ms. ms ++ told ∷ []) (first tells) ∙ append_assoc given (w.moment ∷ []) (told ∷ []);
         wrote = write;
       };

@@ -47,7 +47,7 @@ mark command moment Finished = []
 mark command moment Closed = []
 mark command moment ClockFault = []
 mark command moment Stopped = []
-mark command moment DiskFault = Broke 0 ((command, moment) ∷ []) ∷ []
+mark command moment DiskFault = Broke 0 ((command, moment) ∷ []) [] ∷ []
 
 -- the disk ends the work at a command that was not done
 abbrev pub IsCut : Command → ℕ → List Entry → List Entry → List Entry → WorkEnd → Type 0

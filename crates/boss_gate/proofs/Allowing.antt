@@ -90,7 +90,7 @@ module _ (gate : Gate) where
     }
     judged_one session asked moment Stopped held held' others others' t judged after = idle [] _ held held' others others' refl t after
     judged_one session asked moment DiskFault held held' others others' t judged after =
-        idle (Broke session ((asked, moment) ∷ []) ∷ []) _ held held' others others' refl t after
+        idle (Broke session ((asked, moment) ∷ []) [] ∷ []) _ held held' others others' refl t after
     judged_one session asked moment NoMemory held held' others others' t judged after = idle [] _ held held' others others' refl t after
     judged_one session asked moment (Denied index rule) held held' others others' t judged after = record {
       made = [];

@@ -9,7 +9,7 @@ use Rattle.def_history.specs.History.{deeds}
 -- what is held behind an entry
 abbrev pub held_behind : Entry → Holding → Holding
 held_behind (Did session command moment answer) held = held_by session command answer held
-held_behind (Broke session commands) held = held
+held_behind (Broke session commands others) held = held
 
 -- and behind all of these
 abbrev pub held_over : List Entry → Holding → Holding
@@ -19,7 +19,7 @@ held_over (entry ∷ entries) held = held_over entries (held_behind entry held)
 -- the gate denies none of this entry's writes by what is held before it; a mark is of commands that were not done
 abbrev pub IsAllowedAt : Gate → Holding → Entry → Type 0
 IsAllowedAt gate held (Did session command moment answer) = denied_at gate held session command ≡ None
-IsAllowedAt gate held (Broke session commands) = Unit {0}
+IsAllowedAt gate held (Broke session commands others) = Unit {0}
 
 abbrev pub AreAllowed : Gate → Holding → List Entry → Type 0
 AreAllowed gate held [] = Unit {0}

@@ -53,7 +53,7 @@ module _ {V : Type 0} (v : keeper.Ghosts V) (catalogue : Catalogue) (moment : �
           BrokeOff v (actuators catalogue) (answered catalogue session asked moment) k k' tells old (record old { taken = taken })
       broke-off-answer takes = broke-off-running v off kept (λ tell. broke-answer catalogue session asked moment (v.state k) old taken given (subst (TakesFront old.taken taken) line-is (takes tell)))
 
-    module _ {k' : V} (kept : Kept v k k' (entry.Broke session ((asked, moment) ∷ []) ∷ [])) {tells : Type 0} where
+    module _ {k' : V} (kept : Kept v k k' (entry.Broke session ((asked, moment) ∷ []) [] ∷ [])) {tells : Type 0} where
       pub went-halt : (tells → taken ≡ old.taken ++ line_of stopped_text) →
           Went v (actuators catalogue) (answered catalogue session asked moment) stop k k' tells old (record old { taken = taken })
       went-halt told = went-running v off kept (λ tell. did-halt catalogue session asked moment (v.state k) old taken (told tell))
@@ -69,7 +69,7 @@ module _ {V : Type 0} (v : keeper.Ghosts V) (catalogue : Catalogue) (moment : �
     wants-so = subst (λ p. wanting p (v.state k) ≡ Some driver) same wants
 
     -- the disk fails as the driver is asked
-    pub went-unasked : (old : Trace) {k' : V} {tells : Type 0} → Kept v k k' (entry.Broke 0 ((command.Next driver, moment) ∷ []) ∷ []) →
+    pub went-unasked : (old : Trace) {k' : V} {tells : Type 0} → Kept v k k' (entry.Broke 0 ((command.Next driver, moment) ∷ []) [] ∷ []) →
         Went v (actuators catalogue) (served catalogue moment) (served catalogue moment) k k' tells old old
     went-unasked old kept = went-running v off kept (λ _. did-tell [] old old.taken (unasked-leads catalogue driver moment (v.state k) wants-so) (sym (append-nil old.taken)))
 

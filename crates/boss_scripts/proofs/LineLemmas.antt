@@ -39,7 +39,7 @@ module _ (catalogue : Catalogue) (session : ℕ) (command : Command) (moment : �
   begun = record { state = s; stopped = false }
 
   abbrev mark : List Entry
-  mark = entry.Broke session ((command, moment) ∷ []) ∷ []
+  mark = entry.Broke session ((command, moment) ∷ []) [] ∷ []
 
   answered-leads : (given : Answer) →
       Leads (answered catalogue session command moment) (served catalogue moment) (actuators catalogue) begun (entry.Did session command moment given ∷ []) answering [] []

@@ -23,7 +23,7 @@ use Rattle.boss_scripts.proofs.Fronts.{covers-trans, front-trans, front-under, G
 pub left-append : (first second : List Entry) (left : Option ℕ) → left_before (first ++ second) left ≡ left_before first (left_before second left)
 left-append [] second left = refl
 left-append (entry.Did session command moment answer ∷ first) second left = ap one_step_more (left-append first second left)
-left-append (entry.Broke session commands ∷ first) second left = left-append first second left
+left-append (entry.Broke session commands others ∷ first) second left = left-append first second left
 
 or-apart : (a b c : Bool) → ((a || b) || c) ≡ (b || (a || c))
 or-apart true true c = refl

@@ -31,12 +31,12 @@ begun s = record { state = s; stopped = false }
 none-more : (entries : List Entry) → left_before entries None ≡ None
 none-more [] = refl
 none-more (entry.Did session command moment answer ∷ entries) = ap one_step_more (none-more entries)
-none-more (entry.Broke session commands ∷ entries) = none-more entries
+none-more (entry.Broke session commands others ∷ entries) = none-more entries
 
 as-many : (entries : List Entry) → left_before entries (Some 0) ≡ Some (length (deeds entries))
 as-many [] = refl
 as-many (entry.Did session command moment answer ∷ entries) = ap one_step_more (as-many entries)
-as-many (entry.Broke session commands ∷ entries) = as-many entries
+as-many (entry.Broke session commands others ∷ entries) = as-many entries
 
 -- what is left behind them
 abbrev left_if : Bool → Option ℕ

@@ -69,7 +69,7 @@ module _ (catalogue : Catalogue) (moment point version : ℕ) (ok : Bool) where
         ∙ ap (λ es. drain catalogue moment more (at (begun done.state) (text ++ []) (earlier ++ []) es more left)) (one-event before (event_of report (step_effect (actuators catalogue) 0 report moment s)))
 
     -- the report is not made
-    pub unreported-leads : Leads reporting (served catalogue moment) (actuators catalogue) (begun s) (entry.Broke 0 ((report, moment) ∷ []) ∷ []) [] [] []
+    pub unreported-leads : Leads reporting (served catalogue moment) (actuators catalogue) (begun s) (entry.Broke 0 ((report, moment) ∷ []) [] ∷ []) [] [] []
     unreported-leads more text earlier before left ends =
         ap (drain catalogue moment more) (step-halts catalogue 0 report moment (λ given after. after) rest (begun s) text earlier before more left (ends refl))
         ∙ ap₂ (λ t cs. drain catalogue moment more (at (halted_at s) t cs before more left)) (sym (append-nil text)) (sym (append-nil earlier))
@@ -77,7 +77,7 @@ module _ (catalogue : Catalogue) (moment point version : ℕ) (ok : Bool) where
 
 module _ (catalogue : Catalogue) (driver moment : ℕ) (s : State) (wants : wanting (actuators catalogue) s ≡ Some driver) where
   -- the driver is not asked
-  pub unasked-leads : Leads (served catalogue moment) (served catalogue moment) (actuators catalogue) (begun s) (entry.Broke 0 ((command.Next driver, moment) ∷ []) ∷ []) [] [] []
+  pub unasked-leads : Leads (served catalogue moment) (served catalogue moment) (actuators catalogue) (begun s) (entry.Broke 0 ((command.Next driver, moment) ∷ []) [] ∷ []) [] [] []
   unfolding drain
   unasked-leads [] text earlier before left ends =
       let go : Answer → Run → Run = λ given after. cut_short after in

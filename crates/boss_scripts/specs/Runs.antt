@@ -45,7 +45,7 @@ one_step_more (Some left) = Some (suc left)
 abbrev pub left_before : List Entry → Option ℕ → Option ℕ
 left_before [] left = left
 left_before (entry.Did session command moment answer ∷ entries) left = one_step_more (left_before entries left)
-left_before (entry.Broke session commands ∷ entries) left = left_before entries left
+left_before (entry.Broke session commands others ∷ entries) left = left_before entries left
 
 -- no step is left where one was not made
 abbrev pub IsLeft : Under → Option ℕ → Type 0

@@ -102,7 +102,7 @@ parting-deeds : (session moment : ℕ) (own own' : List Entry) (outcome : Outcom
     deeds own' ≡ deeds own ++ parting_of session moment (answer_in outcome)
 parting-deeds session moment own own' (came.Done given) is = ap deeds is ∙ deeds-append own (Did session command.Gone moment given ∷ [])
 parting-deeds session moment own own' came.Stopped is = ap deeds is ∙ deeds-append own []
-parting-deeds session moment own own' came.DiskFault is = ap deeds is ∙ deeds-append own (Broke session ((command.Gone, moment) ∷ []) ∷ [])
+parting-deeds session moment own own' came.DiskFault is = ap deeds is ∙ deeds-append own (Broke session ((command.Gone, moment) ∷ []) [] ∷ [])
 parting-deeds session moment own own' came.NoMemory is = ap deeds is ∙ deeds-append own []
 parting-deeds session moment own own' (came.Denied index rule) is = ap deeds is ∙ deeds-append own []
 

@@ -31,7 +31,7 @@ pub record Parts (session moment : ℕ) (own own' : List Entry) (was broken : Bo
 
 abbrev pub is_attach : Entry → Bool
 is_attach (Did session command moment answer) = attaches_by command (of_answer answer)
-is_attach (Broke session commands) = false
+is_attach (Broke session commands others) = false
 
 -- an attach was accepted among these
 abbrev pub attached_among : List Entry → Bool
@@ -40,7 +40,7 @@ attached_among (entry ∷ entries) = is_attach entry || attached_among entries
 
 -- the last of these is the mark of the call that tells that the session's process is lost
 abbrev pub BreaksAtLast : ℕ → List Entry → Type 0
-BreaksAtLast session own = (before : List Entry) × (moment : ℕ) × (own ≡ before ++ Broke session ((command.Gone, moment) ∷ []) ∷ [])
+BreaksAtLast session own = (before : List Entry) × (moment : ℕ) × (own ≡ before ++ Broke session ((command.Gone, moment) ∷ []) [] ∷ [])
 
 -- Where an attach was accepted among what the pass did, an end by a disk that failed in a call of the session tells of that last
 -- call, whose mark is there. Where the disk had failed before it, if in a call of the session or not, the end tells that

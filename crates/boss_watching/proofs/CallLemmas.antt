@@ -37,4 +37,4 @@ module _ (plant : List Actuator) (opening : State) (seen : List Entry) (mine : L
     asked-nothing-else pass some other = only-page from (sent name (run plant seen opening)) (sent name (run plant now opening)) told (asked-page pass some) other
 
   pub asked-broken : (c : Command) → Turn plant opening seen mine now own (made_by session c moment DiskFault) stopped → deeds (entries_at now own) ≡ deeds (entries_at seen mine)
-  asked-broken c turn = ap deeds turn.entries ∙ deeds-append (entries_at seen mine) (Broke session ((c, moment) ∷ []) ∷ []) ∙ append-nil (deeds (entries_at seen mine))
+  asked-broken c turn = ap deeds turn.entries ∙ deeds-append (entries_at seen mine) (Broke session ((c, moment) ∷ []) [] ∷ []) ∙ append-nil (deeds (entries_at seen mine))

@@ -236,4 +236,4 @@ run-grows plant [] s = grown-same s.persistent.processes
 run-grows plant (Did session c m given ∷ entries) s =
     let next = after_entry plant (Did session c m given) s in
     grown-then s.persistent.processes next.persistent.processes (run plant entries next).persistent.processes (step-grows plant session c m s) (run-grows plant entries next)
-run-grows plant (Broke session calls ∷ entries) s = run-grows plant entries s
+run-grows plant (Broke session calls others ∷ entries) s = run-grows plant entries s

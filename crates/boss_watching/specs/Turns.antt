@@ -10,7 +10,7 @@ use Rattle.boss_watching.specs.Notes.{has_notices}
 -- the turn of this entry had a notice
 abbrev pub has_told : Entry → Bool
 has_told (Did session command moment answer) = has_notices answer
-has_told (Broke session commands) = false
+has_told (Broke session commands others) = false
 
 -- how many turns in a row had none, after one more and after several
 abbrev pub quiet_after : ℕ → Entry → ℕ

@@ -76,4 +76,4 @@ IsAllowed gates name asked = Unit {0}
 abbrev pub AreAllowed : List Gate → Option (List ℕ) → List Entry → Type 0
 AreAllowed gates name [] = Unit {0}
 AreAllowed gates name (Did session asked moment given ∷ entries) = IsAllowed gates name asked × AreAllowed gates (name_by name asked given) entries
-AreAllowed gates name (Broke session calls ∷ entries) = AreAllowed gates name entries
+AreAllowed gates name (Broke session calls others ∷ entries) = AreAllowed gates name entries

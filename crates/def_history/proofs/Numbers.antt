@@ -22,11 +22,12 @@ use Rattle.law_soundness.proofs.Opened.{opened-sound}
 use Rattle.law_soundness.proofs.StepSound.{found-attached, step-sound}
 use Rattle.def_history.proofs.Going.{tried_append, legal_front, mark-last}
 use Rattle.def_history.proofs.Sound.{legal-sound}
-use Rattle.law_time.proofs.Orders.{each-front}
+use Rattle.law_time.proofs.Orders.{each-back, each-front}
 use Rattle.def_history.specs.declared.entry.Entry.{Entry}
 use Rattle.def_history.specs.declared.entry.Entry.TheVariants.{Did, Broke}
-use Rattle.def_history.specs.History.{stepped, run, run_tried, MayCall, IsLegal}
-use Rattle.def_history.specs.Once.{Life, begins, IsLeft, OpensTried, AreLives, StartsSound, MakesNothing, IsSpent, IsSpentIn, IsOnce, AreOnce}
+use Rattle.def_history.specs.declared.entry.Tried.{Tried}
+use Rattle.def_history.specs.History.{stepped, all_stepped, run, run_tried, MayCall, MayTry, IsLegal}
+use Rattle.def_history.specs.Once.{Life, begins, under_way, IsLeft, OpensTried, AreLives, StartsSound, MakesNothing, IsSpent, IsSpentIn, IsOnce, AreOnce}
 
 -- the answer is kept, or one of a greater number
 abbrev pub IsMade : ℕ → ℕ → Acceptance → Persistent → Type 0
@@ -62,15 +63,20 @@ module _ (plant : List Actuator) (owner seq : ℕ) (accepted : Acceptance) where
   made-stepped session [] s made = made
   made-stepped session (call ∷ calls) s made = made-stepped session calls (step plant session call.0 call.1 s).state (made-step session call.0 call.1 s made)
 
+  made-all_stepped : (calls : List Tried) (s : State) → IsMade owner seq accepted s.persistent → IsMade owner seq accepted (all_stepped plant calls s).persistent
+  made-all_stepped [] s made = made
+  made-all_stepped (one ∷ calls) s made = made-all_stepped calls (stepped plant one.session one.commands s) (made-stepped one.session one.commands s made)
+
   made-run : (xs : List Entry) (s : State) → IsMade owner seq accepted s.persistent → IsMade owner seq accepted (run plant xs s).persistent
   made-run [] s made = made
   made-run (Did session c m given ∷ xs) s made = made-run xs (step plant session c m s).state (made-step session c m s made)
-  made-run (Broke session calls ∷ xs) s made = made-run xs s made
+  made-run (Broke session calls others ∷ xs) s made = made-run xs s made
 
   made-tried : (xs : List Entry) (s : State) → IsMade owner seq accepted s.persistent → IsMade owner seq accepted (run_tried plant xs s).persistent
   made-tried [] s made = made
   made-tried (Did session c m given ∷ xs) s made = made-tried xs (step plant session c m s).state (made-step session c m s made)
-  made-tried (Broke session calls ∷ xs) s made = made-tried xs (stepped plant session calls s) (made-stepped session calls s made)
+  made-tried (Broke session calls others ∷ xs) s made =
+      made-tried xs (all_stepped plant others (stepped plant session calls s)) (made-all_stepped others (stepped plant session calls s) (made-stepped session calls s made))
 
   made-left : (life : Life) (d : Persistent) → IsLeft plant life d → IsMade owner seq accepted (run plant life.history (begins plant life)).persistent →
       IsMade owner seq accepted (run_tried plant life.history (begins plant life)).persistent → IsMade owner seq accepted d
@@ -103,7 +109,7 @@ module _ (plant : List Actuator) (owner seq : ℕ) (accepted : Acceptance) where
   spent [] s made legal = tt
   spent (Did session c m given ∷ xs) s made legal =
       ((λ under. made-again session c m given s made under legal.0.1), spent xs (step plant session c m s).state (made-step session c m s made) legal.2)
-  spent (Broke session calls ∷ xs) s made legal = (tt, spent xs s made legal.2)
+  spent (Broke session calls others ∷ xs) s made legal = (tt, spent xs s made legal.2)
 
   spent-in : (lives : List Life) → AreLives plant lives → ((life : Life) (rest : List Life) → lives ≡ life ∷ rest → IsMade owner seq accepted life.opens) → IsSpentIn plant owner seq (answer_of accepted) lives
   spent-in [] are made = tt
@@ -126,11 +132,17 @@ stepped-sound plant session [] s sound may = sound
 stepped-sound plant session (call ∷ calls) s sound may =
     stepped-sound plant session calls (step plant session call.0 call.1 s).state (step-sound plant session call.0 call.1 s may.0.0 may.0.1 sound) may.1
 
+all_stepped-sound : (plant : List Actuator) (calls : List Tried) (s : State) → IsSound plant s → AllByRecursion (MayTry plant) calls → IsSound plant (all_stepped plant calls s)
+all_stepped-sound plant [] s sound may = sound
+all_stepped-sound plant (one ∷ calls) s sound may =
+    all_stepped-sound plant calls (stepped plant one.session one.commands s) (stepped-sound plant one.session one.commands s sound may.0) may.1
+
 tried-sound : (plant : List Actuator) (xs : List Entry) (s : State) → IsSound plant s → IsLegal plant xs s → IsSound plant (run_tried plant xs s)
 tried-sound plant [] s sound legal = sound
 tried-sound plant (Did session c m given ∷ xs) s sound legal = tried-sound plant xs (step plant session c m s).state (step-sound plant session c m s legal.0.0.0 legal.0.0.1 sound) legal.2
-tried-sound plant (Broke session calls ∷ xs) s sound legal =
-    subst (λ ys. IsSound plant (run_tried plant ys (stepped plant session calls s))) (sym legal.1) (stepped-sound plant session calls s sound legal.0)
+tried-sound plant (Broke session calls others ∷ xs) s sound legal =
+    subst (λ ys. IsSound plant (run_tried plant ys (all_stepped plant others (stepped plant session calls s)))) (sym legal.1)
+    (all_stepped-sound plant others (stepped plant session calls s) (stepped-sound plant session calls s sound legal.0.0) legal.0.1)
 
 left-sound : (plant : List Actuator) (life : Life) (d : Persistent) → IsLeft plant life d → IsSoundPersistent plant life.opens → IsLegal plant life.history (begins plant life) → IsSoundPersistent plant d
 left-sound plant life d (inl same) sound legal = subst (IsSoundPersistent plant) (sym same) (legal-sound plant life.history (begins plant life) (opened-sound plant life.opens sound) legal).persistent
@@ -155,7 +167,7 @@ once plant (Did session c m given ∷ xs) s lives sound legal are opens =
           )),
       once plant xs after lives (step-sound plant session c m s legal.0.0.0 legal.0.0.1 sound) legal.2 are opens,
     )
-once plant (Broke session calls ∷ xs) s lives sound legal are opens = (
+once plant (Broke session calls others ∷ xs) s lives sound legal are opens = (
   (λ owner seq accepted is. absurd is),
   subst (λ ys. IsOnce plant ys s lives) (sym legal.1) tt,
 )
@@ -183,10 +195,10 @@ pair-once plant [] between then s owner seq session other c e m n accepted given
         MakesNothing plant other e n (answer_of accepted) given (run plant xs t)
     second [] t made legal again = made-again plant owner seq accepted other e n given t made again legal.0.1
     second (Did a b k g ∷ xs) t made legal again = second xs (step plant a b k t).state (made-step plant owner seq accepted a b k t made) legal.2 again
-    second (Broke a calls ∷ xs) t made legal again = second xs t made legal.2 again
+    second (Broke a calls others ∷ xs) t made legal again = second xs t made legal.2 again
 pair-once plant (Did a b k g ∷ first) between then s owner seq session other c e m n accepted given sound legal under again =
     pair-once plant first between then (step plant a b k s).state owner seq session other c e m n accepted given (step-sound plant a b k s legal.0.0.0 legal.0.0.1 sound) legal.2 under again
-pair-once plant (Broke a calls ∷ first) between then s owner seq session other c e m n accepted given sound legal under again =
+pair-once plant (Broke a calls others ∷ first) between then s owner seq session other c e m n accepted given sound legal under again =
     pair-once plant first between then s owner seq session other c e m n accepted given sound legal.2 under again
 
 -- ---- what was under way
@@ -194,31 +206,44 @@ pair-once plant (Broke a calls ∷ first) between then s owner seq session other
 legal_back : (plant : List Actuator) (xs ys : List Entry) (s : State) → IsLegal plant (xs ++ ys) s → IsLegal plant ys (run plant xs s)
 legal_back plant [] ys s legal = legal
 legal_back plant (Did session c m given ∷ xs) ys s legal = legal_back plant xs ys (step plant session c m s).state legal.2
-legal_back plant (Broke session calls ∷ xs) ys s legal = legal_back plant xs ys s legal.2
+legal_back plant (Broke session calls others ∷ xs) ys s legal = legal_back plant xs ys s legal.2
 
 stepped_append : (plant : List Actuator) (session : ℕ) (xs ys : List (Command × ℕ)) (s : State) → stepped plant session (xs ++ ys) s ≡ stepped plant session ys (stepped plant session xs s)
 stepped_append plant session [] ys s = refl
 stepped_append plant session (call ∷ xs) ys s = stepped_append plant session xs ys (step plant session call.0 call.1 s).state
 
-pub cut_off-once : (plant : List Actuator) (life : Life) (lives : List Life) (first : List Entry) (before then : List (Command × ℕ)) (owner seq session : ℕ) (c : Command) (m : ℕ) (accepted : Acceptance) →
-    StartsSound plant (life ∷ lives) → AreLives plant (life ∷ lives) → life.history ≡ first ++ Broke session (before ++ (c, m) ∷ then) ∷ [] →
-    IsUnder owner seq session c (stepped plant session before (run plant first (begins plant life))) →
-    (step plant session c m (stepped plant session before (run plant first (begins plant life)))).answer ≡ answer_of accepted → OpensTried plant life lives →
+all_stepped-append : (plant : List Actuator) (xs ys : List Tried) (s : State) → all_stepped plant (xs ++ ys) s ≡ all_stepped plant ys (all_stepped plant xs s)
+all_stepped-append plant [] ys s = refl
+all_stepped-append plant (one ∷ xs) ys s = all_stepped-append plant xs ys (stepped plant one.session one.commands s)
+
+pub cut_off-once : (plant : List Actuator) (life : Life) (lives : List Life) (first : List Entry) (told : ℕ) (commands : List (Command × ℕ)) (others passed behind : List Tried)
+    (before then : List (Command × ℕ)) (owner seq session : ℕ) (c : Command) (m : ℕ) (accepted : Acceptance) →
+    StartsSound plant (life ∷ lives) → AreLives plant (life ∷ lives) → life.history ≡ first ++ Broke told commands others ∷ [] →
+    under_way told commands others ≡ passed ++ record { session = session; commands = before ++ (c, m) ∷ then } ∷ behind →
+    IsUnder owner seq session c (stepped plant session before (all_stepped plant passed (run plant first (begins plant life)))) →
+    (step plant session c m (stepped plant session before (all_stepped plant passed (run plant first (begins plant life))))).answer ≡ answer_of accepted → OpensTried plant life lives →
     IsSpentIn plant owner seq (answer_of accepted) lives
-cut_off-once plant life [] first before then owner seq session c m accepted sound are is under gave opens = tt
-cut_off-once plant life (next ∷ lives) first before then owner seq session c m accepted sound are is under gave opens =
+cut_off-once plant life [] first told commands others passed behind before then owner seq session c m accepted sound are is among under gave opens = tt
+cut_off-once plant life (next ∷ lives) first told commands others passed behind before then owner seq session c m accepted sound are is among under gave opens =
     let s = begins plant life in
     let t = run plant first s in
-    let u = stepped plant session before t in
+    let v = all_stepped plant passed t in
+    let u = stepped plant session before v in
     let calls = before ++ (c, m) ∷ then in
-    let legal : IsLegal plant (first ++ Broke session calls ∷ []) s = subst (λ xs. IsLegal plant xs s) is are.0 in
-    let may : AllByRecursion (MayCall plant) calls = (legal_back plant first (Broke session calls ∷ []) s legal).0 in
-    let here : IsSound plant t = legal-sound plant first s (opened-sound plant life.opens sound) (legal_front plant first (Broke session calls ∷ []) s legal) in
-    let there : IsSound plant u = stepped-sound plant session before t here (each-front (MayCall plant) before ((c, m) ∷ then) may) in
-    let made : IsMade owner seq accepted (stepped plant session then (step plant session c m u).state).persistent =
-    made-stepped plant owner seq accepted session then (step plant session c m u).state (made-first plant owner seq session c m (answer_of accepted) accepted u there under refl (sym gave)) in
-    let left : run_tried plant life.history s ≡ stepped plant session then (step plant session c m u).state =
-    ap (λ xs. run_tried plant xs s) is ∙ tried_append plant first (Broke session calls ∷ []) s (mark-last plant first (Broke session calls) [] s legal)
-    ∙ stepped_append plant session before ((c, m) ∷ then) t in
+    let one : Tried = record { session = session; commands = calls } in
+    let mark : Entry = Broke told commands others in
+    let legal : IsLegal plant (first ++ mark ∷ []) s = subst (λ xs. IsLegal plant xs s) is are.0 in
+    let all : AllByRecursion (MayTry plant) (passed ++ one ∷ behind) = subst (AllByRecursion (MayTry plant)) among (legal_back plant first (mark ∷ []) s legal).0 in
+    let may : AllByRecursion (MayCall plant) calls = (each-back (MayTry plant) passed (one ∷ behind) all).0 in
+    let here : IsSound plant t = legal-sound plant first s (opened-sound plant life.opens sound) (legal_front plant first (mark ∷ []) s legal) in
+    let between : IsSound plant v = all_stepped-sound plant passed t here (each-front (MayTry plant) passed (one ∷ behind) all) in
+    let there : IsSound plant u = stepped-sound plant session before v between (each-front (MayCall plant) before ((c, m) ∷ then) may) in
+    let made : IsMade owner seq accepted (all_stepped plant behind (stepped plant session then (step plant session c m u).state)).persistent =
+    made-all_stepped plant owner seq accepted behind (stepped plant session then (step plant session c m u).state)
+    (made-stepped plant owner seq accepted session then (step plant session c m u).state (made-first plant owner seq session c m (answer_of accepted) accepted u there under refl (sym gave))) in
+    let left : run_tried plant life.history s ≡ all_stepped plant behind (stepped plant session then (step plant session c m u).state) =
+    ap (λ xs. run_tried plant xs s) is ∙ tried_append plant first (mark ∷ []) s (mark-last plant first mark [] s legal)
+    ∙ ap (λ calls. all_stepped plant calls t) among ∙ all_stepped-append plant passed (one ∷ behind) t
+    ∙ ap (all_stepped plant behind) (stepped_append plant session before ((c, m) ∷ then) v) in
     let opened_made : IsMade owner seq accepted next.opens = subst (IsMade owner seq accepted) (sym (opens ∙ ap (λ x. x.persistent) left)) made in
     spent-in plant owner seq accepted (next ∷ lives) are.2 (λ other rest same. let equal : next ≡ other = cc in subst (λ l. IsMade owner seq accepted l.opens) equal opened_made)

@@ -12,4 +12,4 @@ pub legal-sound : (plant : List Actuator) (xs : List Entry) (s : State) → IsSo
 legal-sound plant [] s sound legal = sound
 legal-sound plant (Did session command moment answer ∷ xs) s sound legal =
     legal-sound plant xs (after_entry plant (Did session command moment answer) s) (step-sound plant session command moment s legal.0.0.0 legal.0.0.1 sound) legal.2
-legal-sound plant (Broke session commands ∷ xs) s sound legal = legal-sound plant xs s sound legal.2
+legal-sound plant (Broke session commands others ∷ xs) s sound legal = legal-sound plant xs s sound legal.2

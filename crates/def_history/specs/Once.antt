@@ -16,6 +16,7 @@ use Rattle.boss_model.specs.Time.{moment_of}
 use Rattle.law_machine.specs.Once.{IsUnder}
 use Rattle.def_history.specs.declared.entry.Entry.{Entry}
 use Rattle.def_history.specs.declared.entry.Entry.TheVariants.{Did, Broke}
+use Rattle.def_history.specs.declared.entry.Tried.{Tried}
 use Rattle.def_history.specs.History.{after_entry, run, run_tried, IsLegal}
 
 -- ---- lives of the machine
@@ -42,6 +43,10 @@ abbrev pub AreLives : List Actuator → List Life → Type 0
 AreLives plant [] = Unit {0}
 AreLives plant (life ∷ lives) = IsLegal plant life.history (begins plant life) × LeadsTo plant life lives × AreLives plant lives
 
+-- the calls of a mark: that of the caller that was told, and those of the others
+abbrev pub under_way : ℕ → List (Command × ℕ) → List Tried → List Tried
+under_way session commands others = record { session = session; commands = commands } ∷ others
+
 -- what was under way when the disk failed is in what the next one opens
 abbrev pub OpensTried : List Actuator → Life → List Life → Type 0
 OpensTried plant life [] = Unit {0}
@@ -66,7 +71,7 @@ MakesNothing plant session command moment answered given s =
 abbrev pub IsSpentAt : List Actuator → ℕ → ℕ → Answer → State → Entry → Type 0
 IsSpentAt plant owner seq answered s (Did session command moment given) =
     IsUnder owner seq session command s → MakesNothing plant session command moment answered given s
-IsSpentAt plant owner seq answered s (Broke session commands) = Unit {0}
+IsSpentAt plant owner seq answered s (Broke session commands others) = Unit {0}
 
 -- each entry of a history, and of lives
 abbrev pub IsSpent : List Actuator → ℕ → ℕ → Answer → List Entry → State → Type 0
@@ -84,7 +89,7 @@ IsSpentIn plant owner seq answered (life ∷ lives) =
 -- the entry was accepted as the process's request of this number
 abbrev pub IsAccepted : ℕ → ℕ → Acceptance → State → Entry → Type 0
 IsAccepted owner seq accepted s (Did session command moment given) = IsUnder owner seq session command s × (given ≡ answer_of accepted)
-IsAccepted owner seq accepted s (Broke session commands) = ⊥
+IsAccepted owner seq accepted s (Broke session commands others) = ⊥
 
 -- where an entry of a history was accepted under a number, the number is spent in all that follows, and in the lives after it
 abbrev pub IsOnce : List Actuator → List Entry → State → List Life → Type 0

@@ -12,12 +12,12 @@ use Rattle.def_lanes.specs.Parts.{Joined}
 pub deeds-append : (xs ys : List Entry) → deeds (xs ++ ys) ≡ deeds xs ++ deeds ys
 deeds-append [] ys = refl
 deeds-append (Did session command moment answer ∷ xs) ys = ap (λ rest. Did session command moment answer ∷ rest) (deeds-append xs ys)
-deeds-append (Broke session commands ∷ xs) ys = deeds-append xs ys
+deeds-append (Broke session commands others ∷ xs) ys = deeds-append xs ys
 
 pub deeds-deeds : (xs : List Entry) → deeds (deeds xs) ≡ deeds xs
 deeds-deeds [] = refl
 deeds-deeds (Did session command moment answer ∷ xs) = ap (λ rest. Did session command moment answer ∷ rest) (deeds-deeds xs)
-deeds-deeds (Broke session commands ∷ xs) = deeds-deeds xs
+deeds-deeds (Broke session commands others ∷ xs) = deeds-deeds xs
 
 pub only-append : (test : Entry → Bool) (xs ys : List Entry) → only test (xs ++ ys) ≡ only test xs ++ only test ys
 only-append test xs ys = ap (filter test) (deeds-append xs ys) ∙ filter-append test (deeds xs) (deeds ys)
@@ -54,7 +54,7 @@ unfolding of_deeds
 only-of_deeds test [] = refl
 only-of_deeds test (Did session command moment answer ∷ xs) =
     ap (λ rest. cond (test (Did session command moment answer)) (Did session command moment answer ∷ rest) rest) (only-of_deeds test xs)
-only-of_deeds test (Broke session commands ∷ xs) = only-of_deeds test xs
+only-of_deeds test (Broke session commands others ∷ xs) = only-of_deeds test xs
 
 -- a join that is told by tests of entries
 pub joined-tests : (old other new : List Entry) → ((test : Entry → Bool) → filter test other ≡ [] → filter test new ≡ filter test old) →

@@ -30,7 +30,7 @@ abbrev reported : Entry
 reported = Did 0 (command.Report 1 1 true) 40 (answer.Noted true)
 
 abbrev broken : Entry
-broken = Broke 5 ((command.Gone, 50) ∷ [])
+broken = Broke 5 ((command.Gone, 50) ∷ []) []
 
 abbrev history : List Entry
 history = asked ∷ passed ∷ wanted ∷ reported ∷ broken ∷ []

@@ -15,11 +15,11 @@ use Rattle.def_lanes.proofs.Choices.{deeds-deeds, fewer, only-append}
 
 untimed-front : (given more : List ℕ) (entry : Entry) → is_untimed given entry ≡ false → is_untimed (given ++ more) entry ≡ false
 untimed-front given more (Did session command moment answer) timed = grind (arith, member-append moment given more)
-untimed-front given more (Broke session commands) timed = refl
+untimed-front given more (Broke session commands others) timed = refl
 
 untimed-behind : (given more : List ℕ) (entry : Entry) → is_untimed more entry ≡ false → is_untimed (given ++ more) entry ≡ false
 untimed-behind given more (Did session command moment answer) timed = grind (arith, member-append moment given more)
-untimed-behind given more (Broke session commands) timed = refl
+untimed-behind given more (Broke session commands others) timed = refl
 
 pub timed-front : (given more : List ℕ) (entries : List Entry) → AreTimed given entries → AreTimed (given ++ more) entries
 timed-front given more entries timed = fewer (is_untimed given) (is_untimed (given ++ more)) (untimed-front given more) (deeds entries) timed

@@ -160,7 +160,7 @@ paused-all (suc turns) few = let before : paused turns 0 ≡ turns = paused-all 
 few-deeds : (entries : List Entry) → length (deeds entries) ≤ length entries
 few-deeds [] = omega arith
 few-deeds (Did session command moment answer ∷ entries) = let rest = few-deeds entries in omega arith
-few-deeds (Broke session commands ∷ entries) = let rest = few-deeds entries in omega arith
+few-deeds (Broke session commands others ∷ entries) = let rest = few-deeds entries in omega arith
 
 few-kept : {X : Type 0} (test : X → Bool) (xs : List X) → length (filter test xs) ≤ length xs
 few-kept test [] = omega arith

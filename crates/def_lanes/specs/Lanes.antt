@@ -26,7 +26,7 @@ lane_of_command plant other = of_nobody
 abbrev pub lane_of : List Actuator → Entry → Lane
 lane_of plant (Did zero command moment answer) = lane_of_command plant command
 lane_of plant (Did (suc n) command moment answer) = of_session (suc n)
-lane_of plant (Broke session commands) = of_nobody
+lane_of plant (Broke session commands others) = of_nobody
 
 abbrev pub is_lane : Lane → Lane → Bool
 is_lane (of_session s) (of_session t) = s == t

@@ -15,7 +15,7 @@ use Rattle.def_lanes.specs.Works.{Work, lane_of_work, AreOf, IsAbsent, AreApart,
 
 abbrev pub is_untimed : List ℕ → Entry → Bool
 is_untimed given (Did session command moment answer) = not (member moment given)
-is_untimed given (Broke session commands) = false
+is_untimed given (Broke session commands others) = false
 
 -- nothing was done at a moment that is none of these
 abbrev pub AreTimed : List ℕ → List Entry → Type 0

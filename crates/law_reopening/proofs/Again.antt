@@ -37,4 +37,4 @@ history-again plant [] s sound legal = refl
 history-again plant (Did session c m answer ∷ xs) s sound legal =
     one-again plant s session c m (events plant xs (after_entry plant (Did session c m answer) s)) sound legal.0.0 (event_of c (step_effect plant session c m s)) refl
     ∙ history-again plant xs (after_entry plant (Did session c m answer) s) (step-sound plant session c m s legal.0.0.0 legal.0.0.1 sound) legal.2
-history-again plant (Broke session commands ∷ xs) s sound legal = history-again plant xs s sound legal.2
+history-again plant (Broke session commands others ∷ xs) s sound legal = history-again plant xs s sound legal.2

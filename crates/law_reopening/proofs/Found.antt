@@ -24,7 +24,7 @@ found plant digest span first second d (inr left) opens =
 shortened-run : (plant : List Actuator) (tries : ℕ) (xs : List Entry) (s : State) → run plant (shortened tries xs) s ≡ run plant xs s
 shortened-run plant tries [] s = refl
 shortened-run plant tries (Did session c m answer ∷ xs) s = shortened-run plant tries xs (after_entry plant (Did session c m answer) s)
-shortened-run plant tries (Broke session commands ∷ xs) s = shortened-run plant tries xs s
+shortened-run plant tries (Broke session commands others ∷ xs) s = shortened-run plant tries xs s
 
 all-take : {X : Type 0} (P : X → Type 0) (n : ℕ) (xs : List X) → AllByRecursion P xs → AllByRecursion P (take n xs)
 all-take P zero xs all = tt
@@ -35,8 +35,8 @@ shortened-legal : (plant : List Actuator) (tries : ℕ) (xs : List Entry) (s : S
 shortened-legal plant tries [] s legal = tt
 shortened-legal plant tries (Did session c m answer ∷ xs) s legal =
     (legal.0, tt, shortened-legal plant tries xs (after_entry plant (Did session c m answer) s) legal.2)
-shortened-legal plant tries (Broke session commands ∷ xs) s legal =
-    (all-take (MayCall plant) tries commands legal.0, ap (shortened tries) legal.1, shortened-legal plant tries xs s legal.2)
+shortened-legal plant tries (Broke session commands others ∷ xs) s legal =
+    ((all-take (MayCall plant) tries commands legal.0.0, legal.0.1), ap (shortened tries) legal.1, shortened-legal plant tries xs s legal.2)
 
 -- ---- lives
 

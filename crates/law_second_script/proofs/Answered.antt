@@ -104,7 +104,7 @@ module _ (plant : List Actuator) (d : Persistent) (sound : IsSoundPersistent pla
   all-rows [] moment s only is = is
   all-rows (Did session c m given ∷ rows) moment s only is =
       all-rows rows (max moment m) (after_entry plant (Did session c m given) s) only.1 (one-row session c m moment s only.0 is)
-  all-rows (Broke session commands ∷ rows) moment s only is = absurd (let no : false ≡ true = only.0 in cc)
+  all-rows (Broke session commands others ∷ rows) moment s only is = absurd (let no : false ≡ true = only.0 in cc)
 
   pub answer-at : Command × ℕ → Answer
   answer-at question = said plant question.0 (tick d question.1)
@@ -126,7 +126,7 @@ module _ (plant : List Actuator) (d : Persistent) (sound : IsSoundPersistent pla
           ap unmarked legal.0.1 ∙ question-said plant session c m s question ∙ ap (λ e. said plant c (tick e m)) is ∙ ap (said plant c) (ticks moment m) in
           (λ i. here i ∷ rest i)
       by false other rest = rest
-  all-answers (Broke session commands ∷ rows) moment s only legal is = absurd (let no : false ≡ true = only.0 in cc)
+  all-answers (Broke session commands others ∷ rows) moment s only legal is = absurd (let no : false ≡ true = only.0 in cc)
 
 pub same-answers : (plant : List Actuator) (s t : State) (rows others : List Entry) → IsSoundPersistent plant s.persistent → s.persistent ≡ t.persistent →
     IsLegal plant rows s → IsLegal plant others t → OnlyAsks rows → OnlyAsks others → asked 0 rows ≡ asked 0 others → answered rows ≡ answered others

@@ -27,7 +27,7 @@ serves c = false
 -- a row that asks, or that serves a device
 abbrev pub only_asks : Entry → Bool
 only_asks (Did session c moment answer) = asks c || serves c
-only_asks (Broke session commands) = false
+only_asks (Broke session commands others) = false
 
 abbrev pub OnlyAsks : List Entry → Type 0
 OnlyAsks entries = AllByRecursion (λ entry. only_asks entry ≡ true) entries
@@ -38,17 +38,17 @@ OnlyAsks entries = AllByRecursion (λ entry. only_asks entry ≡ true) entries
 abbrev pub latest : ℕ → List Entry → ℕ
 latest moment [] = moment
 latest moment (Did session c next answer ∷ entries) = latest (max moment next) entries
-latest moment (Broke session commands ∷ entries) = latest moment entries
+latest moment (Broke session commands others ∷ entries) = latest moment entries
 
 -- the questions, one after another, and how far the clock has come as each is asked
 abbrev pub asked : ℕ → List Entry → List (Command × ℕ)
 asked moment [] = []
 asked moment (Did session c next answer ∷ entries) =
     if asks c then (c, max moment next) ∷ asked (max moment next) entries else asked (max moment next) entries
-asked moment (Broke session commands ∷ entries) = asked moment entries
+asked moment (Broke session commands others ∷ entries) = asked moment entries
 
 -- their answers, each reading without its mark, which tells whether the device has the value
 abbrev pub answered : List Entry → List Answer
 answered [] = []
 answered (Did session c next answer ∷ entries) = if asks c then unmarked answer ∷ answered entries else answered entries
-answered (Broke session commands ∷ entries) = answered entries
+answered (Broke session commands others ∷ entries) = answered entries

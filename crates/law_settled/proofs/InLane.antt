@@ -84,4 +84,4 @@ module _ (plant : List Actuator) (point : ℕ) where
       (λ _. told-lane log next (told_by point c given told) legal.2 apart.1)
       (λ other. told-lane log next told legal.2 apart.1
       ∙ ap (told_in point log) (sym (told-none session m c s given told apart.0 legal.0.1 other)))
-  told-lane (Broke session commands ∷ log) s told legal apart = told-lane log s told legal.2 apart
+  told-lane (Broke session commands others ∷ log) s told legal apart = told-lane log s told legal.2 apart

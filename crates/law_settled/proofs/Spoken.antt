@@ -189,10 +189,10 @@ module _ (catalogue : Catalogue) (gates : List Gate) (heeds tells pausing : Type
     of-lanes plant xs
         (λ session. all-behind (in_lane plant (of_session session) (Did (suc n) c moment given)) (Did (suc n) c moment given) (filter (in_lane plant (of_session session)) xs) (all session)),
   )
-  of-lanes plant (Broke session commands ∷ xs) all = (
+  of-lanes plant (Broke session commands others ∷ xs) all = (
     tt,
     of-lanes plant xs
-        (λ other. all-behind (in_lane plant (of_session other) (Broke session commands)) (Broke session commands) (filter (in_lane plant (of_session other)) xs) (all other)),
+        (λ other. all-behind (in_lane plant (of_session other) (Broke session commands others)) (Broke session commands others) (filter (in_lane plant (of_session other)) xs) (all other)),
   )
 
   pub all-apart : (works : List Work) → Agreed (actuators catalogue) (says catalogue gates heeds tells pausing) log works → AllByRecursion IsApart (deeds log)

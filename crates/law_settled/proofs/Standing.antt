@@ -235,7 +235,7 @@ at-run plant point (Did session c m given ∷ log) s told legal is same =
     let next = at-step plant session point m c s told is in
     at-run plant point log (step plant session c m s).state (told_by point c given told) legal.2
     (subst (λ a. IsAt point (step plant session c m s).state (told_by point c a told)) (sym legal.0.1) next.0) next.1
-at-run plant point (Broke session commands ∷ log) s told legal is same = at-run plant point log s told legal.2 is same
+at-run plant point (Broke session commands others ∷ log) s told legal is same = at-run plant point log s told legal.2 is same
 
 -- ---- from a state on
 

@@ -49,7 +49,7 @@ told_by point c given told = told
 
 abbrev pub told_after : ℕ → Entry → Told → Told
 told_after point (Did session c moment given) told = told_by point c given told
-told_after point (Broke session commands) told = told
+told_after point (Broke session commands others) told = told
 
 abbrev pub told_in : ℕ → List Entry → Told → Told
 told_in point [] told = told
@@ -63,7 +63,7 @@ told-append point (x ∷ xs) ys told = told-append point xs ys (told_after point
 pub told-deeds : (point : ℕ) (xs : List Entry) (told : Told) → told_in point (deeds xs) told ≡ told_in point xs told
 told-deeds point [] told = refl
 told-deeds point (Did session c moment given ∷ xs) told = told-deeds point xs (told_by point c given told)
-told-deeds point (Broke session commands ∷ xs) told = told-deeds point xs told
+told-deeds point (Broke session commands others ∷ xs) told = told-deeds point xs told
 
 -- ---- what a state tells
 

@@ -50,4 +50,4 @@ serves c = false
 abbrev pub IsApart : Entry → Type 0
 IsApart (Did zero c moment answer) = Unit {0}
 IsApart (Did (suc n) c moment answer) = serves c ≡ false
-IsApart (Broke session commands) = Unit {0}
+IsApart (Broke session commands others) = Unit {0}

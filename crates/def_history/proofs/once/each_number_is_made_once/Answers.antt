@@ -9,5 +9,5 @@ pub returns-clause-lives : goal.returns-clause-lives
 returns-clause-lives c plant lives sound are = lives-once plant lives sound are
 
 pub returns-clause-cut_off : goal.returns-clause-cut_off
-returns-clause-cut_off c plant life lives first before then owner seq session command m accepted sound are is under gave opens =
-    cut_off-once plant life lives first before then owner seq session command m accepted sound are is under gave opens
+returns-clause-cut_off c plant life lives first told commands others passed behind before then owner seq session command m accepted sound are is among under gave opens =
+    cut_off-once plant life lives first told commands others passed behind before then owner seq session command m accepted sound are is among under gave opens
