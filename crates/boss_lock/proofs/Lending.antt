@@ -1,13 +1,12 @@
 -- The steps of a turn that is lent keep the rule.
-use Rattle.std.proofs.Common.{◌≡◌, ℕ, ◌+◌, ◌-◌, ◌<◌, ◌≤◌, List, [], ◌∷◌, ◌++◌, length, set, Option, Some, None, refl, sym, ap, ◌∙◌, subst, arith, length-append, append-nil, ⊎_elim}
+use Rattle.std.proofs.Common.{◌≡◌, ℕ, ◌+◌, ◌<◌, ◌≤◌, List, [], ◌++◌, length, set, Option, Some, None, refl, sym, ap, ◌∙◌, subst, arith, length-append, append-nil, ⊎_elim}
 use mathlib.Core.Option as slot
 use mathlib.Core.List.{IsPrefix}
-use lib.ListN.{get_elem?}
 use Rattle.atomic_table.specs.Seated.{TableId}
-use Rattle.atomic_table.specs.Table.{State, step, keeps, Allows, Splits, Joins}
-use Rattle.atomic_table.proofs.Lists.{at_snoc, set_else}
+use Rattle.atomic_table.specs.Table.{step, keeps, Allows, Splits, Joins}
+use Rattle.atomic_table.proofs.Lists.{at_snoc}
 use Rattle.boss_lock.specs.Places.{same, below, times, numbers_from, AllBelow, woven, entries_at, longer}
-use Rattle.boss_lock.specs.Rule.{in_line, ticketed, away, due, Knows, spent_view, placed, Fits, present, StandsAtHome, IsKept}
+use Rattle.boss_lock.specs.Rule.{in_line, ticketed, away, due, Knows, spent_view, placed, Fits, present, StandsAtHome}
 use Rattle.boss_lock.specs.Seats.{Standing, standing, IsAtRest, own_entries}
 use Rattle.boss_lock.specs.Steps.{Knower, ticket_of, list_of, joined_view, added_view, bare_view, set_down_view, folded_view, added}
 use Rattle.boss_lock.specs.declared.view.View.{View}
@@ -16,7 +15,7 @@ use Rattle.boss_lock.specs.declared.view.Stage.TheVariants.{Idle, Waiting, Turn,
 use Rattle.boss_lock.proofs.Counting.{same_self, times_append, times_numbers, all_below_more, all_below_append, all_below_numbers, rises_then}
 use Rattle.boss_lock.proofs.Entries.{entries_after_turn}
 use Rattle.boss_lock.proofs.Histories.{prefix_length, longer_nil, longer_before}
-use Rattle.boss_lock.proofs.Keeps.{load_second, Table, Rule, line_of, parts_of, away_of, ticket_at, others_fit, moves, others_move}
+use Rattle.boss_lock.proofs.Keeps.{load_second, Rule, line_of, parts_of, away_of, ticket_at, others_fit, moves, others_move}
 use Rattle.boss_lock.proofs.Sums.{total_set, total_snoc, total_at}
 
 in_line_le : {E : Type 0} → (stage : Stage E) → in_line stage ≤ 1

@@ -6,6 +6,7 @@
 //! are its own.
 #![tactic(auto)]
 
+mod bells;
 mod lock;
 mod plays;
 mod seat;

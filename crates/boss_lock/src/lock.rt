@@ -4,8 +4,9 @@ ghost use mathlib.Core.List.{IsPrefix};
 ghost use Rattle.boss_lock.specs.Places.{numbers_from, ArePlacesOf, IsLonger, total};
 ghost use Rattle.boss_lock.specs.Seats.{IsSeatOf, found, own_entries, first_seat, with_turn, after_turn, one_part_less, one_part_of, both_seats, after_lending, with_parts_of};
 
+use crate::bells::Bells;
 use crate::seat::Seat;
-use crate::steps::{begin_turn, divide, end_turn, fold, lend_turn, take_in};
+use crate::steps::{begin_turn, divide, end_turn, fold, is_next_served, lend_turn, take_in};
 use crate::view::{Known, Made, OneHistory, Stands, Terms};
 use atomic_table::{Closed, Refused, Table};
 use std::alloc::{AllocFailed, Global};
@@ -36,11 +37,12 @@ impl Error for NoMemory {}
 ///
 /// To a contract a lock is a `Lock`: its table, the start, and how many parts its seats have together.
 ///
-/// Not promised: that a seat which waits gets its turn, or how long that takes. Each turn that is passed
-/// on while others wait wakes all that sleep.
+/// Not promised: that a seat which waits gets its turn, or how long that takes. A turn that is passed on
+/// while others wait wakes the seat whose turn it is, and those 64 places behind it, 128 and so on.
 #[derive(Drop)]
 pub struct Ruled<V: Stands> {
     table: Table<Option<V>, Known<V>, Terms<V>, OneHistory, Global>,
+    bells: Bells,
 }
 
 impl<V: Stands> Model for Ruled<V> {
@@ -103,12 +105,15 @@ fn with_parts<V: Stands>(
         seats: parts,
         value: Snapshot::of(&value),
     };
+    let Ok(bells) = Bells::new(alloc) else {
+        return Err((value, NoMemory));
+    };
     let slots = match one_slot(alloc, value) {
         Ok(slots) => slots,
         Err(value) => return Err((value, NoMemory)),
     };
     match Table::new(alloc, &[0, 0], slots, &terms) {
-        Ok((table, token)) => Ok((Ruled { table }, Seat { token })),
+        Ok((table, token)) => Ok((Ruled { table, bells }, Seat { token })),
         Err(refused) => {
             let Refused { slots } = refused;
             Err((only_value(slots), NoMemory))
@@ -147,6 +152,14 @@ impl<V: Stands> Ruled<V> {
         with_parts(alloc, value, 2 * pairs as u64)
     }
 
+    /// Whether no seat had the turn or waited for it at a moment of the call.
+    ///
+    /// That may be otherwise by the time that it returns, so no clause says anything of it: it serves to
+    /// choose the quicker of two ways. The call takes no memory and does not wait.
+    pub fn is_free(&self) -> bool {
+        is_next_served(&self.table.shared)
+    }
+
     /// Waits for the seat's turn, and takes the value out.
     ///
     /// The seat has to be one of this lock, and not have the turn. The value stands for a history that
@@ -159,7 +172,7 @@ impl<V: Stands> Ruled<V> {
         ensures history { IsPrefix seat.old.seen (found seat.new) }
         ensures value { V.stands result self.now.start (found seat.new) }
     {
-        begin_turn(&self.table.shared, rt, &mut seat.token)
+        begin_turn(&self.table.shared, &self.bells, rt, &mut seat.token)
     }
 
     /// Gives a value back, and passes the turn on.
@@ -175,7 +188,13 @@ impl<V: Stands> Ruled<V> {
         ensures own_entries { own_entries seat.new ≡ own_entries seat.old ++ M.entries made.now }
         ensures places { ArePlacesOf seat.new.places seat.new.seen }
     {
-        end_turn(&self.table.shared, &mut seat.token, value, made);
+        end_turn(
+            &self.table.shared,
+            &self.bells,
+            &mut seat.token,
+            value,
+            made,
+        );
     }
 
     /// Moves one part to a new seat, which has seen the same and has no places.
@@ -259,7 +278,8 @@ impl<V: Stands> Ruled<V> {
         ensures value { V.stands result self.start seat.seen }
         ensures places { seat.places ≡ numbers_from 0 (length seat.seen) }
     {
-        let Ruled { table } = self;
+        let Ruled { table, bells } = self;
+        drop(bells);
         let Seat { token } = seat;
         let mut closed = table.close_with(token);
         let slot = closed.take(0);

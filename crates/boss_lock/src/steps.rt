@@ -5,6 +5,7 @@ ghost use Rattle.boss_lock.specs.Places.{ArePlacesOf, IsLonger};
 ghost use Rattle.boss_lock.specs.Steps.{ticket_of, list_of, waiting_view, turn_view, holding_view, given_view, passed_view, left_view, right_view, joined_view, compared_view, added_view, bare_view, set_down_view, folded_view, IsWaiting, HasTurn, IsHolding, HasGiven, StandsFor, IsOn, IsSameToken};
 ghost use Rattle.boss_lock.specs.declared.view.Stage.TheVariants.{Idle};
 
+use crate::bells::Bells;
 use crate::plays::{
     Add, AllParts, Compare, Draw, Fold, GiveBack, Look, OnePart, PassOn, SetDown, Take, Telling,
 };
@@ -33,17 +34,15 @@ fn draw<V: Stands>(board: &Board<V>, token: &mut Token<V>) -> u64
     board.fetch_add::<Draw>(token, TICKET, 1)
 }
 
-// The half of a word that a sleep compares. A seat that waits keeps a thread, and there are fewer than
-// 2^32 of these, so it changes before a seat's turn comes.
-fn low_half(word: u64) -> u32
-    ensures { result ≡ word % 2 ^ 32 }
-{
-    (word & 0xffff_ffff) as u32
-}
-
-// Looks until the ticket is served. After a number of looks it sleeps between two of them, until the next
-// turn is passed on.
-fn wait<V: Stands, R: Wait>(board: &Board<V>, rt: &R, token: &mut Token<V>, ticket: u64)
+// Looks until the ticket is served. After a number of looks it sleeps between two of them, until the bell of
+// its place in line is rung. It hears the bell before it looks, so that none is missed.
+fn wait<V: Stands, R: Wait>(
+    board: &Board<V>,
+    bells: &Bells,
+    rt: &R,
+    token: &mut Token<V>,
+    ticket: u64,
+)
     requires own { IsOn board.now.table_id token.old }
     requires waiting { IsWaiting token.old.me.0 }
     requires ticket { ticket ≡ ticket_of token.old.me.0.stage % 2 ^ 64 }
@@ -53,6 +52,7 @@ fn wait<V: Stands, R: Wait>(board: &Board<V>, rt: &R, token: &mut Token<V>, tick
 {
     let mut looks = 0;
     for _ in rt.forever() {
+        let shown = bells.shown(ticket);
         let serving = board.load::<Look>(token, SERVING);
         if serving == ticket {
             return;
@@ -61,7 +61,7 @@ fn wait<V: Stands, R: Wait>(board: &Board<V>, rt: &R, token: &mut Token<V>, tick
             looks += 1;
             spin_loop();
         } else {
-            board.park(rt, SERVING, low_half(serving));
+            bells.sleep(rt, ticket, shown);
         }
     }
     unreachable!()
@@ -83,7 +83,12 @@ fn take<V: Stands>(board: &Board<V>, token: &mut Token<V>) -> V
 }
 
 // Waits for the turn, and takes the value out.
-pub(crate) fn begin_turn<V: Stands, R: Wait>(board: &Board<V>, rt: &R, token: &mut Token<V>) -> V
+pub(crate) fn begin_turn<V: Stands, R: Wait>(
+    board: &Board<V>,
+    bells: &Bells,
+    rt: &R,
+    token: &mut Token<V>,
+) -> V
     requires own { IsOn board.now.table_id token.old }
     requires idle { (token.old.me.0.stage ≡ Idle) × (token.old.me.1 ≡ []) }
     requires part { 0 < token.old.me.0.parts }
@@ -93,7 +98,7 @@ pub(crate) fn begin_turn<V: Stands, R: Wait>(board: &Board<V>, rt: &R, token: &m
     ensures value { StandsFor V.stands result token.old.me.0 (list_of token.new.me.0.stage) }
 {
     let ticket = draw(board, token);
-    wait(board, rt, token, ticket);
+    wait(board, bells, rt, token, ticket);
     take(board, token)
 }
 
@@ -118,9 +123,9 @@ fn give_back<V: Stands, M: Made<V>, J: Telling<V::Entry>>(
     board.load::<GiveBack<J>>(token, SERVING);
 }
 
-// Serves the next ticket, and wakes those who sleep where a seat has drawn it. A seat that draws it later
-// finds it served.
-fn pass_on<V: Stands>(board: &Board<V>, token: &mut Token<V>)
+// Serves the next ticket, and rings its bell where a seat has drawn it. A seat that draws it later finds it
+// served.
+fn pass_on<V: Stands>(board: &Board<V>, bells: &Bells, token: &mut Token<V>)
     requires own { IsOn board.now.table_id token.old }
     requires given { HasGiven token.old.me.0 }
     requires part { 0 < token.old.me.0.parts }
@@ -129,14 +134,16 @@ fn pass_on<V: Stands>(board: &Board<V>, token: &mut Token<V>)
     ensures places { ArePlacesOf token.new.me.0.places token.new.me.0.seen }
 {
     let served = board.fetch_add::<PassOn>(token, SERVING, 1);
-    if board.peek(TICKET) != served.wrapping_add(1) {
-        board.wake_all(SERVING);
+    let next = served.wrapping_add(1);
+    if board.peek(TICKET) != next {
+        bells.ring(next);
     }
 }
 
 // Puts a value back, and passes the turn on.
 pub(crate) fn end_turn<V: Stands, M: Made<V>>(
     board: &Board<V>,
+    bells: &Bells,
     token: &mut Token<V>,
     value: V,
     made: &M,
@@ -150,7 +157,14 @@ pub(crate) fn end_turn<V: Stands, M: Made<V>>(
     ensures places { ArePlacesOf token.new.me.0.places token.new.me.0.seen }
 {
     give_back::<V, M, Brand>(board, token, value, made);
-    pass_on(board, token);
+    pass_on(board, bells, token);
+}
+
+// Whether the next ticket to be drawn is the one that is served.
+pub(crate) fn is_next_served<V: Stands>(board: &Board<V>) -> bool
+    requires own { board.now.table_id.words ≡ 2 }
+{
+    board.peek(SERVING) == board.peek(TICKET)
 }
 
 // Gives one part to a new seat.
