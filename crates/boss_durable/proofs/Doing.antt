@@ -5,7 +5,8 @@ use Rattle.std.specs.List.{AllByRecursion}
 use Rattle.boss_disk.specs.declared.disk.Disk as disk
 use Rattle.def_history.specs.declared.entry.Entry.{Entry}
 use Rattle.def_history.specs.declared.entry.Entry.TheVariants.{Broke}
-use Rattle.def_history.specs.History.{events, is_broken, run, run_tried, stepped, IsLegal, MayCall}
+use Rattle.def_history.specs.declared.entry.Tried.{Tried}
+use Rattle.def_history.specs.History.{events, is_broken, run, run_tried, stepped, all_stepped, IsLegal, MayCall, MayTry}
 use Rattle.boss_model.specs.declared.command.Command.{Command}
 use Rattle.boss_model.specs.declared.event.Event.{Event}
 use Rattle.boss_model.specs.declared.state.Actuator.{Actuator}
@@ -134,13 +135,14 @@ module _ {D : Type 0} {g : disk.Ghosts D} where
         gained = λ _ before held. gains before held;
       }
 
-  -- a disk failed while these commands were tried
-  fault_does : (old new : Durable D g) (session tried : ℕ) (calls : List (Command × ℕ)) → old.disks.stopped ≡ false → new.disks.stopped ≡ true →
+  -- a disk failed while these commands were tried, and behind them those of others
+  fault_does : (old new : Durable D g) (session tried : ℕ) (calls : List (Command × ℕ)) (others : List Tried) → old.disks.stopped ≡ false → new.disks.stopped ≡ true →
       new.engine.plant ≡ old.engine.plant → OneRose (counts_of old.disks) (counts_of new.disks) → AllByRecursion (MayCall old.engine.plant) calls →
-      ((before : List Event) → keeps old before → leaves new (lasting old) (stepped old.engine.plant session (take tried calls) old.engine.state).persistent) →
-      RunsThrough old new (Broke session calls ∷ []) → Does old new (Broke session calls ∷ [])
-  fault_does old new session tried calls off on same rose may there runs = record {
-    legal = (may, refl, tt);
+      AllByRecursion (MayTry old.engine.plant) others →
+      ((before : List Event) → keeps old before → leaves new (lasting old) (all_stepped old.engine.plant others (stepped old.engine.plant session (take tried calls) old.engine.state)).persistent) →
+      RunsThrough old new (Broke session calls others ∷ []) → Does old new (Broke session calls others ∷ [])
+  fault_does old new session tried calls others off on same rose may more there runs = record {
+    legal = ((may, more), refl, tt);
     same_plant = same;
     marked = on ∙ sym (ap (λ b. b || true) off);
     none = λ was. absurd (never old.disks.stopped was off);
@@ -150,7 +152,7 @@ module _ {D : Type 0} {g : disk.Ghosts D} where
     stood = λ equal. absurd (never new.disks.stopped on (equal ∙ off));
     images = λ _ _ before held. (tried, there before held);
     images_stay = λ was. absurd (never old.disks.stopped was off);
-    through = λ _. one_call old new (Broke session calls ∷ []) same runs;
+    through = λ _. one_call old new (Broke session calls others ∷ []) same runs;
     gained = λ not. absurd (never new.disks.stopped on not);
   }
 
@@ -235,40 +237,41 @@ module _ {D : Type 0} {g : disk.Ghosts D} where
         (taken.state_is ∙ sym (tried_same old.engine.plant made old.engine.state taken.whole)) (runs (length before) held),
   )
 
-  pub failed_runs : (old new : Durable D g) (session tried : ℕ) (calls : List (Command × ℕ)) → (tried ≡ length calls) ⊎ (is_growing_at calls tried ≡ true) →
-      new.engine.state ≡ stepped old.engine.plant session (take tried calls) old.engine.state →
+  pub failed_runs : (old new : Durable D g) (session tried : ℕ) (calls : List (Command × ℕ)) (others : List Tried) → (tried ≡ length calls) ⊎ (is_growing_at calls tried ≡ true) →
+      new.engine.state ≡ all_stepped old.engine.plant others (stepped old.engine.plant session (take tried calls) old.engine.state) →
       ((count : ℕ) → pair.rests old.disks old.engine.plant (lasting old) count → pair.passes old.disks new.disks old.engine.plant (lasting old) (lasting new)) →
-      RunsThrough old new (Broke session calls ∷ [])
+      RunsThrough old new (Broke session calls others ∷ [])
   unfolding keeps passes
-  failed_runs old new session tried calls all came runs before held = (
+  failed_runs old new session tried calls others all came runs before held = (
     tried,
     (all, tt),
     subst (λ (s : State). pair.passes old.disks new.disks old.engine.plant (lasting old) s.persistent) came (runs (length before) held),
   )
 
-  failed_leaves : (old new : Durable D g) (session : ℕ) (calls : List (Command × ℕ)) → new.engine.plant ≡ old.engine.plant →
-      new.engine.state ≡ stepped old.engine.plant session calls old.engine.state →
+  failed_leaves : (old new : Durable D g) (to : State) → new.engine.plant ≡ old.engine.plant → new.engine.state ≡ to →
       ((count : ℕ) → pair.rests old.disks old.engine.plant (lasting old) count → pair.passes old.disks new.disks old.engine.plant (lasting old) (lasting new)) →
-      (before : List Event) → keeps old before → leaves new (lasting old) (stepped old.engine.plant session calls old.engine.state).persistent
+      (before : List Event) → keeps old before → leaves new (lasting old) to.persistent
   unfolding keeps leaves
-  failed_leaves old new session calls same came runs before held =
+  failed_leaves old new to same came runs before held =
       subst (λ (q : List Actuator × State). pair.leaves new.disks q.0 (lasting old) q.1.persistent) (λ i. (sym same i, came i))
       (words.passes_leaves old.disks new.disks old.engine.plant (lasting old) (lasting new) (runs (length before) held))
 
-  -- a disk failed behind the steps of so many of these commands
-  pub failed_does : (old new : Durable D g) (session tried : ℕ) (calls : List (Command × ℕ)) → old.disks.stopped ≡ false → new.disks.stopped ≡ true →
+  -- a disk failed behind the steps of so many of these commands, and behind those of others
+  pub failed_does : (old new : Durable D g) (session tried : ℕ) (calls : List (Command × ℕ)) (others : List Tried) → old.disks.stopped ≡ false → new.disks.stopped ≡ true →
       new.engine.plant ≡ old.engine.plant → OneRose (counts_of old.disks) (counts_of new.disks) → AllByRecursion (MayCall old.engine.plant) calls →
-      new.engine.state ≡ stepped old.engine.plant session (take tried calls) old.engine.state →
+      AllByRecursion (MayTry old.engine.plant) others →
+      new.engine.state ≡ all_stepped old.engine.plant others (stepped old.engine.plant session (take tried calls) old.engine.state) →
       ((count : ℕ) → pair.rests old.disks old.engine.plant (lasting old) count → pair.passes old.disks new.disks old.engine.plant (lasting old) (lasting new)) →
-      (tried ≡ length calls) ⊎ (is_growing_at calls tried ≡ true) → Does old new (Broke session calls ∷ [])
-  failed_does old new session tried calls off on same rose may came runs all =
-      fault_does old new session tried calls off on same rose may (failed_leaves old new session (take tried calls) same came runs)
-      (failed_runs old new session tried calls all came runs)
+      (tried ≡ length calls) ⊎ (is_growing_at calls tried ≡ true) → Does old new (Broke session calls others ∷ [])
+  failed_does old new session tried calls others off on same rose may more came runs all =
+      fault_does old new session tried calls others off on same rose may more
+      (failed_leaves old new (all_stepped old.engine.plant others (stepped old.engine.plant session (take tried calls) old.engine.state)) same came runs)
+      (failed_runs old new session tried calls others all came runs)
 
-  pub unbegun_runs : (old new : Durable D g) (session : ℕ) (calls : List (Command × ℕ)) →
-      ((before : List Event) → keeps old before → passes old new (lasting old) (lasting old)) → RunsThrough old new (Broke session calls ∷ [])
+  pub unbegun_runs : (old new : Durable D g) (session : ℕ) (calls : List (Command × ℕ)) (others : List Tried) →
+      ((before : List Event) → keeps old before → passes old new (lasting old) (lasting old)) → RunsThrough old new (Broke session calls others ∷ [])
   unfolding passes
-  unbegun_runs old new session calls runs before held = (
+  unbegun_runs old new session calls others runs before held = (
     length calls,
     (inl refl, tt),
     words.passes_wider old.disks new.disks old.engine.plant (lasting old) _ (runs before held),
@@ -278,6 +281,22 @@ module _ {D : Type 0} {g : disk.Ghosts D} where
   pub unbegun_does : (old new : Durable D g) (session : ℕ) (calls : List (Command × ℕ)) → old.disks.stopped ≡ false → new.disks.stopped ≡ true →
       new.engine ≡ old.engine → OneRose (counts_of old.disks) (counts_of new.disks) → AllByRecursion (MayCall old.engine.plant) calls →
       ((before : List Event) → keeps old before → leaves new (lasting old) (lasting old)) →
-      ((before : List Event) → keeps old before → passes old new (lasting old) (lasting old)) → Does old new (Broke session calls ∷ [])
+      ((before : List Event) → keeps old before → passes old new (lasting old) (lasting old)) → Does old new (Broke session calls [] ∷ [])
   unbegun_does old new session calls off on same rose may left runs =
-      fault_does old new session 0 calls off on (ap (λ e. e.plant) same) rose may left (unbegun_runs old new session calls runs)
+      fault_does old new session 0 calls [] off on (ap (λ e. e.plant) same) rose may tt left (unbegun_runs old new session calls [] runs)
+
+  widened_leaves : (old new : Durable D g) (to : Persistent) → new.engine.plant ≡ old.engine.plant →
+      ((before : List Event) → keeps old before → passes old new (lasting old) (lasting old)) → (before : List Event) → keeps old before → leaves new (lasting old) to
+  unfolding leaves passes
+  widened_leaves old new to same runs before held =
+      subst (λ (p : List Actuator). pair.leaves new.disks p (lasting old) to) (sym same)
+      (words.passes_leaves old.disks new.disks old.engine.plant (lasting old) to (words.passes_wider old.disks new.disks old.engine.plant (lasting old) to (runs before held)))
+
+  -- the same of a call of several callers
+  pub unbegun_others : (old new : Durable D g) (session : ℕ) (calls : List (Command × ℕ)) (others : List Tried) → old.disks.stopped ≡ false → new.disks.stopped ≡ true →
+      new.engine ≡ old.engine → OneRose (counts_of old.disks) (counts_of new.disks) → AllByRecursion (MayCall old.engine.plant) calls → AllByRecursion (MayTry old.engine.plant) others →
+      ((before : List Event) → keeps old before → passes old new (lasting old) (lasting old)) → Does old new (Broke session calls others ∷ [])
+  unbegun_others old new session calls others off on same rose may more runs =
+      fault_does old new session (length calls) calls others off on (ap (λ e. e.plant) same) rose may more
+      (widened_leaves old new (all_stepped old.engine.plant others (stepped old.engine.plant session (take (length calls) calls) old.engine.state)).persistent (ap (λ e. e.plant) same) runs)
+      (unbegun_runs old new session calls others runs)

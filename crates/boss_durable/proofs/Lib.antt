@@ -2,6 +2,7 @@ pub mod Doing
 pub mod Events
 pub mod ManyDone
 pub mod Takings
+pub mod Groups
 pub mod Redoing
 pub mod Followings
 pub mod Alone

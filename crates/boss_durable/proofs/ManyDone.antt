@@ -117,7 +117,7 @@ stays_within s calls done many before after limit (Some (Denied index rule)) tog
 
 -- ---- the entries
 
-mark_none : (session : ℕ) (calls : List (Command × ℕ)) (rest : Option Outcome) → has_failed_rest rest ≡ false → mark_by session calls rest ≡ []
+mark_none : (session : ℕ) (calls : List (Command × ℕ)) (rest : Option Outcome) → has_failed_rest rest ≡ false → mark_by [] session calls rest ≡ []
 mark_none session calls None fine = refl
 mark_none session calls (Some (Done answer)) fine = refl
 mark_none session calls (Some Stopped) fine = refl
@@ -126,21 +126,21 @@ mark_none session calls (Some NoMemory) fine = refl
 mark_none session calls (Some (Denied index rule)) fine = refl
 
 pub made_fine : (session : ℕ) (calls : List (Command × ℕ)) (answers : List Answer) (rest : Option Outcome) → has_failed_rest rest ≡ false →
-    made_by_all session calls answers rest ≡ done_by session calls answers
+    made_by_all [] session calls answers rest ≡ done_by session calls answers
 made_fine session calls answers rest fine = ap (λ es. done_by session calls answers ++ es) (mark_none session calls rest fine) ∙ append-nil (done_by session calls answers)
 
 broke_alone : (session : ℕ) (calls : List (Command × ℕ)) (answers : List Answer) → answers ≡ [] →
-    made_by_all session calls answers (Some DiskFault) ≡ Broke session calls ∷ []
-broke_alone session calls answers none = ap (λ es. es ++ Broke session calls ∷ []) (ap (done_by session calls) none ∙ done_none session calls)
+    made_by_all [] session calls answers (Some DiskFault) ≡ Broke session calls [] ∷ []
+broke_alone session calls answers none = ap (λ es. es ++ Broke session calls [] ∷ []) (ap (done_by session calls) none ∙ done_none session calls)
 
 module _ {D : Type 0} {g : disk.Ghosts D} where
   pub all_idle : (durable : Durable D g) (session : ℕ) (calls : List (Command × ℕ)) (answers : List Answer) → durable.disks.stopped ≡ true → answers ≡ [] →
-      Does durable durable (made_by_all session calls answers (Some Stopped))
+      Does durable durable (made_by_all [] session calls answers (Some Stopped))
   all_idle durable session calls answers on none =
       idle_does durable _ on (ap (λ es. es ++ []) (ap (done_by session calls) none ∙ done_none session calls))
 
   pub all_idle_runs : (durable : Durable D g) (session : ℕ) (calls : List (Command × ℕ)) (answers : List Answer) → answers ≡ [] →
-      RunsThrough durable durable (made_by_all session calls answers (Some Stopped))
+      RunsThrough durable durable (made_by_all [] session calls answers (Some Stopped))
   all_idle_runs durable session calls answers none =
       subst (RunsThrough durable durable) (sym (ap (λ es. es ++ []) (ap (done_by session calls) none ∙ done_none session calls))) (idle_runs durable)
 
@@ -148,33 +148,33 @@ module _ {D : Type 0} {g : disk.Ghosts D} where
   pub all_unbegun : (old new : Durable D g) (session : ℕ) (calls : List (Command × ℕ)) (answers : List Answer) → answers ≡ [] → old.disks.stopped ≡ false →
       new.disks.stopped ≡ true → new.engine ≡ old.engine → OneRose (counts_of old.disks) (counts_of new.disks) → AllByRecursion (MayCall old.engine.plant) calls →
       ((before : List Event) → keeps old before → leaves new (lasting old) (lasting old)) →
-      ((before : List Event) → keeps old before → passes old new (lasting old) (lasting old)) → Does old new (made_by_all session calls answers (Some DiskFault))
+      ((before : List Event) → keeps old before → passes old new (lasting old) (lasting old)) → Does old new (made_by_all [] session calls answers (Some DiskFault))
   all_unbegun old new session calls answers none off on same rose may left runs =
       subst (Does old new) (sym (broke_alone session calls answers none)) (unbegun_does old new session calls off on same rose may left runs)
 
   pub all_unbegun_runs : (old new : Durable D g) (session : ℕ) (calls : List (Command × ℕ)) (answers : List Answer) → answers ≡ [] →
-      ((before : List Event) → keeps old before → passes old new (lasting old) (lasting old)) → RunsThrough old new (made_by_all session calls answers (Some DiskFault))
+      ((before : List Event) → keeps old before → passes old new (lasting old) (lasting old)) → RunsThrough old new (made_by_all [] session calls answers (Some DiskFault))
   all_unbegun_runs old new session calls answers none runs =
-      subst (RunsThrough old new) (sym (broke_alone session calls answers none)) (unbegun_runs old new session calls runs)
+      subst (RunsThrough old new) (sym (broke_alone session calls answers none)) (unbegun_runs old new session calls [] runs)
 
   -- So many were answered, of those that could go on.
   module _ (old new : Durable D g) (session many : ℕ) (calls : List (Command × ℕ)) (answers : List Answer) (batch : Batch) (under : length answers ≤ many)
       (taken : Taken old.engine.plant (done_by session (take many calls) answers) old.engine.state new.engine.state batch)
       (runs : (count : ℕ) → pair.rests old.disks old.engine.plant (lasting old) count →
       pair.passes old.disks new.disks old.engine.plant (lasting old) (lasting new)) where
-    made_is : (rest : Option Outcome) → has_failed_rest rest ≡ false → made_by_all session calls answers rest ≡ done_by session (take many calls) answers
+    made_is : (rest : Option Outcome) → has_failed_rest rest ≡ false → made_by_all [] session calls answers rest ≡ done_by session (take many calls) answers
     made_is rest fine = made_fine session calls answers rest fine ∙ sym (done_front session calls answers many under)
 
     pub all_done : (rest : Option Outcome) → has_failed_rest rest ≡ false → old.disks.stopped ≡ false → new.disks.stopped ≡ false →
         new.engine.plant ≡ old.engine.plant → counts_of new.disks ≡ counts_of old.disks →
         ((count : ℕ) → pair.rests old.disks old.engine.plant (lasting old) count →
         pair.rests new.disks old.engine.plant (lasting new) (count + length (events old.engine.plant (done_by session (take many calls) answers) old.engine.state))) →
-        Does old new (made_by_all session calls answers rest)
+        Does old new (made_by_all [] session calls answers rest)
     all_done rest fine off on same stood rests =
         subst (Does old new) (sym (made_is rest fine)) (done_does old new (done_by session (take many calls) answers) batch off on same stood taken rests
         (done_runs old new (done_by session (take many calls) answers) batch taken runs))
 
-    pub all_done_runs : (rest : Option Outcome) → has_failed_rest rest ≡ false → RunsThrough old new (made_by_all session calls answers rest)
+    pub all_done_runs : (rest : Option Outcome) → has_failed_rest rest ≡ false → RunsThrough old new (made_by_all [] session calls answers rest)
     all_done_runs rest fine = subst (RunsThrough old new) (sym (made_is rest fine)) (done_runs old new (done_by session (take many calls) answers) batch taken runs)
 
     came : length answers ≤ length calls → new.engine.state ≡ stepped old.engine.plant session (take (length answers) calls) old.engine.state
@@ -185,13 +185,13 @@ module _ {D : Type 0} {g : disk.Ghosts D} where
     -- and then a disk failed
     pub all_failed : (left : List Answer) → left ≡ [] → length answers ≤ length calls → AllByRecursion (MayCall old.engine.plant) calls → old.disks.stopped ≡ false →
         new.disks.stopped ≡ true → new.engine.plant ≡ old.engine.plant → OneRose (counts_of old.disks) (counts_of new.disks) →
-        (length answers < length calls → is_growing_at calls (length answers) ≡ true) → Does old new (made_by_all session calls left (Some DiskFault))
+        (length answers < length calls → is_growing_at calls (length answers) ≡ true) → Does old new (made_by_all [] session calls left (Some DiskFault))
     all_failed left none within may off on same rose wants =
         subst (Does old new) (sym (broke_alone session calls left none))
-        (failed_does old new session (length answers) calls off on same rose may (came within) runs (all_tried calls (length answers) within wants))
+        (failed_does old new session (length answers) calls [] off on same rose may tt (came within) runs (all_tried calls (length answers) within wants))
 
     pub all_failed_runs : (left : List Answer) → left ≡ [] → length answers ≤ length calls → (length answers < length calls → is_growing_at calls (length answers) ≡ true) →
-        RunsThrough old new (made_by_all session calls left (Some DiskFault))
+        RunsThrough old new (made_by_all [] session calls left (Some DiskFault))
     all_failed_runs left none within wants =
         subst (RunsThrough old new) (sym (broke_alone session calls left none))
-        (failed_runs old new session (length answers) calls (all_tried calls (length answers) within wants) (came within) runs)
+        (failed_runs old new session (length answers) calls [] (all_tried calls (length answers) within wants) (came within) runs)

@@ -3,7 +3,7 @@ ghost use Rattle.boss_durable.specs.Words.{faults, keeps, leaves, passes_in_plan
 use crate::Durable;
 use boss_disk::Disk;
 use boss_model::{Answer, Command, DriverId, Items, SessionId};
-use boss_shared::Keeper;
+use boss_shared::{Asked, Keeper};
 use def_history::{Outcome, Outcomes};
 
 impl<D: Disk> Keeper for Durable<D> {
@@ -34,6 +34,10 @@ impl<D: Disk> Keeper for Durable<D> {
         answers: &mut Vec<Answer>,
     ) -> Outcomes {
         Durable::apply_all(self, session, commands, answers)
+    }
+
+    fn apply_together(&mut self, group: &mut [Asked]) {
+        Durable::apply_together(self, group);
     }
 
     fn wanting(&self) -> Option<DriverId> {

@@ -24,6 +24,7 @@ mod sound_engine;
 mod stepping;
 mod taking;
 mod taking_state;
+mod together;
 mod wanting;
 
 pub use durable::Durable;

@@ -39,8 +39,8 @@ impl<D: Disk> Durable<D> {
         requires few { length commands.now ≤ most_held }
         requires may { AllByRecursion (MayCall self.old.engine.plant) commands.now }
         requires room { length commands.now ≤ vec_capacity answers.old }
-        ensures kept { Does self.old self.new (made_by_all session commands.now answers.new.items result.rest) }
-        ensures images { RunsThrough self.old self.new (made_by_all session commands.now answers.new.items result.rest) }
+        ensures kept { Does self.old self.new (made_by_all [] session commands.now answers.new.items result.rest) }
+        ensures images { RunsThrough self.old self.new (made_by_all [] session commands.now answers.new.items result.rest) }
         ensures stops { is_stopped_rest result.rest ≡ self.old.disks.stopped }
         ensures still { self.old.disks.stopped ≡ true → self.new ≡ self.old }
         ensures done { length answers.new.items ≡ result.done }
@@ -109,8 +109,8 @@ impl<D: Disk> Durable<D> {
         requires wants { many < length commands.now → is_growing_at commands.now many ≡ true }
         requires none { answers.old.items ≡ [] }
         requires room { length commands.now ≤ vec_capacity answers.old }
-        ensures kept { Does self.old self.new (made_by_all session commands.now answers.new.items result.rest) }
-        ensures images { RunsThrough self.old self.new (made_by_all session commands.now answers.new.items result.rest) }
+        ensures kept { Does self.old self.new (made_by_all [] session commands.now answers.new.items result.rest) }
+        ensures images { RunsThrough self.old self.new (made_by_all [] session commands.now answers.new.items result.rest) }
         ensures going { is_stopped_rest result.rest ≡ false }
         ensures done { length answers.new.items ≡ result.done }
         ensures rest { RestFits commands.now result.done result.rest }
@@ -144,7 +144,7 @@ impl<D: Disk> Durable<D> {
 }
 
 /// What became of commands of which so many were done: no memory was to be had for the next, where there is one.
-fn outcomes(done: usize, asked: usize) -> Outcomes
+pub(crate) fn outcomes(done: usize, asked: usize) -> Outcomes
     requires few { asked ≤ most_held }
     requires within { done ≤ asked }
     ensures done { result.done ≡ done }

@@ -44,7 +44,7 @@ pub fn take_step(
     }
 }
 
-/// Does commands in order as far as there is memory, and puts down their answers and their events.
+/// Does commands in order as far as there is memory, and puts down their answers and their events, of which there are none before.
 pub fn take_steps(
     engine: &mut SoundEngine,
     batch: &mut Batch,
@@ -60,6 +60,30 @@ pub fn take_steps(
     requires none { answers.old.items ≡ [] }
     requires room { length commands.now ≤ vec_capacity answers.old }
     ensures taken { Taken engine.old.plant (done_by session commands.now answers.new.items) engine.old.state engine.new.state batch.new }
+    ensures many { length answers.new.items ≤ length commands.now }
+    ensures rest { length answers.new.items < length commands.now → is_growing_at commands.now (length answers.new.items) ≡ true }
+    ensures plant { engine.new.plant ≡ engine.old.plant }
+    ensures capacity { batch.new.bytes.capacity ≡ batch.old.bytes.capacity }
+    ensures room { vec_capacity answers.new ≡ vec_capacity answers.old }
+{
+    take_more(engine, batch, session, commands, answers);
+}
+
+/// The same behind the events of what was done before in the same call, where all are 16 commands at most.
+pub fn take_more(
+    engine: &mut SoundEngine,
+    batch: &mut Batch,
+    session: SessionId,
+    commands: &[(Command, u64)],
+    answers: &mut Vec<Answer>,
+)
+    requires few { (made : List Entry) × (start : State) × Taken engine.old.plant made start engine.old.state batch.old × (length made + length commands.now ≤ most_held) }
+    requires may { AllByRecursion (MayCall engine.old.plant) commands.now }
+    requires bytes { batch.old.bytes.capacity ≡ record_room }
+    requires none { answers.old.items ≡ [] }
+    requires room { length commands.now ≤ vec_capacity answers.old }
+    ensures taken { (made : List Entry) (start : State) → Taken engine.old.plant made start engine.old.state batch.old →
+        Taken engine.old.plant (made ++ done_by session commands.now answers.new.items) start engine.new.state batch.new }
     ensures many { length answers.new.items ≤ length commands.now }
     ensures rest { length answers.new.items < length commands.now → is_growing_at commands.now (length answers.new.items) ≡ true }
     ensures plant { engine.new.plant ≡ engine.old.plant }

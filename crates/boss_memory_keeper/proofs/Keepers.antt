@@ -47,7 +47,7 @@ module _ {V : Type 0} (plant : V → List Actuator) (state : V → State) (stopp
     gained = λ _. gains;
   }
 
-mark_none : (session : ℕ) (calls : List (Command × ℕ)) (rest : Option Outcome) → has_failed_rest rest ≡ false → mark_by session calls rest ≡ []
+mark_none : (session : ℕ) (calls : List (Command × ℕ)) (rest : Option Outcome) → has_failed_rest rest ≡ false → mark_by [] session calls rest ≡ []
 mark_none session calls None fine = refl
 mark_none session calls (Some (Done answer)) fine = refl
 mark_none session calls (Some Stopped) fine = refl
@@ -56,5 +56,5 @@ mark_none session calls (Some NoMemory) fine = refl
 mark_none session calls (Some (Denied index rule)) fine = refl
 
 pub made_fine : (session : ℕ) (calls : List (Command × ℕ)) (answers : List Answer) (rest : Option Outcome) → has_failed_rest rest ≡ false →
-    made_by_all session calls answers rest ≡ done_by session calls answers
+    made_by_all [] session calls answers rest ≡ done_by session calls answers
 made_fine session calls answers rest fine = ap (λ es. done_by session calls answers ++ es) (mark_none session calls rest fine) ∙ append-nil (done_by session calls answers)

@@ -4,11 +4,11 @@ ghost use Rattle.boss_model.specs.Limits.{last_number};
 ghost use Rattle.boss_model.specs.Settle.{first_state};
 ghost use Rattle.boss_model.specs.Sound.{IsSound};
 
-use crate::stepping::{step_all, step_counted};
+use crate::stepping::{step_all, step_counted, step_together};
 use boss_engine::Engine;
 use boss_model::{Answer, Command, DriverId, Items, NoMemory, SessionId};
 use boss_points::Catalogue;
-use boss_shared::Keeper;
+use boss_shared::{Asked, Keeper};
 use def_history::{Outcome, Outcomes};
 use std::alloc::Global;
 
@@ -95,5 +95,9 @@ impl Keeper for Unkept {
             commands.slice(),
             answers,
         )
+    }
+
+    fn apply_together(&mut self, group: &mut [Asked]) {
+        step_together(&mut self.engine, &mut self.events, group);
     }
 }

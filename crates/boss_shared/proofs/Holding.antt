@@ -17,13 +17,13 @@ use Rattle.boss_shared.proofs.Walks.{walks_join, walks_nowhere}
 pub whole_shortened : (tried : ℕ) (log : List Entry) → is_broken log ≡ false → shortened tried log ≡ log
 whole_shortened tried [] whole = refl
 whole_shortened tried (Did session command moment answer ∷ log) whole = ap (λ es. Did session command moment answer ∷ es) (whole_shortened tried log whole)
-whole_shortened tried (Broke session commands ∷ log) whole = absurd cc
+whole_shortened tried (Broke session commands others ∷ log) whole = absurd cc
 
 pub shortened_append : (tried : ℕ) (log made : List Entry) → is_broken log ≡ false → shortened tried (log ++ made) ≡ log ++ shortened tried made
 shortened_append tried [] made whole = refl
 shortened_append tried (Did session command moment answer ∷ log) made whole =
     ap (λ es. Did session command moment answer ∷ es) (shortened_append tried log made whole)
-shortened_append tried (Broke session commands ∷ log) made whole = absurd cc
+shortened_append tried (Broke session commands others ∷ log) made whole = absurd cc
 
 -- where no disk failed, all that was tried was done
 pub tried_same : (plant : List Actuator) (made : List Entry) (s : State) → is_broken made ≡ false → run_tried plant (shortened 0 made) s ≡ run plant made s
@@ -32,7 +32,7 @@ tried_same plant made s whole = ap (λ es. run_tried plant es s) (whole_shortene
 pub none_tried : (made : List Entry) → is_broken made ≡ false → AreTried 0 made
 none_tried [] whole = tt
 none_tried (Did session command moment answer ∷ made) whole = none_tried made whole
-none_tried (Broke session commands ∷ made) whole = absurd cc
+none_tried (Broke session commands others ∷ made) whole = absurd cc
 
 module _ {V : Type 0} (plant : V → List Actuator) (state : V → State) (stopped : V → Bool) (faults : V → ℕ)
     (leaves : V → Persistent → Persistent → Type 0) (passes : V → V → Persistent → Persistent → Type 0) (keeps : V → List Event → Type 0) where

@@ -1,7 +1,11 @@
+pub mod Along
 pub mod HeldLemmas
 pub mod Holding
 pub mod Joins
+pub mod Pairs
+pub mod Served
 pub mod Telling
+pub mod Together
 pub mod Turns
 pub mod Ungated
 pub mod Walks

@@ -13,6 +13,7 @@ use Rattle.law_soundness.proofs.StepSound.{step-sound}
 use Rattle.law_machine.proofs.Tellable.{tellable}
 use Rattle.def_history.specs.declared.entry.Entry.{Entry}
 use Rattle.def_history.specs.declared.entry.Entry.TheVariants.{Did, Broke}
+use Rattle.def_history.specs.declared.entry.Tried.{Tried}
 use Rattle.def_history.specs.declared.outcome.Outcome.{Outcome}
 use Rattle.def_history.specs.declared.outcome.Outcome.TheVariants.{Done, Stopped, DiskFault, NoMemory, Denied}
 use Rattle.def_history.specs.History.{after_entry, run, IsLegal}
@@ -24,7 +25,7 @@ use Rattle.boss_shared.specs.Calls.{IsTold, RestFits}
 legal_behind : (plant : List Actuator) (xs ys : List Entry) (s : State) → IsLegal plant (xs ++ ys) s → IsLegal plant ys (run plant xs s)
 legal_behind plant [] ys s legal = legal
 legal_behind plant (Did session command moment answer ∷ xs) ys s legal = legal_behind plant xs ys (after_entry plant (Did session command moment answer) s) legal.2
-legal_behind plant (Broke session commands ∷ xs) ys s legal = legal_behind plant xs ys s legal.2
+legal_behind plant (Broke session commands others ∷ xs) ys s legal = legal_behind plant xs ys s legal.2
 
 module _ (catalogue : Catalogue) where
   entry_told : (session : ℕ) (command : Command) (moment : ℕ) (answer : Answer) (s : State) → IsSound (actuators catalogue) s →
@@ -69,15 +70,15 @@ module _ (plant : List Actuator) (opening : State) (before : List Entry) (sessio
       (subst (λ p. IsSound p (run plant before opening)) (sym is) (legal-sound plant before opening sound (legal_front plant before made opening legal)))
       (subst (λ p. IsLegal p made (run plant before opening)) (sym is) (legal_behind plant before made opening legal))
 
-  pub calls_told : (calls : List (Command × ℕ)) (answers : List Answer) (done : ℕ) (rest : Option Outcome) → IsSound plant opening →
-      IsLegal plant (before ++ made_by_all session calls answers rest) opening → length answers ≡ done → RestFits calls done rest →
+  pub calls_told : (others : List Tried) (calls : List (Command × ℕ)) (answers : List Answer) (done : ℕ) (rest : Option Outcome) → IsSound plant opening →
+      IsLegal plant (before ++ made_by_all others session calls answers rest) opening → length answers ≡ done → RestFits calls done rest →
       (catalogue : Catalogue) → actuators catalogue ≡ plant → AllByRecursion (IsTellable catalogue) answers
-  calls_told calls answers done rest sound legal many fits catalogue is =
-      let made : List Entry = made_by_all session calls answers rest in
+  calls_told others calls answers done rest sound legal many fits catalogue is =
+      let made : List Entry = made_by_all others session calls answers rest in
       let few : done ≤ length calls = few_done calls done rest fits in
       let behind : IsLegal plant made (run plant before opening) = legal_behind plant before made opening legal in
       done_told catalogue session calls answers (run plant before opening)
       (subst (λ p. IsSound p (run plant before opening)) (sym is) (legal-sound plant before opening sound (legal_front plant before made opening legal)))
       (subst (λ p. IsLegal p (done_by session calls answers) (run plant before opening)) (sym is)
-      (legal_front plant (done_by session calls answers) (mark_by session calls rest) (run plant before opening) behind))
+      (legal_front plant (done_by session calls answers) (mark_by others session calls rest) (run plant before opening) behind))
       (omega arith)

@@ -11,6 +11,7 @@ use Rattle.boss_lock.specs.Seats.{Lock, Standing, IsSeatOf, found, own_entries, 
 use Rattle.boss_lock.proofs.Histories.{prefix_more}
 use Rattle.def_history.specs.declared.entry.Entry.{Entry}
 use Rattle.def_history.specs.declared.entry.Entry.TheVariants.{Did, Broke}
+use Rattle.def_history.specs.declared.entry.Tried.{Tried}
 use Rattle.def_history.specs.declared.outcome.Outcome.{Outcome}
 use Rattle.def_history.specs.declared.outcome.Outcome.TheVariants.{Done, Stopped, DiskFault, NoMemory, Denied}
 use Rattle.def_history.specs.History.{is_broken, IsLegal, deeds}
@@ -19,6 +20,7 @@ use Rattle.def_history.proofs.Going.{broken_append}
 use Rattle.boss_shared.specs.Calls.{is_stopped, has_failed, is_stopped_rest, has_failed_rest}
 use Rattle.boss_shared.specs.Gates.{denial_of}
 use Rattle.boss_shared.specs.Passes.{Batch, FailsBy, IsPassOf, Turn, TurnsBy}
+use Rattle.boss_shared.specs.Together.{IsPaired}
 
 -- a seat after a turn in which it found a history, and made these entries
 pub record Took {T : Type 0} (seat mid after : Standing T Entry) (made : List Entry) : Type 0 where
@@ -42,12 +44,14 @@ turn_of plant opening seat mid after made stopped t legal is = record {
 }
 
 pub owned_after : {T : Type 0} (plant : List Actuator) (opening : State) (lock : Lock T) (seat mid after : Standing T Entry) (made : List Entry) →
-    Took seat mid after made → IsSeatOf lock seat → IsSound plant opening → IsLegal plant (found mid ++ made) opening →
-    IsSeatOf lock after × (after.turn ≡ None) × IsPassOf plant opening after.seen after.places
-owned_after plant opening lock seat mid after made t own sound legal = (
+    Took seat mid after made → IsSeatOf lock seat → IsPaired seat.parts → IsPaired lock.seats → IsSound plant opening → IsLegal plant (found mid ++ made) opening →
+    IsSeatOf lock after × (after.turn ≡ None) × IsPassOf plant opening after.seen after.places × IsPaired after.parts × IsPaired lock.seats
+owned_after plant opening lock seat mid after made t own paired seats sound legal = (
   (ap (λ s. s.table) t.left ∙ ap (λ s. s.table) t.entered ∙ own.0, ap (λ s. s.start) t.left ∙ ap (λ s. s.start) t.entered ∙ own.1),
   ap (λ s. s.turn) t.left,
   record { sound = sound; legal = subst (λ log. IsLegal plant log opening) (sym (ap (λ s. s.seen) t.left)) legal; places = t.places },
+  subst IsPaired (sym (ap (λ s. s.parts) t.left ∙ ap (λ s. s.parts) t.entered)) paired,
+  seats,
 )
 
 -- ---- one command
@@ -90,55 +94,55 @@ failed_of session command moment outcome before now ends stopped =
 pub deeds_append : (xs ys : List Entry) → deeds (xs ++ ys) ≡ deeds xs ++ deeds ys
 deeds_append [] ys = refl
 deeds_append (Did session command moment answer ∷ xs) ys = ap (λ es. Did session command moment answer ∷ es) (deeds_append xs ys)
-deeds_append (Broke session commands ∷ xs) ys = deeds_append xs ys
+deeds_append (Broke session commands others ∷ xs) ys = deeds_append xs ys
 
 deeds_done : (session : ℕ) (calls : List (Command × ℕ)) (answers : List Answer) → deeds (done_by session calls answers) ≡ done_by session calls answers
 deeds_done session [] answers = refl
 deeds_done session (call ∷ calls) [] = refl
 deeds_done session (call ∷ calls) (answer ∷ answers) = ap (λ es. Did session call.0 call.1 answer ∷ es) (deeds_done session calls answers)
 
-deeds_mark : (session : ℕ) (calls : List (Command × ℕ)) (rest : Option Outcome) → deeds (mark_by session calls rest) ≡ []
-deeds_mark session calls None = refl
-deeds_mark session calls (Some (Done answer)) = refl
-deeds_mark session calls (Some Stopped) = refl
-deeds_mark session calls (Some DiskFault) = refl
-deeds_mark session calls (Some NoMemory) = refl
-deeds_mark session calls (Some (Denied index rule)) = refl
+deeds_mark : (others : List Tried) (session : ℕ) (calls : List (Command × ℕ)) (rest : Option Outcome) → deeds (mark_by others session calls rest) ≡ []
+deeds_mark others session calls None = refl
+deeds_mark others session calls (Some (Done answer)) = refl
+deeds_mark others session calls (Some Stopped) = refl
+deeds_mark others session calls (Some DiskFault) = refl
+deeds_mark others session calls (Some NoMemory) = refl
+deeds_mark others session calls (Some (Denied index rule)) = refl
 
-broken_done : (session : ℕ) (calls : List (Command × ℕ)) (answers : List Answer) → is_broken (done_by session calls answers) ≡ false
+pub broken_done : (session : ℕ) (calls : List (Command × ℕ)) (answers : List Answer) → is_broken (done_by session calls answers) ≡ false
 broken_done session [] answers = refl
 broken_done session (call ∷ calls) [] = refl
 broken_done session (call ∷ calls) (answer ∷ answers) = broken_done session calls answers
 
-broken_mark : (session : ℕ) (calls : List (Command × ℕ)) (rest : Option Outcome) →
-    (is_stopped_rest rest || is_broken (mark_by session calls rest)) ≡ has_failed_rest rest
-broken_mark session calls None = refl
-broken_mark session calls (Some (Done answer)) = refl
-broken_mark session calls (Some Stopped) = refl
-broken_mark session calls (Some DiskFault) = refl
-broken_mark session calls (Some NoMemory) = refl
-broken_mark session calls (Some (Denied index rule)) = refl
+pub broken_mark : (others : List Tried) (session : ℕ) (calls : List (Command × ℕ)) (rest : Option Outcome) →
+    (is_stopped_rest rest || is_broken (mark_by others session calls rest)) ≡ has_failed_rest rest
+broken_mark others session calls None = refl
+broken_mark others session calls (Some (Done answer)) = refl
+broken_mark others session calls (Some Stopped) = refl
+broken_mark others session calls (Some DiskFault) = refl
+broken_mark others session calls (Some NoMemory) = refl
+broken_mark others session calls (Some (Denied index rule)) = refl
 
-deeds_made : (session : ℕ) (calls : List (Command × ℕ)) (answers : List Answer) (rest : Option Outcome) →
-    deeds (made_by_all session calls answers rest) ≡ done_by session calls answers
-deeds_made session calls answers rest =
-    deeds_append (done_by session calls answers) (mark_by session calls rest)
-    ∙ (λ i. deeds_done session calls answers i ++ deeds_mark session calls rest i) ∙ append-nil (done_by session calls answers)
+deeds_made : (others : List Tried) (session : ℕ) (calls : List (Command × ℕ)) (answers : List Answer) (rest : Option Outcome) →
+    deeds (made_by_all others session calls answers rest) ≡ done_by session calls answers
+deeds_made others session calls answers rest =
+    deeds_append (done_by session calls answers) (mark_by others session calls rest)
+    ∙ (λ i. deeds_done session calls answers i ++ deeds_mark others session calls rest i) ∙ append-nil (done_by session calls answers)
 
-broken_made_all : (session : ℕ) (calls : List (Command × ℕ)) (answers : List Answer) (rest : Option Outcome) →
-    is_broken (made_by_all session calls answers rest) ≡ is_broken (mark_by session calls rest)
-broken_made_all session calls answers rest =
-    broken_append (done_by session calls answers) (mark_by session calls rest) ∙ ap (λ b. b || is_broken (mark_by session calls rest)) (broken_done session calls answers)
+pub broken_made_all : (others : List Tried) (session : ℕ) (calls : List (Command × ℕ)) (answers : List Answer) (rest : Option Outcome) →
+    is_broken (made_by_all others session calls answers rest) ≡ is_broken (mark_by others session calls rest)
+broken_made_all others session calls answers rest =
+    broken_append (done_by session calls answers) (mark_by others session calls rest) ∙ ap (λ b. b || is_broken (mark_by others session calls rest)) (broken_done session calls answers)
 
 -- one turn in which several commands were done is what their caller is told of them
 pub batch_of_turn : (plant : List Actuator) (opening : State) (seen : List Entry) (mine : List ℕ) (now : List Entry) (own : List ℕ)
-    (session : ℕ) (calls : List (Command × ℕ)) (answers : List Answer) (rest : Option Outcome) →
-    Turn plant opening seen mine now own (made_by_all session calls answers rest) (is_stopped_rest rest) →
+    (others : List Tried) (session : ℕ) (calls : List (Command × ℕ)) (answers : List Answer) (rest : Option Outcome) →
+    Turn plant opening seen mine now own (made_by_all others session calls answers rest) (is_stopped_rest rest) →
     Batch plant opening seen mine now own session calls answers rest
-batch_of_turn plant opening seen mine now own session calls answers rest t =
-    let made : List Entry = made_by_all session calls answers rest in record {
+batch_of_turn plant opening seen mine now own others session calls answers rest t =
+    let made : List Entry = made_by_all others session calls answers rest in record {
       goes_on = subst (λ log. IsPrefix seen log) (sym t.ends) (prefix_more seen t.before made t.goes_on);
-      deeds_are = ap deeds t.entries ∙ deeds_append (entries_at seen mine) made ∙ ap (λ es. deeds (entries_at seen mine) ++ es) (deeds_made session calls answers rest);
+      deeds_are = ap deeds t.entries ∙ deeds_append (entries_at seen mine) made ∙ ap (λ es. deeds (entries_at seen mine) ++ es) (deeds_made others session calls answers rest);
       legal = t.legal;
-      failed = fails_by (is_broken seen) (is_broken now) rest (ap is_broken t.ends ∙ broken_append t.before made ∙ (λ i. sym t.stopped_is i || broken_made_all session calls answers rest i) ∙ broken_mark session calls rest);
+      failed = fails_by (is_broken seen) (is_broken now) rest (ap is_broken t.ends ∙ broken_append t.before made ∙ (λ i. sym t.stopped_is i || broken_made_all others session calls answers rest i) ∙ broken_mark others session calls rest);
     }

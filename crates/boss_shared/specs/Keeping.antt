@@ -47,6 +47,6 @@ module _ {V : Type 0} (plant : V → List Actuator) (state : V → State) (stopp
     pub rose : stopped now ≡ true → Rose (faults start) (faults now)
     pub stood : stopped now ≡ false → faults now ≡ faults start
     pub images : (tried : ℕ) × leaves now (run (plant start) log (state start)).persistent (run_tried (plant start) (shortened tried log) (state start)).persistent
-    -- and while one of its calls ran each image opened to what those before it had done, or to that with all of the call
+    -- and while one of its steps ran each image opened to what those before it had done, or to that with all of the step
     pub through : Walks (plant start) passes (state start) start log now
     pub gained : stopped now ≡ false → (before : List Event) → keeps start before → keeps now (before ++ events (plant start) log (state start))

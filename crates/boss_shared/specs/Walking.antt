@@ -10,18 +10,19 @@ use Rattle.def_history.specs.declared.entry.Entry.TheVariants.{Did, Broke}
 use Rattle.def_history.specs.History.{run, run_tried}
 use Rattle.boss_shared.specs.Calls.{is_growing_at}
 
--- the same entries, where of the commands that were under way as the disk failed only so many were tried
+-- The same entries, where of the commands that were under way as the disk failed only so many were tried. Of the others' the mark
+-- has those alone that were tried.
 abbrev pub shortened : ℕ → List Entry → List Entry
 shortened tried [] = []
 shortened tried (Did session command moment answer ∷ entries) = Did session command moment answer ∷ shortened tried entries
-shortened tried (Broke session commands ∷ entries) = Broke session (take tried commands) ∷ shortened tried entries
+shortened tried (Broke session commands others ∷ entries) = Broke session (take tried commands) others ∷ shortened tried entries
 
 -- Of the commands that were under way as a disk failed so many were tried: all of them, or those before one that may want memory, for
 -- which there was none.
 abbrev pub AreTried : ℕ → List Entry → Type 0
 AreTried tried [] = Unit {0}
 AreTried tried (Did session command moment answer ∷ entries) = AreTried tried entries
-AreTried tried (Broke session commands ∷ entries) = ((tried ≡ length commands) ⊎ (is_growing_at commands tried ≡ true)) × AreTried tried entries
+AreTried tried (Broke session commands others ∷ entries) = ((tried ≡ length commands) ⊎ (is_growing_at commands tried ≡ true)) × AreTried tried entries
 
 -- In a plant, of a value that tells for any two moments, and any two parts that outlast a stop, whether from the one moment to the
 -- other each image of its disk opened to one of these parts

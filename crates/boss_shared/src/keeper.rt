@@ -9,7 +9,9 @@ ghost use Rattle.def_history.specs.Made.{made_by, made_by_all};
 ghost use Rattle.boss_shared.specs.Calls.{is_stopped, is_stopped_rest, MayWant, NoneDone, RestFits};
 ghost use Rattle.boss_shared.specs.Gates.{denial_of, denial_of_rest};
 ghost use Rattle.boss_shared.specs.Keeping.{Keeps};
+ghost use Rattle.boss_shared.specs.Together.{commands_in, made_together, AreSameAsked, AreReplied, MayAsk};
 
+use crate::Asked;
 use boss_model::{Answer, Command, DriverId, Items, SessionId};
 use def_history::{Outcome, Outcomes};
 
@@ -75,7 +77,7 @@ pub trait Keeper {
         requires may { AllByRecursion (MayCall (plant self.old)) commands.now }
         requires room { length commands.now ≤ vec_capacity answers.old }
         ensures kept { Keeps plant state stopped faults leaves passes keeps self.old self.new
-            (made_by_all session commands.now answers.new.items result.rest) }
+            (made_by_all [] session commands.now answers.new.items result.rest) }
         ensures under { under self.new ≡ under self.old }
         ensures stops { is_stopped_rest result.rest ≡ stopped self.old }
         ensures done { length answers.new.items ≡ result.done }
@@ -83,4 +85,20 @@ pub trait Keeper {
         ensures together { NoneDone result.done result.rest }
         ensures undenied { denial_of_rest result.rest ≡ None }
         ensures room { vec_capacity answers.new ≡ vec_capacity answers.old };
+
+    /// Does what several callers ask for, one caller's commands behind another's, and keeps all of it together: 1 to 16 commands in
+    /// all. Each caller's answers are emptied, and then has an answer for each of its commands that was done.
+    ///
+    /// All are told Stopped exactly where the disk failed in an earlier call. Where it fails in this one none is done: the first
+    /// caller is told DiskFault, and the others Stopped. The mark is the first one's, and holds what was tried of the others. Where
+    /// memory is wanted for a submit, an attach or notices, that command and those behind it of the same caller are not done,
+    /// and the next caller's are. It denies nothing.
+    fn apply_together(&mut self, group: &mut [Asked])
+        requires some { 1 ≤ length group.old }
+        requires few { commands_in group.old ≤ 16 }
+        requires may { AllByRecursion (MayAsk (plant self.old)) group.old }
+        ensures kept { Keeps plant state stopped faults leaves passes keeps self.old self.new (made_together group.new) }
+        ensures under { under self.new ≡ under self.old }
+        ensures asked { AreSameAsked group.old group.new }
+        ensures told { AreReplied (stopped self.old) group.new };
 }

@@ -3,22 +3,26 @@ ghost use Rattle.std.specs.Prelude.{◌≡◌, ◌⊎◌, Bool, true, false, not
 ghost use Rattle.boss_model.specs.Catalogue.{actuators};
 ghost use Rattle.boss_model.specs.Sound.{IsSound};
 
-use crate::stepping::{step_all, take_step};
+use crate::stepping::{step_all, step_together, take_step};
 use boss_memory_keeper::Unkept;
 use boss_model::{Answer, Command, DriverId, Items, NoMemory, SessionId};
 use boss_points::Catalogue;
-use boss_shared::Keeper;
+use boss_shared::{Asked, Keeper, fail_all, stop_all};
 use def_history::{Outcome, Outcomes};
 use std::alloc::Global;
+use std::hint::spin_loop;
 
 /// A call of a keeper in which the disk did not fail.
 #[derive(Clone, Copy, Debug, PartialEq, Eq)]
 pub struct Taken {
+    /// The session of its first command.
     pub session: SessionId,
     /// How many commands it had: at least 1.
     pub commands: usize,
     /// The moment of the first of them, in milliseconds.
     pub moment: u64,
+    /// How many callers it was for: 1, or more where it kept together what they asked for.
+    pub callers: usize,
     /// The machine's own moment after the call, in milliseconds, where it was one of a tick alone, which is told it.
     pub ticked: Option<u64>,
 }
@@ -31,6 +35,8 @@ pub struct FailingKeeper {
     stopped: bool,
     /// How many more of the commands that may want memory find it, before one finds none.
     fed: u64,
+    /// How often a call looks about before it does anything, so that others come to wait for it.
+    looks: u32,
     taken: Items<Taken>,
 }
 
@@ -65,8 +71,17 @@ impl FailingKeeper {
             good_calls,
             stopped: false,
             fed,
+            looks: 0,
             taken: Items::new(alloc),
         })
+    }
+
+    /// The same keeper, each of whose calls looks about so often before it does anything.
+    pub fn slow(self, looks: u32) -> FailingKeeper
+        ensures unkept { result.unkept ≡ self.unkept }
+        ensures stopped { result.stopped ≡ self.stopped }
+    {
+        FailingKeeper { looks, ..self }
     }
 
     /// The calls in which the disk did not fail, in order, but for those that there was no memory to note.
@@ -88,12 +103,35 @@ impl FailingKeeper {
         let _ = self.taken.try_push(call);
     }
 
+    /// Notes a call for several callers.
+    fn note_together(&mut self, group: &[Asked])
+        ensures unkept { self.new.unkept ≡ self.old.unkept }
+        ensures stopped { self.new.stopped ≡ self.old.stopped }
+    {
+        let Some(first) = group.first() else {
+            return;
+        };
+        let Some(call) = first.commands.slice().first() else {
+            return;
+        };
+        self.note(Taken {
+            session: first.session,
+            commands: commands_in(group),
+            moment: call.1,
+            callers: group.len(),
+            ticked: None,
+        });
+    }
+
     /// Whether the disk fails in this call, which it is not to be asked again.
     fn fails(&mut self) -> bool
         requires { self.old.stopped ≡ false }
         ensures stopped { self.new.stopped ≡ result }
         ensures unkept { self.new.unkept ≡ self.old.unkept }
     {
+        for _ in 0..self.looks {
+            spin_loop();
+        }
         if self.good_calls == 0 {
             self.stopped = true;
             return true;
@@ -109,6 +147,15 @@ fn ticked(step: &Result<Answer, NoMemory>) -> Option<u64> {
         Ok(Answer::Ticked { now }) => Some(*now),
         _ => None,
     }
+}
+
+/// How many commands several callers ask for, at most `usize::MAX`.
+fn commands_in(group: &[Asked]) -> usize {
+    let mut commands: usize = 0;
+    for asked in group {
+        commands = commands.saturating_add(asked.commands.slice().len());
+    }
+    commands
 }
 
 impl Keeper for FailingKeeper {
@@ -147,6 +194,7 @@ impl Keeper for FailingKeeper {
             session,
             commands: 1,
             moment,
+            callers: 1,
             ticked: ticked(&step),
         });
         match step {
@@ -180,8 +228,22 @@ impl Keeper for FailingKeeper {
             session,
             commands: calls.len(),
             moment: calls[0].1,
+            callers: 1,
             ticked: None,
         });
         outcomes
+    }
+
+    fn apply_together(&mut self, group: &mut [Asked]) {
+        if self.stopped {
+            stop_all(group);
+            return;
+        }
+        if self.fails() {
+            fail_all(group);
+            return;
+        }
+        step_together(&mut self.unkept, &mut self.fed, group);
+        self.note_together(group);
     }
 }

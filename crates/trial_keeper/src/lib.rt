@@ -2,9 +2,11 @@
 //! is told to.
 #![tactic(auto)]
 
+mod asking;
 mod keeper;
 mod stepping;
 mod trial;
 
+pub use asking::{asked, submit, two_asked};
 pub use keeper::{FailingKeeper, Taken};
 pub use trial::{Trial, run_trial};

@@ -4,14 +4,15 @@ ghost use Rattle.std.specs.List.{AllByRecursion};
 ghost use Rattle.boss_model.specs.Limits.{last_moment};
 ghost use Rattle.boss_model.specs.Machine.{step};
 ghost use Rattle.boss_model.specs.Sound.{IsAllowed};
-ghost use Rattle.def_history.specs.History.{IsLegal, MayCall, run};
+ghost use Rattle.def_history.specs.History.{is_broken, IsLegal, MayCall, run};
 ghost use Rattle.def_history.specs.Made.{done_by, is_growing};
 ghost use Rattle.boss_shared.specs.Calls.{has_failed_rest, RestFits};
 ghost use Rattle.boss_shared.specs.Gates.{denial_of_rest};
+ghost use Rattle.boss_shared.specs.Together.{made_together, AreReplied, AreSameAsked, IsReplied, IsSameAsked, MayAsk};
 
 use boss_memory_keeper::Unkept;
 use boss_model::{Answer, Command, NoMemory, SessionId};
-use boss_shared::Keeper;
+use boss_shared::{Asked, Keeper};
 use def_history::{Outcome, Outcomes};
 
 /// Whether a command may want memory.
@@ -95,4 +96,41 @@ pub fn step_all(
         done += 1;
     }
     Outcomes { done, rest: None }
+}
+
+/// Does what a caller asks for, as far as it finds memory, and puts its answers down.
+fn step_one(unkept: &mut Unkept, fed: &mut u64, asked: &mut Asked)
+    requires { MayAsk unkept.old.engine.plant asked.old }
+    ensures plant { unkept.new.engine.plant ≡ unkept.old.engine.plant }
+    ensures legal { IsLegal unkept.old.engine.plant (done_by asked.new.session asked.new.commands asked.new.answers.items) unkept.old.engine.state }
+    ensures state { unkept.new.engine.state
+        ≡ run unkept.old.engine.plant (done_by asked.new.session asked.new.commands asked.new.answers.items) unkept.old.engine.state }
+    ensures asked { IsSameAsked asked.old asked.new }
+    ensures no_fault { has_failed_rest asked.new.outcomes.rest ≡ false }
+    ensures told { IsReplied false asked.new }
+{
+    asked.answers.clear();
+    asked.outcomes = step_all(
+        unkept,
+        fed,
+        asked.session,
+        asked.commands.slice(),
+        &mut asked.answers,
+    );
+    asked.tried = asked.outcomes.done;
+}
+
+/// Does what several callers ask for, one caller's commands behind another's, as far as each finds memory.
+pub fn step_together(unkept: &mut Unkept, fed: &mut u64, group: &mut [Asked])
+    requires { AllByRecursion (MayAsk unkept.old.engine.plant) group.old }
+    ensures plant { unkept.new.engine.plant ≡ unkept.old.engine.plant }
+    ensures whole { is_broken (made_together group.new) ≡ false }
+    ensures legal { IsLegal unkept.old.engine.plant (made_together group.new) unkept.old.engine.state }
+    ensures state { unkept.new.engine.state ≡ run unkept.old.engine.plant (made_together group.new) unkept.old.engine.state }
+    ensures asked { AreSameAsked group.old group.new }
+    ensures told { AreReplied false group.new }
+{
+    for asked in group.iter_mut() {
+        step_one(unkept, fed, asked);
+    }
 }

@@ -42,4 +42,4 @@ returns-in-DiskFault-clause-kept g c =
 
 pub returns-in-DiskFault-clause-images : goal.returns-in-DiskFault-clause-images
 returns-in-DiskFault-clause-images g c =
-    unbegun_runs c.args.self.now c.begin_for.new.self c.args.session ((c.args.command.now, c.args.moment) ∷ []) c.in-DiskFault.ensures.passes
+    unbegun_runs c.args.self.now c.begin_for.new.self c.args.session ((c.args.command.now, c.args.moment) ∷ []) [] c.in-DiskFault.ensures.passes

@@ -1,4 +1,4 @@
-use Rattle.std.proofs.Common.{◌⊎◌, ℕ, ◌+◌, ◌≤◌, take, sym, ◌∙◌, subst}
+use Rattle.std.proofs.Common.{◌⊎◌, ℕ, ◌+◌, ◌≤◌, [], take, sym, ◌∙◌, subst}
 use Rattle.def_history.specs.Made.{made_by_all}
 use Rattle.boss_durable.specs.Begun.{WantNone}
 use Rattle.boss_durable.specs.Words.{Does, RunsThrough, log}
@@ -15,14 +15,14 @@ returns-then-stopped-clause-images g c = all_idle_runs c.args.self.now c.args.se
 pub returns-in-Ok-clause-images : goal.returns-in-Ok-clause-images
 returns-in-Ok-clause-images g c =
     begun_runs c.args.self.now c.begin_all.new.self c.take_all.new.self
-    (made_by_all c.args.session c.args.commands.now c.take_all.new.answers.items c.take_all.result.rest) c.in-Ok.ensures.engine c.in-Ok.ensures.keeps c.in-Ok.ensures.passes
-    (subst (λ calls. RunsThrough c.begin_all.new.self c.take_all.new.self (made_by_all c.args.session calls c.take_all.new.answers.items c.take_all.result.rest)) c.slice-calls.ensures c.take_all.ensures.images)
+    (made_by_all [] c.args.session c.args.commands.now c.take_all.new.answers.items c.take_all.result.rest) c.in-Ok.ensures.engine c.in-Ok.ensures.keeps c.in-Ok.ensures.passes
+    (subst (λ calls. RunsThrough c.begin_all.new.self c.take_all.new.self (made_by_all [] c.args.session calls c.take_all.new.answers.items c.take_all.result.rest)) c.slice-calls.ensures c.take_all.ensures.images)
 
 pub returns-in-Ok-clause-kept : goal.returns-in-Ok-clause-kept
 returns-in-Ok-clause-kept g c =
     begun_does c.args.self.now c.begin_all.new.self c.take_all.new.self _ (sym c.stopped.ensures ∙ c.if-stopped.false) c.in-Ok.ensures.fine
     c.in-Ok.ensures.engine c.in-Ok.ensures.cause.1 c.in-Ok.ensures.keeps
-    (subst (λ calls. Does c.begin_all.new.self c.take_all.new.self (made_by_all c.args.session calls c.take_all.new.answers.items c.take_all.result.rest)) c.slice-calls.ensures c.take_all.ensures.kept)
+    (subst (λ calls. Does c.begin_all.new.self c.take_all.new.self (made_by_all [] c.args.session calls c.take_all.new.answers.items c.take_all.result.rest)) c.slice-calls.ensures c.take_all.ensures.kept)
     (returns-in-Ok-clause-images g c)
 
 pub returns-in-Err-clause-kept : goal.returns-in-Err-clause-kept

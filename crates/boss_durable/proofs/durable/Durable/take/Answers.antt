@@ -37,15 +37,15 @@ returns-in-Err-append_to-clause-kept g c =
     let taken = first_taken c.args.self.now.engine.plant c.args.session c.args.moment c.args.command.now c.in-Ok.answer c.in-Ok.effect c.args.self.now.engine.state c.step.new.self.state
     c.clear.new.self c.put.new.self c.in-Ok.ensures.reached.whole c.in-Ok.ensures.reached.sound c.requires.may (ap (λ b. b.bytes.bytes) c.clear.ensures) (ap (λ b. b.events) c.clear.ensures)
     c.in-Ok.ensures.answer c.in-Ok.ensures.state c.in-Ok.ensures.effect c.put.ensures.bytes c.put.ensures.events in
-    failed_does c.args.self.now _ c.args.session 1 ((c.args.command.now, c.args.moment) ∷ []) c.requires.going c.in-Err-append_to.ensures.stops c.in-Ok.ensures.plant
-    c.in-Err-append_to.ensures.cause (c.requires.may, tt) taken.state_is (λ count at. c.append_to.ensures.passes _ _ _ _ count at taken (omega arith)) (inl refl)
+    failed_does c.args.self.now _ c.args.session 1 ((c.args.command.now, c.args.moment) ∷ []) [] c.requires.going c.in-Err-append_to.ensures.stops c.in-Ok.ensures.plant
+    c.in-Err-append_to.ensures.cause (c.requires.may, tt) tt taken.state_is (λ count at. c.append_to.ensures.passes _ _ _ _ count at taken (omega arith)) (inl refl)
 
 pub returns-in-Err-append_to-clause-images : goal.returns-in-Err-append_to-clause-images
 returns-in-Err-append_to-clause-images g c =
     let taken = first_taken c.args.self.now.engine.plant c.args.session c.args.moment c.args.command.now c.in-Ok.answer c.in-Ok.effect c.args.self.now.engine.state c.step.new.self.state
     c.clear.new.self c.put.new.self c.in-Ok.ensures.reached.whole c.in-Ok.ensures.reached.sound c.requires.may (ap (λ b. b.bytes.bytes) c.clear.ensures) (ap (λ b. b.events) c.clear.ensures)
     c.in-Ok.ensures.answer c.in-Ok.ensures.state c.in-Ok.ensures.effect c.put.ensures.bytes c.put.ensures.events in
-    failed_runs c.args.self.now _ c.args.session 1 ((c.args.command.now, c.args.moment) ∷ []) (inl refl) taken.state_is
+    failed_runs c.args.self.now _ c.args.session 1 ((c.args.command.now, c.args.moment) ∷ []) [] (inl refl) taken.state_is
     (λ count at. c.append_to.ensures.passes _ _ _ _ count at taken (omega arith))
 
 pub returns-in-Err-clause-images : goal.returns-in-Err-clause-images

@@ -1,4 +1,4 @@
-use Rattle.std.proofs.Common.{◌≡◌, ◌++◌, List, length, min, refl, sym, ap, ◌∙◌, length-append}
+use Rattle.std.proofs.Common.{◌≡◌, [], ◌++◌, List, length, min, refl, sym, ap, ◌∙◌, length-append}
 use Rattle.boss_model.specs.declared.event.Event.{Event}
 use Rattle.boss_model.specs.Limits.{last_number}
 use Rattle.def_history.specs.History.{events}
@@ -12,7 +12,7 @@ returns-clause-kept c =
     let step = c.step_all.ensures in
     let done = c.slice.result.now in
     let made = done_by c.args.session done c.step_all.new.answers.items in
-    let is = ap (λ calls. made_by_all c.args.session calls c.step_all.new.answers.items c.step_all.result.rest) (sym c.slice.ensures)
+    let is = ap (λ calls. made_by_all [] c.args.session calls c.step_all.new.answers.items c.step_all.result.rest) (sym c.slice.ensures)
     ∙ made_fine c.args.session done c.step_all.new.answers.items c.step_all.result.rest step.no_fault in
     let gains : (before : List Event) → c.args.self.now.events ≡ min (length before) last_number →
     c.step_all.new.count ≡ min (length (before ++ events c.args.self.now.engine.plant made c.args.self.now.engine.state)) last_number =

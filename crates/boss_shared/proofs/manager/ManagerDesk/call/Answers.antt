@@ -21,7 +21,7 @@ returns-clause-own g c =
       left = c.leave.ensures.seat;
       own = c.leave.ensures.own_entries;
       places = c.leave.ensures.places;
-    }) c.requires.own.0 held.sound held.legal
+    }) c.requires.own.0 c.requires.own.3 c.requires.own.4 held.sound held.legal
 
 pub returns-clause-turn : goal.returns-clause-turn
 returns-clause-turn g c =

@@ -10,9 +10,9 @@ pub returns-then-fails-clause-kept : goal.returns-then-fails-clause-kept
 returns-then-fails-clause-kept c =
     let off = c.if-self.false in
     let on = c.fails.ensures.stopped ∙ c.if-fails.true in
-    fault_keeps _ _ _ _ _ _ _ c.args.self.now c.fails.new.self c.args.session ((c.args.command.now, c.args.moment) ∷ []) _ off on (ap (λ k. k.engine.plant) c.fails.ensures.unkept)
+    fault_keeps _ _ _ _ _ _ _ c.args.self.now c.fails.new.self c.args.session ((c.args.command.now, c.args.moment) ∷ []) [] _ off on (ap (λ k. k.engine.plant) c.fails.ensures.unkept)
     (subst (λ (q : Bool × Bool). Rose (if q.0 then 1 else 0) (if q.1 then 1 else 0)) (λ i. (sym off i, sym on i)) (omega arith))
-    (c.requires.may, tt) refl (λ _. inl (ap (λ k. k.engine.state.persistent) c.fails.ensures.unkept))
+    (c.requires.may, tt) tt refl (λ _. inl (ap (λ k. k.engine.state.persistent) c.fails.ensures.unkept))
     (λ _. (refl, inl (ap (λ k. k.engine.state.persistent) c.fails.ensures.unkept)))
 
 pub returns-in-Ok-clause-kept : goal.returns-in-Ok-clause-kept

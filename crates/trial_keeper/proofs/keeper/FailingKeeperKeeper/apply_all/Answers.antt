@@ -18,9 +18,9 @@ returns-then-fails-clause-kept c =
     let off = c.if-self.false in
     let on = c.fails.ensures.stopped ∙ c.if-fails.true in
     let nothing = ap (done_by c.args.session c.args.commands.now) c.clear.ensures.items ∙ done_none c.args.session c.args.commands.now in
-    fault_keeps _ _ _ _ _ _ _ _ _ c.args.session c.args.commands.now _ off on (ap (λ k. k.engine.plant) c.fails.ensures.unkept)
+    fault_keeps _ _ _ _ _ _ _ _ _ c.args.session c.args.commands.now [] _ off on (ap (λ k. k.engine.plant) c.fails.ensures.unkept)
     (subst (λ (q : Bool × Bool). Rose (if q.0 then 1 else 0) (if q.1 then 1 else 0)) (λ i. (sym off i, sym on i)) (omega arith))
-    c.requires.may (ap (λ es. es ++ mark_by c.args.session c.args.commands.now (Some DiskFault)) nothing) (λ _. inl (ap (λ k. k.engine.state.persistent) c.fails.ensures.unkept))
+    c.requires.may tt (ap (λ es. es ++ mark_by [] c.args.session c.args.commands.now (Some DiskFault)) nothing) (λ _. inl (ap (λ k. k.engine.state.persistent) c.fails.ensures.unkept))
     (λ _. (refl, inl (ap (λ k. k.engine.state.persistent) c.fails.ensures.unkept)))
 
 pub returns-clause-kept : goal.returns-clause-kept
@@ -33,7 +33,7 @@ returns-clause-kept c =
     let rest = c.step_all-outcomes.result.rest in
     let done = c.slice-calls.result.now in
     let made = done_by c.args.session done answers in
-    let is = ap (λ calls. made_by_all c.args.session calls answers rest) (sym c.slice-calls.ensures) ∙ made_fine c.args.session done answers rest step.no_fault in
+    let is = ap (λ calls. made_by_all [] c.args.session calls answers rest) (sym c.slice-calls.ensures) ∙ made_fine c.args.session done answers rest step.no_fault in
     let kept = done_keeps _ _ _ _ _ _ _ c.args.self.now c.note.new.self made off (c.note.ensures.stopped ∙ on)
     (ap (λ k. k.engine.plant) c.note.ensures.unkept ∙ step.plant ∙ ap (λ e. e.plant) same)
     (ap (λ (b : Bool). if b then 1 else 0) (c.note.ensures.stopped ∙ on ∙ sym off)) (done_whole c.args.session done answers)
