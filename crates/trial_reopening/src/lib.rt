@@ -1,5 +1,6 @@
 //! Trials of journals on a pair of disks in memory: what scripts leave there and go on from, disks that stop or fail at each of their
-//! calls, pairs that are refused, several commands as one record, a log that is begun anew, and a catalogue that is adopted.
+//! calls, pairs that are refused, what one caller or two ask for as one record, a log that is begun anew, and a catalogue that is
+//! adopted.
 #![tactic(auto)]
 
 #[cfg(test)]
@@ -24,5 +25,7 @@ mod rotation;
 mod rotation_stops;
 #[cfg(test)]
 mod stops;
+#[cfg(test)]
+mod together;
 #[cfg(test)]
 mod turns;

@@ -48,7 +48,7 @@ const HELD: [&str; 3] = [
 ];
 
 /// The pairs of ways in which bytes of the two disks that a crash may change are picked.
-const PICKS: [(u64, u64); 16] = [
+pub const PICKS: [(u64, u64); 16] = [
     (0, 0),
     (0, 1),
     (0, 2),
@@ -68,7 +68,7 @@ const PICKS: [(u64, u64); 16] = [
 ];
 
 /// More calls than the script makes of a disk.
-const MANY: u64 = 60;
+pub const MANY: u64 = 60;
 
 /// What is left of a text before the `stopped` at its end, and how often that stands there, up to three times.
 fn before_stops(told: &[u8]) -> (&[u8], usize) {

@@ -1,5 +1,5 @@
 //! Trials of the shared manager over a real engine, alone and behind access rules: callers in two threads, several commands at once,
-//! and a disk that fails.
+//! what two callers ask for kept together, and a disk that fails.
 #![tactic(auto)]
 
 #[cfg(test)]
@@ -8,5 +8,7 @@ mod rules;
 mod texts;
 #[cfg(test)]
 mod threads;
+#[cfg(test)]
+mod together;
 #[cfg(test)]
 mod trials;

@@ -14,8 +14,8 @@ pub fn tell_outcome(rt: &impl Abort, told: &mut String, outcome: &Outcome) {
         Outcome::Done { answer } => tell_answer(rt, told, answer),
         Outcome::DiskFault => tell(rt, told, "the disk failed", 0, 0),
         Outcome::Stopped => tell(rt, told, "it has stopped", 0, 0),
+        Outcome::NoMemory => tell(rt, told, "no memory", 0, 0),
         Outcome::Denied { index, rule } => tell(rt, told, "denied", *index as u64, *rule as u64),
-        _ => tell(rt, told, "another outcome", 0, 0),
     }
 }
 

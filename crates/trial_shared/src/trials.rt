@@ -108,7 +108,7 @@ fn ask_all<G: Desk>(
 }
 
 /// An attach and a submit.
-fn hold_damper<G: Desk>(
+pub fn hold_damper<G: Desk>(
     rt: &impl Abort,
     alloc: Global,
     desk: &G,
