@@ -6,13 +6,14 @@ ghost use Rattle.boss_model.specs.Catalogue.{actuators};
 use crate::counting::CountingSink;
 use crate::outside::{call, list_clock};
 use crate::pieces::{Piece, Pieces};
-use boss_model::{NoMemory, SessionId};
+use boss_model::SessionId;
 use boss_outside::BytesSink;
 use boss_outside_server::ListClock;
 use boss_points::Catalogue;
 use boss_sessions::{SessionEnd, serve_connection};
 use boss_shared::Desk;
 use std::alloc::Global;
+use std::process::Abort;
 
 /// The number of the read, of the write and of the reading of the clock that fails, from 1; 0 is none.
 #[derive(Clone, Copy)]
@@ -39,21 +40,17 @@ pub struct Connection<'a> {
 impl<'a> Connection<'a> {
     /// A connection on which a text comes in pieces, by a clock of these moments.
     pub fn new(
+        rt: &impl Abort,
         alloc: Global,
         text: &'a str,
         piece: Piece,
         moments: &[u32],
         fails: Fails,
-    ) -> Result<Self, NoMemory> {
-        let source = Pieces::new(text.as_bytes(), piece, call(alloc, fails.read)?);
-        let clock = list_clock(alloc, moments, fails.reading)?;
-        match bytes_sink(alloc, fails.write) {
-            Ok(sink) => Ok(Connection {
-                source,
-                sink: CountingSink::new(sink),
-                clock,
-            }),
-            Err(none) => Err(none),
+    ) -> Self {
+        Connection {
+            source: Pieces::new(text.as_bytes(), piece, call(rt, alloc, fails.read)),
+            sink: CountingSink::new(bytes_sink(rt, alloc, fails.write)),
+            clock: list_clock(rt, alloc, moments, fails.reading),
         }
     }
 
@@ -82,6 +79,6 @@ impl<'a> Connection<'a> {
 }
 
 /// A sink of which the write of this number fails, from 1; 0 is none.
-pub fn bytes_sink(alloc: Global, write: u64) -> Result<BytesSink, NoMemory> {
-    BytesSink::new(alloc, call(alloc, write)?)
+pub fn bytes_sink(rt: &impl Abort, alloc: Global, write: u64) -> BytesSink {
+    BytesSink::new(alloc, call(rt, alloc, write)).expect(rt, "memory")
 }

@@ -7,17 +7,16 @@ use crate::asking::{ALL, GOOD, Machine, prepare};
 use crate::connection::{Connection, NONE_FAILS};
 use crate::outside::{Own, call};
 use crate::pieces::Piece;
-use crate::texts::{compare, joined, tell_end};
+use crate::texts::{compare, joined, push_sent, tell_end};
 use boss_drive::drive;
 use boss_expiry::WorkEnd;
-use boss_model::{DriverId, NoMemory, SessionId};
+use boss_model::{DriverId, SessionId};
 use boss_outside::{DeviceCall, SimActuators};
 use boss_points::Catalogue;
 use boss_shared::Desk;
-use std::alloc::{AllocError, Global};
+use std::alloc::Global;
 use std::process::Abort;
 use std::sync::Wait;
-use std::test::Fail;
 use trial_keeper::{Trial, run_trial};
 use trial_parts::THREE_POINTS;
 
@@ -343,35 +342,47 @@ fn name_of(point: u32) -> &'static str {
 }
 
 /// Tells of each call of a device.
-fn tell_calls(text: &mut String, calls: &[DeviceCall]) -> Result<(), AllocError> {
+fn tell_calls(rt: &impl Abort, text: &mut String, calls: &[DeviceCall]) {
     for call in calls {
-        let taken = if call.ok { "ok" } else { "failed" };
-        writeln!(text, "{} {} {taken}", name_of(call.point.0), call.value)?;
+        tell_call(rt, text, call);
     }
-    Ok(())
 }
 
-/// Tells how the turns ended.
-fn tell_ends(
+fn tell_call(rt: &impl Abort, text: &mut String, call: &DeviceCall) {
+    let taken = if call.ok { "ok" } else { "failed" };
+    let name = name_of(call.point.0);
+    writeln!(text, "{name} {} {taken}", call.value).expect(rt, "memory");
+}
+
+/// The turns of a run, and the question behind them.
+fn ready_to_drive<'a>(
+    rt: &impl Abort,
     alloc: Global,
-    text: &mut String,
-    driven: Driven,
-    first: Own,
-    then: Own,
-) -> Result<(), NoMemory> {
-    match tell_end(alloc, text, driven.first, first) {
-        Ok(()) => tell_end(alloc, text, driven.then, then),
-        Err(none) => Err(none),
+    run: &'a Drive,
+    asks: &'a str,
+) -> Driving<'a> {
+    Driving {
+        alloc,
+        run,
+        devices: devices_of(rt, alloc, run.write),
+        first: own_of(rt, alloc, &run.first),
+        then: own_of(rt, alloc, &run.then),
+        question: Connection::new(rt, alloc, asks, Piece::Whole, &[run.at], NONE_FAILS),
     }
+}
+
+/// Devices of which the write of this number fails, from 1; 0 is none.
+fn devices_of(rt: &impl Abort, alloc: Global, write: u64) -> SimActuators {
+    SimActuators::new(alloc, call(rt, alloc, write)).expect(rt, "memory")
+}
+
+/// What the turns are taken by.
+fn own_of(rt: &impl Abort, alloc: Global, turns: &Turns) -> Own {
+    Own::new(rt, alloc, turns.moments, turns.reading, turns.going)
 }
 
 /// Tells of the calls, how the turns ended, and what the session was answered.
-fn tell(
-    alloc: Global,
-    text: &mut String,
-    driving: Driving<'_>,
-    driven: Driven,
-) -> Result<(), Fail> {
+fn tell(rt: &impl Abort, alloc: Global, text: &mut String, driving: Driving<'_>, driven: Driven) {
     let Driving {
         devices,
         first,
@@ -379,85 +390,50 @@ fn tell(
         question,
         ..
     } = driving;
-    tell_calls(text, devices.calls())?;
-    tell_ends(alloc, text, driven, first, then)?;
-    text.push_str(std::str::from_utf8(question.sink.taken())?)?;
-    Ok(())
-}
-
-/// The turns of a run, and the question behind them.
-fn ready_to_drive<'a>(
-    alloc: Global,
-    run: &'a Drive,
-    asks: &'a str,
-) -> Result<Driving<'a>, NoMemory> {
-    let devices = devices_of(alloc, run.write)?;
-    let first = own_of(alloc, &run.first)?;
-    let then = own_of(alloc, &run.then)?;
-    match Connection::new(alloc, asks, Piece::Whole, &[run.at], NONE_FAILS) {
-        Ok(question) => Ok(Driving {
-            alloc,
-            run,
-            devices,
-            first,
-            then,
-            question,
-        }),
-        Err(none) => Err(none),
-    }
-}
-
-/// Devices of which the write of this number fails, from 1; 0 is none.
-fn devices_of(alloc: Global, write: u64) -> Result<SimActuators, NoMemory> {
-    SimActuators::new(alloc, call(alloc, write)?)
-}
-
-/// What the turns are taken by.
-fn own_of(alloc: Global, turns: &Turns) -> Result<Own, NoMemory> {
-    Own::new(alloc, turns.moments, turns.reading, turns.going)
+    tell_calls(rt, text, devices.calls());
+    tell_end(rt, alloc, text, driven.first, first);
+    tell_end(rt, alloc, text, driven.then, then);
+    push_sent(rt, text, question.sink.taken());
 }
 
 /// Drives over a machine of its own, and tells of it.
-fn drive_over<R: Wait + Sync>(
+fn drive_over<R: Abort + Wait + Sync>(
     rt: &R,
     alloc: Global,
     catalogue: &Catalogue,
     run: &Drive,
     asks: &str,
     text: &mut String,
-) -> Result<(), Fail> {
-    let mut driving = ready_to_drive(alloc, run, asks)?;
+) {
+    let mut driving = ready_to_drive(rt, alloc, run, asks);
     let Machine {
         good_calls,
         fed,
         ..
     } = run.machine;
-    match run_trial(rt, alloc, catalogue, good_calls, fed, &mut driving) {
-        Ok((driven, _)) => tell(alloc, text, driving, driven),
-        Err(none) => Err(none.into()),
-    }
+    let ran = run_trial(rt, alloc, catalogue, good_calls, fed, &mut driving);
+    let (driven, _) = ran.expect(rt, "memory");
+    tell(rt, alloc, text, driving, driven);
 }
 
 /// Drives, and compares what is told.
-fn try_drive<R: Abort + Wait + Sync>(
-    rt: &R,
-    alloc: Global,
-    catalogue: &Catalogue,
-    run: &Drive,
-) -> Result<(), Fail> {
-    let asks = joined(alloc, run.asks)?;
+fn try_drive<R: Abort + Wait + Sync>(rt: &R, alloc: Global, catalogue: &Catalogue, run: &Drive) {
+    let asks = joined(rt, alloc, run.asks);
     let mut told = String::new(alloc);
-    match drive_over(rt, alloc, catalogue, run, asks.as_str(), &mut told) {
-        Ok(()) => compare(rt, alloc, told.as_str(), run.told, run.shows),
-        Err(failed) => Err(failed),
+    drive_over(rt, alloc, catalogue, run, asks.as_str(), &mut told);
+    compare(rt, alloc, told.as_str(), run.told, run.shows);
+}
+
+/// Drives each of these, and compares what is told.
+fn try_all<R: Abort + Wait + Sync>(rt: &R, alloc: Global, catalogue: &Catalogue, runs: &[Drive]) {
+    for run in runs {
+        try_drive(rt, alloc, catalogue, run);
     }
 }
 
 #[test]
-fn devices_are_driven_as_it_was_worked_out(rt: HostRuntime) -> Result<(), Fail> {
-    let catalogue = Catalogue::read(rt.alloc(), THREE_POINTS.as_bytes())?;
-    for run in RUNS {
-        try_drive(&rt, rt.alloc(), &catalogue, run)?;
-    }
-    Ok(())
+fn devices_are_driven_as_it_was_worked_out(rt: HostRuntime) {
+    let alloc = rt.alloc();
+    let catalogue = Catalogue::read(alloc, THREE_POINTS.as_bytes()).expect(&rt, "a catalogue");
+    try_all(&rt, alloc, &catalogue, RUNS);
 }

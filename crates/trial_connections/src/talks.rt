@@ -6,15 +6,14 @@ ghost use Rattle.boss_model.specs.Catalogue.{actuators};
 use crate::asking::{ALL, GOOD, Machine, is_line_done, prepare};
 use crate::connection::{Connection, Fails, NONE_FAILS};
 use crate::pieces::Piece;
-use crate::texts::{compare, joined};
+use crate::texts::{compare, push_line, push_lines, push_sent};
 use boss_model::SessionId;
 use boss_points::Catalogue;
 use boss_sessions::SessionEnd;
 use boss_shared::Desk;
-use std::alloc::{AllocError, Global};
+use std::alloc::Global;
 use std::process::Abort;
 use std::sync::Wait;
-use std::test::Fail;
 use trial_keeper::{Taken, Trial, run_trial};
 use trial_parts::THREE_POINTS;
 
@@ -629,121 +628,122 @@ impl Trial for Talking<'_> {
 }
 
 /// Tells of each call of session 1.
-fn tell_calls(text: &mut String, taken: &[Taken]) -> Result<(), AllocError> {
+fn tell_calls(rt: &impl Abort, text: &mut String, taken: &[Taken]) {
     for call in taken {
         if call.session == SessionId(1) {
-            writeln!(text, "{} at {}", call.commands, call.moment)?;
+            writeln!(text, "{} at {}", call.commands, call.moment).expect(rt, "memory");
         }
     }
-    Ok(())
 }
 
 /// Tells how a session ended.
-fn tell_talked(text: &mut String, talked: &Option<Talked>, left: usize) -> Result<(), AllocError> {
-    let Some(Talked { end, free }) = talked else {
-        return text.push_str("not prepared\n");
-    };
+fn tell_session(rt: &impl Abort, text: &mut String, end: &SessionEnd) {
     match end {
-        SessionEnd::Watch { name, from } => write!(text, "watches {name} from {from}")?,
-        end => write!(text, "{end:?}")?,
+        SessionEnd::Watch { name, from } => {
+            write!(text, "watches {name} from {from}").expect(rt, "memory")
+        }
+        end => write!(text, "{end:?}").expect(rt, "memory"),
     }
-    let free = if *free { "free" } else { "not free" };
-    writeln!(text, "; bytes left: {left}; a is {free}")
+}
+
+/// Tells how a session ended, what is left in the source, and whether its process may be attached by another.
+fn tell_talked(rt: &impl Abort, text: &mut String, talked: &Option<Talked>, left: usize) {
+    match talked {
+        Some(talked) => {
+            tell_session(rt, text, &talked.end);
+            let free = if talked.free { "free" } else { "not free" };
+            writeln!(text, "; bytes left: {left}; a is {free}").expect(rt, "memory");
+        }
+        None => push_line(rt, text, "not prepared"),
+    }
 }
 
 /// Tells what went out, how the session ended, what was called and, where it counts, how many writes were made.
 fn tell(
+    rt: &impl Abort,
     text: &mut String,
     connection: &Connection<'_>,
     talked: &Option<Talked>,
     taken: &[Taken],
     counts: bool,
-) -> Result<(), Fail> {
-    text.push_str(std::str::from_utf8(connection.sink.taken())?)?;
-    tell_talked(text, talked, connection.source.left().len())?;
-    tell_calls(text, taken)?;
+) {
+    push_sent(rt, text, connection.sink.taken());
+    tell_talked(rt, text, talked, connection.source.left().len());
+    tell_calls(rt, text, taken);
     if counts {
-        writeln!(text, "writes: {}", connection.sink.writes())?;
+        writeln!(text, "writes: {}", connection.sink.writes()).expect(rt, "memory");
     }
-    Ok(())
 }
 
 /// The bytes that come.
-fn input(alloc: Global, talk: &Talk) -> Result<String, AllocError> {
-    let mut text = joined(alloc, talk.lines)?;
+fn input(rt: &impl Abort, alloc: Global, talk: &Talk) -> String {
+    let mut text = String::new(alloc);
+    push_lines(rt, &mut text, talk.lines);
     for _ in 0..talk.rest {
-        text.push('x')?;
+        text.push('x').expect(rt, "memory");
     }
-    text.push_str(joined(alloc, talk.behind)?.as_str())?;
-    Ok(text)
+    push_lines(rt, &mut text, talk.behind);
+    text
+}
+
+/// A connection on which these lines come.
+fn ready_to_talk<'a>(rt: &impl Abort, alloc: Global, talk: &Talk, lines: &'a str) -> Talking<'a> {
+    Talking {
+        alloc,
+        broken: talk.machine.broken,
+        connection: Connection::new(rt, alloc, lines, talk.piece, talk.moments, talk.fails),
+    }
 }
 
 /// Serves the lines over a machine of its own, and tells of it.
-fn serve<R: Wait + Sync>(
+fn serve<R: Abort + Wait + Sync>(
     rt: &R,
     alloc: Global,
     catalogue: &Catalogue,
     talk: &Talk,
     lines: &str,
     text: &mut String,
-) -> Result<(), Fail> {
-    let connection = Connection::new(alloc, lines, talk.piece, talk.moments, talk.fails)?;
+) {
+    let mut talking = ready_to_talk(rt, alloc, talk, lines);
     let Machine {
         good_calls,
         fed,
-        broken,
+        ..
     } = talk.machine;
-    let mut talking = Talking {
-        alloc,
-        broken,
-        connection,
-    };
-    match run_trial(rt, alloc, catalogue, good_calls, fed, &mut talking) {
-        Ok((talked, taken)) => tell(
-            text,
-            &talking.connection,
-            &talked,
-            taken.slice(),
-            talk.counts,
-        ),
-        Err(none) => Err(none.into()),
-    }
+    let ran = run_trial(rt, alloc, catalogue, good_calls, fed, &mut talking);
+    let (talked, taken) = ran.expect(rt, "memory");
+    tell(
+        rt,
+        text,
+        &talking.connection,
+        &talked,
+        taken.slice(),
+        talk.counts,
+    );
 }
 
 /// Serves a connection, and compares what is told of it.
-fn try_talk<R: Abort + Wait + Sync>(
-    rt: &R,
-    alloc: Global,
-    catalogue: &Catalogue,
-    talk: &Talk,
-) -> Result<(), Fail> {
-    let lines = input(alloc, talk)?;
+fn try_talk<R: Abort + Wait + Sync>(rt: &R, alloc: Global, catalogue: &Catalogue, talk: &Talk) {
+    let lines = input(rt, alloc, talk);
     let mut told = String::new(alloc);
-    match serve(rt, alloc, catalogue, talk, lines.as_str(), &mut told) {
-        Ok(()) => compare(rt, alloc, told.as_str(), talk.told, talk.shows),
-        Err(failed) => Err(failed),
-    }
+    serve(rt, alloc, catalogue, talk, lines.as_str(), &mut told);
+    compare(rt, alloc, told.as_str(), talk.told, talk.shows);
 }
 
 /// Serves each of these connections.
-fn try_all<R: Abort + Wait + Sync>(
-    rt: &R,
-    alloc: Global,
-    catalogue: &Catalogue,
-    talks: &[Talk],
-) -> Result<(), Fail> {
+fn try_all<R: Abort + Wait + Sync>(rt: &R, alloc: Global, catalogue: &Catalogue, talks: &[Talk]) {
     for talk in talks {
-        try_talk(rt, alloc, catalogue, talk)?;
+        try_talk(rt, alloc, catalogue, talk);
     }
-    Ok(())
 }
 
 #[test]
-fn connections_are_served_as_it_was_worked_out(rt: HostRuntime) -> Result<(), Fail> {
+fn connections_are_served_as_it_was_worked_out(rt: HostRuntime) {
     let alloc = rt.alloc();
-    let catalogue = Catalogue::read(alloc, THREE_POINTS.as_bytes())?;
-    for talks in [PIECES, OTHER_LINES, FAULTS, WRITES, MACHINES] {
-        try_all(&rt, alloc, &catalogue, talks)?;
-    }
-    Ok(())
+    let catalogue = Catalogue::read(alloc, THREE_POINTS.as_bytes()).expect(&rt, "a catalogue");
+    try_all(&rt, alloc, &catalogue, PIECES);
+    try_all(&rt, alloc, &catalogue, OTHER_LINES);
+    try_all(&rt, alloc, &catalogue, FAULTS);
+    try_all(&rt, alloc, &catalogue, WRITES);
+    try_all(&rt, alloc, &catalogue, MACHINES);
 }

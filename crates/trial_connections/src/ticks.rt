@@ -7,13 +7,12 @@ use crate::asking::{ALL, GOOD, Machine, prepare};
 use crate::outside::Own;
 use crate::texts::{compare, tell_end};
 use boss_expiry::{WorkEnd, expire};
-use boss_model::{NoMemory, SessionId};
+use boss_model::SessionId;
 use boss_points::Catalogue;
 use boss_shared::Desk;
-use std::alloc::{AllocError, Global};
+use std::alloc::Global;
 use std::process::Abort;
 use std::sync::Wait;
-use std::test::Fail;
 use trial_keeper::{Taken, Trial, run_trial};
 use trial_parts::THREE_POINTS;
 
@@ -164,70 +163,61 @@ impl Trial for Ticking<'_> {
 }
 
 /// Tells of the ticks among these calls.
-fn tell_ticks(text: &mut String, taken: &[Taken]) -> Result<(), AllocError> {
+fn tell_ticks(rt: &impl Abort, text: &mut String, taken: &[Taken]) {
     for call in taken {
         if call.session == SessionId(0) {
             let now = call.ticked.unwrap_or(0);
-            writeln!(text, "tick at {}, now {now}", call.moment)?;
+            writeln!(text, "tick at {}, now {now}", call.moment).expect(rt, "memory");
         }
     }
-    Ok(())
 }
 
-/// Tells of the ticks and how they ended.
-fn tell(
-    alloc: Global,
-    text: &mut String,
-    taken: &[Taken],
-    end: Option<WorkEnd>,
-    own: Own,
-) -> Result<(), NoMemory> {
-    match tell_ticks(text, taken) {
-        Ok(()) => tell_end(alloc, text, end, own),
-        Err(none) => Err(none.into()),
+/// The turns of a run.
+fn ready_to_tick<'a>(rt: &impl Abort, alloc: Global, run: &'a Ticks) -> Ticking<'a> {
+    Ticking {
+        alloc,
+        run,
+        own: Own::new(rt, alloc, run.moments, run.reading, run.going),
     }
 }
 
-/// Takes the turns over a machine of their own, and tells of them.
-fn take_turns<R: Wait + Sync>(
+/// Takes the turns over a machine of their own, and tells of the ticks and how they ended.
+fn take_turns<R: Abort + Wait + Sync>(
     rt: &R,
     alloc: Global,
     catalogue: &Catalogue,
     run: &Ticks,
     text: &mut String,
-) -> Result<(), NoMemory> {
-    let own = Own::new(alloc, run.moments, run.reading, run.going)?;
-    let mut ticking = Ticking { alloc, run, own };
+) {
+    let mut ticking = ready_to_tick(rt, alloc, run);
     let Machine {
         good_calls,
         fed,
         ..
     } = run.machine;
-    match run_trial(rt, alloc, catalogue, good_calls, fed, &mut ticking) {
-        Ok((end, taken)) => tell(alloc, text, taken.slice(), end, ticking.own),
-        Err(none) => Err(none),
-    }
+    let ran = run_trial(rt, alloc, catalogue, good_calls, fed, &mut ticking);
+    let (end, taken) = ran.expect(rt, "memory");
+    tell_ticks(rt, text, taken.slice());
+    tell_end(rt, alloc, text, end, ticking.own);
 }
 
 /// Takes the turns, and compares what is told of them.
-fn try_turns<R: Abort + Wait + Sync>(
-    rt: &R,
-    alloc: Global,
-    catalogue: &Catalogue,
-    run: &Ticks,
-) -> Result<(), Fail> {
+fn try_turns<R: Abort + Wait + Sync>(rt: &R, alloc: Global, catalogue: &Catalogue, run: &Ticks) {
     let mut told = String::new(alloc);
-    match take_turns(rt, alloc, catalogue, run, &mut told) {
-        Ok(()) => compare(rt, alloc, told.as_str(), run.told, run.shows),
-        Err(none) => Err(none.into()),
+    take_turns(rt, alloc, catalogue, run, &mut told);
+    compare(rt, alloc, told.as_str(), run.told, run.shows);
+}
+
+/// Takes the turns of each of these, and compares what is told of them.
+fn try_all<R: Abort + Wait + Sync>(rt: &R, alloc: Global, catalogue: &Catalogue, runs: &[Ticks]) {
+    for run in runs {
+        try_turns(rt, alloc, catalogue, run);
     }
 }
 
 #[test]
-fn time_passes_turn_by_turn(rt: HostRuntime) -> Result<(), Fail> {
-    let catalogue = Catalogue::read(rt.alloc(), THREE_POINTS.as_bytes())?;
-    for run in RUNS {
-        try_turns(&rt, rt.alloc(), &catalogue, run)?;
-    }
-    Ok(())
+fn time_passes_turn_by_turn(rt: HostRuntime) {
+    let alloc = rt.alloc();
+    let catalogue = Catalogue::read(alloc, THREE_POINTS.as_bytes()).expect(&rt, "a catalogue");
+    try_all(&rt, alloc, &catalogue, RUNS);
 }

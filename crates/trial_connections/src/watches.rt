@@ -6,16 +6,15 @@ ghost use Rattle.boss_model.specs.Catalogue.{actuators};
 use crate::asking::{ALL, GOOD, Machine, is_line_done, prepare};
 use crate::connection::bytes_sink;
 use crate::outside::Own;
-use crate::texts::{compare, tell_end};
+use crate::texts::{compare, push_sent, tell_end};
 use boss_model::{Name, SessionId};
 use boss_outside::BytesSink;
 use boss_points::Catalogue;
 use boss_shared::Desk;
 use boss_watching::{WatchEnd, watch_connection};
-use std::alloc::{AllocError, Global};
+use std::alloc::Global;
 use std::process::Abort;
 use std::sync::Wait;
-use std::test::Fail;
 use trial_keeper::{Trial, run_trial};
 use trial_parts::THREE_POINTS;
 
@@ -189,7 +188,7 @@ const RUNS: &[Watch] = &[
 ];
 
 /// Tells both notices of a transaction, which the next one took the damper from.
-fn tell_taken(text: &mut String, txn: u64) -> Result<(), AllocError>
+fn tell_taken(rt: &impl Abort, text: &mut String, txn: u64)
     requires { txn < 1000 }
 {
     let done = txn * 2;
@@ -198,19 +197,20 @@ fn tell_taken(text: &mut String, txn: u64) -> Result<(), AllocError>
     writeln!(
         text,
         "{{\"n\":{ended},\"at\":1000,\"txn\":{txn},\"kind\":\"ended\",\"point\":\"ahu1.damper\",\"cause\":\"superseded\",\"by\":{by}}}"
-    )?;
+    )
+    .expect(rt, "memory");
     writeln!(
         text,
         "{{\"n\":{done},\"at\":1000,\"txn\":{txn},\"kind\":\"done\"}}"
     )
+    .expect(rt, "memory");
 }
 
 /// Tells the notices of each of these transactions.
-fn tell_all_taken(text: &mut String, taken: (u32, u32)) -> Result<(), AllocError> {
+fn tell_all_taken(rt: &impl Abort, text: &mut String, taken: (u32, u32)) {
     for txn in taken.0..taken.1.min(1000) {
-        tell_taken(text, u64::from(txn))?;
+        tell_taken(rt, text, u64::from(txn));
     }
-    Ok(())
 }
 
 /// A connection that is to watch.
@@ -276,82 +276,62 @@ impl Trial for Watching<'_> {
     }
 }
 
-/// Tells what was sent, and how it ended.
-fn tell(
-    alloc: Global,
-    text: &mut String,
-    end: Option<WatchEnd>,
-    sink: &BytesSink,
-    own: Own,
-) -> Result<(), Fail> {
-    text.push_str(std::str::from_utf8(sink.taken())?)?;
-    tell_end(alloc, text, end, own)?;
-    Ok(())
+/// A connection that is to watch the process `a`.
+fn ready_to_watch<'a>(rt: &impl Abort, alloc: Global, run: &'a Watch) -> Watching<'a> {
+    Watching {
+        alloc,
+        run,
+        process: Name::new(b"a").expect(rt, "a name"),
+        sink: bytes_sink(rt, alloc, run.write),
+        own: Own::new(rt, alloc, &[3000], run.reading, run.going),
+    }
 }
 
-/// Watches over a machine of its own, and tells of it.
-fn watch_over<R: Wait + Sync>(
+/// Watches over a machine of its own, and tells what was sent and how it ended.
+fn watch_over<R: Abort + Wait + Sync>(
     rt: &R,
     alloc: Global,
     catalogue: &Catalogue,
     run: &Watch,
-    process: Name,
     text: &mut String,
-) -> Result<(), Fail> {
-    let sink = bytes_sink(alloc, run.write)?;
-    let own = Own::new(alloc, &[3000], run.reading, run.going)?;
-    let mut watching = Watching {
-        alloc,
-        run,
-        process,
-        sink,
-        own,
-    };
+) {
+    let mut watching = ready_to_watch(rt, alloc, run);
     let Machine {
         good_calls,
         fed,
         ..
     } = run.machine;
     let ran = run_trial(rt, alloc, catalogue, good_calls, fed, &mut watching);
-    let Watching { sink, own, .. } = watching;
-    match ran {
-        Ok((end, _)) => tell(alloc, text, end, &sink, own),
-        Err(none) => Err(none.into()),
-    }
+    let (end, _) = ran.expect(rt, "memory");
+    push_sent(rt, text, watching.sink.taken());
+    tell_end(rt, alloc, text, end, watching.own);
 }
 
 /// Watches, and compares what is told.
-fn try_watch<R: Abort + Wait + Sync>(
-    rt: &R,
-    alloc: Global,
-    catalogue: &Catalogue,
-    run: &Watch,
-) -> Result<(), Fail> {
-    let process = Name::new(b"a").ok_or("no name")?;
+fn try_watch<R: Abort + Wait + Sync>(rt: &R, alloc: Global, catalogue: &Catalogue, run: &Watch) {
     let mut told = String::new(alloc);
-    match watch_over(rt, alloc, catalogue, run, process, &mut told) {
-        Ok(()) => compare_watch(rt, alloc, told.as_str(), run),
-        Err(failed) => Err(failed),
-    }
+    watch_over(rt, alloc, catalogue, run, &mut told);
+    compare_watch(rt, alloc, told.as_str(), run);
 }
 
 /// Compares what is told of a watch.
-fn compare_watch(rt: &impl Abort, alloc: Global, told: &str, run: &Watch) -> Result<(), Fail> {
+fn compare_watch(rt: &impl Abort, alloc: Global, told: &str, run: &Watch) {
     let mut notices = String::new(alloc);
-    match tell_all_taken(&mut notices, run.taken) {
-        Ok(()) => {
-            let rest = told.strip_prefix(notices.as_str()).unwrap_or(told);
-            compare(rt, alloc, rest, run.told, run.shows)
-        }
-        Err(none) => Err(none.into()),
+    tell_all_taken(rt, &mut notices, run.taken);
+    let rest = told.strip_prefix(notices.as_str()).unwrap_or(told);
+    compare(rt, alloc, rest, run.told, run.shows);
+}
+
+/// Watches each of these, and compares what is told.
+fn try_all<R: Abort + Wait + Sync>(rt: &R, alloc: Global, catalogue: &Catalogue, runs: &[Watch]) {
+    for run in runs {
+        try_watch(rt, alloc, catalogue, run);
     }
 }
 
 #[test]
-fn processes_are_watched_as_it_was_worked_out(rt: HostRuntime) -> Result<(), Fail> {
-    let catalogue = Catalogue::read(rt.alloc(), THREE_POINTS.as_bytes())?;
-    for run in RUNS {
-        try_watch(&rt, rt.alloc(), &catalogue, run)?;
-    }
-    Ok(())
+fn processes_are_watched_as_it_was_worked_out(rt: HostRuntime) {
+    let alloc = rt.alloc();
+    let catalogue = Catalogue::read(alloc, THREE_POINTS.as_bytes()).expect(&rt, "a catalogue");
+    try_all(&rt, alloc, &catalogue, RUNS);
 }

@@ -1,7 +1,7 @@
 //! A driver's turns over a Modbus device. The frames were worked out by hand from MODBUS Messaging on TCP/IP 1.0b, section 3.1.3, and
 //! MODBUS Application Protocol 1.1b3, sections 6.5 to 7.
 
-ghost use Rattle.std.specs.Prelude.{◌≡◌, ◌≤◌, IfOk, IsTrue};
+ghost use Rattle.std.specs.Prelude.{◌≡◌, ◌≤◌, IsTrue};
 ghost use Rattle.std.specs.List.{AllByRecursion};
 ghost use Rattle.boss_drive.specs.Driving.{Driven};
 ghost use Rattle.boss_lock.specs.Places.{entries_at};
@@ -11,7 +11,7 @@ ghost use Rattle.def_lanes.specs.Waits.{PausedFor};
 use boss_drive::drive;
 use boss_expiry::WorkEnd;
 use boss_modbus::ModbusDevice;
-use boss_model::{DriverId, DriverPlan, Items, NoMemory, Place, PointId, Where};
+use boss_model::{DriverId, DriverPlan, Items, Place, PointId, Where};
 use boss_outside::{Actuators, DeviceCall, Link, ListLink, Noted};
 use boss_outside_server::{Clock, ListClock, TurnWaiter, Waiter};
 use boss_points::Catalogue;
@@ -19,7 +19,6 @@ use boss_shared::Desk;
 use std::alloc::Global;
 use std::process::Abort;
 use std::sync::Wait;
-use std::test::Fail;
 use trial_keeper::{Trial, run_trial};
 use trial_parts::THREE_POINTS;
 
@@ -118,60 +117,62 @@ impl Trial for Worker {
     }
 }
 
-fn moments(alloc: Global) -> Result<Items<u64>, NoMemory>
-    ensures { IfOk result (λ moments. AllByRecursion (λ moment. moment ≤ last_moment) moments) }
+/// The moment 0 alone.
+fn moments(rt: &impl Abort, alloc: Global) -> Items<u64>
+    ensures { AllByRecursion (λ moment. moment ≤ last_moment) result }
 {
     let mut moments = Items::new(alloc);
-    moments.try_push(0)?;
-    Ok(moments)
+    moments.try_push(0).expect(rt, "memory");
+    moments
 }
 
-fn clock(alloc: Global) -> Result<ListClock, NoMemory> {
-    let moments = moments(alloc)?;
-    ListClock::new(alloc, moments, Items::new(alloc))
+fn clock(rt: &impl Abort, alloc: Global) -> ListClock {
+    let moments = moments(rt, alloc);
+    ListClock::new(alloc, moments, Items::new(alloc)).expect(rt, "memory")
+}
+
+/// A link whose host answers with these bytes.
+fn link(rt: &impl Abort, alloc: Global, responses: &[u8]) -> ListLink {
+    let mut contents = Items::new(alloc);
+    let responses = Items::from_vec(responses.to_vec(alloc).expect(rt, "memory"));
+    contents.try_push(responses).expect(rt, "memory");
+    ListLink::new(alloc, contents, 12, Items::new(alloc)).expect(rt, "memory")
 }
 
 /// A device whose host answers with these bytes.
-fn devices(alloc: Global, responses: &[u8]) -> Result<Noted<ModbusDevice<ListLink>>, NoMemory> {
-    let mut contents = Items::new(alloc);
-    contents.try_push(Items::from_vec(responses.to_vec(alloc)?))?;
-    let link = ListLink::new(alloc, contents, 12, Items::new(alloc))?;
-    let mut device = ModbusDevice::new(link);
-    device.assign(part(alloc)?);
-    Ok(Noted::new(alloc, device))
+fn devices(rt: &impl Abort, alloc: Global, responses: &[u8]) -> Noted<ModbusDevice<ListLink>> {
+    let mut device = ModbusDevice::new(link(rt, alloc, responses));
+    device.assign(part(rt, alloc));
+    Noted::new(alloc, device)
 }
 
-fn part(alloc: Global) -> Result<DriverPlan, NoMemory> {
-    Ok(DriverPlan {
-        host: Items::from_vec(b"127.0.0.1:1502".to_vec(alloc)?),
-        places: Items::from_vec(PLACES.to_vec(alloc)?),
-    })
+fn part(rt: &impl Abort, alloc: Global) -> DriverPlan {
+    let host = b"127.0.0.1:1502".to_vec(alloc).expect(rt, "memory");
+    let places = PLACES.to_vec(alloc).expect(rt, "memory");
+    DriverPlan {
+        host: Items::from_vec(host),
+        places: Items::from_vec(places),
+    }
 }
 
-fn make(alloc: Global, responses: &[u8]) -> Result<Worker, NoMemory> {
-    let clock = clock(alloc)?;
-    let waiter = TurnWaiter::new(alloc, 8)?;
-    match devices(alloc, responses) {
-        Ok(devices) => Ok(Worker {
-            devices,
-            clock,
-            waiter,
-        }),
-        Err(none) => Err(none),
+fn make(rt: &impl Abort, alloc: Global, responses: &[u8]) -> Worker {
+    Worker {
+        devices: devices(rt, alloc, responses),
+        clock: clock(rt, alloc),
+        waiter: TurnWaiter::new(alloc, 8).expect(rt, "memory"),
     }
 }
 
 /// Drives over a machine of its own.
-fn drive_all<R: Wait + Sync>(
+fn drive_all<R: Abort + Wait + Sync>(
     rt: &R,
     alloc: Global,
     catalogue: &Catalogue,
     driving: &mut Worker,
-) -> Result<WorkEnd, NoMemory> {
-    match run_trial(rt, alloc, catalogue, u64::MAX, u64::MAX, driving) {
-        Ok((end, _)) => Ok(end),
-        Err(none) => Err(none),
-    }
+) -> WorkEnd {
+    let ran = run_trial(rt, alloc, catalogue, u64::MAX, u64::MAX, driving);
+    let (end, _) = ran.expect(rt, "memory");
+    end
 }
 
 /// Drives the three points at the opening, of which the fan may be refused.
@@ -182,8 +183,8 @@ fn check<R: Abort + Wait + Sync>(
     responses: &[u8],
     is_fan_taken: bool,
 ) {
-    let mut driving = make(alloc, responses).expect(rt, "memory");
-    let end = drive_all(rt, alloc, catalogue, &mut driving).expect(rt, "memory");
+    let mut driving = make(rt, alloc, responses);
+    let end = drive_all(rt, alloc, catalogue, &mut driving);
     let expected = [
         DeviceCall {
             point: DAMPER,
@@ -202,14 +203,22 @@ fn check<R: Abort + Wait + Sync>(
         },
     ];
     assert!(rt; end == WorkEnd::Finished);
-    assert_eq!(rt; driving.devices.calls(), expected.as_slice());
-    assert_eq!(rt; driving.devices.devices().link().sent(), SENT.as_slice());
+    expect_driven(rt, &driving.devices, &expected);
+}
+
+fn expect_driven(
+    rt: &impl Abort,
+    devices: &Noted<ModbusDevice<ListLink>>,
+    expected: &[DeviceCall],
+) {
+    assert_eq!(rt; devices.calls(), expected);
+    assert_eq!(rt; devices.devices().link().sent(), SENT.as_slice());
 }
 
 #[test]
-fn a_modbus_device_is_driven(rt: HostRuntime) -> Result<(), Fail> {
-    let catalogue = Catalogue::read(rt.alloc(), THREE_POINTS.as_bytes())?;
-    check(&rt, rt.alloc(), &catalogue, &SENT, true);
-    check(&rt, rt.alloc(), &catalogue, &REFUSED, false);
-    Ok(())
+fn a_modbus_device_is_driven(rt: HostRuntime) {
+    let alloc = rt.alloc();
+    let catalogue = Catalogue::read(alloc, THREE_POINTS.as_bytes()).expect(&rt, "a catalogue");
+    check(&rt, alloc, &catalogue, &SENT, true);
+    check(&rt, alloc, &catalogue, &REFUSED, false);
 }

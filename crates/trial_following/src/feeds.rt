@@ -6,7 +6,7 @@ use std::alloc::Global;
 use std::process::Abort;
 
 /// What a feed comes to in a new journal, and how many events this has then.
-const EVENTS: [(&str, FollowEnd, u64); 16] = [
+const EVENTS: &[(&str, FollowEnd, u64)] = &[
     ("", FollowEnd::End, 0),
     ("\n \t\r\n", FollowEnd::End, 0),
     ("event 1 0100000000000000000161", FollowEnd::End, 1),
@@ -77,7 +77,7 @@ const EVENTS: [(&str, FollowEnd, u64); 16] = [
 ];
 
 /// The same of states. That of 32 bytes is the first: at moment 0, with 1 as the next transaction's number and nothing else.
-const STATES: [(&str, FollowEnd, u64); 14] = [
+const STATES: &[(&str, FollowEnd, u64)] = &[
     // Taken after five events; then the sixth is next, and the fifth is known.
     (
         "state 5 32\npart 0000000000000000000000000000000100000000000000000000000000000000\n",
@@ -154,12 +154,16 @@ const STILL: &str =
 fn spoilt(rt: &impl Abort, alloc: Global, place: usize) -> Vec<u8> {
     let mut text = STATE.to_vec(alloc).expect(rt, "memory");
     let first = place.saturating_mul(2).saturating_add(DIGITS);
-    for at in [first, first.saturating_add(1)] {
-        if at < text.len() {
-            text[at] = b'f';
-        }
-    }
+    put_digit(&mut text, first);
+    put_digit(&mut text, first.saturating_add(1));
     text
+}
+
+/// Puts the digit `f` at a place.
+fn put_digit(text: &mut Vec<u8>, place: usize) {
+    if place < text.len() {
+        text[place] = b'f';
+    }
 }
 
 /// Whether a feed comes to this end in a new journal, and this has so many events then.
@@ -181,11 +185,19 @@ fn expect_end(
 fn each_line_is_done_or_ends_it(rt: HostRuntime) {
     let alloc = rt.alloc();
     let catalogue = three_points(&rt, alloc);
-    for (text, wanted, events) in EVENTS {
-        expect_end(&rt, alloc, &catalogue, text.as_bytes(), wanted, events);
-    }
-    for (text, wanted, events) in STATES {
-        expect_end(&rt, alloc, &catalogue, text.as_bytes(), wanted, events);
+    expect_ends(&rt, alloc, &catalogue, EVENTS);
+    expect_ends(&rt, alloc, &catalogue, STATES);
+}
+
+/// Each of these feeds comes to its end in a new journal.
+fn expect_ends(
+    rt: &impl Abort,
+    alloc: Global,
+    catalogue: &Catalogue,
+    rows: &[(&str, FollowEnd, u64)],
+) {
+    for (text, wanted, events) in rows {
+        expect_end(rt, alloc, catalogue, text.as_bytes(), *wanted, *events);
     }
 }
 
@@ -195,12 +207,29 @@ fn a_state_with_a_byte_changed_is_none_or_another(rt: HostRuntime) {
     let catalogue = three_points(&rt, alloc);
     expect_end(&rt, alloc, &catalogue, STATE, FollowEnd::End, 2);
     for (place, mark) in STILL.bytes().enumerate() {
-        let text = spoilt(&rt, alloc, place);
-        let (wanted, events) = if mark == b'x' {
-            (FollowEnd::End, 2)
-        } else {
-            (FollowEnd::BadLine { line: 2 }, 0)
-        };
-        expect_end(&rt, alloc, &catalogue, text.as_slice(), wanted, events);
+        expect_spoilt(&rt, alloc, &catalogue, place, mark == b'x');
+    }
+}
+
+/// Whether the state with 255 in place of one of its bytes is a sound state still.
+fn expect_spoilt(
+    rt: &impl Abort,
+    alloc: Global,
+    catalogue: &Catalogue,
+    place: usize,
+    is_sound: bool,
+) {
+    let text = spoilt(rt, alloc, place);
+    if is_sound {
+        expect_end(rt, alloc, catalogue, &text, FollowEnd::End, 2);
+    } else {
+        expect_end(
+            rt,
+            alloc,
+            catalogue,
+            &text,
+            FollowEnd::BadLine { line: 2 },
+            0,
+        );
     }
 }

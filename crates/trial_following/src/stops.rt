@@ -97,15 +97,24 @@ fn a_feed_may_be_cut_anywhere(rt: HostRuntime) {
 
 /// Whether what a crash may leave of these disks opens to what lasts after some of the lines.
 fn leave_fronts(rt: &impl Abort, alloc: Global, catalogue: &Catalogue, disks: &Pair) -> bool {
-    for pick in PICKS {
-        let first = disks.0.image(alloc, pick).expect(rt, "memory");
-        let second = disks.1.image(alloc, pick).expect(rt, "memory");
-        let durable = reopened(rt, alloc, catalogue, (first, second));
-        if !is_front(&durable) {
+    for pick in &PICKS {
+        if !leaves_front(rt, alloc, catalogue, disks, *pick) {
             return false;
         }
     }
     true
+}
+
+fn leaves_front(
+    rt: &impl Abort,
+    alloc: Global,
+    catalogue: &Catalogue,
+    disks: &Pair,
+    pick: u64,
+) -> bool {
+    let first = disks.0.image(alloc, pick).expect(rt, "memory");
+    let second = disks.1.image(alloc, pick).expect(rt, "memory");
+    is_front(&reopened(rt, alloc, catalogue, (first, second)))
 }
 
 /// Follows all of it over two new disks, which answer no more calls than so many. Whether that was done.

@@ -1,13 +1,13 @@
 //! When a pump is written that is to run a minute and to stand half a minute. What a run shows was worked out by hand.
 
-ghost use Rattle.std.specs.Prelude.{◌≡◌, ◌≤◌, IfOk};
+ghost use Rattle.std.specs.Prelude.{◌≡◌, ◌≤◌};
 ghost use Rattle.std.specs.List.{AllByRecursion};
 ghost use Rattle.boss_model.specs.Limits.{last_moment};
 
 use crate::asking::are_done;
 use boss_expiry::WorkEnd;
 use boss_guard::{GuardEnd, guarded_drive, is_guarded};
-use boss_model::{DriverId, Items, NoMemory, PointId};
+use boss_model::{DriverId, Items, PointId};
 use boss_outside::{DeviceCall, SimActuators};
 use boss_outside_server::{ListClock, TurnWaiter, Waiter};
 use boss_points::Catalogue;
@@ -15,7 +15,6 @@ use boss_shared::Desk;
 use std::alloc::Global;
 use std::process::Abort;
 use std::sync::Wait;
-use std::test::Fail;
 use trial_keeper::{Trial, run_trial};
 
 const ONE_PUMP: &str = "drivers = [\"heat\"]
@@ -204,89 +203,88 @@ impl Trial for Worker {
 }
 
 /// The call of this number, or none for 0.
-fn call(alloc: Global, number: u64) -> Result<Items<u64>, NoMemory> {
+fn call(rt: &impl Abort, alloc: Global, number: u64) -> Items<u64> {
     let mut calls = Items::new(alloc);
-    calls.try_push(number)?;
-    Ok(calls)
+    calls.try_push(number).expect(rt, "memory");
+    calls
 }
 
-fn moments(alloc: Global, all: &[u32]) -> Result<Items<u64>, NoMemory>
-    ensures { IfOk result (λ moments. AllByRecursion (λ moment. moment ≤ last_moment) moments) }
+fn moments(rt: &impl Abort, alloc: Global, all: &[u32]) -> Items<u64>
+    ensures { AllByRecursion (λ moment. moment ≤ last_moment) result }
 {
     let mut moments = Items::new(alloc);
     for moment in all {
-        moments.try_push(u64::from(*moment))?;
+        moments.try_push(u64::from(*moment)).expect(rt, "memory");
     }
-    Ok(moments)
+    moments
 }
 
-fn clock(alloc: Global, run: &Run) -> Result<ListClock, NoMemory> {
-    let fails = call(alloc, run.reading)?;
-    match moments(alloc, run.moments) {
-        Ok(moments) => ListClock::new(alloc, moments, fails),
-        Err(none) => Err(none),
-    }
+fn clock(rt: &impl Abort, alloc: Global, run: &Run) -> ListClock {
+    let moments = moments(rt, alloc, run.moments);
+    ListClock::new(alloc, moments, call(rt, alloc, run.reading)).expect(rt, "memory")
 }
 
-fn make(alloc: Global, run: &Run) -> Result<Worker, NoMemory> {
-    let devices = SimActuators::new(alloc, call(alloc, run.write)?)?;
-    let clock = clock(alloc, run)?;
-    match TurnWaiter::new(alloc, 8) {
-        Ok(waiter) => Ok(Worker {
-            alloc,
-            lines: run.lines,
-            turns: run.turns,
-            devices,
-            clock,
-            waiter,
-        }),
-        Err(none) => Err(none),
+fn devices(rt: &impl Abort, alloc: Global, run: &Run) -> SimActuators {
+    SimActuators::new(alloc, call(rt, alloc, run.write)).expect(rt, "memory")
+}
+
+fn make(rt: &impl Abort, alloc: Global, run: &Run) -> Worker {
+    Worker {
+        alloc,
+        lines: run.lines,
+        turns: run.turns,
+        devices: devices(rt, alloc, run),
+        clock: clock(rt, alloc, run),
+        waiter: TurnWaiter::new(alloc, 8).expect(rt, "memory"),
     }
 }
 
 /// How many pauses were made.
-fn pauses_of(alloc: Global, waiter: TurnWaiter) -> Result<u64, NoMemory> {
-    match TurnWaiter::new(alloc, 0) {
-        Ok(mut all) => {
-            all.join(waiter);
-            let waits = all.waits(alloc)?;
-            Ok(waits.last().map_or(0, |wait| wait.pauses))
-        }
-        Err(none) => Err(none),
+fn pauses_of(rt: &impl Abort, alloc: Global, waiter: TurnWaiter) -> u64 {
+    let mut all = TurnWaiter::new(alloc, 0).expect(rt, "memory");
+    all.join(waiter);
+    pauses(rt, alloc, &all)
+}
+
+/// The pauses of the last part that was taken back.
+fn pauses(rt: &impl Abort, alloc: Global, waiter: &TurnWaiter) -> u64 {
+    let waits = waiter.waits(alloc).expect(rt, "memory");
+    match waits.last() {
+        Some(wait) => wait.pauses,
+        None => 0,
     }
 }
 
 /// Takes the turns over a machine of its own.
-fn drive_all<R: Wait + Sync>(
+fn drive_all<R: Abort + Wait + Sync>(
     rt: &R,
     alloc: Global,
     catalogue: &Catalogue,
     good_calls: u64,
     worker: &mut Worker,
-) -> Result<Option<GuardEnd>, NoMemory> {
-    match run_trial(rt, alloc, catalogue, good_calls, ALL, worker) {
-        Ok((end, _)) => Ok(end),
-        Err(none) => Err(none),
-    }
+) -> Option<GuardEnd> {
+    let ran = run_trial(rt, alloc, catalogue, good_calls, ALL, worker);
+    let (end, _) = ran.expect(rt, "memory");
+    end
 }
 
 /// Takes the turns of a run, and compares what is told.
 fn check<R: Abort + Wait + Sync>(rt: &R, alloc: Global, run: &Run, calls: &[DeviceCall]) {
     let catalogue = Catalogue::read(alloc, run.catalogue.as_bytes()).expect(rt, "a catalogue");
-    let mut worker = make(alloc, run).expect(rt, "memory");
-    let end = drive_all(rt, alloc, &catalogue, run.good_calls, &mut worker).expect(rt, "memory");
-    let Worker {
-        devices,
-        waiter,
-        ..
-    } = worker;
+    let mut worker = make(rt, alloc, run);
+    let end = drive_all(rt, alloc, &catalogue, run.good_calls, &mut worker);
     assert!(rt; end == Some(GuardEnd::Worked(run.end)));
-    assert_eq!(rt; devices.calls(), calls);
-    assert_eq!(rt; pauses_of(alloc, waiter).expect(rt, "memory"), run.pauses);
+    expect_calls(rt, worker.devices.calls(), calls);
+    let pauses = pauses_of(rt, alloc, worker.waiter);
+    assert!(rt; pauses == run.pauses);
+}
+
+fn expect_calls(rt: &impl Abort, calls: &[DeviceCall], wanted: &[DeviceCall]) {
+    assert_eq!(rt; calls, wanted);
 }
 
 #[test]
-fn a_want_of_level_8_is_held(rt: HostRuntime) -> Result<(), Fail> {
+fn a_want_of_level_8_is_held(rt: HostRuntime) {
     check(&rt, rt.alloc(), &WAITING, &[told(0, 0, true)]);
     check(
         &rt,
@@ -294,33 +292,30 @@ fn a_want_of_level_8_is_held(rt: HostRuntime) -> Result<(), Fail> {
         &HELD,
         &[told(0, 0, true), told(0, 1, true)],
     );
-    Ok(())
 }
 
 #[test]
-fn a_want_of_level_3_is_written(rt: HostRuntime) -> Result<(), Fail> {
+fn a_want_of_level_3_is_written(rt: HostRuntime) {
     check(
         &rt,
         rt.alloc(),
         &AHEAD,
         &[told(0, 0, true), told(0, 1, true)],
     );
-    Ok(())
 }
 
 #[test]
-fn a_held_want_is_replaced(rt: HostRuntime) -> Result<(), Fail> {
+fn a_held_want_is_replaced(rt: HostRuntime) {
     check(
         &rt,
         rt.alloc(),
         &REPLACED,
         &[told(0, 0, true), told(0, 0, true)],
     );
-    Ok(())
 }
 
 #[test]
-fn two_points_are_held(rt: HostRuntime) -> Result<(), Fail> {
+fn two_points_are_held(rt: HostRuntime) {
     let calls = [
         told(0, 0, true),
         told(1, 0, true),
@@ -328,11 +323,10 @@ fn two_points_are_held(rt: HostRuntime) -> Result<(), Fail> {
         told(1, 1, true),
     ];
     check(&rt, rt.alloc(), &TWO_HELD, &calls);
-    Ok(())
 }
 
 #[test]
-fn each_kind_of_call_fails(rt: HostRuntime) -> Result<(), Fail> {
+fn each_kind_of_call_fails(rt: HostRuntime) {
     check(&rt, rt.alloc(), &CLOCK_FAILS, &[told(0, 0, true)]);
     check(
         &rt,
@@ -341,5 +335,4 @@ fn each_kind_of_call_fails(rt: HostRuntime) -> Result<(), Fail> {
         &[told(0, 0, true), told(0, 1, false)],
     );
     check(&rt, rt.alloc(), &DISK_FAILS, &[told(0, 0, true)]);
-    Ok(())
 }

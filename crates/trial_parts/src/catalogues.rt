@@ -26,15 +26,23 @@ const POINTS: &[(&str, &str)] = &[
 
 /// Compares a catalogue with the three points.
 fn compare(rt: &impl Abort, alloc: Global, catalogue: &Catalogue) {
-    assert!(rt; catalogue.digest() == DIGEST);
+    assert!(rt; has_digest(catalogue, &DIGEST));
     assert_eq!(rt; catalogue.count(), 3);
     for place in 0..catalogue.count() {
         let (name, told) = POINTS.get(place as usize).expect(rt, "a point");
-        let read = described(rt, alloc, catalogue.point(PointId(place)));
-        assert_eq!(rt; read.as_str(), *told);
-        assert!(rt; catalogue.point(PointId(place)).name.bytes() == name.as_bytes());
+        expect_point(rt, alloc, catalogue.point(PointId(place)), name, told);
         assert!(rt; is_at(catalogue, name, place));
     }
+}
+
+fn has_digest(catalogue: &Catalogue, digest: &[u8; 32]) -> bool {
+    catalogue.digest() == *digest
+}
+
+fn expect_point(rt: &impl Abort, alloc: Global, point: &Point, name: &str, told: &str) {
+    let read = described(rt, alloc, point);
+    assert!(rt; read.as_str() == told, "{name}");
+    assert!(rt; point.name.bytes() == name.as_bytes(), "{name}");
 }
 
 /// The driver, the kind and the default of a point.
@@ -384,9 +392,14 @@ fn is_refused(alloc: Global, file: &[u8], refusal: CatalogueRefusal) -> bool {
 
 #[test]
 fn refuses_each_fault(rt: HostRuntime) {
-    for (text, refusal) in REFUSED {
-        let refused = is_refused(rt.alloc(), text.as_bytes(), *refusal);
-        assert!(rt; refused, "{text}");
+    expect_refused(&rt, rt.alloc(), REFUSED);
+}
+
+/// Each of these files is refused so.
+fn expect_refused(rt: &impl Abort, alloc: Global, rows: &[(&str, CatalogueRefusal)]) {
+    for row in rows {
+        let refused = is_refused(alloc, row.0.as_bytes(), row.1);
+        assert!(rt; refused, "{}", row.0);
     }
 }
 
@@ -481,7 +494,7 @@ fn pump(rt: &impl Abort, alloc: Global, keys: &str) -> String {
 }
 
 /// Whether a file is accepted with this digest, and with a point of these minimum times.
-fn has_times(alloc: Global, file: &[u8], on: i64, off: i64, digest: [u8; 32]) -> bool {
+fn has_times(alloc: Global, file: &[u8], on: i64, off: i64, digest: &[u8; 32]) -> bool {
     let Ok(catalogue) = Catalogue::read(alloc, file) else {
         return false;
     };
@@ -489,14 +502,25 @@ fn has_times(alloc: Global, file: &[u8], on: i64, off: i64, digest: [u8; 32]) ->
         return false;
     }
     let point = catalogue.point(PointId(0));
-    point.min_on == on && point.min_off == off && catalogue.digest() == digest
+    point.min_on == on && point.min_off == off && has_digest(&catalogue, digest)
+}
+
+fn is_read_with_times(
+    rt: &impl Abort,
+    alloc: Global,
+    keys: &str,
+    on: i64,
+    off: i64,
+    digest: &[u8; 32],
+) -> bool {
+    let file = pump(rt, alloc, keys);
+    has_times(alloc, file.as_bytes(), on, off, digest)
 }
 
 #[test]
 fn reads_minimum_times(rt: HostRuntime) {
     for (keys, on, off, digest) in TIMES {
-        let file = pump(&rt, rt.alloc(), keys);
-        let read = has_times(rt.alloc(), file.as_bytes(), *on, *off, *digest);
+        let read = is_read_with_times(&rt, rt.alloc(), keys, *on, *off, digest);
         assert!(rt; read, "{keys}");
     }
 }
@@ -538,7 +562,7 @@ fn reads_4096_points_and_no_more(rt: HostRuntime) {
 /// Whether a file is accepted with the digest of the three points.
 fn has_three_points(alloc: Global, file: &[u8]) -> bool {
     match Catalogue::read(alloc, file) {
-        Ok(catalogue) => catalogue.digest() == DIGEST,
+        Ok(catalogue) => has_digest(&catalogue, &DIGEST),
         Err(_refusal) => false,
     }
 }

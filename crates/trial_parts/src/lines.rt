@@ -89,10 +89,15 @@ fn read_all(rt: &impl Abort, reader: &mut Lines, source: &mut Pieces, read: &mut
         if answer != Next::Line {
             return answer;
         }
-        read.extend_from_slice(reader.line()).expect(rt, "memory");
-        read.push(b'\n').expect(rt, "memory");
+        put_line(rt, read, reader.line());
     }
     Next::Line
+}
+
+/// Puts a line behind these bytes, with an end behind it.
+fn put_line(rt: &impl Abort, into: &mut Vec<u8>, line: &[u8]) {
+    into.extend_from_slice(line).expect(rt, "memory");
+    into.push(b'\n').expect(rt, "memory");
 }
 
 /// Whether a reader that gave its last answer has no line, and gives the same answer again without one more read.
@@ -140,25 +145,46 @@ const TEXTS: &[(&str, &str, Next)] = &[
 
 #[test]
 fn lines_are_the_same_however_the_text_is_cut(rt: HostRuntime) {
-    let alloc = rt.alloc();
-    for (text, lines, end) in TEXTS {
-        let text = meant(&rt, alloc, text);
-        let lines = meant(&rt, alloc, lines);
-        for most in [usize::MAX, 1, 1_000] {
-            expect(&rt, alloc, Pieces::new(&text, most, 0, 0), &lines, *end);
-        }
-        for place in 0..text.len() {
-            if is_near_an_end(&text, place) {
-                let source = Pieces::new(&text, usize::MAX, place, 0);
-                expect(&rt, alloc, source, &lines, *end);
-            }
+    expect_texts(&rt, rt.alloc(), TEXTS);
+}
+
+fn expect_texts(rt: &impl Abort, alloc: Global, texts: &[(&str, &str, Next)]) {
+    for text in texts {
+        expect_lines(rt, alloc, text.0, text.1, text.2);
+    }
+}
+
+/// The most bytes of a read.
+const MOST: &[usize] = &[usize::MAX, 1, 1_000];
+
+fn expect_in_pieces(rt: &impl Abort, alloc: Global, text: &[u8], lines: &[u8], end: Next) {
+    for most in MOST {
+        expect(rt, alloc, Pieces::new(text, *most, 0, 0), lines, end);
+    }
+}
+
+fn expect_cut(rt: &impl Abort, alloc: Global, text: &[u8], lines: &[u8], end: Next) {
+    for place in 0..text.len() {
+        if is_near_an_end(text, place) {
+            let source = Pieces::new(text, usize::MAX, place, 0);
+            expect(rt, alloc, source, lines, end);
         }
     }
 }
 
+/// Compares the lines of a text, however it is cut.
+fn expect_lines(rt: &impl Abort, alloc: Global, text: &str, lines: &str, end: Next) {
+    let text = meant(rt, alloc, text);
+    let lines = meant(rt, alloc, lines);
+    expect_in_pieces(rt, alloc, &text, &lines, end);
+    expect_cut(rt, alloc, &text, &lines, end);
+}
+
+type Fault = (&'static str, usize, u64, &'static str, Next);
+
 /// Texts that are read in pieces of at most so many bytes, where a read fails: the lines that ended before, and the answer.
 /// Behind the end of the source no read is made, so none can fail there.
-const FAULTS: &[(&str, usize, u64, &str, Next)] = &[
+const FAULTS: &[Fault] = &[
     ("ab$$c$d", 1, 1, "", Next::ReadFault),
     ("ab$$c$d", 1, 2, "", Next::ReadFault),
     ("ab$$c$d", 1, 3, "", Next::ReadFault),
@@ -175,18 +201,20 @@ const FAULTS: &[(&str, usize, u64, &str, Next)] = &[
 
 #[test]
 fn a_fault_comes_behind_the_lines_that_ended(rt: HostRuntime) {
-    let alloc = rt.alloc();
-    for (text, most, fails, lines, end) in FAULTS {
-        let text = meant(&rt, alloc, text);
-        let lines = meant(&rt, alloc, lines);
-        expect(
-            &rt,
-            alloc,
-            Pieces::new(&text, *most, 0, *fails),
-            &lines,
-            *end,
-        );
+    expect_faults(&rt, rt.alloc(), FAULTS);
+}
+
+fn expect_faults(rt: &impl Abort, alloc: Global, faults: &[Fault]) {
+    for fault in faults {
+        expect_fault(rt, alloc, fault);
     }
+}
+
+fn expect_fault(rt: &impl Abort, alloc: Global, fault: &Fault) {
+    let (text, most, fails, lines, end) = *fault;
+    let text = meant(rt, alloc, text);
+    let lines = meant(rt, alloc, lines);
+    expect(rt, alloc, Pieces::new(&text, most, 0, fails), &lines, end);
 }
 
 #[test]
@@ -206,17 +234,24 @@ const LIMITS: &[(u64, &str, Next)] = &[
 
 #[test]
 fn lines_are_read_up_to_a_limit(rt: HostRuntime) {
-    let alloc = rt.alloc();
-    for (limit, lines, end) in LIMITS {
-        let text = Items::from_vec(meant(&rt, alloc, "a$$bc"));
-        let mut source = BytesSource::new(alloc, text, Items::new(alloc)).expect(&rt, "memory");
-        let read = read_lines(alloc, &mut source, *limit).expect(&rt, "memory");
-        let mut told = Vec::new(alloc);
-        for line in read.lines.slice() {
-            told.extend_from_slice(line.slice()).expect(&rt, "memory");
-            told.push(b'\n').expect(&rt, "memory");
-        }
-        let lines = meant(&rt, alloc, lines);
-        assert!(&rt; told.as_slice() == lines.as_slice() && read.end == *end);
+    for limit in LIMITS {
+        expect_limit(&rt, rt.alloc(), limit.0, limit.1, limit.2);
     }
+}
+
+fn expect_limit(rt: &impl Abort, alloc: Global, limit: u64, lines: &str, end: Next) {
+    let text = Items::from_vec(meant(rt, alloc, "a$$bc"));
+    let mut source = BytesSource::new(alloc, text, Items::new(alloc)).expect(rt, "memory");
+    let read = read_lines(alloc, &mut source, limit).expect(rt, "memory");
+    let lines = meant(rt, alloc, lines);
+    assert!(rt; read.end == end && are_same(rt, alloc, read.lines.slice(), &lines));
+}
+
+/// Whether these lines, each with an end behind it, are this text.
+fn are_same(rt: &impl Abort, alloc: Global, lines: &[Items<u8>], text: &[u8]) -> bool {
+    let mut told = Vec::new(alloc);
+    for line in lines {
+        put_line(rt, &mut told, line.slice());
+    }
+    told.as_slice() == text
 }

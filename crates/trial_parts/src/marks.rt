@@ -18,7 +18,7 @@ const FIELD: u16 = 0;
 const ROOF: u16 = 1;
 
 /// What is done with the marks of a damper and a lamp of one driver, and of a fan of another.
-#[derive(Clone, Copy, Debug)]
+#[derive(Clone, Copy)]
 enum Deed {
     /// The point is to be told this target anew.
     Started(u32, i64),
@@ -146,24 +146,36 @@ fn told(rt: &impl Abort, alloc: Global, marks: &mut Marks, deed: Deed) -> String
     }
 }
 
-/// The marks of three points, of which the third is on another driver, before anything was done.
+/// The driver and the default of each of three points, of which the third is on another driver.
+const POINTS: [(DriverId, i64); 3] = [
+    (DriverId(FIELD), 20000),
+    (DriverId(FIELD), 0),
+    (DriverId(ROOF), 1),
+];
+
+/// Their marks before anything was done.
 fn three_marks(rt: &impl Abort, alloc: Global) -> Marks {
-    let mut points = Vec::new(alloc);
-    points.push((DriverId(FIELD), 20000)).expect(rt, "memory");
-    points.push((DriverId(FIELD), 0)).expect(rt, "memory");
-    points.push((DriverId(ROOF), 1)).expect(rt, "memory");
-    Marks::new(alloc, &Items::from_vec(points)).expect(rt, "memory")
+    let points = Items::from_vec(POINTS.to_vec(alloc).expect(rt, "memory"));
+    Marks::new(alloc, &points).expect(rt, "memory")
+}
+
+/// Does these with fresh marks, and compares the answers.
+fn expect_deeds(rt: &impl Abort, alloc: Global, deeds: &[(Deed, &str)]) {
+    let mut marks = three_marks(rt, alloc);
+    assert!(rt; marks.count() == 3);
+    for deed in deeds {
+        expect_deed(rt, alloc, &mut marks, deed.0, deed.1);
+    }
+}
+
+fn expect_deed(rt: &impl Abort, alloc: Global, marks: &mut Marks, deed: Deed, answer: &str) {
+    let told = told(rt, alloc, marks, deed);
+    assert_eq!(rt; told.as_str(), answer);
 }
 
 #[test]
 fn devices_are_wanted_and_marked(rt: HostRuntime) {
-    let alloc = rt.alloc();
     for deeds in TRIALS {
-        let mut marks = three_marks(&rt, alloc);
-        assert_eq!(&rt; marks.count(), 3);
-        for (deed, answer) in *deeds {
-            let told = told(&rt, alloc, &mut marks, *deed);
-            assert_eq!(&rt; told.as_str(), *answer, "{deed:?}");
-        }
+        expect_deeds(&rt, rt.alloc(), deeds);
     }
 }

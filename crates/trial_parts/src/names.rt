@@ -22,16 +22,34 @@ const TEXTS: &[(&str, bool)] = &[
 fn named(text: &[u8]) -> u8 {
     match Name::new(text) {
         None => 0,
-        Some(name) if name.bytes() == text && name.copied().bytes() == text => 1,
-        Some(_name) => 2,
+        Some(name) => spelled(&name, text),
     }
+}
+
+/// 1 where a name and its copy have these bytes, and else 2.
+fn spelled(name: &Name, text: &[u8]) -> u8 {
+    if has_bytes(name, text) && has_bytes(&name.copied(), text) {
+        1
+    } else {
+        2
+    }
+}
+
+fn has_bytes(name: &Name, text: &[u8]) -> bool {
+    name.bytes() == text
 }
 
 #[test]
 fn a_name_is_its_bytes(rt: HostRuntime) {
-    for (text, is_name) in TEXTS {
-        assert_eq!(rt; named(text.as_bytes()), u8::from(*is_name), "{text:?}");
+    for text in TEXTS {
+        let is_named = named(text.0.as_bytes()) == u8::from(text.1);
+        assert!(rt; is_named, "{}", text.0);
     }
+}
+
+/// Whether a buffer has these bytes.
+fn has(buffer: &Buffer, bytes: &[u8]) -> bool {
+    buffer.bytes() == bytes
 }
 
 #[test]
@@ -39,12 +57,11 @@ fn a_buffer_and_a_list_take_what_they_are_given(rt: HostRuntime) {
     let mut buffer = Buffer::new(rt.alloc(), 2).expect(&rt, "memory");
     buffer.push(b'o');
     buffer.push(b'k');
-    let pushed = buffer.bytes() == b"ok".as_slice();
+    let pushed = has(&buffer, b"ok");
     buffer.clear();
-    let cleared = buffer.bytes().is_empty();
+    let cleared = has(&buffer, b"");
     buffer.extend(b"no");
-    let extended = buffer.bytes() == b"no".as_slice();
-    assert!(&rt; pushed && cleared && extended);
+    assert!(&rt; pushed && cleared && has(&buffer, b"no"));
 }
 
 #[test]

@@ -19,10 +19,31 @@ fn reading(
     line: &[u8],
     reader: &mut RequestReader,
 ) -> String {
-    let alone = told(rt, alloc, &read_request(alloc, catalogue, line, form));
-    let along = told(rt, alloc, &read_by(alloc, catalogue, line, form, reader));
-    assert_eq!(rt; along.as_str(), alone.as_str());
+    let alone = alone(rt, alloc, catalogue, form, line);
+    let along = along(rt, alloc, catalogue, form, line, reader);
+    expect_text(rt, along.as_str(), alone.as_str());
     along
+}
+
+fn alone(rt: &impl Abort, alloc: Global, catalogue: &Catalogue, form: Form, line: &[u8]) -> String {
+    let read = read_request(alloc, catalogue, line, form);
+    told(rt, alloc, &read)
+}
+
+fn along(
+    rt: &impl Abort,
+    alloc: Global,
+    catalogue: &Catalogue,
+    form: Form,
+    line: &[u8],
+    reader: &mut RequestReader,
+) -> String {
+    let read = read_by(alloc, catalogue, line, form, reader);
+    told(rt, alloc, &read)
+}
+
+fn expect_text(rt: &impl Abort, text: &str, wanted: &str) {
+    assert_eq!(rt; text, wanted);
 }
 
 /// The session, the moment and what is asked, or why a line is refused.
@@ -503,13 +524,6 @@ const LATER_LINES: &str = r#"
 {"on":65536,"at":-1,"op":"notices"}
 "#;
 
-/// Lines of each form.
-const TABLES: &[(Form, &str)] = &[
-    (Form::Script, LINES),
-    (Form::FirstLine, FIRST_LINES),
-    (Form::LaterLine, LATER_LINES),
-];
-
 /// Lines of a script that are no text, or have blanks at their ends, and what they are read as.
 const ENDS: &[(&[u8], &str)] = &[
     (b"", "Malformed"),
@@ -559,6 +573,24 @@ const ENDS: &[(&[u8], &str)] = &[
     (b" {\"op\" : \"tick\"}\r", "1 0 Tick"),
 ];
 
+/// Reads a line, which has to be read as this.
+fn expect_line(
+    rt: &impl Abort,
+    alloc: Global,
+    catalogue: &Catalogue,
+    form: Form,
+    line: &[u8],
+    wanted: &str,
+    reader: &mut RequestReader,
+) {
+    let read = reading(rt, alloc, catalogue, form, line, reader);
+    expect_text(rt, read.as_str(), wanted);
+}
+
+fn is_asked(line: &str) -> bool {
+    !line.is_empty() && !line.starts_with('#')
+}
+
 /// Reads the lines of a group, which have to be read as its first line says.
 fn expect_group(
     rt: &impl Abort,
@@ -570,10 +602,22 @@ fn expect_group(
 ) {
     let (wanted, lines) = group.split_once('\n').expect(rt, "a group");
     for line in lines.split('\n') {
-        if !line.is_empty() && !line.starts_with('#') {
-            let read = reading(rt, alloc, catalogue, form, line.as_bytes(), reader);
-            assert_eq!(rt; read.as_str(), wanted, "{line}");
+        if is_asked(line) {
+            expect_line(rt, alloc, catalogue, form, line.as_bytes(), wanted, reader);
         }
+    }
+}
+
+fn expect_groups(
+    rt: &impl Abort,
+    alloc: Global,
+    catalogue: &Catalogue,
+    form: Form,
+    table: &str,
+    reader: &mut RequestReader,
+) {
+    for group in table.split("\n= ").skip(1) {
+        expect_group(rt, alloc, catalogue, form, group, reader);
     }
 }
 
@@ -582,14 +626,37 @@ fn a_line_is_read_as_its_request(rt: HostRuntime) {
     let alloc = rt.alloc();
     let catalogue = three_points(&rt, alloc);
     let mut reader = RequestReader::new(alloc);
-    for (form, table) in TABLES {
-        for group in table.split("\n= ").skip(1) {
-            expect_group(&rt, alloc, &catalogue, *form, group, &mut reader);
-        }
-    }
-    for (line, wanted) in ENDS {
-        let read = reading(&rt, alloc, &catalogue, Form::Script, line, &mut reader);
-        assert_eq!(&rt; read.as_str(), *wanted, "{line:?}");
+    expect_groups(&rt, alloc, &catalogue, Form::Script, LINES, &mut reader);
+    expect_groups(
+        &rt,
+        alloc,
+        &catalogue,
+        Form::FirstLine,
+        FIRST_LINES,
+        &mut reader,
+    );
+    expect_groups(
+        &rt,
+        alloc,
+        &catalogue,
+        Form::LaterLine,
+        LATER_LINES,
+        &mut reader,
+    );
+    expect_ends(&rt, alloc, &catalogue, ENDS, &mut reader);
+}
+
+/// Reads these lines of a script, each of which has to be read so.
+fn expect_ends(
+    rt: &impl Abort,
+    alloc: Global,
+    catalogue: &Catalogue,
+    ends: &[(&[u8], &str)],
+    reader: &mut RequestReader,
+) {
+    for end in ends {
+        let (line, wanted) = (end.0, end.1);
+        expect_line(rt, alloc, catalogue, Form::Script, line, wanted, reader);
     }
 }
 
@@ -622,14 +689,35 @@ const LONGEST: &[Longest] = &[
 fn line_of(rt: &impl Abort, alloc: Global, row: &Longest, count: u32) -> String {
     let (front, part, other, back, _) = row;
     let mut line = String::from_str(alloc, front).expect(rt, "memory");
+    push_often(rt, &mut line, part, count);
+    push_often(rt, &mut line, other, count);
+    line.push_str(back).expect(rt, "memory");
+    line
+}
+
+fn push_often(rt: &impl Abort, line: &mut String, part: &str, count: u32) {
     for _ in 0..count {
         line.push_str(part).expect(rt, "memory");
     }
-    for _ in 0..count {
-        line.push_str(other).expect(rt, "memory");
-    }
-    line.push_str(back).expect(rt, "memory");
-    line
+}
+
+/// Reads a line of so many parts, which has to be read as what begins so.
+fn expect_bound(
+    rt: &impl Abort,
+    alloc: Global,
+    catalogue: &Catalogue,
+    row: &Longest,
+    count: u32,
+    wanted: &str,
+    reader: &mut RequestReader,
+) {
+    let line = line_of(rt, alloc, row, count);
+    let read = reading(rt, alloc, catalogue, Form::Script, line.as_bytes(), reader);
+    expect_start(rt, read.as_str(), wanted);
+}
+
+fn expect_start(rt: &impl Abort, text: &str, start: &str) {
+    assert!(rt; text.starts_with(start), "{text}");
 }
 
 #[test]
@@ -639,21 +727,22 @@ fn a_line_has_its_bounds(rt: HostRuntime) {
     let mut reader = RequestReader::new(alloc);
     for row in LONGEST {
         let most = row.4;
-        for (count, wanted) in [(most, "1 0 "), (most.saturating_add(1), "Malformed")] {
-            let line = line_of(&rt, alloc, row, count);
-            let bytes = line.as_bytes();
-            let read = reading(&rt, alloc, &catalogue, Form::Script, bytes, &mut reader);
-            assert!(&rt; read.starts_with(wanted), "{line}");
-        }
+        expect_bound(&rt, alloc, &catalogue, row, most, "1 0 ", &mut reader);
+        let more = most.saturating_add(1);
+        expect_bound(&rt, alloc, &catalogue, row, more, "Malformed", &mut reader);
     }
 }
 
+const BLANK: &[&str] = &["", " ", "\t", "\r", " \t \r"];
+
+const NOT_BLANK: &[&str] = &["{}", " {}", "\t.\t", "\u{b}", "\u{c}", "\0", "\u{a0}"];
+
 #[test]
 fn a_blank_line_has_nothing_but_blanks(rt: HostRuntime) {
-    for line in ["", " ", "\t", "\r", " \t \r"] {
+    for line in BLANK {
         assert!(rt; is_blank(line.as_bytes()), "{line:?}");
     }
-    for line in ["{}", " {}", "\t.\t", "\u{b}", "\u{c}", "\0", "\u{a0}"] {
+    for line in NOT_BLANK {
         assert!(rt; !is_blank(line.as_bytes()), "{line:?}");
     }
 }

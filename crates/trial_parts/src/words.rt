@@ -110,23 +110,39 @@ const USAGE: &str = "Err(Usage)";
 
 #[test]
 fn words_ask_for_their_job(rt: HostRuntime) {
-    for (words, job) in ROWS {
-        let words = words_of(&rt, rt.alloc(), words);
-        let read = format!(in rt.alloc(); "{:?}", read_words(rt.alloc(), &words)).expect(
-            &rt, "memory",
-        );
-        assert_eq!(&rt; read.as_str(), *job, "{words:?}");
-    }
-    let none = Vec::new(rt.alloc());
-    let read = read_words(rt.alloc(), &none);
-    assert!(&rt; matches!(read, Err(WordsRefusal::Usage)));
+    expect_jobs(&rt, rt.alloc(), ROWS);
+    assert!(&rt; is_refused(rt.alloc(), &Vec::new(rt.alloc())));
 }
 
-fn words_of(rt: &impl Abort, alloc: Global, text: &str) -> Vec<String> {
-    let mut words = Vec::new(alloc);
-    for word in text.split('|') {
-        let word = String::from_str(alloc, word).expect(rt, "memory");
-        words.push(word).expect(rt, "memory");
+fn expect_jobs(rt: &impl Abort, alloc: Global, rows: &[(&str, &str)]) {
+    for row in rows {
+        expect_job(rt, alloc, row.0, row.1);
     }
-    words
+}
+
+/// Compares the job that words ask for.
+fn expect_job(rt: &impl Abort, alloc: Global, text: &str, job: &str) {
+    let mut words = Vec::new(alloc);
+    put_words(rt, alloc, text, &mut words);
+    let read = read(rt, alloc, &words);
+    assert!(rt; read.as_str() == job, "{text}");
+}
+
+fn read(rt: &impl Abort, alloc: Global, words: &Vec<String>) -> String {
+    format!(in alloc; "{:?}", read_words(alloc, words)).expect(rt, "memory")
+}
+
+fn is_refused(alloc: Global, words: &Vec<String>) -> bool {
+    matches!(read_words(alloc, words), Err(WordsRefusal::Usage))
+}
+
+fn put_words(rt: &impl Abort, alloc: Global, text: &str, words: &mut Vec<String>) {
+    for word in text.split('|') {
+        put_word(rt, alloc, word, words);
+    }
+}
+
+fn put_word(rt: &impl Abort, alloc: Global, word: &str, words: &mut Vec<String>) {
+    let word = String::from_str(alloc, word).expect(rt, "memory");
+    words.push(word).expect(rt, "memory");
 }

@@ -2,6 +2,7 @@
 
 use crate::outside::*;
 use crate::runs::{expect_rows, shelf_of_catalogues};
+use boss_files::MemoryFiles;
 use std::alloc::Global;
 use std::process::Abort;
 
@@ -152,6 +153,15 @@ fn joined(rt: &impl Abort, alloc: Global, parts: &[&[u8]]) -> Vec<u8> {
     bytes
 }
 
+/// The second file has these 162 bytes, and the first is as it was.
+fn expect_adopted(rt: &impl Abort, files: &MemoryFiles, wanted: &[u8]) {
+    assert_eq!(rt; wanted.len(), 162);
+    let second = files.bytes_under("j.b").expect(rt, "the second file");
+    assert!(rt; second == wanted);
+    let first = files.bytes_under("j").expect(rt, "the first file");
+    assert_eq!(rt; first.len(), 94);
+}
+
 #[test]
 fn an_adopted_state_has_its_bytes(rt: HostRuntime) {
     let alloc = rt.alloc();
@@ -166,7 +176,5 @@ fn an_adopted_state_has_its_bytes(rt: HostRuntime) {
         NONE_FAILS,
     );
     let wanted = joined(&rt, alloc, ADOPTED);
-    assert_eq!(&rt; wanted.len(), 162);
-    assert!(&rt; files.bytes_under("j.b") == Some(wanted.as_slice()));
-    assert_eq!(&rt; files.bytes_under("j").expect(&rt, "a file").len(), 94);
+    expect_adopted(&rt, &files, &wanted);
 }

@@ -297,20 +297,24 @@ const LOADS: &[Ending] = &[
 
 fn expect_each<R: Abort + Threads + Wait + Sync>(rt: &R, alloc: Global, endings: &[Ending]) {
     for ending in endings {
-        let given = Given {
-            words: ending.words,
-            file: ending.file,
-            plan: "",
-            input: ending.input,
-            fails: ending.fails,
-        };
-        let told = Told {
-            output: ending.output,
-            calls: ending.calls,
-            status: ending.status,
-        };
-        expect(rt, alloc, ending.shows, &given, &told);
+        expect_ending(rt, alloc, ending);
     }
+}
+
+fn expect_ending<R: Abort + Threads + Wait + Sync>(rt: &R, alloc: Global, ending: &Ending) {
+    let given = Given {
+        words: ending.words,
+        file: ending.file,
+        plan: "",
+        input: ending.input,
+        fails: ending.fails,
+    };
+    let told = Told {
+        output: ending.output,
+        calls: ending.calls,
+        status: ending.status,
+    };
+    expect(rt, alloc, ending.shows, &given, &told);
 }
 
 #[test]

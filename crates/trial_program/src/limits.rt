@@ -59,39 +59,46 @@ fn there_are_256_processes(rt: HostRuntime) {
 /// Of transactions that are done at most 1,024 are known, the last ones.
 #[test]
 fn done_transactions_are_kept_for_a_while(rt: HostRuntime) {
-    let alloc = rt.alloc();
-    for (count, answer) in [
-        (
-            1024,
-            "{\"error\":\"ended\",\"cause\":\"cancelled\",\"at\":0,\"moment\":0}",
-        ),
-        (1025, "{\"error\":\"unknown-txn\"}"),
-    ] {
-        let mut script = Made::new(&rt, alloc, OPENING);
-        attach(&rt, alloc, &mut script, 1);
-        for txn in 1..=count {
-            script.finish(&rt, alloc, "lamp", 0, txn);
-        }
-        script.put(&rt, "{\"op\":\"renew\",\"txn\":1,\"length\":1000}", answer);
-        expect_made(&rt, alloc, &script, answer, 0);
+    let ended = "{\"error\":\"ended\",\"cause\":\"cancelled\",\"at\":0,\"moment\":0}";
+    expect_renewed(&rt, rt.alloc(), 1024, ended);
+    let unknown = "{\"error\":\"unknown-txn\"}";
+    expect_renewed(&rt, rt.alloc(), 1025, unknown);
+}
+
+/// So many transactions are done, and then a renewal of the first is answered so.
+fn expect_renewed<R: Abort + Threads + Wait + Sync>(
+    rt: &R,
+    alloc: Global,
+    count: u32,
+    answer: &str,
+) {
+    let mut script = Made::new(rt, alloc, OPENING);
+    attach(rt, alloc, &mut script, 1);
+    for txn in 1..=count {
+        script.finish(rt, alloc, "lamp", 0, txn);
     }
+    script.put(rt, "{\"op\":\"renew\",\"txn\":1,\"length\":1000}", answer);
+    expect_made(rt, alloc, &script, answer, 0);
 }
 
 /// Nothing behind a line that is too long is read.
 #[test]
 fn a_line_too_long_ends_a_script(rt: HostRuntime) {
     let alloc = rt.alloc();
-    for (blanks, status) in [(65_535, 0), (65_536, 13)] {
-        let mut script = Made::new(&rt, alloc, OPENING);
-        for _ in 0..blanks {
-            script.asked.push(' ').expect(&rt, "memory");
-        }
-        script.asked.push('\n').expect(&rt, "memory");
-        if status == 13 {
-            script.put(&rt, "{\"op\":\"tick\"}", "{\"error\":\"too-long\"}");
-        } else {
-            attach(&rt, alloc, &mut script, 1);
-        }
-        expect_made(&rt, alloc, &script, "a long line", status);
+    let mut script = Made::new(&rt, alloc, OPENING);
+    push_blanks(&rt, &mut script.asked, 65_535);
+    attach(&rt, alloc, &mut script, 1);
+    expect_made(&rt, alloc, &script, "the longest line", 0);
+    let mut script = Made::new(&rt, alloc, OPENING);
+    push_blanks(&rt, &mut script.asked, 65_536);
+    script.put(&rt, "{\"op\":\"tick\"}", "{\"error\":\"too-long\"}");
+    expect_made(&rt, alloc, &script, "a longer line", 13);
+}
+
+/// A line of so many blanks.
+fn push_blanks(rt: &impl Abort, text: &mut String, count: u32) {
+    for _ in 0..count {
+        text.push(' ').expect(rt, "memory");
     }
+    text.push('\n').expect(rt, "memory");
 }

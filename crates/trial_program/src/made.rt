@@ -31,6 +31,12 @@ impl Made {
 
     /// A transaction that holds a point where it is, and is done at once.
     pub fn finish(&mut self, rt: &impl Abort, alloc: Global, point: &str, value: u32, txn: u32) {
+        self.submit(rt, alloc, point, value, txn);
+        self.cancel(rt, alloc, txn);
+    }
+
+    /// A lease of a second, which is accepted.
+    fn submit(&mut self, rt: &impl Abort, alloc: Global, point: &str, value: u32, txn: u32) {
         let asked = format!(in alloc;
             "{{\"op\":\"submit\",\"writes\":[{{\"point\":\"{point}\",\"value\":{value},\"lease\":1000}}]}}"
         ).expect(rt, "memory");
@@ -38,6 +44,10 @@ impl Made {
             "{{\"ok\":\"accepted\",\"txn\":{txn},\"until\":1000}}"
         ).expect(rt, "memory");
         self.put(rt, asked.as_str(), answer.as_str());
+    }
+
+    /// Its end, before any time has passed.
+    fn cancel(&mut self, rt: &impl Abort, alloc: Global, txn: u32) {
         let asked = format!(in alloc; "{{\"op\":\"cancel\",\"txn\":{txn}}}").expect(rt, "memory");
         let answer = format!(in alloc; "{{\"ok\":\"cancelled\",\"txn\":{txn},\"at\":0}}").expect(
             rt, "memory",

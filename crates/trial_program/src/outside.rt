@@ -6,7 +6,7 @@ ghost use Rattle.boss_files.specs.Shelf.{have_distinct_names};
 use boss_files::MemoryFiles;
 use boss_manager::{Status, boss};
 use boss_model::Items;
-use boss_outside::{BytesSink, BytesSource, SimActuators};
+use boss_outside::{BytesSink, BytesSource, DeviceCall, SimActuators};
 use boss_outside_server::{ListClock, ListHost, ListSpawner, TurnWaiter};
 use std::alloc::Global;
 use std::process::Abort;
@@ -63,20 +63,33 @@ pub fn expect<R: Abort + Threads + Wait + Sync>(
     given: &Given,
     told: &Told,
 ) {
-    let wanted = format!(in alloc; "{}{}status {}\n", told.output, told.calls, told.status).expect(
-        rt, "memory",
-    );
-    assert_eq!(rt; run(rt, alloc, given).as_str(), wanted.as_str(), "{shows}");
+    let ran = run(rt, alloc, given);
+    let wanted = wanted(rt, alloc, told);
+    expect_text(rt, ran.as_str(), wanted.as_str(), shows);
+}
+
+fn wanted(rt: &impl Abort, alloc: Global, told: &Told) -> String {
+    let text = format!(in alloc; "{}{}status {}\n", told.output, told.calls, told.status);
+    text.expect(rt, "memory")
+}
+
+/// Compares texts.
+pub fn expect_text(rt: &impl Abort, told: &str, wanted: &str, shows: &str) {
+    assert_eq!(rt; told, wanted, "{shows}");
 }
 
 /// Runs the program on these words with two files, `site.toml` and `plan.toml`, with this input, and with sixteen devices, of which
 /// the first may fail, and gives all that it tells as one text.
 fn run<R: Abort + Threads + Wait + Sync>(rt: &R, alloc: Global, given: &Given) -> String {
-    let shelf = shelf(rt, alloc, given.file, given.plan);
-    let fails = call(rt, alloc, given.fails.files);
-    let mut files = MemoryFiles::new(alloc, shelf, fails).expect(rt, "memory");
+    let mut files = files_of(rt, alloc, given);
     let ran = run_on(rt, alloc, &mut files, given.words, given.input, given.fails);
     tell(rt, alloc, &ran)
+}
+
+fn files_of(rt: &impl Abort, alloc: Global, given: &Given) -> MemoryFiles {
+    let shelf = shelf(rt, alloc, given.file, given.plan);
+    let fails = call(rt, alloc, given.fails.files);
+    MemoryFiles::new(alloc, shelf, fails).expect(rt, "memory")
 }
 
 /// What is left of a run of the program, beside its files.
@@ -160,13 +173,21 @@ fn alone<R: Abort + Threads + Wait + Sync>(
 /// The words of a text, which blanks part. An empty text has none.
 fn words_of(rt: &impl Abort, alloc: Global, text: &str) -> Vec<String> {
     let mut words = Vec::new(alloc);
+    put_words(rt, alloc, text, &mut words);
+    words
+}
+
+fn put_words(rt: &impl Abort, alloc: Global, text: &str, words: &mut Vec<String>) {
     for word in text.split(' ') {
         if !word.is_empty() {
-            let word = String::from_str(alloc, word).expect(rt, "memory");
-            words.push(word).expect(rt, "memory");
+            put_word(rt, alloc, word, words);
         }
     }
-    words
+}
+
+fn put_word(rt: &impl Abort, alloc: Global, word: &str, words: &mut Vec<String>) {
+    let word = String::from_str(alloc, word).expect(rt, "memory");
+    words.push(word).expect(rt, "memory");
 }
 
 /// The files `site.toml` and `plan.toml`, with these texts.
@@ -189,11 +210,17 @@ fn source_of(rt: &impl Abort, alloc: Global, text: &str, fails: u64) -> BytesSou
 /// Sixteen devices, of which the first fails the call of this number.
 fn sixteen_devices(rt: &impl Abort, alloc: Global, fails: u64) -> Vec<SimActuators> {
     let mut devices = Vec::new(alloc);
-    for fails in [fails, 0, 0, 0, 0, 0, 0, 0, 0, 0, 0, 0, 0, 0, 0, 0] {
-        let device = SimActuators::new(alloc, call(rt, alloc, fails)).expect(rt, "memory");
-        devices.push(device).expect(rt, "memory");
+    put_device(rt, alloc, fails, &mut devices);
+    for _ in 1..16 {
+        put_device(rt, alloc, 0, &mut devices);
     }
     devices
+}
+
+/// One device more, which fails the call of this number.
+fn put_device(rt: &impl Abort, alloc: Global, fails: u64, devices: &mut Vec<SimActuators>) {
+    let device = SimActuators::new(alloc, call(rt, alloc, fails)).expect(rt, "memory");
+    devices.push(device).expect(rt, "memory");
 }
 
 /// The bytes of a text.
@@ -213,17 +240,30 @@ fn call(rt: &impl Abort, alloc: Global, number: u64) -> Items<u64> {
 /// The output, the calls of the first device, and the status.
 fn tell(rt: &impl Abort, alloc: Global, ran: &Ran) -> String {
     let mut text = String::new(alloc);
-    let output = str::from_utf8(ran.sink.taken()).expect(rt, "a text");
-    text.push_str(output).expect(rt, "memory");
+    tell_output(rt, &mut text, &ran.sink);
     tell_calls(rt, &mut text, ran.devices.first().expect(rt, "a device"));
-    writeln!(text, "status {}", ran.status.0).expect(rt, "memory");
+    tell_status(rt, &mut text, ran.status);
     text
+}
+
+/// Tells what a sink took.
+pub fn tell_output(rt: &impl Abort, text: &mut String, sink: &BytesSink) {
+    let output = str::from_utf8(sink.taken()).expect(rt, "a text");
+    text.push_str(output).expect(rt, "memory");
+}
+
+pub fn tell_status(rt: &impl Abort, text: &mut String, status: Status) {
+    writeln!(text, "status {}", status.0).expect(rt, "memory");
 }
 
 fn tell_calls(rt: &impl Abort, text: &mut String, device: &SimActuators) {
     assert!(rt; device.is_whole());
     for call in device.calls() {
-        let result = if call.ok { "ok" } else { "failed" };
-        writeln!(text, "{} {} {result}", call.point.0, call.value).expect(rt, "memory");
+        tell_call(rt, text, call);
     }
+}
+
+fn tell_call(rt: &impl Abort, text: &mut String, call: &DeviceCall) {
+    let result = if call.ok { "ok" } else { "failed" };
+    writeln!(text, "{} {} {result}", call.point.0, call.value).expect(rt, "memory");
 }

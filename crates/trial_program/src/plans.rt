@@ -83,8 +83,17 @@ fn expect_refused<R: Abort + Threads + Wait + Sync>(
 
 #[test]
 fn a_plan_is_refused(rt: HostRuntime) {
-    for (plan, line, shows) in REFUSED {
-        expect_refused(&rt, rt.alloc(), shows, plan, line);
+    expect_each(&rt, rt.alloc(), REFUSED);
+}
+
+/// Each of these plans is refused so.
+fn expect_each<R: Abort + Threads + Wait + Sync>(
+    rt: &R,
+    alloc: Global,
+    rows: &[(&str, &str, &str)],
+) {
+    for (plan, line, shows) in rows {
+        expect_refused(rt, alloc, shows, plan, line);
     }
 }
 

@@ -61,8 +61,17 @@ fn expect_status<R: Abort + Threads + Wait + Sync>(
 
 #[test]
 fn rules_are_refused(rt: HostRuntime) {
-    for (rules, line, shows) in REFUSED {
-        expect_status(&rt, rt.alloc(), shows, WITH_RULES, rules, line, 16);
+    expect_each(&rt, rt.alloc(), REFUSED);
+}
+
+/// Each of these files is refused so.
+fn expect_each<R: Abort + Threads + Wait + Sync>(
+    rt: &R,
+    alloc: Global,
+    rows: &[(&str, &str, &str)],
+) {
+    for (rules, line, shows) in rows {
+        expect_status(rt, alloc, shows, WITH_RULES, rules, line, 16);
     }
 }
 

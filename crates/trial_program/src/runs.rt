@@ -47,18 +47,23 @@ fn told_of<R: Abort + Threads + Wait + Sync>(
     words: &str,
     lines: &str,
 ) -> String {
+    let input = input_of(rt, alloc, lines);
+    let ran = run_on(rt, alloc, files, words, input.as_str(), NONE_FAILS);
+    let mut text = String::new(alloc);
+    tell_output(rt, &mut text, &ran.sink);
+    tell_status(rt, &mut text, ran.status);
+    text
+}
+
+/// The input of a run.
+fn input_of(rt: &impl Abort, alloc: Global, lines: &str) -> String {
     let mut input = String::new(alloc);
     for line in lines.split('\n') {
         if let Some(asked) = line.strip_prefix("> ") {
             writeln!(input, "{asked}").expect(rt, "memory");
         }
     }
-    let mut text = String::new(alloc);
-    let ran = run_on(rt, alloc, files, words, input.as_str(), NONE_FAILS);
-    let output = str::from_utf8(ran.sink.taken()).expect(rt, "a text");
-    text.push_str(output).expect(rt, "memory");
-    writeln!(text, "status {}", ran.status.0).expect(rt, "memory");
-    text
+    input
 }
 
 /// What the lines of a run are to tell, without its input.
@@ -77,11 +82,22 @@ fn expect_row<R: Abort + Threads + Wait + Sync>(rt: &R, alloc: Global, row: &str
     let (shows, runs) = row.split_once("\n$ ").expect(rt, "what it shows");
     let mut files = shelf_of_catalogues(rt, alloc);
     for run in runs.split("\n$ ") {
-        let (words, lines) = run.split_once('\n').expect(rt, "what it tells");
-        let told = told_of(rt, alloc, &mut files, words, lines);
-        let wanted = output_of(rt, alloc, lines);
-        assert_eq!(rt; told.as_str(), wanted.as_str(), "{shows}: {words}");
+        expect_run(rt, alloc, &mut files, run, shows);
     }
+}
+
+/// Runs the program once on these files, which has to tell what the run has.
+fn expect_run<R: Abort + Threads + Wait + Sync>(
+    rt: &R,
+    alloc: Global,
+    files: &mut MemoryFiles,
+    run: &str,
+    shows: &str,
+) {
+    let (words, lines) = run.split_once('\n').expect(rt, "what it tells");
+    let told = told_of(rt, alloc, files, words, lines);
+    let wanted = output_of(rt, alloc, lines);
+    assert_eq!(rt; told.as_str(), wanted.as_str(), "{shows}: {words}");
 }
 
 /// The catalogues, each under its name, and no journal.

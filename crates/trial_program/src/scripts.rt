@@ -83,9 +83,17 @@ fn expect_script<R: Abort + Threads + Wait + Sync>(
 
 #[test]
 fn scripts_tell_what_was_worked_out(rt: HostRuntime) {
-    for batch in BATCHES {
-        for script in batch.scripts.split("\n== ").skip(1) {
-            expect_script(&rt, rt.alloc(), batch, script);
-        }
+    expect_batches(&rt, rt.alloc(), BATCHES);
+}
+
+fn expect_batches<R: Abort + Threads + Wait + Sync>(rt: &R, alloc: Global, batches: &[Batch]) {
+    for batch in batches {
+        expect_batch(rt, alloc, batch);
+    }
+}
+
+fn expect_batch<R: Abort + Threads + Wait + Sync>(rt: &R, alloc: Global, batch: &Batch) {
+    for script in batch.scripts.split("\n== ").skip(1) {
+        expect_script(rt, alloc, batch, script);
     }
 }

@@ -91,8 +91,8 @@ fn expect_run<R: Abort + Threads + Wait + Sync>(
 ) {
     let ran = run_on(rt, alloc, files, words, input, NONE_FAILS);
     let told = str::from_utf8(ran.sink.taken()).expect(rt, "a text");
-    assert_eq!(rt; told, output, "{words}");
-    assert_eq!(rt; ran.status.0, 0, "{words}");
+    expect_text(rt, told, output, words);
+    assert!(rt; ran.status.0 == 0, "{words}");
 }
 
 #[test]

@@ -4,4 +4,4 @@ use Rattle.boss_model.specs.Limits.{last_moment}
 use Rattle.trial_connections.proofs.outside.moments.Given as goal
 
 abbrev pub invariant-loop-moment : goal.invariant-loop-moment
-invariant-loop-moment l = record { all : AllByRecursion (λ moment. moment ≤ last_moment) l.moments }
+invariant-loop-moment g l = record { all : AllByRecursion (λ moment. moment ≤ last_moment) l.moments }
