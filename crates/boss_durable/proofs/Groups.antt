@@ -14,9 +14,7 @@ use Rattle.boss_shared.specs.declared.asked.Asked.{Asked}
 use Rattle.boss_shared.specs.Calls.{has_failed_rest, is_growing_at, RestFits}
 use Rattle.boss_shared.specs.Gates.{denial_of_rest}
 use Rattle.boss_shared.specs.Together.{commands_in, tried_of, IsReplied, MayAsk}
-use Rattle.boss_shared.proofs.Along.{all_more}
-use Rattle.boss_shared.proofs.Together.{answered, answered_append, may_try, IsFine}
-use Rattle.def_history.specs.declared.entry.Entry.{Entry}
+use Rattle.boss_shared.proofs.Together.{all_more, answered, answered_append, may_try, IsFine}
 use Rattle.def_history.specs.declared.entry.Entry.TheVariants.{Broke}
 use Rattle.def_history.specs.declared.outcome.Outcome.{Outcome}
 use Rattle.def_history.specs.declared.outcome.Outcome.TheVariants.{Done, Stopped, DiskFault, NoMemory, Denied}

@@ -1,12 +1,11 @@
 // Words to sleep on, one for each of some places in line.
 ghost use Rattle.std.specs.Prelude.{◌≡◌, ◌<◌};
+ghost use Rattle.boss_model.specs.Limits.{bells};
 
 use atomic_table::{Play, Table, TableRule};
+use boss_model::BELLS;
 use std::alloc::{AllocError, Global};
 use std::sync::Wait;
-
-// How many places in line have a bell of their own. Those further behind share these.
-const BELLS: usize = 64;
 
 // Nothing is said of the bells: whoever wakes looks at the lock.
 pub struct Anything;
@@ -25,7 +24,7 @@ impl Play<(), ()> for Anything {
 #[derive(Drop)]
 pub struct Bells {
     table: Table<(), (), (), Anything, Global>,
-    ghost many: { table.shared.table_id.words ≡ 64 },
+    ghost many: { table.shared.table_id.words ≡ bells },
 }
 
 impl Bells {
@@ -57,7 +56,7 @@ impl Bells {
 }
 
 fn place_of(ticket: u64) -> usize
-    ensures { result < 64 }
+    ensures { result < bells }
 {
     (ticket % BELLS as u64) as usize
 }

@@ -144,3 +144,12 @@ watch_idle = 600
 -- looks at the lock before a caller sleeps, since a turn is mostly passed on sooner than a thread wakes
 abbrev pub lock_looks : ℕ
 lock_looks = 1000
+
+-- places in line for the lock that have a bell of their own: about as many as connections that wait at once, so that a turn which is
+-- passed on wakes one of them
+abbrev pub bells : ℕ
+bells = 64
+
+-- counters at which callers leave requests for whoever has the turn: as many as callers that wait at once, each a few hundred bytes
+abbrev pub most_counters : ℕ
+most_counters = 64

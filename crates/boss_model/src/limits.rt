@@ -95,3 +95,9 @@ pub const WATCH_IDLE: u32 = 600;
 
 /// How often a caller looks at the lock before it sleeps.
 pub const LOCK_LOOKS: u32 = 1_000;
+
+/// How many places in line for the lock have a bell of their own. Those further behind share these.
+pub const BELLS: usize = 64;
+
+/// At how many counters callers may leave requests for whoever has the turn. Who finds none that is free goes alone.
+pub const MOST_COUNTERS: u32 = 64;

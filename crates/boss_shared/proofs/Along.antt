@@ -46,10 +46,6 @@ same_set (x ∷ xs) (y ∷ ys) zero other new same less kept = (
 )
 same_set (x ∷ xs) (y ∷ ys) (suc k) other new same less kept = (same.0, same_set xs ys k other new same.1 (omega arith) kept)
 
-pub all_more : {X : Type 0} (P : X → Type 0) (xs : List X) (x : X) → AllByRecursion P xs → P x → AllByRecursion P (xs ++ x ∷ [])
-all_more P [] x all one = (one, tt)
-all_more P (first ∷ xs) x all one = (all.0, all_more P xs x all.1 one)
-
 all_behind : {X : Type 0} (P : X → Type 0) (k : ℕ) (xs : List X) → AllByRecursion P xs → AllByRecursion P (drop k xs)
 all_behind P zero xs all = all
 all_behind P (suc k) [] all = tt

@@ -181,9 +181,6 @@ module _ {K : Type 0} where
   owed_more lock (p ∷ owed) [] o a all one = absurd all
   owed_more lock (p ∷ owed) (b ∷ asked) o a all one = (all.0, owed_more lock owed asked o a all.1 one)
 
-  pub none_taken : (plant : List Actuator) (lock : Lock K) → IsTaken plant lock [] []
-  none_taken plant lock = record { owed_to = tt; may = tt; few = omega arith }
-
   pub one_taken : (plant : List Actuator) (lock : Lock K) (owed : List (Owed K)) (asked : List Asked) (o : Owed K) (a : Asked) → IsTaken plant lock owed asked → IsOwed lock o a →
       MayAsk plant a → commands_in asked + length a.commands ≤ 16 → IsTaken plant lock (owed ++ o ∷ []) (asked ++ a ∷ [])
   one_taken plant lock owed asked o a taken one may few = record {

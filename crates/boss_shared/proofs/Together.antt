@@ -4,7 +4,6 @@ use Rattle.std.specs.List.{AllByRecursion}
 use Rattle.boss_model.specs.declared.command.Command.{Command}
 use Rattle.boss_model.specs.declared.state.Actuator.{Actuator}
 use Rattle.def_history.specs.declared.entry.Entry.{Entry}
-use Rattle.def_history.specs.declared.entry.Entry.TheVariants.{Broke}
 use Rattle.def_history.specs.declared.entry.Tried.{Tried}
 use Rattle.def_history.specs.declared.outcome.Outcome.{Outcome}
 use Rattle.def_history.specs.declared.outcome.Outcome.TheVariants.{Done, Stopped, DiskFault, NoMemory, Denied}
@@ -147,24 +146,6 @@ stopped_replied (asked ∷ group) some all = (
   subst (λ (b : Bool). AreReplied b group) (sym (ap (λ (o : Outcomes). has_failed_rest o.rest) all.0.outcomes)) (stopped_replied group some.1 all.1),
 )
 
--- the first is told that the disk failed, and the mark is its
-pub failed_made : (first : Asked) (group : List Asked) → IsUndone DiskFault first → AllByRecursion (IsUndone Stopped) group →
-    made_together (first ∷ group) ≡ Broke first.session first.commands (map tried_of group) ∷ []
-failed_made first group un all = λ i. undone_made DiskFault first group un i ++ stopped_made group all i
-
-pub failed_replied : (first : Asked) (group : List Asked) → AsksSome first → AllByRecursion AsksSome group → IsUndone DiskFault first → AllByRecursion (IsUndone Stopped) group →
-    AreReplied false (first ∷ group)
-failed_replied first group some rest un all = (
-  record {
-    stops = ap (λ (o : Outcomes). is_stopped_rest o.rest) un.outcomes;
-    done = ap length un.none ∙ sym (ap (λ (o : Outcomes). o.done) un.outcomes);
-    rest = subst (λ (o : Outcomes). RestFits first.commands o.done o.rest) (sym un.outcomes) some;
-    together = subst (λ (o : Outcomes). NoneDone o.done o.rest) (sym un.outcomes) refl;
-    undenied = ap (λ (o : Outcomes). denial_of_rest o.rest) un.outcomes;
-  },
-  subst (λ (b : Bool). AreReplied b group) (sym (ap (λ (o : Outcomes). has_failed_rest o.rest) un.outcomes)) (stopped_replied group rest all),
-)
-
 -- ---- one more of a group, where those before it were dealt with
 
 pub set_behind : {X : Type 0} (done : List X) (x new : X) (ys : List X) → set (done ++ x ∷ ys) (length done) new ≡ done ++ new ∷ ys
@@ -188,9 +169,6 @@ pub record AreStopped (count : ℕ) (group now : List Asked) : Type 0 where
   pub undone : AllByRecursion (IsUndone Stopped) done
   pub same : AreSameAsked (take count group) done
   pub tried : map tried_of done ≡ map tried_of (take count group)
-
-pub none_stopped : (group : List Asked) → AreStopped 0 group group
-none_stopped group = record { done = []; now_is = refl; long = refl; undone = tt; same = tt; tried = refl }
 
 pub all_more : {X : Type 0} (P : X → Type 0) (xs : List X) (x : X) → AllByRecursion P xs → P x → AllByRecursion P (xs ++ x ∷ [])
 all_more P [] x all one = (one, tt)

@@ -19,13 +19,10 @@ ghost use Rattle.boss_shared.specs.Together.{IsPaired};
 use crate::{Desk, Held, Keeper, Pass, Request};
 use boss_counters::Counter;
 use boss_lock::{Made, Ruled};
-use boss_model::{Answer, Command, Items, NoMemory, SessionId};
+use boss_model::{Answer, Command, Items, MOST_COUNTERS, NoMemory, SessionId};
 use def_history::{Entry, Outcome, Outcomes};
 use std::alloc::{AllocFailed, Global};
 use std::sync::Wait;
-
-// At how many counters callers may leave requests. Whoever finds none that is free goes alone.
-const MOST_COUNTERS: u32 = 64;
 
 /// A keeper behind a lock, for many callers at once.
 pub struct Manager<K: Keeper, R: Wait + Drop> {

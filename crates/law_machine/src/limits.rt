@@ -1,6 +1,7 @@
 ghost use Rattle.std.specs.Prelude.{◌≡◌, pos};
 ghost use Rattle.boss_model.specs.Limits.{
   answer_room,
+  bells,
   done_kept,
   drive_pause,
   first_gate,
@@ -17,6 +18,7 @@ ghost use Rattle.boss_model.specs.Limits.{
   longest_minimum,
   longest_name,
   longest_record,
+  most_counters,
   most_drivers,
   most_held,
   most_lines,
@@ -35,11 +37,11 @@ ghost use Rattle.boss_model.specs.Limits.{
 };
 
 use boss_model::{
-    ANSWER_ROOM, DONE_KEPT, DRIVE_PAUSE, FIRST_GATE, LAST_MOMENT, LAST_NUMBER, LAST_SESSION,
+    ANSWER_ROOM, BELLS, DONE_KEPT, DRIVE_PAUSE, FIRST_GATE, LAST_MOMENT, LAST_NUMBER, LAST_SESSION,
     LEVELS, LOCK_LOOKS, LOG_LIMIT, LONGEST_FILE, LONGEST_HOLD, LONGEST_LEASE, LONGEST_LINE,
-    LONGEST_MINIMUM, LONGEST_NAME, LONGEST_RECORD, MOST_DRIVERS, MOST_HELD, MOST_LINES,
-    MOST_POINTS, MOST_PROCESSES, MOST_STEPS, MOST_TOLD, MOST_WRITES, NEWEST_VERSION, NOTICES_KEPT,
-    RECORD_ROOM, RETRY_AFTER, TICK_PAUSE, WATCH_IDLE, WATCH_PAUSE,
+    LONGEST_MINIMUM, LONGEST_NAME, LONGEST_RECORD, MOST_COUNTERS, MOST_DRIVERS, MOST_HELD,
+    MOST_LINES, MOST_POINTS, MOST_PROCESSES, MOST_STEPS, MOST_TOLD, MOST_WRITES, NEWEST_VERSION,
+    NOTICES_KEPT, RECORD_ROOM, RETRY_AFTER, TICK_PAUSE, WATCH_IDLE, WATCH_PAUSE,
 };
 
 /// The limits that the code has are those of the definitions.
@@ -55,5 +57,5 @@ pub fn limits_are_those_of_the_definitions()
     ensures journal { (NEWEST_VERSION ≡ newest_version) × (FIRST_GATE ≡ first_gate) × (LONGEST_RECORD ≡ longest_record)
         × (RECORD_ROOM ≡ record_room) × (LOG_LIMIT ≡ log_limit) }
     ensures workers { (TICK_PAUSE ≡ tick_pause) × (DRIVE_PAUSE ≡ drive_pause) × (WATCH_PAUSE ≡ watch_pause) × (WATCH_IDLE ≡ watch_idle)
-        × (LOCK_LOOKS ≡ lock_looks) }
+        × (LOCK_LOOKS ≡ lock_looks) × (BELLS ≡ bells) × (MOST_COUNTERS ≡ most_counters) }
 {}

@@ -1,7 +1,6 @@
-use Rattle.std.proofs.Common.{◌≡◌, Bool, true, false, List, [], ◌∷◌, map, refl, sym, ap, ◌∙◌, subst}
+use Rattle.std.proofs.Common.{◌≡◌, Bool, true, false, map, sym, ◌∙◌, subst}
 use Rattle.std.specs.List.{AllByRecursion}
 use Rattle.boss_engine.specs.Running.{Running}
-use Rattle.boss_shared.specs.declared.asked.Asked.{Asked}
 use Rattle.boss_shared.specs.Together.{made_together, tried_of, AreReplied, MayAsk}
 use Rattle.boss_shared.proofs.Together.{asks_some}
 use Rattle.boss_durable.specs.declared.beginning.Begun.TheVariants.{Ready, NoMemory, DiskFault}

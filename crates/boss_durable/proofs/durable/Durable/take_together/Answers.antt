@@ -1,9 +1,8 @@
-use Rattle.std.proofs.Common.{◌≡◌, ℕ, ◌+◌, ◌≤◌, List, [], ◌∷◌, ◌++◌, length, get_or, false, refl, sym, ap, ◌∙◌, subst, arith}
+use Rattle.std.proofs.Common.{◌+◌, ◌≤◌, List, [], ◌∷◌, ◌++◌, length, get_or, false, refl, sym, ap, ◌∙◌, subst, arith}
 use Rattle.std.specs.List.{AllByRecursion}
-use Rattle.boss_disk_pair.specs.declared.two_disks.TwoDisks.{TwoDisks}
 use Rattle.boss_model.specs.declared.state.Actuator.{Actuator}
 use Rattle.boss_shared.specs.declared.asked.Asked.{Asked}
-use Rattle.boss_shared.specs.Together.{commands_in, AreReplied, AsksSome, MayAsk}
+use Rattle.boss_shared.specs.Together.{commands_in, AreReplied, MayAsk}
 use Rattle.boss_shared.proofs.Along.{along_at, along_end, along_few, along_made, along_next, along_nothing, same_length, same_may}
 use Rattle.boss_shared.proofs.Together.{answered, asks_some, replied_fine, same_commands, same_then}
 use Rattle.def_history.specs.declared.entry.Entry.{Entry}
