@@ -1,5 +1,5 @@
 -- What a tree stands for is what serde_json reads of it.
-use Rattle.std.proofs.Common.{◌≡◌, ℕ, Bool, true, false, ◌&&◌, List, [], ◌∷◌, Option, Some, None, is_some, option_map, option_and_then, refl, ap, ◌∙◌}
+use Rattle.std.proofs.Common.{◌≡◌, ℕ, Bool, true, false, ◌&&◌, List, [], Option, Some, None, is_some, option_map, option_and_then, refl, ap, ◌∙◌}
 use Rattle.json.specs.Json as json
 use Rattle.json.specs.Lex.{tokens}
 use Rattle.json.specs.Token.{Token}
@@ -60,9 +60,3 @@ read-value text j is fits = ap whole is ∙ of_json-data j ∙ ap (λ b. only b 
 
 pub read-too_large : (text : List ℕ) (j : json.Json) → json.value 127 (tokens text) ≡ Some (j, []) → in_range j ≡ false → read text ≡ None
 read-too_large text j is past = ap whole is ∙ of_json-data j ∙ ap (λ b. only b (data_of j)) past
-
-pub read-more : (text : List ℕ) (j : json.Json) (t : Token) (rest : List Token) → json.value 127 (tokens text) ≡ Some (j, t ∷ rest) → read text ≡ None
-read-more text j t rest is = ap whole is
-
-pub read-none : (text : List ℕ) → json.value 127 (tokens text) ≡ None → read text ≡ None
-read-none text is = ap whole is

@@ -3,9 +3,11 @@ use Rattle.std.proofs.Common.{◌≡◌, ℕ, ◌+◌, ◌-◌, ◌*◌, ◌<◌
 use Rattle.std.proofs.lemmas.Bool.{cases_Bool, eqb-true}
 use Rattle.std.proofs.Math.Nat.{one-le-pow}
 use Rattle.std.proofs.lemmas.Nat.{mul-le, pow-add}
+use Rattle.std.proofs.lemmas.Fmt.{decimal_is_IsNumeral}
 use Rattle.std.proofs.lemmas.Float.Parse.{scan_numeral-text_of}
 use Rattle.std.proofs.lemmas.Str.Parse.{digit_from_value}
 use Rattle.std.specs.Float.Numeral.{Parts, IsWellFormed, scan_numeral}
+use Rattle.std.specs.Fmt.{decimal}
 use Rattle.std.specs.Option.{option_and_then}
 use Rattle.std.specs.Str.Parse.{AllDigits, IsNumeral, digits_value}
 use Rattle.serde_json.specs.Data.{unsigned}
@@ -29,11 +31,10 @@ no_minus (c ∷ ds) digits =
       | inr is_not ↦ is_not
     ]
 
-number_of-digits : (ds : List ℕ) → IsNumeral 10 ds → digits_value 10 ds < 10 ^ 18 → number_of ds ≡ Some (unsigned (digits_value 10 ds))
+number_of-digits : (ds : List ℕ) → IsNumeral 10 ds → digits_value 10 ds < 2 ^ 64 → number_of ds ≡ Some (unsigned (digits_value 10 ds))
 unfolding number_of
-number_of-digits ds digits few =
+number_of-digits ds digits fits =
     let first : number_of ds ≡ number_from false (scan_numeral ds) = rw (no_minus ds digits) refl in
-    let fits : digits_value 10 ds < 2 ^ 64 = omega (arith, few) in
     let last : number_from false (parts_of ds) ≡ Some (unsigned (digits_value 10 ds)) = rw (append-nil ds, lt-ltb 0 (length ds) digits.0, lt-ltb (digits_value 10 ds) (2 ^ 64) fits) refl in
     first ∙ ap (number_from false) (scan-digits ds digits.1) ∙ last
 
@@ -41,10 +42,16 @@ pub whole_digits : (ds : List ℕ) → IsNumeral 10 ds → digits_value 10 ds < 
 whole_digits ds digits few =
     let fits : digits_value 10 ds < 2 ^ 63 = omega (arith, few) in
     let last : as_i64 (unsigned (digits_value 10 ds)) ≡ Some (pos (digits_value 10 ds)) = rw (lt-ltb (digits_value 10 ds) (2 ^ 63) fits) refl in
-    ap (option_and_then as_i64) (number_of-digits ds digits few) ∙ last
+    ap (option_and_then as_i64) (number_of-digits ds digits (omega (arith, few))) ∙ last
 
 pub digits_in_range : (ds : List ℕ) → IsNumeral 10 ds → digits_value 10 ds < 10 ^ 18 → is_some (number_of ds) ≡ true
-digits_in_range ds digits few = ap is_some (number_of-digits ds digits few)
+digits_in_range ds digits few = ap is_some (number_of-digits ds digits (omega (arith, few)))
+
+-- a number of 64 bits, as it is written
+pub decimal_number : (n : ℕ) → n < 2 ^ 64 → number_of (decimal n) ≡ Some (unsigned n)
+decimal_number n fits =
+    let written = decimal_is_IsNumeral n fits in
+    number_of-digits (decimal n) written.0 (omega (arith, fits, written.1)) ∙ ap (λ m. Some (unsigned m)) written.1
 
 pub one_digit_more : (n d i : ℕ) → n < 10 ^ i → d < 10 → n * 10 + d < 10 ^ (i + 1)
 one_digit_more n d i few digit =

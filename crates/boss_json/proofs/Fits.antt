@@ -7,21 +7,20 @@ use Rattle.json.specs.Json.{Json, number, string, array, object, Items, no_items
 use Rattle.json.specs.Lex.{tokens}
 use Rattle.json.specs.Print.{print_from}
 use Rattle.json.specs.Tree.{json_tokens}
-use Rattle.json.specs.Value.{value_view, items_view, members_view}
 use Rattle.json.specs.Word.{after_number}
-use Rattle.json.specs.declared.value.Value.{Value}
 use Rattle.json.proofs.Printed.Tokens.{tokens-print}
 use Rattle.json.proofs.Printed.Trees.{value-json_tokens, ArePrintable-json_tokens}
 use Rattle.serde_json.specs.Read.{read}
 use Rattle.boss_json.specs.Compact.{text_of, IsFit}
-use Rattle.boss_json.specs.Trees.{data_of}
+use Rattle.boss_json.specs.declared.tree.Tree.{Tree}
+use Rattle.boss_json.specs.Trees.{data_of, tree_json, trees_in, trees_under}
 use Rattle.boss_json.proofs.Datas.{read-value}
 
-pub IsFit-no_items : {A : Type 0} (n : ℕ) (values : List (Value A)) → 0 < n → values ≡ [] → IsFit n (array (items_view values))
-IsFit-no_items n values some none = subst (λ vs. IsFit n (array (items_view vs))) (sym none) (record { numbers = tt; fits = refl; nests = omega arith })
+pub IsFit-no_items : (n : ℕ) (values : List Tree) → 0 < n → values ≡ [] → IsFit n (array (trees_in values))
+IsFit-no_items n values some none = subst (λ vs. IsFit n (array (trees_in vs))) (sym none) (record { numbers = tt; fits = refl; nests = omega arith })
 
-pub IsFit-no_members : {A : Type 0} (n : ℕ) (members : List (Bor (List ℕ) × Value A)) → 0 < n → members ≡ [] → IsFit n (object (members_view members))
-IsFit-no_members n members some none = subst (λ ms. IsFit n (object (members_view ms))) (sym none) (record { numbers = tt; fits = refl; nests = omega arith })
+pub IsFit-no_members : (n : ℕ) (members : List (Bor (List ℕ) × Tree)) → 0 < n → members ≡ [] → IsFit n (object (trees_under members))
+IsFit-no_members n members some none = subst (λ ms. IsFit n (object (trees_under ms))) (sym none) (record { numbers = tt; fits = refl; nests = omega arith })
 
 with_item : (n : ℕ) (j : Json) (js : Items) → IsFit (n - 1) j → IsFit n (array js) → IsFit n (array (item j js))
 with_item n j js one more = record { numbers = (one.numbers, more.numbers); fits = and_from _ _ one.fits more.fits; nests = omega (arith, one.nests, more.nests) }
@@ -41,17 +40,17 @@ first_member n k j ms fit = record { numbers = fit.numbers.0; fits = (and_parts 
 later_members : (n : ℕ) (k : List ℕ) (j : Json) (ms : Members) → IsFit n (object (member k j ms)) → IsFit n (object ms)
 later_members n k j ms fit = record { numbers = fit.numbers.1; fits = (and_parts _ _ fit.fits).1; nests = omega (arith, fit.nests) }
 
-pub IsFit-one_more_item : {A : Type 0} (n : ℕ) (values : List (Value A)) (value : Value A) → IsFit n (array (items_view values)) → IsFit (n - 1) (value_view value)
-    → IsFit n (array (items_view (values ++ value ∷ [])))
-IsFit-one_more_item n [] value so_far fit = with_item n (value_view value) no_items fit so_far
+pub IsFit-one_more_item : (n : ℕ) (values : List Tree) (value : Tree) → IsFit n (array (trees_in values)) → IsFit (n - 1) (tree_json value)
+    → IsFit n (array (trees_in (values ++ value ∷ [])))
+IsFit-one_more_item n [] value so_far fit = with_item n (tree_json value) no_items fit so_far
 IsFit-one_more_item n (v ∷ values) value so_far fit =
-    with_item n (value_view v) _ (first_item n (value_view v) _ so_far) (IsFit-one_more_item n values value (later_items n (value_view v) _ so_far) fit)
+    with_item n (tree_json v) _ (first_item n (tree_json v) _ so_far) (IsFit-one_more_item n values value (later_items n (tree_json v) _ so_far) fit)
 
-pub IsFit-one_more_member : {A : Type 0} (n : ℕ) (members : List (Bor (List ℕ) × Value A)) (m : Bor (List ℕ) × Value A) → IsFit n (object (members_view members)) → IsFit (n - 1) (value_view m.1)
-    → IsFit n (object (members_view (members ++ m ∷ [])))
-IsFit-one_more_member n [] m so_far fit = with_member n m.0.now (value_view m.1) no_members fit so_far
+pub IsFit-one_more_member : (n : ℕ) (members : List (Bor (List ℕ) × Tree)) (m : Bor (List ℕ) × Tree) → IsFit n (object (trees_under members)) → IsFit (n - 1) (tree_json m.1)
+    → IsFit n (object (trees_under (members ++ m ∷ [])))
+IsFit-one_more_member n [] m so_far fit = with_member n m.0.now (tree_json m.1) no_members fit so_far
 IsFit-one_more_member n (l ∷ members) m so_far fit =
-    with_member n l.0.now (value_view l.1) _ (first_member n l.0.now (value_view l.1) _ so_far) (IsFit-one_more_member n members m (later_members n l.0.now (value_view l.1) _ so_far) fit)
+    with_member n l.0.now (tree_json l.1) _ (first_member n l.0.now (tree_json l.1) _ so_far) (IsFit-one_more_member n members m (later_members n l.0.now (tree_json l.1) _ so_far) fit)
 
 -- a value takes some text
 pub some_text : (n : ℕ) (j : Json) → IsFit n j → 0 < length (text_of j)

@@ -3,12 +3,10 @@ use Rattle.std.proofs.Common.{◌≡◌, ℕ, Bool, true, false, cond, List, Opt
 use Rattle.std.proofs.lemmas.Slice.Eq.{bytes_eq-Decides}
 use Rattle.json.specs.Json as json
 use Rattle.json.specs.Find as tree
-use Rattle.json.specs.Value.{value_view}
-use Rattle.json.specs.declared.value.Value.{Value}
 use Rattle.serde_json.specs.Data.{Num, Members, no_members, put}
 use Rattle.serde_json.specs.Find.{get, get_member}
 use Rattle.serde_json.proofs.Views.{get_member-put, get_member-put_other}
-use Rattle.boss_json.specs.Trees.{number_data, data_of, members_data, view}
+use Rattle.boss_json.specs.Trees.{number_data, data_of, members_data}
 
 -- the first of two that is there
 abbrev or_else : {A : Type 0} → Option A → Option A → Option A
@@ -49,11 +47,11 @@ get-data q (json.string s) = refl
 get-data q (json.array js) = refl
 get-data q (json.object ms) = get_member-data q ms no_members ∙ or_none _
 
-of_ref : {A : Type 0} (found : Option (Bor (Value A))) → option_map (λ v. view v.now) found ≡ option_map data_of (option_map (λ v. value_view v.now) found)
-of_ref None = refl
-of_ref (Some v) = refl
+of_ref : {V : Type 0} (seen : V → json.Json) (found : Option (Bor V)) → option_map (λ v. data_of (seen v.now)) found ≡ option_map data_of (option_map (λ v. seen v.now) found)
+of_ref seen None = refl
+of_ref seen (Some v) = refl
 
--- a value that was found under a key
-pub found-data : {A : Type 0} (found : Option (Bor (Value A))) (q : List ℕ) (value : Value A) → option_map (λ v. value_view v.now) found ≡ tree.get q (value_view value)
-    → option_map (λ v. view v.now) found ≡ get q (view value)
-found-data found q value is = of_ref found ∙ ap (option_map data_of) is ∙ sym (get-data q (value_view value))
+-- a value that was found under a key, of any type whose values are seen as trees
+pub found-data : {V : Type 0} (seen : V → json.Json) (found : Option (Bor V)) (q : List ℕ) (value : json.Json) → option_map (λ v. seen v.now) found ≡ tree.get q value
+    → option_map (λ v. data_of (seen v.now)) found ≡ get q (data_of value)
+found-data seen found q value is = of_ref seen found ∙ ap (option_map data_of) is ∙ sym (get-data q value)

@@ -1,12 +1,13 @@
+pub mod Ascii
 pub mod Datas
 pub mod Digits
 pub mod Ends
 pub mod Fits
 pub mod Found
 pub mod Lines
-pub mod Others
+pub mod Members
 pub mod Printed
 pub mod Spelled
 pub mod Stops
-pub mod Taken
+pub mod Trees
 pub mod Views

@@ -9,10 +9,10 @@ use Rattle.json.specs.Token.{Token, key, end_array, end_object}
 use Rattle.json.specs.Json.{Json, null, boolean, number, string, array, object, Items, no_items, item, Members, no_members, member}
 use Rattle.json.specs.Print.{escape, quoted, token_text, begins, ends, separator, print_from, print}
 use Rattle.json.specs.Tree.{json_tokens, items_tokens, members_tokens}
-use Rattle.json.specs.Value.{value_view, items_view, members_view}
-use Rattle.json.specs.declared.value.Value.{Value}
 use Rattle.json.proofs.Printed.Tokens.{print_from_push, print_from-append}
 use Rattle.boss_json.specs.Compact.{text_of}
+use Rattle.boss_json.specs.declared.tree.Tree.{Tree}
+use Rattle.boss_json.specs.Trees.{tree_json, trees_in, trees_under}
 
 abbrev ends_after : Bool → List Token → Bool
 ends_after c ts = fold (λ _ t. ends t) c ts
@@ -100,78 +100,78 @@ module _ {X : Type 0} (part : X → List Token) (is : (x : X) → IsPart (part x
 
 -- ---- items
 
-abbrev item_tokens : {A : Type 0} → Value A → List Token
-item_tokens value = json_tokens (value_view value)
+abbrev item_tokens : Tree → List Token
+item_tokens value = json_tokens (tree_json value)
 
 -- what is printed of an array's items, without the brackets
-abbrev pub items_text : {A : Type 0} → List (Value A) → List ℕ
+abbrev pub items_text : List Tree → List ℕ
 items_text values = print (flat_map item_tokens values)
 
-items_tokens-are : {A : Type 0} (values : List (Value A)) → items_tokens (items_view values) ≡ flat_map item_tokens values ++ end_array ∷ []
+items_tokens-are : (values : List Tree) → items_tokens (trees_in values) ≡ flat_map item_tokens values ++ end_array ∷ []
 items_tokens-are [] = refl
 items_tokens-are (value ∷ values) = ap (λ ts. item_tokens value ++ ts) (items_tokens-are values) ∙ sym (append_assoc (item_tokens value) _ _)
 
-array_text : {A : Type 0} (values : List (Value A)) → text_of (array (items_view values)) ≡ 91 ∷ (items_text values ++ 93 ∷ [])
+array_text : (values : List Tree) → text_of (array (trees_in values)) ≡ 91 ∷ (items_text values ++ 93 ∷ [])
 unfolding print_from
-array_text values = ap (λ ts. 91 ∷ print ts) (items_tokens-are values) ∙ ap (λ l. 91 ∷ l) (print_close item_tokens (λ v. IsPart-value (value_view v)) values end_array refl)
+array_text values = ap (λ ts. 91 ∷ print ts) (items_tokens-are values) ∙ ap (λ l. 91 ∷ l) (print_close item_tokens (λ v. IsPart-value (tree_json v)) values end_array refl)
 
-pub no_items_yet : {A : Type 0} (values : List (Value A)) (rest : List ℕ) → values ≡ [] → rest ≡ items_text values ++ rest
+pub no_items_yet : (values : List Tree) (rest : List ℕ) → values ≡ [] → rest ≡ items_text values ++ rest
 unfolding print_from
 no_items_yet values rest none = rw none refl
 
-pub one_more_item : {A : Type 0} (values : List (Value A)) (value : Value A) (is_first : Bool) (all old begun new : List ℕ) → is_first ≡ (length values == 0)
-    → all ≡ items_text values ++ old → old ≡ cond is_first [] (44 ∷ []) ++ begun → begun ≡ text_of (value_view value) ++ new → all ≡ items_text (values ++ value ∷ []) ++ new
+pub one_more_item : (values : List Tree) (value : Tree) (is_first : Bool) (all old begun new : List ℕ) → is_first ≡ (length values == 0)
+    → all ≡ items_text values ++ old → old ≡ cond is_first [] (44 ∷ []) ++ begun → begun ≡ text_of (tree_json value) ++ new → all ≡ items_text (values ++ value ∷ []) ++ new
 one_more_item values value is_first all old begun new e so_far comma read =
-    one_more item_tokens (λ v. IsPart-value (value_view v)) values value is_first all old new e so_far (comma ∙ ap (λ l. cond is_first [] (44 ∷ []) ++ l) read)
+    one_more item_tokens (λ v. IsPart-value (tree_json v)) values value is_first all old new e so_far (comma ∙ ap (λ l. cond is_first [] (44 ∷ []) ++ l) read)
 
 pub less_by_item : (is_first : Bool) (text old begun new : List ℕ) → 0 < length text → old ≡ cond is_first [] (44 ∷ []) ++ begun → begun ≡ text ++ new → length new < length old
 less_by_item is_first text old begun new some comma read =
     omega (arith, ap length comma, ap length read, length-append (cond is_first [] (44 ∷ [])) begun, length-append text new)
 
-pub whole_array : {A : Type 0} (values : List (Value A)) (all inside rest new : List ℕ) → all ≡ 91 ∷ inside → inside ≡ items_text values ++ rest → rest ≡ 93 ∷ new
-    → all ≡ text_of (array (items_view values)) ++ new
+pub whole_array : (values : List Tree) (all inside rest new : List ℕ) → all ≡ 91 ∷ inside → inside ≡ items_text values ++ rest → rest ≡ 93 ∷ new
+    → all ≡ text_of (array (trees_in values)) ++ new
 whole_array values all inside rest new opened read closed =
     opened ∙ ap (λ l. 91 ∷ l) (read ∙ ap (λ l. items_text values ++ l) closed ∙ sym (append_assoc (items_text values) (93 ∷ []) new)) ∙ ap (λ l. l ++ new) (sym (array_text values))
 
 -- ---- members
 
-abbrev member_tokens : {A : Type 0} → Bor (List ℕ) × Value A → List Token
-member_tokens m = key m.0.now ∷ json_tokens (value_view m.1)
+abbrev member_tokens : Bor (List ℕ) × Tree → List Token
+member_tokens m = key m.0.now ∷ json_tokens (tree_json m.1)
 
 -- what is printed of an object's members, without the braces
-abbrev pub members_text : {A : Type 0} → List (Bor (List ℕ) × Value A) → List ℕ
+abbrev pub members_text : List (Bor (List ℕ) × Tree) → List ℕ
 members_text members = print (flat_map member_tokens members)
 
-members_tokens-are : {A : Type 0} (members : List (Bor (List ℕ) × Value A)) → members_tokens (members_view members) ≡ flat_map member_tokens members ++ end_object ∷ []
+members_tokens-are : (members : List (Bor (List ℕ) × Tree)) → members_tokens (trees_under members) ≡ flat_map member_tokens members ++ end_object ∷ []
 members_tokens-are [] = refl
 members_tokens-are (m ∷ members) = ap (λ ts. member_tokens m ++ ts) (members_tokens-are members) ∙ sym (append_assoc (member_tokens m) _ _)
 
-object_text : {A : Type 0} (members : List (Bor (List ℕ) × Value A)) → text_of (object (members_view members)) ≡ 123 ∷ (members_text members ++ 125 ∷ [])
+object_text : (members : List (Bor (List ℕ) × Tree)) → text_of (object (trees_under members)) ≡ 123 ∷ (members_text members ++ 125 ∷ [])
 unfolding print_from
-object_text members = ap (λ ts. 123 ∷ print ts) (members_tokens-are members) ∙ ap (λ l. 123 ∷ l) (print_close member_tokens (λ m. IsPart-member m.0.now (value_view m.1)) members end_object refl)
+object_text members = ap (λ ts. 123 ∷ print ts) (members_tokens-are members) ∙ ap (λ l. 123 ∷ l) (print_close member_tokens (λ m. IsPart-member m.0.now (tree_json m.1)) members end_object refl)
 
-member_text : {A : Type 0} (m : Bor (List ℕ) × Value A) (new : List ℕ) → print (member_tokens m) ++ new ≡ quoted m.0.now ++ (58 ∷ (text_of (value_view m.1) ++ new))
+member_text : (m : Bor (List ℕ) × Tree) (new : List ℕ) → print (member_tokens m) ++ new ≡ quoted m.0.now ++ (58 ∷ (text_of (tree_json m.1) ++ new))
 unfolding print_from
 member_text m new =
-    append_assoc (quoted m.0.now ++ 58 ∷ []) (text_of (value_view m.1)) new ∙ append_assoc (quoted m.0.now) (58 ∷ []) _
+    append_assoc (quoted m.0.now ++ 58 ∷ []) (text_of (tree_json m.1)) new ∙ append_assoc (quoted m.0.now) (58 ∷ []) _
 
-pub no_members_yet : {A : Type 0} (members : List (Bor (List ℕ) × Value A)) (rest : List ℕ) → members ≡ [] → rest ≡ members_text members ++ rest
+pub no_members_yet : (members : List (Bor (List ℕ) × Tree)) (rest : List ℕ) → members ≡ [] → rest ≡ members_text members ++ rest
 unfolding print_from
 no_members_yet members rest none = rw none refl
 
-pub one_more_member : {A : Type 0} (members : List (Bor (List ℕ) × Value A)) (m : Bor (List ℕ) × Value A) (is_first : Bool) (all old begun named valued new : List ℕ) → is_first ≡ (length members == 0)
-    → all ≡ members_text members ++ old → old ≡ cond is_first [] (44 ∷ []) ++ begun → begun ≡ quoted m.0.now ++ named → named ≡ 58 ∷ valued → valued ≡ text_of (value_view m.1) ++ new
+pub one_more_member : (members : List (Bor (List ℕ) × Tree)) (m : Bor (List ℕ) × Tree) (is_first : Bool) (all old begun named valued new : List ℕ) → is_first ≡ (length members == 0)
+    → all ≡ members_text members ++ old → old ≡ cond is_first [] (44 ∷ []) ++ begun → begun ≡ quoted m.0.now ++ named → named ≡ 58 ∷ valued → valued ≡ text_of (tree_json m.1) ++ new
     → all ≡ members_text (members ++ m ∷ []) ++ new
 one_more_member members m is_first all old begun named valued new e so_far comma name colon value =
     let here = name ∙ ap (λ l. quoted m.0.now ++ l) (colon ∙ ap (λ l. 58 ∷ l) value) ∙ sym (member_text m new) in
-    one_more member_tokens (λ m. IsPart-member m.0.now (value_view m.1)) members m is_first all old new e so_far (comma ∙ ap (λ l. cond is_first [] (44 ∷ []) ++ l) here)
+    one_more member_tokens (λ m. IsPart-member m.0.now (tree_json m.1)) members m is_first all old new e so_far (comma ∙ ap (λ l. cond is_first [] (44 ∷ []) ++ l) here)
 
 pub less_by_member : (is_first : Bool) (k text old begun named valued new : List ℕ) → old ≡ cond is_first [] (44 ∷ []) ++ begun → begun ≡ quoted k ++ named → named ≡ 58 ∷ valued → valued ≡ text ++ new
     → length new < length old
 less_by_member is_first k text old begun named valued new comma name colon value =
     omega (arith, ap length comma, ap length name, ap length colon, ap length value, length-append (cond is_first [] (44 ∷ [])) begun, length-append (escape k ++ 34 ∷ []) named, length-append text new)
 
-pub whole_object : {A : Type 0} (members : List (Bor (List ℕ) × Value A)) (all inside rest new : List ℕ) → all ≡ 123 ∷ inside → inside ≡ members_text members ++ rest → rest ≡ 125 ∷ new
-    → all ≡ text_of (object (members_view members)) ++ new
+pub whole_object : (members : List (Bor (List ℕ) × Tree)) (all inside rest new : List ℕ) → all ≡ 123 ∷ inside → inside ≡ members_text members ++ rest → rest ≡ 125 ∷ new
+    → all ≡ text_of (object (trees_under members)) ++ new
 whole_object members all inside rest new opened read closed =
     opened ∙ ap (λ l. 123 ∷ l) (read ∙ ap (λ l. members_text members ++ l) closed ∙ sym (append_assoc (members_text members) (125 ∷ []) new)) ∙ ap (λ l. l ++ new) (sym (object_text members))

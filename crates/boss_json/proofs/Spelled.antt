@@ -1,14 +1,16 @@
 -- A plain string is spelled as it stands, and few digits are a number in range.
-use Rattle.std.proofs.Common.{◌≡◌, ℕ, suc, ◌+◌, ◌-◌, ◌<◌, ◌≤◌, Bool, true, false, cond, ◌==◌, List, [], ◌∷◌, ◌++◌, length, get_or, take, drop, Some, None, option_and_then, refl, sym, ap, ◌∙◌, subst, arith, append_assoc}
+use Rattle.std.proofs.Common.{◌≡◌, ℕ, suc, ◌+◌, ◌-◌, ◌*◌, ◌%◌, ◌<◌, ◌≤◌, ◌^◌, Bool, true, false, cond, ◌==◌, List, [], ◌∷◌, ◌++◌, length, get_or, take, drop, Some, None, option_and_then, refl, sym, ap, ◌∙◌, arith, append_assoc}
 use Rattle.std.proofs.Math.Nat.{lt_of_not-le}
 use Rattle.std.proofs.lemmas.Bool.{ne_eqb, eqb-true, le-leb, and_from}
 use Rattle.std.proofs.lemmas.List.{drop_more, drop-drop, take-append-drop, length-take, length-drop, get_or-take, get_or-drop, get_or_past, drop_all}
-use Rattle.std.proofs.lemmas.Str.{IsCharBoundary-after_ascii}
+use Rattle.std.proofs.lemmas.Fmt.{decimal-digits_value}
+use Rattle.std.proofs.lemmas.Int.Digits.{digits_value_more}
+use Rattle.std.proofs.lemmas.Str.{digit_value_digit}
 use Rattle.std.proofs.lemmas.Str.Parse.{IsNumeralModel, numerals_by_value, tells_by_index, digits_value_short}
-use Rattle.std.specs.Char.{is_ascii_digit}
+use Rattle.std.specs.Char.{digit_value, is_ascii_digit}
+use Rattle.std.specs.Fmt.{decimal}
 use Rattle.std.specs.Int.{IsInRange}
 use Rattle.std.specs.List.{prefix_len}
-use Rattle.std.specs.Str.{IsCharBoundary, IsUtf8}
 use Rattle.std.specs.Str.Parse.{digits_value}
 use Rattle.json.specs.Json.{number}
 use Rattle.json.specs.Print.{escape, quoted, IsNumber}
@@ -22,7 +24,7 @@ use Rattle.boss_json.proofs.Digits.{digits_in_range}
 abbrev pub between : ℕ → ℕ → List ℕ → List ℕ
 between i j d = take (j - i) (drop i d)
 
-pub within : (d : List ℕ) (i : ℕ) → 0 < get_or d i 0 → i < length d
+within : (d : List ℕ) (i : ℕ) → 0 < get_or d i 0 → i < length d
 within d i some = lt_of_not-le (λ past. omega (arith, get_or_past d i 0 past))
 
 pub cut : (d : List ℕ) (i j : ℕ) → i ≤ j → drop i d ≡ between i j d ++ drop j d
@@ -50,13 +52,17 @@ quoted_plain d i j le opening closing plain =
 
 -- ---- numbers
 
+-- the bytes from one place to another are digits
+abbrev pub DigitsBetween : List ℕ → ℕ → ℕ → Type 0
+DigitsBetween d i j = (k : ℕ) → i ≤ k → k < j → IsInRange 48 57 (get_or d k 0)
+
 abbrev AreDigits : List ℕ → Type 0
 AreDigits ds = (i : ℕ) → i < length ds → IsInRange 48 57 (get_or ds i 0)
 
 own : IsNumeralModel AreDigits (digits_value 10)
 own = numerals_by_value AreDigits tells_by_index
 
-digits_between : (d : List ℕ) (i j : ℕ) → ((k : ℕ) → i ≤ k → k < j → IsInRange 48 57 (get_or d k 0)) → j ≤ length d → AreDigits (between i j d)
+digits_between : (d : List ℕ) (i j : ℕ) → DigitsBetween d i j → j ≤ length d → AreDigits (between i j d)
 digits_between d i j all le k lt =
     let size = length-between d i j le in
     let here = all (i + k) (omega arith) (omega arith) in
@@ -92,14 +98,31 @@ IsNumber-digits ds h some alone =
     let w = whole ds h some alone in
     ap (λ o. option_and_then after_exponent (option_and_then after_fraction o)) (ap (λ b. after_whole (cond b (drop 1 ds) ds)) w.1 ∙ w.0)
 
--- a text may be cut behind digits
-pub behind_digits : (d : List ℕ) (i j : ℕ) → IsUtf8 d → i < j → ((k : ℕ) → i ≤ k → k < j → IsInRange 48 57 (get_or d k 0)) → IsCharBoundary d j
-behind_digits d i j utf8 some all =
-    let last = all (j - 1) (omega arith) (omega arith) in
-    let there : j - 1 + 1 ≡ j = omega arith in
-    subst (IsCharBoundary d) there (IsCharBoundary-after_ascii d (j - 1) utf8 (within d (j - 1) (omega arith)) (omega arith))
+-- a byte that is at most 9 above `0` is a digit
+pub digit_by_value : (x n : ℕ) → x < 256 → n ≡ (x + 208) % 256 → n ≤ 9 → IsInRange 48 57 x × (n ≡ x - 48)
+digit_by_value x n byte is few = ((omega (arith, byte, is, few), omega (arith, byte, is, few)), omega (arith, byte, is, few))
 
-pub few_digits : (d : List ℕ) (i j : ℕ) → i < j → j - i ≤ 18 → ((k : ℕ) → i ≤ k → k < j → IsInRange 48 57 (get_or d k 0)) → (get_or d i 0 ≡ 48 → j - i ≡ 1) → IsFit 0 (number (between i j d))
+-- one digit more is read
+pub one_digit_on : (d : List ℕ) (i j : ℕ) → i ≤ j → j < length d → IsInRange 48 57 (get_or d j 0) → digits_value 10 (between i (j + 1) d) ≡ digits_value 10 (between i j d) * 10 + (get_or d j 0 - 48)
+one_digit_on d i j le lt digit =
+    let there : j + 1 - i ≡ j - i + 1 = omega (arith, le) in
+    let back : i + (j - i) ≡ j = omega (arith, le) in
+    let more = digits_value_more 10 (drop i d) (j - i) (omega (arith, length-drop i d, le, lt)) in
+    let last : digit_value (get_or (drop i d) (j - i) 0) ≡ digit_value (get_or d j 0) = ap digit_value (get_or-drop i d (j - i) 0 ∙ ap (λ k. get_or d k 0) back) in
+    ap (λ n. digits_value 10 (take n (drop i d))) there ∙ more ∙ omega (arith, last, digit_value_digit (get_or d j 0) digit)
+
+pub value_has_room : (d : List ℕ) (i j : ℕ) → DigitsBetween d i j → j ≤ length d → j - i ≤ 18 → digits_value 10 (between i j d) < 10 ^ 18
+value_has_room d i j all le few = digits_value_short own (between i j d) 18 (digits_between d i j all le) (omega (arith, length-between d i j le, few))
+
+-- digits without a leading 0 are what is written of their value
+pub decimal-between : (d : List ℕ) (i j : ℕ) → i < j → j ≤ length d → j - i ≤ 18 → DigitsBetween d i j → (get_or d i 0 ≡ 48 → j - i ≡ 1) → decimal (digits_value 10 (between i j d)) ≡ between i j d
+decimal-between d i j some le few all alone =
+    let size = length-between d i j le in
+    let start : i + 0 ≡ i = omega arith in
+    let first = byte_between d i j 0 (omega (arith, some)) ∙ ap (λ k. get_or d k 0) start in
+    decimal-digits_value own (between i j d) (digits_between d i j all le) (omega (arith, size, some)) (λ zero. omega (arith, size, alone (sym first ∙ zero))) (omega (arith, value_has_room d i j all le few))
+
+pub few_digits : (d : List ℕ) (i j : ℕ) → i < j → j - i ≤ 18 → DigitsBetween d i j → (get_or d i 0 ≡ 48 → j - i ≡ 1) → IsFit 0 (number (between i j d))
 few_digits d i j some few all alone =
     let ds = between i j d in
     let last = all (j - 1) (omega arith) (omega arith) in

@@ -3,15 +3,14 @@ use Rattle.std.proofs.Common.{◌≡◌, List, [], ◌∷◌, map, Option, Some,
 use Rattle.std.specs.Option.{option_and_then}
 use Rattle.json.specs.Json as json
 use Rattle.json.specs.Find as tree
-use Rattle.json.specs.Value as tree_view
-use Rattle.json.specs.declared.value.Value as tree_value
+use Rattle.json.specs.Value.{items_of}
 use Rattle.serde_json.specs.Data.{Num, Data}
 use Rattle.serde_json.specs.Find.{as_i64, as_str}
 use Rattle.serde_json.specs.Read.{number_of}
 use Rattle.serde_json.specs.View as plain
 use Rattle.serde_json.specs.declared.value.Value.{Value}
 use Rattle.def_wire.specs.Keys.{list_of, whole}
-use Rattle.boss_json.specs.Trees.{number_data, data_of, items_data, view}
+use Rattle.boss_json.specs.Trees.{number_data, data_of, items_data}
 
 list_of-items_of : (ds : List Data) → list_of (plain.items_of ds) ≡ ds
 list_of-items_of [] = refl
@@ -20,9 +19,10 @@ list_of-items_of (d ∷ ds) = ap (λ more. d ∷ more) (list_of-items_of ds)
 pub list_of_views : (values : List Value) → list_of (plain.items_view values) ≡ map plain.view values
 list_of_views values = list_of-items_of (map plain.view values)
 
-pub list_of_trees : {A : Type 0} (values : List (tree_value.Value A)) → list_of (items_data (tree_view.items_view values)) ≡ map view values
-list_of_trees [] = refl
-list_of_trees (value ∷ values) = ap (λ more. view value ∷ more) (list_of_trees values)
+-- of any type whose values are seen as trees
+pub list_of_trees : {V : Type 0} (seen : V → json.Json) (values : List V) → list_of (items_data (items_of (map seen values))) ≡ map (λ value. data_of (seen value)) values
+list_of_trees seen [] = refl
+list_of_trees seen (value ∷ values) = ap (λ more. data_of (seen value) ∷ more) (list_of_trees seen values)
 
 as_str_number : (n : Option Num) → as_str (number_data n) ≡ None
 as_str_number None = refl

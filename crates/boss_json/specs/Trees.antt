@@ -1,10 +1,13 @@
 -- Source: RFC 8259 (JSON), as the libraries json and serde_json read it.
 -- What a tree of `json` stands for: the data that serde_json reads of the same text, where each number is in range. (One that is
 -- too large for a float is null here; a line that has one is no value.)
-use Rattle.std.specs.Prelude.{Bool, true, ◌&&◌, Option, Some, None, is_some}
+use Rattle.std.specs.Prelude.{ℕ, Bool, true, ◌&&◌, List, map, Option, Some, None, is_some, decimal}
+use Rattle.std.specs.Borrow.{Bor}
 use Rattle.json.specs.Json as json
-use Rattle.json.specs.Value.{value_view}
+use Rattle.json.specs.Value.{items_of, members_of, value_view}
 use Rattle.json.specs.declared.value.Value.{Value}
+use Rattle.boss_json.specs.declared.tree.Tree.{Tree, fold-Tree}
+use Rattle.boss_json.specs.declared.tree.Tree.TheOpen.{Tree-F}
 use Rattle.serde_json.specs.Data.{Num, Data, null, boolean, number, string, array, object, Items, no_items, item, Members, no_members, put}
 use Rattle.serde_json.specs.Read.{number_of}
 
@@ -51,3 +54,24 @@ abbrev mutual
 
 abbrev pub view : {A : Type 0} → Value A → Data
 view value = data_of (value_view value)
+
+-- ---- a tree of this crate
+
+-- one level, with each tree inside already seen as its value
+abbrev pub tree_step : Tree-F json.Json → json.Json
+tree_step (Tree-F.Text text) = json.string text.now
+tree_step (Tree-F.Whole n) = json.number (decimal n)
+tree_step (Tree-F.List items) = json.array (items_of items.now)
+tree_step (Tree-F.Object members) = json.object (members_of members.now)
+
+abbrev pub tree_json : Tree → json.Json
+tree_json = fold-Tree json.Json tree_step
+
+abbrev pub trees_in : List Tree → json.Items
+trees_in trees = items_of (map tree_json trees)
+
+abbrev pub trees_under : List (Bor (List ℕ) × Tree) → json.Members
+trees_under members = members_of (map (λ m. (m.0, tree_json m.1)) members)
+
+abbrev pub tree_data : Tree → Data
+tree_data tree = data_of (tree_json tree)

@@ -1,110 +1,115 @@
-ghost use Rattle.std.specs.Prelude.{◌≡◌, ◌≤◌, ◌<◌, ℕ, ◌∷◌, ◌++◌, [], Some, true, cond, slice_index, length, map, IfSome, IsTrue};
+ghost use Rattle.std.specs.Prelude.{◌≡◌, ◌≤◌, ◌<◌, ℕ, ◌∷◌, ◌++◌, [], Some, true, not, cond, decimal, drop, take, slice_index, length, map, IfSome, IsTrue, ◌-◌};
 ghost use Rattle.std.specs.Bool.{MatchBool, OnTrue};
 ghost use Rattle.std.specs.Int.{IsInRange};
 ghost use Rattle.std.specs.Simd.Lanes.{mask_l};
-ghost use Rattle.json.specs.Json.{array, number, object};
+ghost use Rattle.json.specs.Json.{array, number as number_json, object};
 ghost use Rattle.json.specs.Print.{quoted};
-ghost use Rattle.json.specs.Run.{is_stop};
-ghost use Rattle.json.specs.Value.{items_view, members_view, value_view};
-ghost use Rattle.json.specs.Written.{PlainBetween};
-ghost use Rattle.serde_json.specs.Read.{read};
-ghost use Rattle.boss_json.specs.Compact.{is_no_digit, text_of, IsFit};
-ghost use Rattle.boss_json.specs.Trees.{view};
+ghost use Rattle.std.specs.Str.{IsAscii};
+ghost use Rattle.def_wire.specs.Requests.{value_in};
+ghost use Rattle.std.specs.Str.Parse.{digits_value};
+ghost use Rattle.boss_json.specs.Compact.{ends_plain, text_of, CompactBetween, IsFit};
+ghost use Rattle.boss_json.specs.Trees.{tree_data, tree_json, trees_in, trees_under};
 
-use json::Value;
-use std::alloc::Global;
+use crate::tree::Tree;
+use bumpalo::Bump;
+use bumpalo::collections::into_bump_slice;
 use std::marker::Model;
 use std::simd::prelude::*;
 
 /// How deep arrays and objects may nest.
 const MOST_LEVELS: usize = 8;
 
+/// The last byte of ASCII.
+const LAST_ASCII: u8 = 127;
+
 /// A number of at most this many digits is in range.
 const MOST_DIGITS: usize = 18;
 
-/// The value that a text writes, where it is spelled compactly: no white space, no escape in a string, no literal, and each number
+/// The value that a text writes, where it is spelled compactly: ASCII, no white space, no escape in a string, no literal, and each number
 /// whole, without a sign, of at most 18 digits; arrays and objects nest at most eight deep. None says nothing of the text, and is also
 /// the answer where no memory was to be had.
-pub(crate) fn compact_value<'a>(alloc: Global, text: &'a str) -> Option<Value<'a>>
-    ensures { IfSome result (λ value. read text.now ≡ Some (view value)) }
+pub(crate) fn compact_value<'a>(room: &'a Bump, text: &'a [u8]) -> Option<Tree<'a>>
+    ensures { IfSome result (λ tree. value_in text.now ≡ Some (tree_data tree)) }
 {
     let mut rest = Rest { text, place: 0 };
-    let value = rest.value(alloc, MOST_LEVELS)?;
-    if rest.is_empty() { Some(value) } else { None }
+    let tree = rest.value(room, MOST_LEVELS)?;
+    if rest.is_empty() { Some(tree) } else { None }
 }
 
 /// What is left of a text. A clause sees its bytes.
 #[derive(Drop)]
 struct Rest<'a> {
-    text: &'a str,
+    text: &'a [u8],
     place: usize,
 }
 
 impl<'a> Model for Rest<'a> {
-    ghost use Rattle.std.specs.Prelude.{ℕ, List, drop};
-    ghost use Rattle.std.specs.Str.{IsUtf8};
+    ghost use Rattle.std.specs.Prelude.{ℕ, ◌≤◌, List, drop, length};
 
     ghost Value = { List ℕ };
 
     ghost view = { λ rest. drop rest.place rest.text.now };
 
-    ghost invariant = { λ rest. IsUtf8 rest.text.now };
+    ghost invariant = { λ rest. rest.place ≤ length rest.text.now };
 }
 
 impl<'a> Rest<'a> {
     /// A value, in which arrays and objects nest at most this many levels deep.
     #[cycle(value)]
     #[inline(always)]
-    fn value(&mut self, alloc: Global, levels: usize) -> Option<Value<'a>>
-        ensures text { IfSome result (λ value. self.old ≡ text_of (value_view value) ++ self.new) }
-        ensures fit { IfSome result (λ value. IsFit levels (value_view value)) }
+    fn value(&mut self, room: &'a Bump, levels: usize) -> Option<Tree<'a>>
+        ensures text { IfSome result (λ tree. self.old ≡ text_of (tree_json tree) ++ self.new) }
+        ensures fit { IfSome result (λ tree. IsFit levels (tree_json tree)) }
+        ensures ascii { IfSome result (λ _. IsAscii self.new → IsAscii self.old) }
     {
         match self.first() {
-            b'"' => Some(Value::String(self.string()?)),
-            b'[' => Some(Value::Array(self.items(alloc, levels)?)),
-            b'{' => Some(Value::Object(self.members(alloc, levels)?)),
-            _ => Some(Value::Number(self.digits()?)),
+            b'"' => Some(Tree::Text(self.string()?)),
+            b'[' => Some(Tree::List(self.items(room, levels)?)),
+            b'{' => Some(Tree::Object(self.members(room, levels)?)),
+            _ => Some(Tree::Whole(self.digits()?)),
         }
     }
 
     /// An array's items, with its brackets.
     #[cycle(value)]
     #[inline(never)]
-    fn items(&mut self, alloc: Global, levels: usize) -> Option<Vec<Value<'a>>>
+    fn items(&mut self, room: &'a Bump, levels: usize) -> Option<&'a [Tree<'a>]>
         ensures text { IfSome result
-            (λ items. self.old ≡ text_of (array (items_view items.items)) ++ self.new) }
-        ensures fit { IfSome result (λ items. IsFit levels (array (items_view items.items))) }
+            (λ items. self.old ≡ text_of (array (trees_in items.now)) ++ self.new) }
+        ensures fit { IfSome result (λ items. IsFit levels (array (trees_in items.now))) }
+        ensures ascii { IfSome result (λ _. IsAscii self.new → IsAscii self.old) }
     {
         if levels == 0 || !self.takes(b'[') {
             return None;
         }
-        let Ok(mut items) = Vec::with_capacity(alloc, items_room(levels)) else {
+        let Ok(mut items) = Vec::with_capacity(room, items_room(levels)) else {
             return None;
         };
         while !self.takes(b']') {
             if !self.takes_comma(items.is_empty()) {
                 return None;
             }
-            let item = self.value(alloc, levels - 1)?;
+            let item = self.value(room, levels - 1)?;
             let Ok(()) = items.push(item) else {
                 return None;
             };
         }
-        Some(items)
+        Some(into_bump_slice(items))
     }
 
     /// An object's members, with its braces.
     #[cycle(value)]
     #[inline(never)]
-    fn members(&mut self, alloc: Global, levels: usize) -> Option<Vec<(&'a str, Value<'a>)>>
+    fn members(&mut self, room: &'a Bump, levels: usize) -> Option<&'a [(&'a [u8], Tree<'a>)]>
         ensures text { IfSome result
-            (λ members. self.old ≡ text_of (object (members_view members.items)) ++ self.new) }
-        ensures fit { IfSome result (λ members. IsFit levels (object (members_view members.items))) }
+            (λ members. self.old ≡ text_of (object (trees_under members.now)) ++ self.new) }
+        ensures fit { IfSome result (λ members. IsFit levels (object (trees_under members.now))) }
+        ensures ascii { IfSome result (λ _. IsAscii self.new → IsAscii self.old) }
     {
         if levels == 0 || !self.takes(b'{') {
             return None;
         }
-        let Ok(mut members) = Vec::with_capacity(alloc, members_room(levels)) else {
+        let Ok(mut members) = Vec::with_capacity(room, members_room(levels)) else {
             return None;
         };
         while !self.takes(b'}') {
@@ -115,21 +120,21 @@ impl<'a> Rest<'a> {
             if !self.takes(b':') {
                 return None;
             }
-            let value = self.value(alloc, levels - 1)?;
+            let value = self.value(room, levels - 1)?;
             let Ok(()) = members.push((key, value)) else {
                 return None;
             };
         }
-        Some(members)
+        Some(into_bump_slice(members))
     }
 
-    /// A string without an escape, with its quotes.
+    /// A string of ASCII without an escape, with its quotes.
     #[inline(always)]
-    fn string(&mut self) -> Option<&'a str>
-        ensures { IfSome result (λ string. self.old ≡ quoted string.now ++ self.new) }
+    fn string(&mut self) -> Option<&'a [u8]>
+        ensures text { IfSome result (λ string. self.old ≡ quoted string.now ++ self.new) }
+        ensures ascii { IfSome result (λ _. IsAscii self.new → IsAscii self.old) }
     {
-        let text = self.text;
-        let bytes = text.as_bytes();
+        let bytes = self.text;
         if byte_at(bytes, self.place) != b'"' {
             return None;
         }
@@ -139,19 +144,18 @@ impl<'a> Rest<'a> {
             return None;
         }
         self.place = end + 1;
-        Some(&text[start..end])
+        Some(&bytes[start..end])
     }
 
-    /// A number that is few digits, and begins with 0 only where it is 0.
+    /// A number of few digits, which begins with 0 only where it is 0.
     #[inline(always)]
-    fn digits(&mut self) -> Option<&'a str>
-        ensures text { IfSome result (λ digits. self.old ≡ digits.now ++ self.new) }
-        ensures fit { IfSome result (λ digits. IsFit 0 (number digits.now)) }
+    fn digits(&mut self) -> Option<u64>
+        ensures text { IfSome result (λ number. self.old ≡ decimal number ++ self.new) }
+        ensures fit { IfSome result (λ number. IsFit 0 (number_json (decimal number))) }
     {
-        let text = self.text;
-        let bytes = text.as_bytes();
+        let bytes = self.text;
         let start = self.place;
-        let end = digits_end(bytes, start);
+        let (end, number) = digits_from(bytes, start);
         let count = end - start;
         if count == 0 || MOST_DIGITS < count {
             return None;
@@ -160,7 +164,7 @@ impl<'a> Rest<'a> {
             return None;
         }
         self.place = end;
-        Some(&text[start..end])
+        Some(number)
     }
 
     /// Takes the comma that stands before each item or member but the first, and says whether that could be done.
@@ -176,7 +180,7 @@ impl<'a> Rest<'a> {
     fn takes(&mut self, byte: u8) -> bool
         ensures { MatchBool result (self.old ≡ byte ∷ self.new) (self.new ≡ self.old) }
     {
-        let bytes = self.text.as_bytes();
+        let bytes = self.text;
         let is_next = self.place < bytes.len() && bytes[self.place] == byte;
         if is_next {
             self.place += 1;
@@ -187,7 +191,7 @@ impl<'a> Rest<'a> {
     /// The next byte, or 0 at the end.
     #[inline(always)]
     fn first(&self) -> u8 {
-        byte_at(self.text.as_bytes(), self.place)
+        byte_at(self.text, self.place)
     }
 
     fn is_empty(&self) -> bool
@@ -197,7 +201,7 @@ impl<'a> Rest<'a> {
     }
 }
 
-/// Room for the items that most arrays have. Those further in have fewer, and the allocator keeps blocks of each size at hand.
+/// Room for the items that most arrays have. Those further in have fewer.
 #[inline(always)]
 fn items_room(levels: usize) -> usize {
     match levels {
@@ -224,12 +228,13 @@ fn byte_at(text: &[u8], place: usize) -> u8
     if place < text.len() { text[place] } else { 0 }
 }
 
-/// Where the bytes end that stand for themselves in a string: at a quote, a backslash, a control character or the end.
+/// Where the bytes end that stand for themselves in a string: at a quote, a backslash, a control character, a byte that is no ASCII,
+/// or the end.
 #[inline(always)]
 fn plain_end(text: &[u8], start: usize) -> usize
     requires { start ≤ length text.now }
     ensures after { start ≤ result }
-    ensures plain { PlainBetween text.now start result }
+    ensures plain { CompactBetween text.now start result }
 {
     let mut end = start;
     while text.len() - end >= 8 {
@@ -245,60 +250,54 @@ fn plain_end(text: &[u8], start: usize) -> usize
 /// The bytes of eight that end plain text, as bits.
 #[inline(always)]
 fn stops(bytes: u8x8) -> u64
-    ensures { result ≡ mask_l (map is_stop bytes) }
+    ensures { result ≡ mask_l (map ends_plain bytes) }
 {
     (bytes.simd_eq(u8x8::splat(b'"'))
         | bytes.simd_eq(u8x8::splat(b'\\'))
-        | bytes.simd_lt(u8x8::splat(b' '))).to_bitmask()
+        | bytes.simd_lt(u8x8::splat(b' '))
+        | bytes.simd_gt(u8x8::splat(LAST_ASCII))).to_bitmask()
 }
 
 /// The same as `plain_end`, a byte at a time.
 #[inline(always)]
 fn plain_end_slowly(text: &[u8], start: usize) -> usize
     ensures after { start ≤ result }
-    ensures plain { PlainBetween text.now start result }
+    ensures plain { CompactBetween text.now start result }
 {
     let mut end = start;
-    while end < text.len() && text[end] != b'"' && text[end] != b'\\' && text[end] >= b' ' {
+    while end < text.len() && is_plain(text[end]) {
         end += 1;
     }
     end
 }
 
-/// Where the digits end that stand from a place on.
+/// Whether a byte stands for itself in a string.
 #[inline(always)]
-fn digits_end(text: &[u8], start: usize) -> usize
-    ensures after { start ≤ result }
-    ensures digits { (k : ℕ) → start ≤ k → k < result → IsInRange 48 57 (slice_index text.now k) }
+fn is_plain(byte: u8) -> bool
+    ensures { result ≡ not (ends_plain byte) }
 {
+    byte != b'"' && byte != b'\\' && b' ' <= byte && byte <= LAST_ASCII
+}
+
+/// Where the digits end that stand from a place on, or at most 19 of them, and the number that they write.
+#[inline(always)]
+fn digits_from(text: &[u8], start: usize) -> (usize, u64)
+    requires { start ≤ length text.now }
+    ensures after { start ≤ result.0 }
+    ensures within { result.0 ≤ length text.now }
+    ensures digits { (k : ℕ) → start ≤ k → k < result.0 → IsInRange 48 57 (slice_index text.now k) }
+    ensures value { result.1 ≡ digits_value 10 (take (result.0 - start) (drop start text.now)) }
+{
+    let most = text.len().min(start + 19);
     let mut end = start;
-    while end < text.len() && text.len() - end >= 8 {
-        let others = others(u8x8::from_slice(&text[end..]));
-        if others != 0 {
-            return end + others.trailing_zeros() as usize;
+    let mut number: u64 = 0;
+    while end < most {
+        let digit = text[end].wrapping_sub(b'0');
+        if 9 < digit {
+            return (end, number);
         }
-        end += 8;
-    }
-    digits_end_slowly(text, end)
-}
-
-/// The bytes of eight that are no digits, as bits.
-#[inline(always)]
-fn others(bytes: u8x8) -> u64
-    ensures { result ≡ mask_l (map is_no_digit bytes) }
-{
-    (bytes.simd_lt(u8x8::splat(b'0')) | bytes.simd_gt(u8x8::splat(b'9'))).to_bitmask()
-}
-
-/// The same as `digits_end`, a byte at a time.
-#[inline(always)]
-fn digits_end_slowly(text: &[u8], start: usize) -> usize
-    ensures after { start ≤ result }
-    ensures digits { (k : ℕ) → start ≤ k → k < result → IsInRange 48 57 (slice_index text.now k) }
-{
-    let mut end = start;
-    while end < text.len() && b'0' <= text[end] && text[end] <= b'9' {
+        number = number * 10 + u64::from(digit);
         end += 1;
     }
-    end
+    (end, number)
 }

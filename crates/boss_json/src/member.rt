@@ -1,7 +1,9 @@
 ghost use Rattle.std.specs.Prelude.{◌≡◌, bytes_eq, option_map, length};
 ghost use Rattle.json.specs.Find.{get_member};
 ghost use Rattle.json.specs.Value.{members_view, value_view};
+ghost use Rattle.boss_json.specs.Trees.{tree_json, trees_under};
 
+use crate::tree::Tree;
 use json::Value;
 
 /// What stands under a key of an object's members; of equal keys the last counts.
@@ -10,6 +12,25 @@ pub(crate) fn member_under<'v, 'a>(
     key: &str,
 ) -> Option<&'v Value<'a>>
     ensures { option_map (λ value. value_view value.now) result ≡ get_member key.now (members_view members.now.items) }
+{
+    let mut left = members.len();
+    while left > 0 {
+        left -= 1;
+        let member = &members[left];
+        if is_key(member.0.as_bytes(), key.as_bytes()) {
+            return Some(&member.1);
+        }
+    }
+    None
+}
+
+/// The same of the members of an object that is spelled compactly.
+#[inline(always)]
+pub(crate) fn bytes_under<'v, 'a>(
+    members: &'v [(&'a [u8], Tree<'a>)],
+    key: &[u8],
+) -> Option<&'v Tree<'a>>
+    ensures { option_map (λ tree. tree_json tree.now) result ≡ get_member key.now (trees_under members.now) }
 {
     let mut left = members.len();
     while left > 0 {
@@ -24,10 +45,10 @@ pub(crate) fn member_under<'v, 'a>(
 
 /// Whether a text is this key. Nearly all others show that by their length, or at one of their ends.
 #[inline(always)]
-fn is_key(text: &str, key: &str) -> bool
+fn is_key(text: &[u8], key: &[u8]) -> bool
     ensures { result ≡ bytes_eq text.now key.now }
 {
-    text.len() == key.len() && are_same(text.as_bytes(), key.as_bytes())
+    text.len() == key.len() && are_same(text, key)
 }
 
 /// Whether bytes are the same as others that are as many. Their ends are compared first, since most that differ do so there.

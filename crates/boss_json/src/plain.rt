@@ -27,8 +27,8 @@ impl JsonValue for Value {
         self.get(key)
     }
 
-    fn text(&self) -> Option<&str> {
-        self.as_str()
+    fn text(&self) -> Option<&[u8]> {
+        Some(self.as_str()?.as_bytes())
     }
 
     fn whole(&self) -> Option<i64> {

@@ -11,8 +11,8 @@ pub trait JsonValue: Sized {
     fn under(&self, key: &str) -> Option<&Self>
         ensures { option_map (λ value. meaning value.now) result ≡ get key.now (meaning self.now) };
 
-    /// The text, if this is one.
-    fn text(&self) -> Option<&str>
+    /// The bytes of the text, if this is one.
+    fn text(&self) -> Option<&[u8]>
         ensures { option_copied result ≡ as_str (meaning self.now) };
 
     /// The number, if this is a whole one that fits 64 bits with a sign; a fraction, an exponent and `-0` are none.

@@ -23,7 +23,7 @@ use def_wire::{Ask, Form, Op};
 use std::alloc::Global;
 
 /// What the text under `op` asks for.
-pub(crate) fn op_named(form: Form, text: &str) -> Option<Op>
+pub(crate) fn op_named(form: Form, text: &[u8]) -> Option<Op>
     ensures op { result ≡ op_named form text.now }
     ensures form { IfSome result (IsOpOf form) }
 {
@@ -34,32 +34,32 @@ pub(crate) fn op_named(form: Form, text: &str) -> Option<Op>
     }
 }
 
-fn script_op(text: &str) -> Option<Op>
+fn script_op(text: &[u8]) -> Option<Op>
     ensures op { result ≡ op_named Script text.now }
     ensures form { IfSome result (IsOpOf Script) }
 {
-    match text.as_bytes() {
+    match text {
         b"gone" => Some(Op::Gone),
         b"tick" => Some(Op::Tick),
         _ => common_op(text),
     }
 }
 
-fn first_op(text: &str) -> Option<Op>
+fn first_op(text: &[u8]) -> Option<Op>
     ensures op { result ≡ op_named FirstLine text.now }
     ensures form { IfSome result (IsOpOf FirstLine) }
 {
-    match text.as_bytes() {
+    match text {
         b"watch" => Some(Op::Watch),
         _ => common_op(text),
     }
 }
 
-fn common_op(text: &str) -> Option<Op>
+fn common_op(text: &[u8]) -> Option<Op>
     ensures op { result ≡ common_op text.now }
     ensures form { (form : Form) → IfSome result (IsOpOf form) }
 {
-    match text.as_bytes() {
+    match text {
         b"attach" => Some(Op::Attach),
         b"submit" => Some(Op::Submit),
         b"renew" => Some(Op::Renew),
@@ -72,7 +72,9 @@ fn common_op(text: &str) -> Option<Op>
     }
 }
 
-/// What an object asks.
+/// What an object asks. It is compiled into the reader of each kind of values, as what it calls for each line: a request is then made
+/// where it is told, and not passed on.
+#[inline(always)]
 pub(crate) fn ask_in<V: JsonValue>(
     alloc: Global,
     catalogue: &Catalogue,

@@ -11,9 +11,9 @@ use boss_model::{LAST_NUMBER, MOST_WRITES, Name, Policy, Step};
 /// The priority of a write that names none: the lowest (ASHRAE 135, clause 19.2).
 const DEFAULT_PRIORITY: i64 = 16;
 
-/// The text under a key.
+/// The bytes of the text under a key.
 #[inline(always)]
-pub(crate) fn text_under<'a, V: JsonValue>(value: &'a V, key: &str) -> Option<&'a str>
+pub(crate) fn text_under<'a, V: JsonValue>(value: &'a V, key: &str) -> Option<&'a [u8]>
     ensures { option_copied result ≡ under key.now as_str (V.meaning value.now) }
 {
     value.under(key)?.text()
@@ -112,7 +112,7 @@ fn name_spelled<V: JsonValue>(value: &V) -> Option<Name>
     ensures { result ≡ name (V.meaning value.now) }
 {
     let text = value.text()?;
-    Name::new(text.as_bytes())
+    Name::new(text)
 }
 
 /// The name of the process that a line is about.
@@ -149,8 +149,8 @@ fn policy_spelled<V: JsonValue>(value: &V) -> Option<Policy>
     ensures { result ≡ policy (V.meaning value.now) }
 {
     match value.text()? {
-        "abort" => Some(Policy::Abort),
-        "keep" => Some(Policy::Keep),
+        b"abort" => Some(Policy::Abort),
+        b"keep" => Some(Policy::Keep),
         _ => None,
     }
 }

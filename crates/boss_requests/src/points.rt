@@ -21,7 +21,7 @@ use std::alloc::Global;
 pub(crate) fn point_at(
     catalogue: &Catalogue,
     index: u32,
-    name: &str,
+    name: &[u8],
 ) -> Result<PointId, ReadRefusal>
     ensures point { Gives (λ point. point) result (point_at catalogue.now index name.now) }
     ensures known { IfOk result (λ point. point < length catalogue.now.points) }
@@ -34,13 +34,14 @@ pub(crate) fn point_at(
 
 /// The point of this name. The search stands apart: what it tells is a number, and no refusal has to be made room for.
 #[inline(never)]
-fn found(catalogue: &Catalogue, name: &str) -> Option<PointId>
+fn found(catalogue: &Catalogue, name: &[u8]) -> Option<PointId>
     ensures { result ≡ place_of catalogue.now name.now }
 {
-    catalogue.find(name.as_bytes())
+    catalogue.find(name)
 }
 
 /// The points that texts name.
+#[inline(always)]
 pub(crate) fn points_named<V: JsonValue>(
     alloc: Global,
     catalogue: &Catalogue,

@@ -6,7 +6,7 @@ ghost use Rattle.boss_requests.specs.Given.{Gives, IsOfForm, IsSession, MayAsk};
 
 use crate::ReadRefusal;
 use crate::request::request_in;
-use boss_json::{ValueReader, let_go};
+use boss_json::ValueReader;
 use boss_points::Catalogue;
 use def_wire::{Form, Request};
 use std::alloc::Global;
@@ -26,11 +26,13 @@ impl RequestReader {
     }
 }
 
-/// What a line asks, as `read_request` says. What the reader read before does not matter.
+/// What a line asks, as `read_request` says. What the reader read before does not matter. It is compiled apart, so that what it
+/// tells is moved once.
 ///
 /// # Errors
 ///
 /// Those of `read_request`.
+#[inline(never)]
 #[tactic(auto, using(crate::proofs::Values::told), unfolding(def_wire::specs::Requests::parsed))]
 pub fn read_by(
     alloc: Global,
@@ -45,8 +47,28 @@ pub fn read_by(
     ensures allowed { IfOk result (λ request. MayAsk (actuators catalogue.now) request.ask) }
     ensures watch { IfOk result (λ request. IsOfForm form request.ask) }
 {
+    if let Some(tree) = reader.values.read_compact(alloc, line) {
+        return request_in(alloc, catalogue, form, &tree);
+    }
+    read_otherwise(alloc, catalogue, line, form, reader)
+}
+
+/// The same of a line that is spelled otherwise than most.
+#[inline(never)]
+#[tactic(auto, using(crate::proofs::Values::told), unfolding(def_wire::specs::Requests::parsed))]
+fn read_otherwise(
+    alloc: Global,
+    catalogue: &Catalogue,
+    line: &[u8],
+    form: Form,
+    reader: &mut RequestReader,
+) -> Result<Request, ReadRefusal>
+    ensures request { Gives (λ request. request) result (parsed catalogue.now form line.now) }
+    ensures on { IfOk result (λ request. IsSession form request.on) }
+    ensures at { IfOk result (λ request. request.at ≤ last_moment) }
+    ensures allowed { IfOk result (λ request. MayAsk (actuators catalogue.now) request.ask) }
+    ensures watch { IfOk result (λ request. IsOfForm form request.ask) }
+{
     let value = reader.values.read(alloc, line)?;
-    let request = request_in(alloc, catalogue, form, &value);
-    let_go(value);
-    request
+    request_in(alloc, catalogue, form, &value)
 }

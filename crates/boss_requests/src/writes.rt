@@ -133,6 +133,7 @@ fn all_steps<V: JsonValue>(values: &[V]) -> bool
 }
 
 /// The reversion of a write.
+#[inline(always)]
 fn reversion_of<V: JsonValue>(alloc: Global, value: &V) -> Result<Items<Step>, ReadRefusal>
     ensures { Gives (λ steps. steps) result (formed (under_or (codes "revert") steps [] (V.meaning value.now))) }
 {

@@ -1,6 +1,6 @@
 use Rattle.std.proofs.Common.{◌+◌, sym, subst, arith}
 use lib.Count.{count_trailing_zeros}
-use Rattle.json.specs.Written.{PlainBetween}
+use Rattle.boss_json.specs.Compact.{CompactBetween}
 use Rattle.boss_json.proofs.Stops.{plain_to_stop, plain_through, plain_on}
 use Rattle.boss_json.proofs.compact.plain_end.Goals as goal
 
@@ -10,7 +10,7 @@ returns-then-stops-ne0-clause-plain c =
     let end = c.loop-end.end in
     let stops = c.stops-stops in
     let next = plain_to_stop d end 8 (omega arith) (omega arith) (omega (arith, stops.ensures)) in
-    plain_on d c.args.start end _ c.loop-end.invariant.plain (subst (λ m. PlainBetween d end (end + count_trailing_zeros 64 m)) (sym stops.ensures) next)
+    plain_on d c.args.start end _ c.loop-end.invariant.plain (subst (λ m. CompactBetween d end (end + count_trailing_zeros 64 m)) (sym stops.ensures) next)
 
 pub loop-end-preserved : goal.loop-end-preserved
 loop-end-preserved c =

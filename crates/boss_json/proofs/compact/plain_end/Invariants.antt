@@ -1,12 +1,12 @@
 use Rattle.std.proofs.Common.{◌-◌, ◌≤◌, length}
-use Rattle.json.specs.Written.{PlainBetween}
+use Rattle.boss_json.specs.Compact.{CompactBetween}
 use Rattle.boss_json.proofs.compact.plain_end.Given as goal
 
 abbrev pub invariant-loop-end : goal.invariant-loop-end
 invariant-loop-end l = record {
   after : l.start ≤ l.end;
   within : l.end ≤ length l.text;
-  plain : PlainBetween l.text l.start l.end;
+  plain : CompactBetween l.text l.start l.end;
 }
 
 abbrev pub decreases-loop-end : goal.decreases-loop-end

@@ -1,33 +1,14 @@
-use Rattle.std.proofs.Common.{◌≡◌, ◌+◌, ◌-◌, [], ◌∷◌, ◌++◌, take, Bool, true, false, cond, Some, sym, ap, ◌∙◌, arith}
-use Rattle.std.proofs.lemmas.List.{take_more}
-use Rattle.std.specs.Str.{bytes_eq}
-use Rattle.json.specs.Find.{get_member}
-use Rattle.json.specs.Value.{value_view, members_view}
-use Rattle.json.proofs.Trees.{get_member-push}
+use Rattle.std.proofs.Common.{◌≡◌, bytes_eq, true, false, sym, ap₂, ◌∙◌, arith}
+use Rattle.json.specs.Value.{value_view}
+use Rattle.boss_json.proofs.Members.{last_of}
 use Rattle.boss_json.proofs.member.member_under.Goals as goal
 
 pub returns-then-is_key : goal.returns-then-is_key
 returns-then-is_key c =
-    let members = c.args.members.now.items in
-    let place = c.loop-left.left - 1 in
-    let member = c.index-member.result.now in
-    let key = c.args.key.now in
-    let next : c.loop-left.left ≡ place + 1 = omega arith in
-    let front : take c.loop-left.left members ≡ take place members ++ member ∷ [] = ap (λ k. take k members) next ∙ take_more members place member (omega arith) ∙ ap (λ last. take place members ++ last ∷ []) (sym c.index-member.ensures) in
-    let seen = c.loop-left.invariant.0 ∙ ap (λ some. get_member key (members_view some)) front ∙ get_member-push key (take place members) member in
-    let pick = λ (same : Bool). cond same (Some (value_view member.1)) (get_member key (members_view (take place members))) in
-    let same : bytes_eq member.0.now key ≡ true = sym c.is_key.ensures ∙ c.if-is_key.true in
-    sym (seen ∙ ap pick same)
+    let same : bytes_eq c.index-member.result.now.0.now c.args.key.now ≡ true = ap₂ bytes_eq (sym c.as_bytes.ensures.value) (sym c.as_bytes-in-loop-left.ensures.value) ∙ sym c.is_key.ensures ∙ c.if-is_key.true in
+    sym (c.loop-left.invariant.0 ∙ last_of value_view c.args.key.now c.args.members.now.items c.loop-left.left _ c.index-member.result.now true c.loop-left-test.true c.loop-left.invariant.1 c.index-member.ensures same)
 
 pub loop-left-preserved : goal.loop-left-preserved
 loop-left-preserved c =
-    let members = c.args.members.now.items in
-    let place = c.loop-left.left - 1 in
-    let member = c.index-member.result.now in
-    let key = c.args.key.now in
-    let next : c.loop-left.left ≡ place + 1 = omega arith in
-    let front : take c.loop-left.left members ≡ take place members ++ member ∷ [] = ap (λ k. take k members) next ∙ take_more members place member (omega arith) ∙ ap (λ last. take place members ++ last ∷ []) (sym c.index-member.ensures) in
-    let seen = c.loop-left.invariant.0 ∙ ap (λ some. get_member key (members_view some)) front ∙ get_member-push key (take place members) member in
-    let pick = λ (same : Bool). cond same (Some (value_view member.1)) (get_member key (members_view (take place members))) in
-    let other : bytes_eq member.0.now key ≡ false = sym c.is_key.ensures ∙ c.if-is_key.false in
-    (seen ∙ ap pick other, omega arith)
+    let other : bytes_eq c.index-member.result.now.0.now c.args.key.now ≡ false = ap₂ bytes_eq (sym c.as_bytes.ensures.value) (sym c.as_bytes-in-loop-left.ensures.value) ∙ sym c.is_key.ensures ∙ c.if-is_key.false in
+    (c.loop-left.invariant.0 ∙ last_of value_view c.args.key.now c.args.members.now.items c.loop-left.left _ c.index-member.result.now false c.loop-left-test.true c.loop-left.invariant.1 c.index-member.ensures other, omega arith)

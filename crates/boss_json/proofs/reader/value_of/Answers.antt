@@ -16,6 +16,3 @@ returns c =
     let none : c.read.new.reader ≡ [] = search rules in
     let read = rw (c.in-Ok.ensures.ok, none) at c.in-Ok-read.ensures.ok in
     value_in-text c.args.text.now (view c.in-Ok-read.value) c.utf8.text (read-value c.args.text.now (value_view c.in-Ok-read.value) read (sym c.all_in_range.ensures ∙ c.if-not-all_in_range.false))
-
-pub returns-in-Some : goal.returns-in-Some
-returns-in-Some c = value_in-text c.args.text.now (view c.in-Some.value) c.utf8.text c.in-Some.ensures
