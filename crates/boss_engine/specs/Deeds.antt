@@ -12,11 +12,15 @@ use Rattle.boss_model.specs.Limits.{last_moment}
 use Rattle.boss_model.specs.Sound.{IsAllowed, IsSound}
 use Rattle.boss_model.specs.State.{State}
 use Rattle.boss_model.specs.Time.{moment_of}
+use Rattle.def_history.specs.declared.outcome.Outcome.{Outcome}
+use Rattle.def_history.specs.declared.outcome.Outcome.TheVariants.{Done, NoMemory}
 use Rattle.boss_persistent.specs.Lasting.{persistent_of}
 use Rattle.boss_engine.specs.declared.done.Deed.{Deed}
 use Rattle.boss_engine.specs.declared.machine.Machine.{Machine}
 use Rattle.boss_engine.specs.declared.reply.Reply.{Reply}
 use Rattle.boss_engine.specs.Inside.{HasPlaces, state_of}
+use Rattle.boss_engine.specs.Ready.{MayNeedMemory}
+use Rattle.boss_engine.specs.Running.{Running}
 use Rattle.boss_engine.specs.Replies.{IsTellable, is_told_apart, told}
 use Rattle.boss_engine.specs.Settling.{AreCurrent}
 
@@ -75,3 +79,10 @@ pub record IsTold (plant : List Actuator) (session : ℕ) (command : Command) (m
   pub answer : given ≡ (step plant session command moment from).answer
   pub effect : did ≡ step_effect plant session command moment from
   pub state : to ≡ (step plant session command moment from).state
+
+-- what an outcome says of an engine: the step was done and told, or there was no memory, and nothing has changed
+abbrev pub CameTo : ℕ → Command → ℕ → Running → Running → Effect → Effect → Outcome → Type 0
+CameTo session command moment old new before did (Done answer) = IsTold old.plant session command moment old.state new.state answer did
+CameTo session command moment old new before did NoMemory =
+    (new ≡ old) × (did ≡ before) × MayNeedMemory old.plant session command old.state
+CameTo session command moment old new before did other = ⊥

@@ -112,6 +112,7 @@ impl Machine {
     }
 
     /// The leases of a new transaction take their slots. `seq` is the number of the request, 0 for none.
+    #[inline(always)]
     pub fn submit(&mut self, seq: u64, n: u64, ready: Ready) -> Done
         requires moment { (self.old.lasting.holdings.now ≤ n) × (n ≤ last_moment) }
         requires ready { (plant : List Actuator) × CanAct plant self.old × (session : ℕ) × (writes : List Setting) × (policy : Policy) × (1 ≤ length writes) × IsReadyToSubmit plant (process_of self.old.attached.items session) writes policy seq n ready (state_of self.old) }

@@ -14,9 +14,10 @@ ghost use Rattle.boss_model.specs.Seen.{seen};
 ghost use Rattle.boss_model.specs.Settle.{first_state, opened};
 ghost use Rattle.boss_model.specs.Sound.{IsAllowed, IsSound, IsSoundPersistent};
 ghost use Rattle.boss_points.specs.Seen.{seen as seen_point};
+ghost use Rattle.def_history.specs.declared.outcome.Outcome.TheVariants as outcome;
 ghost use Rattle.law_spelling.specs.Ranges.{IsSpelled};
 ghost use Rattle.boss_engine.specs.Again.{TakesOn};
-ghost use Rattle.boss_engine.specs.Deeds.{is_a_drivers, is_answered_apart, IsStep, IsTold, takes_memory};
+ghost use Rattle.boss_engine.specs.Deeds.{is_a_drivers, is_answered_apart, CameTo, IsStep, takes_memory};
 ghost use Rattle.boss_engine.specs.Ready.{MayNeedMemory};
 ghost use Rattle.boss_engine.specs.Replies.{IsTellable, told};
 ghost use Rattle.boss_engine.specs.declared.restoring.RestoreRefusal.TheVariants as refusal;
@@ -25,6 +26,7 @@ use crate::machine::Machine;
 use crate::reply::{Reading, Reply, answer_of_reading, answer_of_want};
 use crate::restoring::RestoreRefusal;
 use crate::room::Room;
+use boss_marks::Want;
 use boss_model::{
     Acceptance, Actuator, Answer, Command, DriverId, Effect, Event, Kept, Name, NoMemory, PointId,
     Refusal, SessionId, Txn,
@@ -32,6 +34,7 @@ use boss_model::{
 use boss_persistent::Decision;
 use boss_points::{Catalogue, Point};
 use boss_state_check::is_sound;
+use def_history::Outcome;
 use std::alloc::Global;
 use std::marker::Model;
 
@@ -206,12 +209,36 @@ impl Engine {
         ensures err { OnErr result (self.new ≡ self.old) }
         ensures memory { OnErr result (MayNeedMemory self.old.plant session command.now self.old.state) }
     {
+        let mut effect = Effect::Unchanged;
+        match self.step_done(session, command, moment, &mut effect) {
+            Outcome::Done { answer } => Ok((answer, effect)),
+            Outcome::NoMemory => Err(NoMemory),
+            Outcome::Stopped | Outcome::DiskFault | Outcome::Denied { .. } => unreachable!(),
+        }
+    }
+
+    /// The same, as an outcome: done, or no memory, and then nothing has changed. What the step did is put into `effect`. An answer
+    /// has room for sixteen slots: the outcome is made where it is handed out, so that it is moved once.
+    #[inline(always)]
+    pub fn step_done(
+        &mut self,
+        session: SessionId,
+        command: &Command,
+        moment: u64,
+        effect: &mut Effect,
+    ) -> Outcome
+        requires moment { moment ≤ last_moment }
+        requires allowed { IsAllowed self.old.plant command.now }
+        ensures came { CameTo session command.now moment self.old self.new effect.old effect.new result }
+        ensures sound { IsSound self.new.plant self.new.state }
+        ensures plant { self.new.plant ≡ self.old.plant }
+    {
         match command {
             Command::Next { .. } | Command::Report { .. } => {
-                self.serve(session, command, moment)
+                self.serve(session, command, moment, effect)
             }
             Command::Array { .. } | Command::Status { .. } | Command::Notices { .. } => {
-                self.tell(session, command, moment)
+                self.tell(session, command, moment, effect)
             }
             Command::Attach { .. }
             | Command::Submit { .. }
@@ -219,7 +246,7 @@ impl Engine {
             | Command::Cancel { .. }
             | Command::Gone
             | Command::Tick
-            | Command::Read { .. } => self.answer(session, command, moment),
+            | Command::Read { .. } => self.answer(session, command, moment, effect),
         }
     }
 
@@ -231,21 +258,22 @@ impl Engine {
         session: SessionId,
         command: &Command,
         moment: u64,
-    ) -> Result<(Answer, Effect), NoMemory>
+        effect: &mut Effect,
+    ) -> Outcome
         requires moment { moment ≤ last_moment }
         requires allowed { IsAllowed self.old.plant command.now }
         requires driver { is_a_drivers command.now ≡ true }
-        ensures did { IfOk result (λ did. IsTold self.old.plant session command.now moment self.old.state self.new.state did.0 did.1) }
+        ensures came { CameTo session command.now moment self.old self.new effect.old effect.new result }
         ensures sound { IsSound self.new.plant self.new.state }
         ensures plant { self.new.plant ≡ self.old.plant }
-        ensures ok { OnErr result ⊥ }
     {
-        let (reply, effect) = self.hear(session, command, moment);
+        let (reply, did) = self.hear(session, command, moment);
+        *effect = did;
         match reply {
-            Reply::Want(want) => return Ok((answer_of_want(want), effect)),
-            Reply::Nothing => return Ok((Answer::Nothing, effect)),
-            Reply::Noted { current } => return Ok((Answer::Noted { current }, effect)),
-            other => return self.look_up(other, effect),
+            Reply::Want(want) => return wanted(want),
+            Reply::Nothing => return nothing(),
+            Reply::Noted { current } => return noted(current),
+            other => return self.look_up(other),
         }
     }
 
@@ -284,52 +312,56 @@ impl Engine {
         session: SessionId,
         command: &Command,
         moment: u64,
-    ) -> Result<(Answer, Effect), NoMemory>
+        effect: &mut Effect,
+    ) -> Outcome
         requires moment { moment ≤ last_moment }
         requires allowed { IsAllowed self.old.plant command.now }
-        ensures did { IfOk result (λ did. IsTold self.old.plant session command.now moment self.old.state self.new.state did.0 did.1) }
+        ensures came { CameTo session command.now moment self.old self.new effect.old effect.new result }
         ensures sound { IsSound self.new.plant self.new.state }
         ensures plant { self.new.plant ≡ self.old.plant }
-        ensures err { OnErr result (self.new ≡ self.old) }
-        ensures memory { OnErr result (MayNeedMemory self.old.plant session command.now self.old.state) }
     {
-        let (reply, effect) = self.carry_out(session, command, moment)?;
-        self.look_up(reply, effect)
+        let Ok((reply, did)) = self.carry_out(session, command, moment) else {
+            return no_memory();
+        };
+        *effect = did;
+        self.look_up(reply)
     }
 
-    /// The same of a command whose answer needs no looking up. An answer has room for sixteen slots: each is made where it is handed
-    /// out, so that it is moved once.
+    /// The same of a command whose answer needs no looking up. The outcome of each kind is made in a function of its own, so that
+    /// no room is cleared for the others.
     #[inline(never)]
     fn answer(
         &mut self,
         session: SessionId,
         command: &Command,
         moment: u64,
-    ) -> Result<(Answer, Effect), NoMemory>
+        effect: &mut Effect,
+    ) -> Outcome
         requires moment { moment ≤ last_moment }
         requires allowed { IsAllowed self.old.plant command.now }
         requires apart { is_answered_apart command.now ≡ false }
-        ensures did { IfOk result (λ did. IsTold self.old.plant session command.now moment self.old.state self.new.state did.0 did.1) }
+        ensures came { CameTo session command.now moment self.old self.new effect.old effect.new result }
         ensures sound { IsSound self.new.plant self.new.state }
         ensures plant { self.new.plant ≡ self.old.plant }
-        ensures err { OnErr result (self.new ≡ self.old) }
-        ensures memory { OnErr result (MayNeedMemory self.old.plant session command.now self.old.state) }
     {
-        let (reply, effect) = self.carry_out(session, command, moment)?;
+        let Ok((reply, did)) = self.carry_out(session, command, moment) else {
+            return no_memory();
+        };
+        *effect = did;
         match reply {
             Reply::Decided(decision) => match decision {
                 Decision::Again(acceptance) => match acceptance {
-                    Acceptance::Accepted { txn, until } => return accepted(txn, until, effect),
-                    Acceptance::Renewed { txn, until } => return renewed(txn, until, effect),
-                    Acceptance::Cancelled { txn, at } => return cancelled(txn, at, effect),
+                    Acceptance::Accepted { txn, until } => return accepted(txn, until),
+                    Acceptance::Renewed { txn, until } => return renewed(txn, until),
+                    Acceptance::Cancelled { txn, at } => return cancelled(txn, at),
                 },
-                Decision::Stale { kept } => return refused(Refusal::Stale { kept }, effect),
+                Decision::Stale { kept } => return refused(Refusal::Stale { kept }),
             },
-            Reply::Read(reading) => return read(reading, effect),
-            Reply::Ticked { now } => return ticked(now, effect),
-            Reply::Refused(why) => return refused(why, effect),
-            Reply::Attached { name, next } => return attached(name, next, effect),
-            Reply::Gone { ended } => return gone(ended, effect),
+            Reply::Read(reading) => return read(reading),
+            Reply::Ticked { now } => return ticked(now),
+            Reply::Refused(why) => return refused(why),
+            Reply::Attached { name, next } => return attached(name, next),
+            Reply::Gone { ended } => return gone(ended),
             _ => unreachable!(),
         }
     }
@@ -366,13 +398,15 @@ impl Engine {
         }
     }
 
-    /// What is handed out for a reply whose answer is looked up. It is made out of the way of those who need none of its kind.
+    /// What a reply comes to whose answer is looked up. It is made out of the way of those who need none of its kind.
     #[inline(always)]
-    fn look_up(&self, reply: Reply, effect: Effect) -> Result<(Answer, Effect), NoMemory>
+    fn look_up(&self, reply: Reply) -> Outcome
         requires { IsTellable self.now.plant self.now.state.persistent reply }
-        ensures { result ≡ Ok (told self.now.state.persistent reply, effect) }
+        ensures { result ≡ outcome.Done (told self.now.state.persistent reply) }
     {
-        Ok((self.machine.answer(reply), effect))
+        Outcome::Done {
+            answer: self.machine.answer(reply),
+        }
     }
 
     /// A driver asks for its first want.
@@ -529,66 +563,120 @@ fn actuator_of(point: &Point) -> Actuator
     }
 }
 
-/// What is handed out where a session came to hold a process.
+/// What comes of it where there is no memory.
 #[inline(always)]
-fn attached(name: Name, next: u64, effect: Effect) -> Result<(Answer, Effect), NoMemory>
-    ensures { result ≡ Ok (answer.Attached name next, effect) }
+fn no_memory() -> Outcome
+    ensures { result ≡ outcome.NoMemory }
 {
-    Ok((Answer::Attached { name, next }, effect))
+    Outcome::NoMemory
 }
 
-/// What is handed out of a submit that was accepted.
+/// What comes of it where a session came to hold a process.
 #[inline(always)]
-fn accepted(txn: Txn, until: u64, effect: Effect) -> Result<(Answer, Effect), NoMemory>
-    ensures { result ≡ Ok (answer.Accepted txn until, effect) }
+fn attached(name: Name, next: u64) -> Outcome
+    ensures { result ≡ outcome.Done (answer.Attached name next) }
 {
-    Ok((Answer::Accepted { txn, until }, effect))
+    Outcome::Done {
+        answer: Answer::Attached { name, next },
+    }
 }
 
-/// What is handed out of a renewal that was accepted.
+/// What comes of a submit that was accepted.
 #[inline(always)]
-fn renewed(txn: Txn, until: u64, effect: Effect) -> Result<(Answer, Effect), NoMemory>
-    ensures { result ≡ Ok (answer.Renewed txn until, effect) }
+fn accepted(txn: Txn, until: u64) -> Outcome
+    ensures { result ≡ outcome.Done (answer.Accepted txn until) }
 {
-    Ok((Answer::Renewed { txn, until }, effect))
+    Outcome::Done {
+        answer: Answer::Accepted { txn, until },
+    }
 }
 
-/// What is handed out of a cancel that was accepted.
+/// What comes of a renewal that was accepted.
 #[inline(always)]
-fn cancelled(txn: Txn, at: u64, effect: Effect) -> Result<(Answer, Effect), NoMemory>
-    ensures { result ≡ Ok (answer.Cancelled txn at, effect) }
+fn renewed(txn: Txn, until: u64) -> Outcome
+    ensures { result ≡ outcome.Done (answer.Renewed txn until) }
 {
-    Ok((Answer::Cancelled { txn, at }, effect))
+    Outcome::Done {
+        answer: Answer::Renewed { txn, until },
+    }
 }
 
-/// What is handed out where a process was lost.
+/// What comes of a cancel that was accepted.
 #[inline(always)]
-fn gone(ended: u64, effect: Effect) -> Result<(Answer, Effect), NoMemory>
-    ensures { result ≡ Ok (answer.Gone ended, effect) }
+fn cancelled(txn: Txn, at: u64) -> Outcome
+    ensures { result ≡ outcome.Done (answer.Cancelled txn at) }
 {
-    Ok((Answer::Gone { ended }, effect))
+    Outcome::Done {
+        answer: Answer::Cancelled { txn, at },
+    }
 }
 
-/// What is handed out where a point was read.
+/// What comes of it where a process was lost.
 #[inline(always)]
-fn read(reading: Reading, effect: Effect) -> Result<(Answer, Effect), NoMemory>
-    ensures { result ≡ Ok (answer.Reading reading.point reading.value reading.basis reading.mark, effect) }
+fn gone(ended: u64) -> Outcome
+    ensures { result ≡ outcome.Done (answer.Gone ended) }
 {
-    Ok((answer_of_reading(reading), effect))
+    Outcome::Done {
+        answer: Answer::Gone { ended },
+    }
 }
 
-/// What is handed out where time passed.
+/// What comes of it where a point was read.
 #[inline(always)]
-fn ticked(now: u64, effect: Effect) -> Result<(Answer, Effect), NoMemory>
-    ensures { result ≡ Ok (answer.Ticked now, effect) }
+fn read(reading: Reading) -> Outcome
+    ensures { result ≡ outcome.Done (answer.Reading reading.point reading.value reading.basis reading.mark) }
 {
-    Ok((Answer::Ticked { now }, effect))
+    Outcome::Done {
+        answer: answer_of_reading(reading),
+    }
 }
 
-/// What is handed out of a refusal.
+/// What comes of it where time passed.
 #[inline(always)]
-fn refused(why: Refusal, effect: Effect) -> Result<(Answer, Effect), NoMemory>
-    ensures { result ≡ Ok (answer.Refused why, effect) }
+fn ticked(now: u64) -> Outcome
+    ensures { result ≡ outcome.Done (answer.Ticked now) }
 {
-    Ok((Answer::Refused(why), effect))
+    Outcome::Done {
+        answer: Answer::Ticked { now },
+    }
+}
+
+/// What comes of it where a driver has this want.
+#[inline(always)]
+fn wanted(want: Want) -> Outcome
+    ensures { result ≡ outcome.Done (answer.Want want.point want.version want.value) }
+{
+    Outcome::Done {
+        answer: answer_of_want(want),
+    }
+}
+
+/// What comes of it where a driver has no want.
+#[inline(always)]
+fn nothing() -> Outcome
+    ensures { result ≡ outcome.Done answer.Nothing }
+{
+    Outcome::Done {
+        answer: Answer::Nothing,
+    }
+}
+
+/// What comes of a report that was heard.
+#[inline(always)]
+fn noted(current: bool) -> Outcome
+    ensures { result ≡ outcome.Done (answer.Noted current) }
+{
+    Outcome::Done {
+        answer: Answer::Noted { current },
+    }
+}
+
+/// What comes of a refusal.
+#[inline(always)]
+fn refused(why: Refusal) -> Outcome
+    ensures { result ≡ outcome.Done (answer.Refused why) }
+{
+    Outcome::Done {
+        answer: Answer::Refused(why),
+    }
 }

@@ -10,8 +10,7 @@ use Rattle.def_history.specs.Made.{done_by}
 use Rattle.def_history.proofs.Going.{events_append, legal_append, run_append}
 use Rattle.boss_shared.specs.declared.asked.Asked.{Asked}
 use Rattle.boss_shared.specs.Together.{IsReplied}
-use Rattle.boss_shared.proofs.Along.{all_more}
-use Rattle.boss_shared.proofs.Together.{answered, answered_append, answered_whole, IsFine}
+use Rattle.boss_shared.proofs.Together.{all_more, answered, answered_append, answered_whole, IsFine}
 use Rattle.boss_memory_keeper.proofs.Steps.{count_more}
 
 -- these callers' commands were done, and the machine is as they left it

@@ -16,7 +16,7 @@ use boss_shared::Asked;
 use def_history::{Outcome, Outcomes};
 
 /// How many events there are behind a step that did this, where there were so many before it.
-fn events_behind(events: u64, effect: &Effect) -> u64
+pub fn events_behind(events: u64, effect: &Effect) -> u64
     requires { events ≤ last_number }
     ensures count { (command : Command) → result ≡ min (events + length (if_event (event_of command effect.now) [])) last_number }
     ensures few { result ≤ last_number }
@@ -27,9 +27,8 @@ fn events_behind(events: u64, effect: &Effect) -> u64
     }
 }
 
-/// Does a command, and counts its event. It is compiled into its caller, who mostly knows which command it gives.
-#[inline(always)]
-pub fn step_counted(
+/// Does a command, and counts its event.
+fn step_counted(
     engine: &mut Engine,
     count: &mut u64,
     session: SessionId,

@@ -4,9 +4,9 @@ ghost use Rattle.boss_model.specs.Limits.{last_number};
 ghost use Rattle.boss_model.specs.Settle.{first_state};
 ghost use Rattle.boss_model.specs.Sound.{IsSound};
 
-use crate::stepping::{step_all, step_counted, step_together};
+use crate::stepping::{events_behind, step_all, step_together};
 use boss_engine::Engine;
-use boss_model::{Answer, Command, DriverId, Items, NoMemory, SessionId};
+use boss_model::{Answer, Command, DriverId, Effect, Items, NoMemory, SessionId};
 use boss_points::Catalogue;
 use boss_shared::{Asked, Keeper};
 use def_history::{Outcome, Outcomes};
@@ -75,10 +75,10 @@ impl Keeper for Unkept {
 
     #[inline(always)]
     fn apply(&mut self, session: SessionId, command: &Command, moment: u64) -> Outcome {
-        match step_counted(&mut self.engine, &mut self.events, session, command, moment) {
-            Ok(answer) => Outcome::Done { answer },
-            Err(NoMemory) => Outcome::NoMemory,
-        }
+        let mut effect = Effect::Unchanged;
+        let outcome = self.engine.step_done(session, command, moment, &mut effect);
+        self.events = events_behind(self.events, &effect);
+        outcome
     }
 
     fn apply_all(

@@ -166,7 +166,8 @@ fn take_line<V: Keeper, K: Sink, A: Actuators>(
         tell_stopped(sink)?;
         return Ok(());
     }
-    match read_by(alloc, catalogue, line, Form::Script, requests) {
+    let read = read_by(alloc, catalogue, line, Form::Script, requests);
+    match &read {
         Ok(request) => match &request.ask {
             Ask::Command(command) => answer(
                 catalogue, keeper, request.on, command, request.at, text, sink, devices,
@@ -174,7 +175,7 @@ fn take_line<V: Keeper, K: Sink, A: Actuators>(
             Ask::Watch { .. } => unreachable!(),
         },
         Err(ReadRefusal::Refused(refusal)) => {
-            tell_refusal(&refusal, text, sink)?;
+            tell_refusal(refusal, text, sink)?;
             Ok(())
         }
         Err(ReadRefusal::NoMemory) => Err(Broken::NoMemory),
@@ -214,9 +215,10 @@ fn answer<V: Keeper, K: Sink, A: Actuators>(
         (trace ⟦<K as Sink>⟧ ⟦<A as Actuators>⟧ sink.old devices.old.items)
         (trace ⟦<K as Sink>⟧ ⟦<A as Actuators>⟧ sink.new devices.new.items)) }
 {
-    match keeper.apply(session, command, moment) {
+    let outcome = keeper.apply(session, command, moment);
+    match &outcome {
         Outcome::Done { answer } => {
-            tell_answer(catalogue, &answer, text, sink)?;
+            tell_answer(catalogue, answer, text, sink)?;
             drain(catalogue, keeper, moment, text, sink, devices)?;
             Ok(())
         }

@@ -44,18 +44,18 @@ returns-in_err-tell_refusal-in-Err-Refused-clause-broke g c = on-err c.from_resi
   broke = λ tells start is.
       broke-refusal c.args.catalogue.now c.args.line.now (not-long c.args.line.now c.requires.line) start (sym c.is_blank.ensures ∙ c.if-is_blank.false)
       (trace g.K.Sink g.A.Actuators c.args.sink.now c.args.devices.now.items) (g.K.Sink.taken c.tell_refusal.new.sink)
-      (sym is.stopped ∙ sym c.has_stopped.ensures ∙ c.if-has_stopped.false) c.in-Err-Refused.refusal (rw c.in-Err-Refused.field-0-is at c.in-Err-Refused.ensures.request)
+      (sym is.stopped ∙ sym c.has_stopped.ensures ∙ c.if-has_stopped.false) c.in-Err-Refused.refusal (rw (c.in-Err-Refused.is, rw c.in-Err-Refused.is at c.in-Err-Refused.field-0-is) at c.read_by-read.ensures.request)
       (c.in_err-tell_refusal-in-Err-Refused.ensures.bytes tells);
 })
 
-pub returns-in_ok-tell_refusal-in-Err-Refused-clause-did : goal.returns-in_ok-tell_refusal-in-Err-Refused-clause-did
-returns-in_ok-tell_refusal-in-Err-Refused-clause-did g c = record {
+pub returns-in-Err-Refused-clause-did : goal.returns-in-Err-Refused-clause-did
+returns-in-Err-Refused-clause-did g c = record {
   entries = [];
   kept = kept-nothing g.V.Keeper c.args.keeper.now;
   did = λ tells start is.
       did-refusal c.args.catalogue.now c.args.line.now (not-long c.args.line.now c.requires.line) start (sym c.is_blank.ensures ∙ c.if-is_blank.false)
       (trace g.K.Sink g.A.Actuators c.args.sink.now c.args.devices.now.items) (g.K.Sink.taken c.tell_refusal.new.sink)
-      (sym is.stopped ∙ sym c.has_stopped.ensures ∙ c.if-has_stopped.false) c.in-Err-Refused.refusal (rw c.in-Err-Refused.field-0-is at c.in-Err-Refused.ensures.request)
+      (sym is.stopped ∙ sym c.has_stopped.ensures ∙ c.if-has_stopped.false) c.in-Err-Refused.refusal (rw (c.in-Err-Refused.is, rw c.in-Err-Refused.is at c.in-Err-Refused.field-0-is) at c.read_by-read.ensures.request)
       (c.in_ok-tell_refusal-in-Err-Refused.ensures.bytes tells);
 }
 
@@ -65,7 +65,7 @@ returns-in-Command-clause-did g c = ok-then c.answer.result _ _ (λ went. record
   kept = went.kept;
   did = λ tells start is.
       did-request c.args.catalogue.now c.args.line.now (not-long c.args.line.now c.requires.line) start (sym c.is_blank.ensures ∙ c.if-is_blank.false)
-      (sym is.stopped ∙ sym c.has_stopped.ensures ∙ c.if-has_stopped.false) c.in-Ok.request c.in-Command.command c.in-Command.is c.in-Ok.ensures.request (went.did tells start is);
+      (sym is.stopped ∙ sym c.has_stopped.ensures ∙ c.if-has_stopped.false) c.in-Ok.request c.in-Command.command c.in-Command.is (rw c.in-Ok.is at c.read_by-read.ensures.request) (went.did tells start is);
 }) c.answer.ensures.did
 
 pub returns-in-Command-clause-broke : goal.returns-in-Command-clause-broke
@@ -74,10 +74,10 @@ returns-in-Command-clause-broke g c = err-then c.answer.result _ _ (λ broke. re
   kept = broke.kept;
   broke = λ tells start is.
       broke-request c.args.catalogue.now c.args.line.now (not-long c.args.line.now c.requires.line) start (sym c.is_blank.ensures ∙ c.if-is_blank.false)
-      (sym is.stopped ∙ sym c.has_stopped.ensures ∙ c.if-has_stopped.false) c.in-Ok.request c.in-Command.command c.in-Command.is c.in-Ok.ensures.request (broke.broke tells start is);
+      (sym is.stopped ∙ sym c.has_stopped.ensures ∙ c.if-has_stopped.false) c.in-Ok.request c.in-Command.command c.in-Command.is (rw c.in-Ok.is at c.read_by-read.ensures.request) (broke.broke tells start is);
 }) c.answer.ensures.broke
 
-pub returns-in-Err-NoMemory-clause-broke : goal.returns-in-Err-NoMemory-clause-broke
-returns-in-Err-NoMemory-clause-broke g c =
+pub returns-clause-broke : goal.returns-clause-broke
+returns-clause-broke g c =
     broke-off-nothing g.V.Keeper (line_taken c.args.catalogue.now c.args.line.now) c.args.keeper.now (trace g.K.Sink g.A.Actuators c.args.sink.now c.args.devices.now.items)
     (line-covers c.args.catalogue.now c.args.line.now)
