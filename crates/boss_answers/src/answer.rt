@@ -73,6 +73,7 @@ fn put_attached(into: &mut Buffer, name: &Name, next: u64)
 }
 
 /// A transaction behind its key, and the least moment at which one of its leases ends.
+#[inline(always)]
 fn put_until(into: &mut Buffer, key: &[u8], txn: Txn, until: u64)
     requires short { length key.now ≤ 32 }
     requires room { HasRoom 96 into.old }

@@ -6,7 +6,9 @@ ghost use Rattle.boss_answers.specs.Room.{HasRoom, PutsAtMost};
 use boss_model::{Basis, Buffer, Cause, Mark, Name, PointId, Priority, Stage, Txn};
 use boss_points::Catalogue;
 
-/// A number behind its key.
+/// A number behind its key. It is compiled into its callers, as all here that write behind a key: the key is known there, and so
+/// is moved without a call.
+#[inline(always)]
 pub(crate) fn write_number(into: &mut Buffer, key: &[u8], number: u64)
     requires { HasRoom (length key.now + 20) into.old }
     ensures { PutsAtMost (length key.now + 20) into.old into.new (key.now ++ decimal number) }
@@ -17,6 +19,7 @@ pub(crate) fn write_number(into: &mut Buffer, key: &[u8], number: u64)
 }
 
 /// The number that ends an object, behind its key.
+#[inline(always)]
 pub(crate) fn write_last(into: &mut Buffer, key: &[u8], number: u64)
     requires { HasRoom (length key.now + 21) into.old }
     ensures { PutsAtMost (length key.now + 21) into.old into.new (key.now ++ decimal number ++ codes "}") }
@@ -26,6 +29,7 @@ pub(crate) fn write_last(into: &mut Buffer, key: &[u8], number: u64)
 }
 
 /// A transaction behind its key.
+#[inline(always)]
 pub(crate) fn write_txn(into: &mut Buffer, key: &[u8], txn: Txn)
     requires { HasRoom (length key.now + 20) into.old }
     ensures { PutsAtMost (length key.now + 20) into.old into.new (key.now ++ decimal txn) }
@@ -34,6 +38,7 @@ pub(crate) fn write_txn(into: &mut Buffer, key: &[u8], txn: Txn)
 }
 
 /// A number that may be negative, behind its key.
+#[inline(always)]
 pub(crate) fn write_signed(into: &mut Buffer, key: &[u8], number: i64)
     requires { HasRoom (length key.now + 20) into.old }
     ensures { PutsAtMost (length key.now + 20) into.old into.new (key.now ++ signed_decimal number) }
@@ -44,6 +49,7 @@ pub(crate) fn write_signed(into: &mut Buffer, key: &[u8], number: i64)
 }
 
 /// A name in quotes, behind its key.
+#[inline(always)]
 pub(crate) fn write_quoted(into: &mut Buffer, key: &[u8], name: &Name)
     requires { HasRoom (length key.now + 66) into.old }
     ensures { PutsAtMost (length key.now + 66) into.old into.new (key.now ++ quoted name.now) }
@@ -55,6 +61,7 @@ pub(crate) fn write_quoted(into: &mut Buffer, key: &[u8], name: &Name)
 }
 
 /// The name of a point in quotes, behind its key.
+#[inline(always)]
 pub(crate) fn write_point(into: &mut Buffer, key: &[u8], catalogue: &Catalogue, point: PointId)
     requires room { HasRoom (length key.now + 66) into.old }
     requires known { point < length catalogue.now.points }
@@ -102,6 +109,7 @@ pub(crate) fn write_cause(into: &mut Buffer, cause: Cause)
 }
 
 /// What a value rests on.
+#[inline(always)]
 pub(crate) fn write_basis(into: &mut Buffer, basis: Basis)
     requires { HasRoom 68 into.old }
     ensures { PutsAtMost 68 into.old into.new (basis_text basis) }
@@ -118,6 +126,7 @@ pub(crate) fn write_basis(into: &mut Buffer, basis: Basis)
 }
 
 /// A priority behind its key, and the transaction that holds the slot there.
+#[inline(always)]
 fn write_level(into: &mut Buffer, key: &[u8], priority: Priority, txn: Txn)
     requires { HasRoom (length key.now + 47) into.old }
     ensures { PutsAtMost (length key.now + 47) into.old into.new (key.now ++ decimal priority ++ codes ",\"txn\":" ++ decimal txn) }
