@@ -1,29 +1,28 @@
 //! Files in memory.
 
-ghost use Rattle.std.specs.Prelude.{◌≡◌, IfOk, IsTrue};
+ghost use Rattle.std.specs.Prelude.{◌≡◌};
 ghost use Rattle.boss_files.specs.Shelf.{have_distinct_names};
 
-use crate::calls::{EDITED, edit_file};
+use crate::calls::{EDITED, call, edit_file, is_edited};
 use boss_files::{FileBytes, FileFault, Files, MemoryFiles};
 use boss_model::Items;
-use std::alloc::{AllocError, Global};
-use std::test::Fail;
+use std::alloc::Global;
+use std::process::Abort;
 
-fn bytes(alloc: Global, text: &str) -> Result<Items<u8>, AllocError>
-    ensures { IfOk result (λ items. items ≡ text.now) }
+fn bytes(rt: &impl Abort, alloc: Global, text: &str) -> Items<u8>
+    ensures { result ≡ text.now }
 {
-    Ok(Items::from_vec(text.as_bytes().to_vec(alloc)?))
+    Items::from_vec(text.as_bytes().to_vec(alloc).expect(rt, "memory"))
 }
 
-/// An empty file, and one of three bytes. The calls with these numbers fail.
-fn two_files(alloc: Global, fails: &[u64]) -> Result<MemoryFiles, Fail> {
-    let empty = (bytes(alloc, "empty")?, bytes(alloc, "")?);
-    let three = (bytes(alloc, "a")?, bytes(alloc, "one")?);
+/// An empty file, and one of three bytes. The call with this number fails.
+fn two_files(rt: &impl Abort, alloc: Global, fails: u64) -> MemoryFiles {
+    let empty = (bytes(rt, alloc, "empty"), bytes(rt, alloc, ""));
+    let three = (bytes(rt, alloc, "a"), bytes(rt, alloc, "one"));
     let mut files = Items::new(alloc);
-    files.try_push(empty)?;
-    files.try_push(three)?;
-    let fails = Items::from_vec(fails.to_vec(alloc)?);
-    Ok(MemoryFiles::new(alloc, files, fails)?)
+    files.try_push(empty).expect(rt, "memory");
+    files.try_push(three).expect(rt, "memory");
+    MemoryFiles::new(alloc, files, call(rt, alloc, fails)).expect(rt, "memory")
 }
 
 /// What was read: the length of the whole file, or that of one which is longer than the limit.
@@ -57,11 +56,10 @@ fn give_lengths(alloc: Global, files: &mut MemoryFiles) -> bool {
 }
 
 #[test]
-fn files_give_what_is_under_their_names(rt: HostRuntime) -> Result<(), Fail> {
+fn files_give_what_is_under_their_names(rt: HostRuntime) {
     let alloc = rt.alloc();
-    let mut files = two_files(alloc, &[2])?;
+    let mut files = two_files(&rt, alloc, 2);
     assert!(rt; has_one(alloc, &mut files) && give_lengths(alloc, &mut files));
-    Ok(())
 }
 
 /// Whether these bytes are under a name, and no others.
@@ -72,16 +70,23 @@ fn has_bytes(files: &MemoryFiles, name: &str, bytes: &[u8]) -> bool {
     }
 }
 
+/// Whether an edited file `b` is beside `a`, and no file `c`.
+fn keep_edited(files: &MemoryFiles) -> bool {
+    has_bytes(files, "b", EDITED)
+        && has_bytes(files, "a", b"one")
+        && files.bytes_under("c").is_none()
+}
+
+/// Whether the third call is asked for `a`, and fails.
+fn fail_at_third(alloc: Global, files: &mut MemoryFiles) -> bool {
+    matches!(files.disk(alloc, "a"), Err(FileFault::Failed)) && files.asked().len() == 3
+}
+
 #[test]
-fn a_file_is_kept_as_it_was_given_back(rt: HostRuntime) -> Result<(), Fail> {
+fn a_file_is_kept_as_it_was_given_back(rt: HostRuntime) {
     let alloc = rt.alloc();
-    let mut files = two_files(alloc, &[3])?;
-    let edited = edit_file(alloc, &mut files, "b")?;
-    let kept = edited.as_slice() == EDITED.as_slice()
-        && has_bytes(&files, "b", EDITED)
-        && has_bytes(&files, "a", b"one")
-        && files.bytes_under("c").is_none();
-    let failed = matches!(files.disk(alloc, "a"), Err(FileFault::Failed));
-    assert!(rt; kept && failed && files.asked().len() == 3);
-    Ok(())
+    let mut files = two_files(&rt, alloc, 3);
+    let edited = edit_file(&rt, alloc, &mut files, "b");
+    assert!(rt; is_edited(&edited) && keep_edited(&files));
+    assert!(rt; fail_at_third(alloc, &mut files));
 }

@@ -1,11 +1,10 @@
 //! What a crash leaves of a disk in memory.
 
-use crate::calls::{EDITED, edit, put, shorten, whole};
+use crate::calls::{call, edit, is_edited, put, shorten, whole};
 use boss_disk::{Disk, MemoryDisk};
 use boss_model::Items;
-use std::alloc::{AllocError, Global};
+use std::alloc::Global;
 use std::process::Abort;
-use std::test::Fail;
 
 /// The images that are looked at.
 const PICKS: [u64; 4] = [0, 1, 2, 5];
@@ -29,7 +28,6 @@ const PICKED: &[u8; 36] = &[
 ];
 
 /// A call of a disk.
-#[derive(Clone, Copy)]
 enum Step {
     Write(u64, &'static [u8]),
     Cut(u64),
@@ -41,30 +39,30 @@ enum Step {
 struct Image(usize, &'static [u8], bool);
 
 /// Calls of a disk of 58 zero bytes, one after another, and its image of each pick after each.
-const ROWS: [(Step, [Image; 4]); 6] = [
+const ROWS: &[(Step, &[Image; 4])] = &[
     (
         Step::Write(58, RECORD),
-        [
+        &[
             Image(58, b"", false),
             Image(58, RECORD, false),
             Image(58, TURNED, false),
             Image(58, PICKED, false),
         ],
     ),
-    (Step::Sync, [Image(58, b"", true); 4]),
+    (Step::Sync, &[Image(58, b"", true); 4]),
     (
         Step::Write(57, &[1]),
-        [
+        &[
             Image(58, b"", true),
             Image(57, &[1], true),
             Image(57, &[254], true),
             Image(58, b"", true),
         ],
     ),
-    (Step::Sync, [Image(57, &[1], true); 4]),
+    (Step::Sync, &[Image(57, &[1], true); 4]),
     (
         Step::Cut(57),
-        [
+        &[
             Image(57, &[1], true),
             Image(57, b"", false),
             Image(57, b"", false),
@@ -73,7 +71,7 @@ const ROWS: [(Step, [Image; 4]); 6] = [
     ),
     (
         Step::Write(57, &[7, 8]),
-        [
+        &[
             Image(57, &[1], true),
             Image(57, &[7, 8], false),
             Image(57, &[248, 247], false),
@@ -83,48 +81,62 @@ const ROWS: [(Step, [Image; 4]); 6] = [
 ];
 
 impl Image {
-    fn bytes(&self, alloc: Global) -> Result<Vec<u8>, AllocError> {
-        let Image(zeros, middle, has_record) = *self;
+    fn bytes(&self, rt: &impl Abort, alloc: Global) -> Vec<u8> {
         let mut bytes = Vec::new(alloc);
-        bytes.resize(zeros, 0)?;
-        bytes.extend_from_slice(middle)?;
-        if has_record {
-            bytes.extend_from_slice(RECORD)?;
-        }
-        Ok(bytes)
+        bytes.resize(self.0, 0).expect(rt, "memory");
+        bytes.extend_from_slice(self.1).expect(rt, "memory");
+        let record: &[u8] = if self.2 { RECORD } else { &[] };
+        bytes.extend_from_slice(record).expect(rt, "memory");
+        bytes
     }
 }
 
-/// A disk of so many zero bytes, of which the calls with these numbers fail.
-fn zeros(alloc: Global, count: usize, fails: &[u64]) -> Result<MemoryDisk, Fail> {
-    let bytes = Image(count, b"", false).bytes(alloc)?;
-    let fails = Items::from_vec(fails.to_vec(alloc)?);
-    Ok(MemoryDisk::new(alloc, Items::from_vec(bytes), fails)?)
+/// A disk of so many zero bytes, of which the call with this number fails.
+fn zeros(rt: &impl Abort, alloc: Global, count: usize, fails: u64) -> MemoryDisk {
+    let bytes = Items::from_vec(Image(count, b"", false).bytes(rt, alloc));
+    MemoryDisk::new(alloc, bytes, call(rt, alloc, fails)).expect(rt, "memory")
+}
+
+/// Whether the image of this pick has these bytes, and no others.
+fn has_image(rt: &impl Abort, alloc: Global, disk: &MemoryDisk, pick: u64, bytes: &[u8]) -> bool {
+    let image = disk.image(alloc, pick).expect(rt, "memory");
+    image.into_bytes().slice() == bytes
+}
+
+/// Looks at the image of this pick.
+fn look_at(rt: &impl Abort, alloc: Global, disk: &MemoryDisk, pick: u64, wanted: &Image) {
+    let bytes = wanted.bytes(rt, alloc);
+    assert!(rt; has_image(rt, alloc, disk, pick, &bytes), "pick {pick}");
 }
 
 /// Looks at the image of each pick.
-fn look(rt: &impl Abort, alloc: Global, disk: &MemoryDisk, wanted: [Image; 4]) -> Result<(), Fail> {
-    for (pick, wanted) in PICKS.iter().zip(&wanted) {
-        let image = disk.image(alloc, *pick)?.into_bytes();
-        let wanted = wanted.bytes(alloc)?;
-        assert!(rt; image.slice() == wanted.as_slice(), "pick {pick}");
+fn look(rt: &impl Abort, alloc: Global, disk: &MemoryDisk, wanted: &[Image; 4]) {
+    for place in 0..4usize {
+        look_at(rt, alloc, disk, PICKS[place], &wanted[place]);
     }
-    Ok(())
+}
+
+/// A disk does a call.
+fn take(rt: &impl Abort, disk: &mut MemoryDisk, step: &Step) {
+    match step {
+        Step::Write(at, bytes) => put(rt, disk, *at, *bytes),
+        Step::Cut(size) => shorten(rt, disk, *size),
+        Step::Sync => disk.sync().expect(rt, "a sync"),
+    }
+}
+
+/// A disk does the call of each row, and its images are looked at behind it.
+fn take_all(rt: &impl Abort, alloc: Global, disk: &mut MemoryDisk, rows: &[(Step, &[Image; 4])]) {
+    for row in rows {
+        take(rt, disk, &row.0);
+        look(rt, alloc, disk, row.1);
+    }
 }
 
 #[test]
-fn a_crash_leaves_what_is_picked(rt: HostRuntime) -> Result<(), Fail> {
-    let alloc = rt.alloc();
-    let mut disk = zeros(alloc, 58, &[])?;
-    for (step, wanted) in ROWS {
-        match step {
-            Step::Write(at, bytes) => put(&mut disk, at, bytes)?,
-            Step::Cut(size) => shorten(&mut disk, size)?,
-            Step::Sync => disk.sync()?,
-        }
-        look(&rt, alloc, &disk, wanted)?;
-    }
-    Ok(())
+fn a_crash_leaves_what_is_picked(rt: HostRuntime) {
+    let mut disk = zeros(&rt, rt.alloc(), 58, 0);
+    take_all(&rt, rt.alloc(), &mut disk, ROWS);
 }
 
 /// Whether a disk of 58 bytes fails at its second call only.
@@ -142,17 +154,14 @@ fn fails_from_then_on(disk: &mut MemoryDisk) -> bool {
 }
 
 #[test]
-fn calls_fail_as_planned_and_from_a_stop_on(rt: HostRuntime) -> Result<(), Fail> {
-    let mut disk = zeros(rt.alloc(), 58, &[2])?;
+fn calls_fail_as_planned_and_from_a_stop_on(rt: HostRuntime) {
+    let mut disk = zeros(&rt, rt.alloc(), 58, 2);
     assert!(rt; fails_once(&mut disk) && fails_from_then_on(&mut disk));
-    Ok(())
 }
 
 #[test]
-fn a_disk_in_memory_reads_what_was_written(rt: HostRuntime) -> Result<(), Fail> {
-    let mut disk = zeros(rt.alloc(), 0, &[])?;
-    edit(&mut disk)?;
-    let bytes = whole(rt.alloc(), &mut disk)?;
-    assert!(rt; bytes.as_slice() == EDITED.as_slice());
-    Ok(())
+fn a_disk_in_memory_reads_what_was_written(rt: HostRuntime) {
+    let mut disk = zeros(&rt, rt.alloc(), 0, 0);
+    edit(&rt, &mut disk);
+    assert!(rt; is_edited(&whole(&rt, rt.alloc(), &mut disk)));
 }

@@ -1,12 +1,12 @@
 //! What lines ask of engines.
 
-ghost use Rattle.std.specs.Prelude.{◌≡◌, ◌<◌, ◌≤◌, IfOk, IfSome};
+ghost use Rattle.std.specs.Prelude.{◌≡◌, ◌<◌, ◌≤◌, IfSome};
 ghost use Rattle.boss_model.specs.Catalogue.{actuators};
 ghost use Rattle.boss_model.specs.Limits.{last_moment};
 ghost use Rattle.boss_model.specs.Sound.{IsAllowed};
 
 use boss_engine::Engine;
-use boss_model::{LAST_MOMENT, NoMemory};
+use boss_model::LAST_MOMENT;
 use boss_points::Catalogue;
 use boss_requests::{ReadRefusal, read_request};
 use boss_runs::Call;
@@ -23,57 +23,60 @@ pub fn first_engine(rt: &impl Abort, alloc: Global, catalogue: &Catalogue) -> En
 
 /// What a line asks, at a moment that is so many times as early; none where it spells no command.
 pub fn call_of(
+    rt: &impl Abort,
     alloc: Global,
     catalogue: &Catalogue,
     line: &str,
     pace: u64,
-) -> Result<Option<Call>, NoMemory>
+) -> Option<Call>
     requires { 0 < pace }
-    ensures moment { IfOk result (λ call. IfSome call (λ call. call.moment ≤ last_moment)) }
-    ensures allowed { IfOk result (λ call. IfSome call (λ call. IsAllowed (actuators catalogue.now) call.command)) }
+    ensures moment { IfSome result (λ call. call.moment ≤ last_moment) }
+    ensures allowed { IfSome result (λ call. IsAllowed (actuators catalogue.now) call.command) }
 {
     match read_request(alloc, catalogue, line.as_bytes(), Form::Script) {
         Ok(request) => {
             let Request { on, at, ask } = request;
             match ask {
-                Ask::Command(command) => Ok(Some(Call {
+                Ask::Command(command) => Some(Call {
                     session: on,
                     command,
                     moment: (at / pace).min(LAST_MOMENT),
-                })),
-                Ask::Watch { .. } => Ok(None),
+                }),
+                Ask::Watch { .. } => None,
             }
         }
-        Err(ReadRefusal::NoMemory) => Err(NoMemory),
-        Err(ReadRefusal::Refused(_)) => Ok(None),
+        Err(ReadRefusal::NoMemory) => panic!(rt; "memory"),
+        Err(ReadRefusal::Refused(_)) => None,
     }
 }
 
 /// What an engine answers to a call, as a text.
-pub fn told(alloc: Global, engine: &mut Engine, call: &Call) -> Result<String, NoMemory>
+pub fn told(rt: &impl Abort, alloc: Global, engine: &mut Engine, call: &Call) -> String
     requires moment { call.now.moment ≤ last_moment }
     requires allowed { IsAllowed engine.old.plant call.now.command }
     ensures { engine.new.plant ≡ engine.old.plant }
 {
-    let (answer, _) = engine.step(call.session, &call.command, call.moment)?;
-    Ok(format!(in alloc; "{answer:?}")?)
+    let told = engine.step(call.session, &call.command, call.moment);
+    let (answer, _) = told.expect(rt, "memory");
+    format!(in alloc; "{answer:?}").expect(rt, "memory")
 }
 
 /// What an engine answers to a line, as a text; none where the line spells no command.
 pub fn answer(
+    rt: &impl Abort,
     alloc: Global,
     catalogue: &Catalogue,
     engine: &mut Engine,
     line: &str,
     pace: u64,
-) -> Result<String, NoMemory>
+) -> String
     requires pace { 0 < pace }
     requires plant { engine.old.plant ≡ actuators catalogue.now }
     ensures { engine.new.plant ≡ actuators catalogue.now }
 {
-    match call_of(alloc, catalogue, line, pace)? {
-        Some(call) => told(alloc, engine, &call),
-        None => Ok(String::new(alloc)),
+    match call_of(rt, alloc, catalogue, line, pace) {
+        Some(call) => told(rt, alloc, engine, &call),
+        None => String::new(alloc),
     }
 }
 
@@ -86,17 +89,21 @@ pub fn expect_same<R: Abort>(
     other: &mut Engine,
     line: &str,
     pace: u64,
-) -> Result<(), NoMemory>
+)
     requires pace { 0 < pace }
     requires plant { engine.old.plant ≡ actuators catalogue.now }
     requires other { other.old.plant ≡ actuators catalogue.now }
     ensures plant { engine.new.plant ≡ actuators catalogue.now }
     ensures other { other.new.plant ≡ actuators catalogue.now }
 {
-    let one = answer(alloc, catalogue, engine, line, pace)?;
-    let two = answer(alloc, catalogue, other, line, pace)?;
+    let one = answer(rt, alloc, catalogue, engine, line, pace);
+    let two = answer(rt, alloc, catalogue, other, line, pace);
+    expect_equal(rt, line, one.as_str(), two.as_str());
+}
+
+/// Compares what two engines answer to a line.
+fn expect_equal(rt: &impl Abort, line: &str, one: &str, two: &str) {
     assert!(rt; one == two, "{line}: {one}, and {two}");
-    Ok(())
 }
 
 /// Two engines answer each of these lines alike.
@@ -107,14 +114,13 @@ pub fn expect_alike<R: Abort>(
     engine: &mut Engine,
     other: &mut Engine,
     lines: &str,
-) -> Result<(), NoMemory>
+)
     requires plant { engine.old.plant ≡ actuators catalogue.now }
     requires other { other.old.plant ≡ actuators catalogue.now }
     ensures plant { engine.new.plant ≡ actuators catalogue.now }
     ensures other { other.new.plant ≡ actuators catalogue.now }
 {
     for line in lines.split('\n') {
-        expect_same(rt, alloc, catalogue, engine, other, line, 1)?;
+        expect_same(rt, alloc, catalogue, engine, other, line, 1);
     }
-    Ok(())
 }

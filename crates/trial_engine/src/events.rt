@@ -1,6 +1,6 @@
-ghost use Rattle.std.specs.Prelude.{◌≡◌, ◌≤◌, IfOk};
+ghost use Rattle.std.specs.Prelude.{◌≡◌, ◌≤◌};
 ghost use Rattle.boss_model.specs.Catalogue.{actuators};
-ghost use Rattle.boss_model.specs.Effects.{act_of, event_of};
+ghost use Rattle.boss_model.specs.Effects.{act_of, event_of, step_effect};
 ghost use Rattle.boss_model.specs.Limits.{last_moment};
 ghost use Rattle.boss_model.specs.Plants.{IsPlant};
 ghost use Rattle.boss_model.specs.Sound.{IsAllowed, IsSound};
@@ -9,7 +9,7 @@ ghost use Rattle.law_spelling.specs.Ranges.{IsSpelled};
 use crate::calls::{answer, call_of, expect_alike, first_engine};
 use crate::plants::plant;
 use boss_engine::Engine;
-use boss_model::{Act, Command, DriverId, Effect, Event, NoMemory, ProcId, SessionId};
+use boss_model::{Act, Command, DriverId, Effect, Event, ProcId, SessionId};
 use boss_points::Catalogue;
 use boss_runs::Call;
 use std::alloc::Global;
@@ -146,13 +146,13 @@ fn kind(act: &Act) -> &'static str {
 }
 
 /// An engine does an event again, which it has to find effective. The kind of the event is told.
-fn do_again<R: Abort>(rt: &R, engine: &mut Engine, event: &Event) -> Result<&'static str, NoMemory>
+fn do_again<R: Abort>(rt: &R, engine: &mut Engine, event: &Event) -> &'static str
     requires { IsSpelled event.now }
     ensures { engine.new.plant ≡ engine.old.plant }
 {
-    let effective = engine.replay(event)?;
+    let effective = engine.replay(event).expect(rt, "memory");
     assert!(rt; effective, "an event that is not effective");
-    Ok(kind(&event.act))
+    kind(&event.act)
 }
 
 /// An engine makes a call, and another one does the call's event. The kind of the event is told.
@@ -162,7 +162,7 @@ fn make<R: Abort>(
     engine: &mut Engine,
     other: &mut Engine,
     call: Call,
-) -> Result<&'static str, NoMemory>
+) -> &'static str
     requires moment { call.moment ≤ last_moment }
     requires allowed { IsAllowed (actuators catalogue.now) call.command }
     requires plant { engine.old.plant ≡ actuators catalogue.now }
@@ -172,7 +172,8 @@ fn make<R: Abort>(
 {
     let _ = catalogue.count();
     // Nothing is due at the moment of the last change. It is asked since an engine is known to be sound behind a step.
-    engine.step(SessionId(0), &Command::Tick, 0)?;
+    let told = engine.step(SessionId(0), &Command::Tick, 0);
+    let _ = told.expect(rt, "memory");
     make_of_sound(rt, engine, other, call)
 }
 
@@ -182,7 +183,7 @@ fn make_of_sound<R: Abort>(
     engine: &mut Engine,
     other: &mut Engine,
     call: Call,
-) -> Result<&'static str, NoMemory>
+) -> &'static str
     requires whole { IsPlant engine.old.plant }
     requires sound { IsSound engine.old.plant engine.old.state }
     requires moment { call.moment ≤ last_moment }
@@ -190,35 +191,38 @@ fn make_of_sound<R: Abort>(
     ensures plant { engine.new.plant ≡ engine.old.plant }
     ensures other { other.new.plant ≡ other.old.plant }
 {
-    let Call {
-        session,
-        command,
-        moment,
-    } = call;
-    let (_, effect) = engine.step(session, &command, moment)?;
-    let Some(event) = event_of(command, effect) else {
-        return Ok("none");
-    };
-    do_again(rt, other, &event)
+    let effect = effect_of(rt, engine, &call);
+    let Call { command, .. } = call;
+    match event_of(command, effect) {
+        Some(event) => do_again(rt, other, &event),
+        None => "none",
+    }
+}
+
+/// The effect of a call of an engine.
+fn effect_of<R: Abort>(rt: &R, engine: &mut Engine, call: &Call) -> Effect
+    requires moment { call.now.moment ≤ last_moment }
+    requires allowed { IsAllowed engine.old.plant call.now.command }
+    ensures effect { result ≡ step_effect engine.old.plant call.now.session call.now.command call.now.moment engine.old.state }
+    ensures plant { engine.new.plant ≡ engine.old.plant }
+{
+    let told = engine.step(call.session, &call.command, call.moment);
+    let (_, effect) = told.expect(rt, "memory");
+    effect
 }
 
 /// What a line asks.
-fn asked<R: Abort>(
-    rt: &R,
-    alloc: Global,
-    catalogue: &Catalogue,
-    line: &str,
-) -> Result<Call, NoMemory>
-    ensures moment { IfOk result (λ call. call.moment ≤ last_moment) }
-    ensures allowed { IfOk result (λ call. IsAllowed (actuators catalogue.now) call.command) }
+fn asked<R: Abort>(rt: &R, alloc: Global, catalogue: &Catalogue, line: &str) -> Call
+    ensures moment { result.moment ≤ last_moment }
+    ensures allowed { IsAllowed (actuators catalogue.now) result.command }
 {
-    match call_of(alloc, catalogue, line, 1)? {
-        Some(call) => Ok(call),
-        None => Ok(Call {
+    match call_of(rt, alloc, catalogue, line, 1) {
+        Some(call) => call,
+        None => Call {
             session: SessionId(0),
             command: driver_command(rt, catalogue, line),
             moment: 0,
-        }),
+        },
     }
 }
 
@@ -250,16 +254,16 @@ fn expect_again<R: Abort>(
     other: &mut Engine,
     wanted: &str,
     line: &str,
-) -> Result<(), NoMemory>
+)
     requires plant { engine.old.plant ≡ actuators catalogue.now }
     requires other { other.old.plant ≡ actuators catalogue.now }
     ensures plant { engine.new.plant ≡ actuators catalogue.now }
     ensures other { other.new.plant ≡ actuators catalogue.now }
 {
-    let call = asked(rt, alloc, catalogue, line)?;
-    let made = make(rt, catalogue, engine, other, call)?;
+    let call = asked(rt, alloc, catalogue, line);
+    let made = make(rt, catalogue, engine, other, call);
     assert!(rt; made == wanted, "{line}: {made}");
-    expect_alike(rt, alloc, catalogue, engine, other, QUESTIONS)
+    expect_alike(rt, alloc, catalogue, engine, other, QUESTIONS);
 }
 
 /// Each event of a run does the same again on an engine that is given the events alone.
@@ -269,16 +273,16 @@ fn expect_all_again<R: Abort>(
     catalogue: &Catalogue,
     engine: &mut Engine,
     other: &mut Engine,
-) -> Result<(), NoMemory>
+    calls: &[(&str, &str)],
+)
     requires plant { engine.old.plant ≡ actuators catalogue.now }
     requires other { other.old.plant ≡ actuators catalogue.now }
     ensures plant { engine.new.plant ≡ actuators catalogue.now }
     ensures other { other.new.plant ≡ actuators catalogue.now }
 {
-    for (wanted, line) in CALLS {
-        expect_again(rt, alloc, catalogue, engine, other, *wanted, *line)?;
+    for call in calls {
+        expect_again(rt, alloc, catalogue, engine, other, call.0, call.1);
     }
-    Ok(())
 }
 
 /// The engine that is given the events alone knows the numbers of requests too.
@@ -288,13 +292,13 @@ fn expect_numbers_again<R: Abort>(
     catalogue: &Catalogue,
     engine: &mut Engine,
     other: &mut Engine,
-) -> Result<(), NoMemory>
+)
     requires plant { engine.old.plant ≡ actuators catalogue.now }
     requires other { other.old.plant ≡ actuators catalogue.now }
 {
-    expect_all_again(rt, alloc, catalogue, engine, other)?;
-    answer(alloc, catalogue, other, ATTACH, 1)?;
-    expect_alike(rt, alloc, catalogue, engine, other, NUMBERED)
+    expect_all_again(rt, alloc, catalogue, engine, other, CALLS);
+    answer(rt, alloc, catalogue, other, ATTACH, 1);
+    expect_alike(rt, alloc, catalogue, engine, other, NUMBERED);
 }
 
 #[test]
@@ -303,5 +307,5 @@ fn events_do_the_same_again(rt: HostRuntime) {
     let catalogue = plant(&rt, alloc, THREE_POINTS.as_bytes());
     let mut engine = first_engine(&rt, alloc, &catalogue);
     let mut other = first_engine(&rt, alloc, &catalogue);
-    expect_numbers_again(&rt, alloc, &catalogue, &mut engine, &mut other).expect(&rt, "memory");
+    expect_numbers_again(&rt, alloc, &catalogue, &mut engine, &mut other);
 }

@@ -7,7 +7,10 @@ use std::process::Abort;
 
 /// The catalogue that a file spells.
 pub fn plant(rt: &impl Abort, alloc: Global, file: &[u8]) -> Catalogue {
-    Catalogue::read(alloc, file).expect(rt, "a catalogue")
+    match Catalogue::read(alloc, file) {
+        Ok(catalogue) => catalogue,
+        Err(_) => panic!(rt; "no catalogue"),
+    }
 }
 
 /// The catalogue of the generated day.

@@ -5,7 +5,7 @@ use crate::calls::{answer, expect_alike, expect_same, first_engine};
 use crate::plants::plant_of_the_day;
 use boss_engine::Engine;
 use boss_load::load_script;
-use boss_model::{Kept, NoMemory};
+use boss_model::Kept;
 use boss_points::Catalogue;
 use std::alloc::Global;
 use std::process::Abort;
@@ -33,27 +33,16 @@ const QUESTIONS: &str = r#"{"op":"array","point":"p0"}
 {"op":"notices","process":"q6","from":180,"max":64}"#;
 
 /// The engine stops: another goes on in its place from what was kept of it.
-fn stop<R: Abort>(
-    rt: &R,
-    alloc: Global,
-    catalogue: &Catalogue,
-    engine: &mut Engine,
-) -> Result<(), NoMemory>
+fn stop<R: Abort>(rt: &R, alloc: Global, catalogue: &Catalogue, engine: &mut Engine)
     requires { engine.old.plant ≡ actuators catalogue.now }
     ensures { engine.new.plant ≡ actuators catalogue.now }
 {
-    let kept = engine.keep(alloc)?;
-    go_on(rt, alloc, catalogue, engine, &kept)
+    let kept = engine.keep(alloc).expect(rt, "memory");
+    go_on(rt, alloc, catalogue, engine, &kept);
 }
 
 /// An engine is replaced by one that goes on from what was kept.
-fn go_on<R: Abort>(
-    rt: &R,
-    alloc: Global,
-    catalogue: &Catalogue,
-    engine: &mut Engine,
-    kept: &Kept,
-) -> Result<(), NoMemory>
+fn go_on<R: Abort>(rt: &R, alloc: Global, catalogue: &Catalogue, engine: &mut Engine, kept: &Kept)
     requires { engine.old.plant ≡ actuators catalogue.now }
     ensures { engine.new.plant ≡ actuators catalogue.now }
 {
@@ -61,23 +50,22 @@ fn go_on<R: Abort>(
         Ok(restored) => *engine = restored,
         Err(_) => panic!(rt; "what was kept is not sound"),
     }
-    Ok(())
 }
 
 /// The processes come back to an engine, by the lines with which a script begins.
 fn attach_all(
+    rt: &impl Abort,
     alloc: Global,
     catalogue: &Catalogue,
     engine: &mut Engine,
     script: &str,
-) -> Result<(), NoMemory>
+)
     requires { engine.old.plant ≡ actuators catalogue.now }
     ensures { engine.new.plant ≡ actuators catalogue.now }
 {
     for line in script.split('\n').take(ATTACHES) {
-        answer(alloc, catalogue, engine, line, PACE)?;
+        answer(rt, alloc, catalogue, engine, line, PACE);
     }
-    Ok(())
 }
 
 /// An engine that stopped answers as one that did not.
@@ -88,15 +76,15 @@ fn stop_beside<R: Abort>(
     engine: &mut Engine,
     stopped: &mut Engine,
     script: &str,
-) -> Result<(), NoMemory>
+)
     requires plant { engine.old.plant ≡ actuators catalogue.now }
     requires stopped { stopped.old.plant ≡ actuators catalogue.now }
     ensures plant { engine.new.plant ≡ actuators catalogue.now }
     ensures stopped { stopped.new.plant ≡ actuators catalogue.now }
 {
-    stop(rt, alloc, catalogue, stopped)?;
-    attach_all(alloc, catalogue, stopped, script)?;
-    expect_alike(rt, alloc, catalogue, engine, stopped, QUESTIONS)
+    stop(rt, alloc, catalogue, stopped);
+    attach_all(rt, alloc, catalogue, stopped, script);
+    expect_alike(rt, alloc, catalogue, engine, stopped, QUESTIONS);
 }
 
 /// Two engines answer alike what a script asks, though one of them stops again and again.
@@ -107,19 +95,18 @@ fn run<R: Abort>(
     engine: &mut Engine,
     stopped: &mut Engine,
     script: &str,
-) -> Result<(), NoMemory>
+)
     requires plant { engine.old.plant ≡ actuators catalogue.now }
     requires stopped { stopped.old.plant ≡ actuators catalogue.now }
 {
     let mut lines = 0_u32;
     for line in script.split('\n') {
-        expect_same(rt, alloc, catalogue, engine, stopped, line, PACE)?;
+        expect_same(rt, alloc, catalogue, engine, stopped, line, PACE);
         lines = lines.saturating_add(1);
         if lines % PART == 0 {
-            stop_beside(rt, alloc, catalogue, engine, stopped, script)?;
+            stop_beside(rt, alloc, catalogue, engine, stopped, script);
         }
     }
-    Ok(())
 }
 
 /// The same of two engines in their first state.
@@ -127,7 +114,7 @@ fn run_beside<R: Abort>(rt: &R, alloc: Global, catalogue: &Catalogue, script: &[
     let script = str::from_utf8(script).expect(rt, "a text");
     let mut engine = first_engine(rt, alloc, catalogue);
     let mut stopped = first_engine(rt, alloc, catalogue);
-    run(rt, alloc, catalogue, &mut engine, &mut stopped, script).expect(rt, "memory");
+    run(rt, alloc, catalogue, &mut engine, &mut stopped, script);
 }
 
 /// A generated day of 500 transactions goes as if an engine had not stopped.

@@ -4,9 +4,10 @@ ghost use Rattle.boss_model.specs.Catalogue.{actuators};
 use crate::calls::{answer, first_engine};
 use crate::plants::plant;
 use boss_engine::{Engine, RestoreRefusal};
-use boss_model::{Kept, NoMemory, Txn};
+use boss_model::{Kept, Txn};
 use boss_points::Catalogue;
 use std::alloc::Global;
+use std::process::Abort;
 use trial_parts::THREE_POINTS;
 
 /// Transaction 1 is reverting from 2000 to 102000, 2 is done, and 3 holds two slots, the first of them until 63000.
@@ -60,59 +61,79 @@ const CASES: &[(&str, bool, Change)] = &[
     ),
 ];
 
-fn alter(kept: &mut Kept, change: Change) -> Result<(), NoMemory> {
+fn alter(rt: &impl Abort, kept: &mut Kept, change: Change) {
     match change {
         Change::Now(moment) => kept.now = moment,
         Change::Next(txn) => kept.next = Txn(txn),
-        Change::Done(txn) => kept.done.try_push(Txn(txn))?,
+        Change::Done(txn) => kept.done.try_push(Txn(txn)).expect(rt, "memory"),
         Change::NoProcess => kept.processes.clear(),
         Change::NoTransaction => kept.txns.clear(),
         Change::NoneDone => kept.done.clear(),
         Change::NoLease => kept.leases.clear(),
         Change::NoReversion => kept.pending.clear(),
     }
-    Ok(())
 }
 
 /// Whether an engine is made of what was kept of this one, with a change.
 fn is_sound(
+    rt: &impl Abort,
     alloc: Global,
     catalogue: &Catalogue,
     engine: &Engine,
     change: Change,
-) -> Result<bool, NoMemory> {
-    let mut kept = engine.keep(alloc)?;
-    is_sound_with(alloc, catalogue, &mut kept, change)
+) -> bool {
+    let mut kept = engine.keep(alloc).expect(rt, "memory");
+    alter(rt, &mut kept, change);
+    is_restored(rt, alloc, catalogue, &kept)
 }
 
-/// Whether an engine is made of what was kept, with a change.
-fn is_sound_with(
-    alloc: Global,
-    catalogue: &Catalogue,
-    kept: &mut Kept,
-    change: Change,
-) -> Result<bool, NoMemory> {
-    alter(kept, change)?;
+/// Whether an engine is made of what was kept.
+fn is_restored(rt: &impl Abort, alloc: Global, catalogue: &Catalogue, kept: &Kept) -> bool {
     match Engine::restore(alloc, catalogue, kept) {
-        Ok(_engine) => Ok(true),
-        Err(RestoreRefusal::NotSound) => Ok(false),
-        Err(RestoreRefusal::NoMemory) => Err(NoMemory),
+        Ok(_engine) => true,
+        Err(RestoreRefusal::NotSound) => false,
+        Err(RestoreRefusal::NoMemory) => panic!(rt; "memory"),
     }
 }
 
 /// An engine carries these lines out.
 fn carry_out(
+    rt: &impl Abort,
     alloc: Global,
     catalogue: &Catalogue,
     engine: &mut Engine,
     lines: &str,
-) -> Result<(), NoMemory>
+)
     requires { engine.old.plant ≡ actuators catalogue.now }
 {
     for line in lines.split('\n') {
-        answer(alloc, catalogue, engine, line, 1)?;
+        answer(rt, alloc, catalogue, engine, line, 1);
     }
-    Ok(())
+}
+
+/// The state of this engine has to be sound with a change, or not.
+fn expect_case(
+    rt: &impl Abort,
+    alloc: Global,
+    catalogue: &Catalogue,
+    engine: &Engine,
+    case: &(&str, bool, Change),
+) {
+    let sound = is_sound(rt, alloc, catalogue, engine, case.2);
+    assert!(rt; sound == case.1, "{}", case.0);
+}
+
+/// The same with each of these changes.
+fn expect_cases(
+    rt: &impl Abort,
+    alloc: Global,
+    catalogue: &Catalogue,
+    engine: &Engine,
+    cases: &[(&str, bool, Change)],
+) {
+    for case in cases {
+        expect_case(rt, alloc, catalogue, engine, case);
+    }
 }
 
 #[test]
@@ -120,9 +141,6 @@ fn a_state_is_sound_or_not(rt: HostRuntime) {
     let alloc = rt.alloc();
     let catalogue = plant(&rt, alloc, THREE_POINTS.as_bytes());
     let mut engine = first_engine(&rt, alloc, &catalogue);
-    carry_out(alloc, &catalogue, &mut engine, ASKED).expect(&rt, "memory");
-    for (name, wanted, change) in CASES {
-        let sound = is_sound(alloc, &catalogue, &engine, *change).expect(&rt, "memory");
-        assert!(&rt; sound == *wanted, "{name}");
-    }
+    carry_out(&rt, alloc, &catalogue, &mut engine, ASKED);
+    expect_cases(&rt, alloc, &catalogue, &engine, CASES);
 }

@@ -5,7 +5,6 @@ ghost use Rattle.std.specs.Prelude.{◌≡◌, ◌+◌, ◌<◌, ◌≤◌, Some
 use boss_timers::{Steps, Timers};
 use std::marker::Brand;
 use std::sync::ledger::{Blank, Ledger};
-use std::test::Fail;
 
 /// Sets a timer where there is room for a thousand: it takes 20 comparisons at most.
 fn set_one_of_a_thousand<L: Ledger>(
@@ -43,15 +42,27 @@ fn set(timers: &mut Timers, slot: u32, moment: u64)
     set_counted::<Brand>(timers, slot, moment, Blank::new(1));
 }
 
-/// A thousand timers are set, each to go off before those that were set before it; then the last is put off.
-#[test]
-fn each_of_a_thousand_timers_is_set(rt: HostRuntime) -> Result<(), Fail> {
-    let mut timers = Timers::new(rt.alloc(), 1_000)?;
+/// Sets a thousand timers, each to go off before those that were set before it.
+fn set_thousand(timers: &mut Timers)
+    requires { length timers.old ≡ 1000 }
+    ensures { length timers.new ≡ 1000 }
+{
     for slot in 0..1_000 {
-        set(&mut timers, slot, 5_000 - u64::from(slot));
+        set(timers, slot, 5_000 - u64::from(slot));
     }
-    assert!(&rt; timers.first() == Some((999, 4_001)));
+}
+
+/// Whether this timer goes off first, at this moment.
+fn is_first(timers: &Timers, slot: u32, moment: u64) -> bool {
+    timers.first() == Some((slot, moment))
+}
+
+/// The last of a thousand timers goes off first, until it is put off.
+#[test]
+fn each_of_a_thousand_timers_is_set(rt: HostRuntime) {
+    let mut timers = Timers::new(rt.alloc(), 1_000).expect(&rt, "memory");
+    set_thousand(&mut timers);
+    assert!(&rt; is_first(&timers, 999, 4_001));
     set(&mut timers, 999, 9_000);
-    assert!(&rt; timers.first() == Some((998, 4_002)));
-    Ok(())
+    assert!(&rt; is_first(&timers, 998, 4_002));
 }

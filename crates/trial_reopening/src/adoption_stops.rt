@@ -5,6 +5,7 @@ ghost use Rattle.boss_scripts.specs.Devices.{HasDevices};
 use crate::bytes::{DIGEST, kept_as, worked};
 use crate::outside::*;
 use boss_manager::{Status, adopt_on_disks};
+use boss_outside::BytesSink;
 use boss_points::Catalogue;
 use std::alloc::Global;
 use std::process::Abort;
@@ -30,22 +31,26 @@ const STARTS: usize = 3;
 
 /// The bytes of the disks of this pair.
 fn start(rt: &impl Abort, alloc: Global, place: usize) -> (Vec<u8>, Vec<u8>) {
-    let older = kept_as(rt, alloc, DIGEST, 1);
     match place {
         0 => (worked(rt, alloc), Vec::new(alloc)),
-        1 => (worked(rt, alloc), older),
-        _ => (kept_as(rt, alloc, DIGEST, 2), older),
+        1 => (worked(rt, alloc), kept_as(rt, alloc, DIGEST, 1)),
+        _ => (kept_as(rt, alloc, DIGEST, 2), kept_as(rt, alloc, DIGEST, 1)),
     }
 }
 
 /// And once it is adopted: the disk that was not in force has the next generation, under the new catalogue. The state is spelled as
 /// before, since its one point has the number that it had.
-fn adopted(rt: &impl Abort, alloc: Global, place: usize) -> (Vec<u8>, Vec<u8>) {
-    let (first, second) = start(rt, alloc, place);
+fn bytes_behind(rt: &impl Abort, alloc: Global, place: usize) -> (Vec<u8>, Vec<u8>) {
     match place {
-        0 => (first, kept_as(rt, alloc, CHANGED_DIGEST, 1)),
-        1 => (kept_as(rt, alloc, CHANGED_DIGEST, 2), second),
-        _ => (first, kept_as(rt, alloc, CHANGED_DIGEST, 3)),
+        0 => (worked(rt, alloc), kept_as(rt, alloc, CHANGED_DIGEST, 1)),
+        1 => (
+            kept_as(rt, alloc, CHANGED_DIGEST, 2),
+            kept_as(rt, alloc, DIGEST, 1),
+        ),
+        _ => (
+            kept_as(rt, alloc, DIGEST, 2),
+            kept_as(rt, alloc, CHANGED_DIGEST, 3),
+        ),
     }
 }
 
@@ -92,19 +97,79 @@ fn is_adopted(
     requires old { HasDevices 1 (actuators old.now) }
     requires new { HasDevices 1 (actuators new.now) }
 {
-    let left = images(rt, alloc, disks, (pick, pick));
-    let under_old = run(rt, alloc, old, left, ASKED);
-    let left = images(rt, alloc, disks, (pick, pick));
-    let under_new = run(rt, alloc, new, left, ASKED);
-    let done = under_new.status == Status::DONE;
-    let (by_old, by_new) = if done {
-        (NO_MORE, TAKEN_OVER)
-    } else {
-        (KEPT, NOT_YET)
-    };
-    expect_told(rt, &under_old.sink, by_old);
-    expect_told(rt, &under_new.sink, by_new);
+    let done = is_taken_over(rt, alloc, new, disks, pick);
+    let by_old = if done { NO_MORE } else { KEPT };
+    expect_asked(rt, alloc, old, disks, pick, by_old);
     done
+}
+
+/// Whether they are taken over under the new catalogue. If not, they have to be those of another one.
+fn is_taken_over(
+    rt: &impl Abort,
+    alloc: Global,
+    catalogue: &Catalogue,
+    disks: &Pair,
+    pick: u64,
+) -> bool
+    requires { HasDevices 1 (actuators catalogue.now) }
+{
+    let ran = ask(rt, alloc, catalogue, disks, pick);
+    let done = ran.status == Status::DONE;
+    expect_told(rt, &ran.sink, if done { TAKEN_OVER } else { NOT_YET });
+    done
+}
+
+/// Under this catalogue they have to tell this.
+fn expect_asked(
+    rt: &impl Abort,
+    alloc: Global,
+    catalogue: &Catalogue,
+    disks: &Pair,
+    pick: u64,
+    told: &str,
+)
+    requires { HasDevices 1 (actuators catalogue.now) }
+{
+    let ran = ask(rt, alloc, catalogue, disks, pick);
+    expect_told(rt, &ran.sink, told);
+}
+
+/// Runs the script under a catalogue over the images that a number picks.
+fn ask(rt: &impl Abort, alloc: Global, catalogue: &Catalogue, disks: &Pair, pick: u64) -> Ran
+    requires { HasDevices 1 (actuators catalogue.now) }
+{
+    let left = images(rt, alloc, disks, (pick, pick));
+    run(rt, alloc, catalogue, left, ASKED)
+}
+
+/// What an adoption left.
+#[derive(Drop)]
+struct Adopted {
+    disks: Pair,
+    status: Status,
+    sink: BytesSink,
+}
+
+/// Adopts this pair with these troubles.
+fn adopt(
+    rt: &impl Abort,
+    alloc: Global,
+    old: &Catalogue,
+    new: &Catalogue,
+    place: usize,
+    first: Trouble,
+    second: Trouble,
+) -> Adopted {
+    let (bytes, others) = start(rt, alloc, place);
+    let first = disk(rt, alloc, &bytes, first);
+    let second = disk(rt, alloc, &others, second);
+    let mut sink = sink(rt, alloc, 0);
+    let (disks, status) = adopt_on_disks(alloc, old, new, first, second, &mut sink);
+    Adopted {
+        disks,
+        status,
+        sink,
+    }
 }
 
 /// Adopts this pair with these troubles, and looks at all that a crash may leave. Whether it was done.
@@ -120,19 +185,23 @@ fn try_adoption(
     requires old { HasDevices 1 (actuators old.now) }
     requires new { HasDevices 1 (actuators new.now) }
 {
-    let (bytes, others) = start(rt, alloc, place);
-    let first = disk(rt, alloc, &bytes, first);
-    let second = disk(rt, alloc, &others, second);
-    let mut sink = sink(rt, alloc, 0);
-    let (disks, status) = adopt_on_disks(alloc, old, new, first, second, &mut sink);
-    let done = status == Status::DONE;
-    assert!(rt; done || status == Status::FILE_FAULT);
-    expect_told(rt, &sink, if done { ADOPTED } else { "" });
-    for pick in PICKS {
-        let taken_over = is_adopted(rt, alloc, old, new, &disks, pick);
+    let adopted = adopt(rt, alloc, old, new, place, first, second);
+    let done = adopted.status == Status::DONE;
+    assert!(rt; done || adopted.status == Status::FILE_FAULT);
+    expect_told(rt, &adopted.sink, if done { ADOPTED } else { "" });
+    look(rt, alloc, old, new, &adopted.disks, done);
+    done
+}
+
+/// Looks at all that a crash may leave of an adoption.
+fn look(rt: &impl Abort, alloc: Global, old: &Catalogue, new: &Catalogue, disks: &Pair, done: bool)
+    requires old { HasDevices 1 (actuators old.now) }
+    requires new { HasDevices 1 (actuators new.now) }
+{
+    for pick in &PICKS {
+        let taken_over = is_adopted(rt, alloc, old, new, disks, *pick);
         assert!(rt; taken_over || !done);
     }
-    done
 }
 
 /// Adopts it where the calls of either disk behind so many, or the next one alone, come to nothing. Whether each was done.
@@ -173,15 +242,16 @@ fn stop_at_each(rt: &impl Abort, alloc: Global, old: &Catalogue, new: &Catalogue
 
 /// Adopts it over disks of which no call fails, and compares their bytes.
 fn expect_adopted(rt: &impl Abort, alloc: Global, old: &Catalogue, new: &Catalogue, place: usize) {
-    let (first, second) = start(rt, alloc, place);
-    let (first, second) = pair(rt, alloc, &first, &second);
-    let mut sink = sink(rt, alloc, 0);
-    let (disks, status) = adopt_on_disks(alloc, old, new, first, second, &mut sink);
-    assert_eq!(rt; status, Status::DONE);
-    expect_told(rt, &sink, ADOPTED);
-    let (first, second) = adopted(rt, alloc, place);
-    expect_bytes(rt, disks.0, &first);
-    expect_bytes(rt, disks.1, &second);
+    let adopted = adopt(rt, alloc, old, new, place, Trouble::None, Trouble::None);
+    assert!(rt; adopted.status == Status::DONE);
+    expect_told(rt, &adopted.sink, ADOPTED);
+    expect_both(rt, adopted.disks, bytes_behind(rt, alloc, place));
+}
+
+/// Whether these are the bytes of two disks.
+fn expect_both(rt: &impl Abort, disks: Pair, bytes: (Vec<u8>, Vec<u8>)) {
+    expect_bytes(rt, disks.0, &bytes.0);
+    expect_bytes(rt, disks.1, &bytes.1);
 }
 
 #[test]

@@ -29,10 +29,19 @@ const STATE: &[u8] =
 /// These bytes behind one another.
 pub fn joined(rt: &impl Abort, alloc: Global, parts: &[&[u8]]) -> Vec<u8> {
     let mut bytes = Vec::new(alloc);
-    for part in parts {
-        bytes.extend_from_slice(part).expect(rt, "memory");
-    }
+    put_parts(rt, &mut bytes, parts);
     bytes
+}
+
+/// Puts these bytes behind others.
+pub fn put(rt: &impl Abort, into: &mut Vec<u8>, bytes: &[u8]) {
+    into.extend_from_slice(bytes).expect(rt, "memory");
+}
+
+fn put_parts(rt: &impl Abort, into: &mut Vec<u8>, parts: &[&[u8]]) {
+    for part in parts {
+        put(rt, into, part);
+    }
 }
 
 /// The journal of the attach and the submit: 94 bytes, in version 2.
@@ -50,8 +59,7 @@ pub fn journal(
     log: &[&[u8]],
 ) -> Vec<u8> {
     let mut bytes = joined(rt, alloc, &[b"BOSSJRNL", version, digest]);
-    let log = joined(rt, alloc, log);
-    bytes.extend_from_slice(&log).expect(rt, "memory");
+    put_parts(rt, &mut bytes, log);
     bytes
 }
 

@@ -1,9 +1,13 @@
 // What is outside beside the disks and fails: a sink at each of its writes, a device, and a source without an end.
 ghost use Rattle.std.specs.Prelude.{[]};
+ghost use Rattle.boss_model.specs.Catalogue.{actuators};
+ghost use Rattle.boss_scripts.specs.Devices.{HasDevices};
 
 use crate::outside::*;
 use boss_manager::Status;
 use boss_outside::{BytesSink, Got, Hears, Source};
+use boss_points::Catalogue;
+use std::alloc::Global;
 use std::process::Abort;
 
 const INPUT: &str = "{\"op\":\"attach\",\"process\":\"a\"}
@@ -41,13 +45,27 @@ fn told_and_called(rt: &impl Abort, ran: &Ran) -> (usize, usize) {
 fn a_write_that_fails_ends_a_script(rt: HostRuntime) {
     let alloc = rt.alloc();
     let catalogue = three_points(&rt, alloc);
-    for (write, bytes, calls, held) in WRITES {
-        let disks = pair(&rt, alloc, &[], &[]);
-        let ran = run_failing(&rt, alloc, &catalogue, disks, INPUT, (write, 0));
-        assert!(&rt; ran.status == Status::WRITE_FAULT);
-        assert!(&rt; told_and_called(&rt, &ran) == (bytes, calls));
-        expect_check(&rt, alloc, &catalogue, ran.disks, Status::DONE, held);
+    for (write, bytes, calls, held) in &WRITES {
+        expect_fault(&rt, alloc, &catalogue, *write, (*bytes, *calls), held);
     }
+}
+
+/// Runs the script with a sink whose write of this number fails, and compares what was told and called, and what a check tells.
+fn expect_fault(
+    rt: &impl Abort,
+    alloc: Global,
+    catalogue: &Catalogue,
+    write: u64,
+    told: (usize, usize),
+    held: &str,
+)
+    requires { HasDevices 1 (actuators catalogue.now) }
+{
+    let disks = pair(rt, alloc, &[], &[]);
+    let ran = run_failing(rt, alloc, catalogue, disks, INPUT, (write, 0));
+    assert!(rt; ran.status == Status::WRITE_FAULT);
+    assert!(rt; told_and_called(rt, &ran) == told);
+    expect_check(rt, alloc, catalogue, ran.disks, Status::DONE, held);
 }
 
 /// The fourth call of the device fails, which ends the transaction: its fault is the third event, and is told behind a stop.
@@ -122,12 +140,18 @@ fn a_line_without_an_end_ends_a_script(rt: HostRuntime) {
     let alloc = rt.alloc();
     let catalogue = three_points(&rt, alloc);
     let mut source = Endless { reads: 0 };
-    let (sink, devices) = (sink(&rt, alloc, 0), device(&rt, alloc, 0));
-    let disks = pair(&rt, alloc, &[], &[]);
-    let ran = run_over(alloc, &catalogue, disks, &mut source, sink, devices);
-    assert!(&rt; ran.status == Status::LINE_TOO_LONG);
-    expect_told(&rt, &ran.sink, ENDED);
+    expect_ended(&rt, alloc, &catalogue, &mut source);
     assert!(&rt; source.reads == 65_536);
+}
+
+fn expect_ended(rt: &impl Abort, alloc: Global, catalogue: &Catalogue, source: &mut Endless)
+    requires { HasDevices 1 (actuators catalogue.now) }
+{
+    let (sink, devices) = (sink(rt, alloc, 0), device(rt, alloc, 0));
+    let disks = pair(rt, alloc, &[], &[]);
+    let ran = run_over(alloc, catalogue, disks, source, sink, devices);
+    assert!(rt; ran.status == Status::LINE_TOO_LONG);
+    expect_told(rt, &ran.sink, ENDED);
 }
 
 const ENDED: &str = "write field ahu1.damper 20000 ok

@@ -1,8 +1,12 @@
 // When a script reads on: only behind what its lines were answered.
+ghost use Rattle.boss_model.specs.Catalogue.{actuators};
+ghost use Rattle.boss_scripts.specs.Devices.{HasDevices};
+
 use crate::outside::*;
 use boss_manager::Status;
 use boss_model::Items;
 use boss_outside::{BytesSource, HeardSource, ReadAt};
+use boss_points::Catalogue;
 use std::alloc::Global;
 use std::process::Abort;
 
@@ -44,11 +48,17 @@ fn are_in_time(reads: &[ReadAt]) -> bool {
 fn a_script_reads_on_when_its_lines_are_answered(rt: HostRuntime) {
     let alloc = rt.alloc();
     let catalogue = three_points(&rt, alloc);
-    let disks = pair(&rt, alloc, &[], &[]);
     let mut source = asked(&rt, alloc);
-    let (sink, devices) = (sink(&rt, alloc, 0), device(&rt, alloc, 0));
-    let ran = run_over(alloc, &catalogue, disks, &mut source, sink, devices);
-    assert!(&rt; ran.status == Status::DONE);
-    expect_told(&rt, &ran.sink, TOLD);
+    expect_answered(&rt, alloc, &catalogue, &mut source);
     assert!(&rt; source.is_whole() && are_in_time(source.reads()));
+}
+
+fn expect_answered(rt: &impl Abort, alloc: Global, catalogue: &Catalogue, source: &mut HeardSource)
+    requires { HasDevices 1 (actuators catalogue.now) }
+{
+    let disks = pair(rt, alloc, &[], &[]);
+    let (sink, devices) = (sink(rt, alloc, 0), device(rt, alloc, 0));
+    let ran = run_over(alloc, catalogue, disks, source, sink, devices);
+    assert!(rt; ran.status == Status::DONE);
+    expect_told(rt, &ran.sink, TOLD);
 }

@@ -6,7 +6,7 @@ ghost use Rattle.boss_model.specs.Catalogue.{actuators};
 ghost use Rattle.boss_model.specs.declared.state.Actuator.{Actuator};
 ghost use Rattle.boss_model.specs.Sound.{IsAllowed};
 
-use crate::bytes::{DIGEST, SHUT, SUBMIT_TAIL, joined, journal};
+use crate::bytes::{DIGEST, SHUT, SUBMIT_TAIL, joined, journal, put};
 use crate::limited::LOG_LIMIT;
 use crate::outside::*;
 use boss_model::{Answer, Command, Items, Name, PointId, Policy, SessionId, Setting, Txn};
@@ -70,12 +70,16 @@ fn record(rt: &impl Abort, alloc: Global) -> Vec<u8> {
     let head: &[u8] = b"\x01\0\0\x01\x7a\x01\0\0\0\0\0\0\x03\xe8\x01a\x02\0\0\0\0\0\0\x03\xe9";
     let mut bytes = joined(rt, alloc, &[head, SUBMIT_TAIL]);
     for moment in 1002..1016u64 {
-        let at = moment.to_be_bytes();
-        let tail: &[u8] = b"\0\0\0\0\0\0\0\0\0\x01\0\0\xea\x60\0";
-        let renewal = joined(rt, alloc, &[b"\x03", &at, tail]);
-        bytes.extend_from_slice(&renewal).expect(rt, "memory");
+        put_renewal(rt, &mut bytes, moment);
     }
     bytes
+}
+
+/// The renewal at a moment.
+fn put_renewal(rt: &impl Abort, into: &mut Vec<u8>, moment: u64) {
+    put(rt, into, b"\x03");
+    put(rt, into, &moment.to_be_bytes());
+    put(rt, into, b"\0\0\0\0\0\0\0\0\0\x01\0\0\xea\x60\0");
 }
 
 /// How many of the commands are done on two empty disks, and what the first has then.
@@ -108,8 +112,13 @@ fn sixteen_commands_make_one_record(rt: HostRuntime) {
     assert_eq!(&rt; catalogue.count(), 3);
     let calls = sixteen(&rt, alloc);
     let (done, bytes) = done_together(&rt, alloc, &catalogue, &calls);
-    assert_eq!(&rt; done, 16);
-    let record = record(&rt, alloc);
-    let wanted = journal(&rt, alloc, b"\x02", DIGEST, &[&record, SHUT]);
-    assert!(&rt; bytes.slice() == wanted.as_slice());
+    expect_record(&rt, alloc, done, bytes.slice());
+}
+
+/// All of them are done, and make a journal of the one record.
+fn expect_record(rt: &impl Abort, alloc: Global, done: u32, bytes: &[u8]) {
+    assert!(rt; done == 16);
+    let record = record(rt, alloc);
+    let wanted = journal(rt, alloc, b"\x02", DIGEST, &[&record, SHUT]);
+    assert!(rt; bytes == wanted.as_slice());
 }

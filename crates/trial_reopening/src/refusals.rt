@@ -27,10 +27,14 @@ fn a_journal_cut_short_is_new_or_damaged(rt: HostRuntime) {
     let whole = worked(&rt, alloc);
     assert_eq!(&rt; whole.len(), 94);
     for length in 0..=whole.len() {
-        let disks = pair(&rt, alloc, &whole[..length], &[]);
-        let (_, sink) = check(&rt, alloc, &catalogue, disks);
-        expect_told(&rt, &sink, of_length(length));
+        expect_cut(&rt, alloc, &catalogue, &whole[..length], of_length(length));
     }
+}
+
+fn expect_cut(rt: &impl Abort, alloc: Global, catalogue: &Catalogue, journal: &[u8], told: &str) {
+    let disks = pair(rt, alloc, journal, &[]);
+    let (_, sink) = check(rt, alloc, catalogue, disks);
+    expect_told(rt, &sink, told);
 }
 
 /// A script and a check refuse these disks so, and the script leaves them as they were.
@@ -56,28 +60,46 @@ fn refused(
 const OTHER: &str =
     "journal catalogue abf24f74f7546ec5b6518644b791c16f2669c87380766435de2d82a7a610d059 aaf24f74f7546ec5b6518644b791c16f2669c87380766435de2d82a7a610d059\n";
 
+type Journal = (
+    &'static [u8; 1],
+    &'static [u8; 32],
+    &'static [&'static [u8]],
+    &'static str,
+);
+
+const EMPTY_RECORD: &[u8] = b"\x01\0\0\0\0\0";
+
+/// SHA-256 of the canonical text of the three points, with another first byte.
+const OTHER_DIGEST: &[u8; 32] =
+    b"\xab\xf2Ot\xf7Tn\xc5\xb6Q\x86D\xb7\x91\xc1o&i\xc8s\x80vd5\xde-\x82\xa7\xa6\x10\xd0Y";
+
+/// The version and the digest of a journal, what stands behind its heading, and why it is refused.
+const JOURNALS: &[Journal] = &[
+    (b"\x02", DIGEST, &[EMPTY_RECORD], "journal damaged 41\n"),
+    (
+        b"\x02",
+        DIGEST,
+        &[ATTACHED, ATTACHED, SHUT],
+        "journal damaged 57\n",
+    ),
+    (b"\x09", DIGEST, &[SHUT], "journal version 9\n"),
+    (b"\x02", OTHER_DIGEST, &[SHUT], OTHER),
+];
+
+fn refused_journal(rt: &impl Abort, alloc: Global, catalogue: &Catalogue, row: &Journal)
+    requires { HasDevices 1 (actuators catalogue.now) }
+{
+    let bytes = journal(rt, alloc, row.0, row.1, row.2);
+    refused(rt, alloc, catalogue, &bytes, &[], row.3);
+}
+
 #[test]
 fn a_journal_is_refused_for_what_it_holds(rt: HostRuntime) {
     let alloc = rt.alloc();
     let catalogue = three_points(&rt, alloc);
-    let mut other = *DIGEST;
-    other[0] = 0xab;
-    let empty_record: &[u8] = b"\x01\0\0\0\0\0";
-    let damaged = journal(&rt, alloc, b"\x02", DIGEST, &[empty_record]);
-    refused(
-        &rt,
-        alloc,
-        &catalogue,
-        &damaged,
-        &[],
-        "journal damaged 41\n",
-    );
-    let twice = journal(&rt, alloc, b"\x02", DIGEST, &[ATTACHED, ATTACHED, SHUT]);
-    refused(&rt, alloc, &catalogue, &twice, &[], "journal damaged 57\n");
-    let newer = journal(&rt, alloc, b"\x09", DIGEST, &[SHUT]);
-    refused(&rt, alloc, &catalogue, &newer, &[], "journal version 9\n");
-    let foreign = journal(&rt, alloc, b"\x02", &other, &[SHUT]);
-    refused(&rt, alloc, &catalogue, &foreign, &[], OTHER);
+    for row in JOURNALS {
+        refused_journal(&rt, alloc, &catalogue, row);
+    }
     let none = "journal not-a-journal\n";
     refused(
         &rt,
@@ -103,10 +125,16 @@ const CHANGED: [(usize, u8, &str); 3] = [
 fn a_kept_state_is_refused_at_its_place(rt: HostRuntime) {
     let alloc = rt.alloc();
     let catalogue = three_points(&rt, alloc);
-    for (place, byte, told) in CHANGED {
-        let mut second = kept(&rt, alloc);
-        assert_eq!(&rt; second.len(), 162);
-        second[place] = byte;
+    for (place, byte, told) in &CHANGED {
+        let second = changed(&rt, alloc, *place, *byte);
         refused(&rt, alloc, &catalogue, &[], &second, told);
     }
+}
+
+/// The kept state with another byte at a place.
+fn changed(rt: &impl Abort, alloc: Global, place: usize, byte: u8) -> Vec<u8> {
+    let mut bytes = kept(rt, alloc);
+    assert!(rt; bytes.len() == 162 && place < 162);
+    bytes[place] = byte;
+    bytes
 }

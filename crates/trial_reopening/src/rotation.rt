@@ -3,7 +3,7 @@ ghost use Rattle.std.specs.Prelude.{◌≤◌, ◌^◌};
 ghost use Rattle.boss_model.specs.Catalogue.{actuators};
 ghost use Rattle.boss_scripts.specs.Devices.{HasDevices};
 
-use crate::bytes::{ATTACHED, DIGEST, SHUT, SUBMIT_HEAD, SUBMIT_TAIL, joined, journal};
+use crate::bytes::{ATTACHED, DIGEST, SHUT, SUBMIT_HEAD, SUBMIT_TAIL, joined, journal, put};
 use crate::limited::run_limited;
 use crate::outside::*;
 use boss_manager::Status;
@@ -44,23 +44,25 @@ fn submits(rt: &impl Abort, alloc: Global, count: u64) -> String
 {
     let mut text = String::from_str(alloc, ATTACH).expect(rt, "memory");
     for place in 0..count {
-        let moment = 1000 + place;
-        let line = format!(in alloc;
-            "{{\"at\":{moment},\"op\":\"submit\",\"writes\":[{{\"point\":\"ahu1.damper\",\"value\":45000,\"priority\":8,\"lease\":60000}}]}}\n"
-        );
-        text.push_str(line.expect(rt, "memory").as_str())
-            .expect(rt, "memory");
+        put_submit(rt, &mut text, 1000 + place);
     }
     text
 }
 
-/// The record of a submit at a moment.
-fn submitted(rt: &impl Abort, alloc: Global, moment: u64) -> Vec<u8> {
-    joined(
-        rt,
-        alloc,
-        &[SUBMIT_HEAD, &moment.to_be_bytes(), SUBMIT_TAIL],
+/// A submit at a moment.
+fn put_submit(rt: &impl Abort, text: &mut String, moment: u64) {
+    writeln!(
+        text,
+        "{{\"at\":{moment},\"op\":\"submit\",\"writes\":[{{\"point\":\"ahu1.damper\",\"value\":45000,\"priority\":8,\"lease\":60000}}]}}"
     )
+    .expect(rt, "memory");
+}
+
+/// The record of a submit at a moment.
+fn put_submitted(rt: &impl Abort, into: &mut Vec<u8>, moment: u64) {
+    put(rt, into, SUBMIT_HEAD);
+    put(rt, into, &moment.to_be_bytes());
+    put(rt, into, SUBMIT_TAIL);
 }
 
 /// The journal of the attach and so many submits.
@@ -69,8 +71,7 @@ pub fn log_of(rt: &impl Abort, alloc: Global, submits: u64) -> Vec<u8>
 {
     let mut bytes = journal(rt, alloc, b"\x02", DIGEST, &[ATTACHED]);
     for place in 0..submits {
-        let record = submitted(rt, alloc, 1000 + place);
-        bytes.extend_from_slice(&record).expect(rt, "memory");
+        put_submitted(rt, &mut bytes, 1000 + place);
     }
     bytes.push(0).expect(rt, "memory");
     bytes
@@ -81,7 +82,9 @@ fn expect_second(rt: &impl Abort, alloc: Global, bytes: &[u8]) {
     let numbers: &[u8] = b"\0\0\0\0\0\0\0\x01\0\0\0\0\0\0\x07\x1e";
     let heading = joined(rt, alloc, &[b"BOSSSNAP\x02", DIGEST, numbers]);
     assert!(rt; bytes.starts_with(&heading));
-    let record = joined(rt, alloc, &[&submitted(rt, alloc, 2_821), SHUT]);
+    let mut record = Vec::new(alloc);
+    put_submitted(rt, &mut record, 2_821);
+    put(rt, &mut record, SHUT);
     assert!(rt; bytes.ends_with(&record));
 }
 

@@ -5,6 +5,8 @@ ghost use Rattle.boss_scripts.specs.Devices.{HasDevices};
 use crate::limited::{Left, run_limited};
 use crate::outside::*;
 use crate::rotation::log_of;
+use boss_disk::MemoryDisk;
+use boss_model::Items;
 use boss_points::Catalogue;
 use std::alloc::Global;
 use std::process::Abort;
@@ -76,12 +78,28 @@ fn place_of(rt: &impl Abort, told: &[u8]) -> usize {
 /// Looks at all that a crash may leave behind the text of this place.
 fn look(rt: &impl Abort, alloc: Global, catalogue: &Catalogue, disks: &Pair, place: usize) {
     let (answered, under_way) = (ANSWERED[place.min(2)], UNDER_WAY[place.min(2)]);
-    for pick in PICKS {
-        let left = images(rt, alloc, disks, (0, pick));
-        let (_, sink) = check(rt, alloc, catalogue, left);
-        let told = sink.taken();
-        assert!(rt; told == answered.as_bytes() || told == under_way.as_bytes());
+    for pick in &PICKS {
+        look_at(rt, alloc, catalogue, disks, *pick, answered, under_way);
     }
+}
+
+/// Looks at the image that a number picks, of which one of these is told.
+fn look_at(
+    rt: &impl Abort,
+    alloc: Global,
+    catalogue: &Catalogue,
+    disks: &Pair,
+    pick: u64,
+    one: &str,
+    other: &str,
+) {
+    let left = images(rt, alloc, disks, (0, pick));
+    let (_, sink) = check(rt, alloc, catalogue, left);
+    assert!(rt; is_one_of(sink.taken(), one, other));
+}
+
+fn is_one_of(told: &[u8], one: &str, other: &str) -> bool {
+    told == one.as_bytes() || told == other.as_bytes()
 }
 
 /// Attaches, submits twice and reads, over a log that has room for one record more, beside a disk with a trouble.
@@ -109,19 +127,43 @@ fn try_calls(rt: &impl Abort, alloc: Global, catalogue: &Catalogue, log: &[u8], 
     let place = place_of(rt, stopped.sink.taken());
     look(rt, alloc, catalogue, &stopped.disks, place);
     let next = Trouble::Fails(calls.saturating_add(1));
-    let failed = run_beside(rt, alloc, catalogue, log, next);
-    assert!(rt; failed.sink.taken() == stopped.sink.taken());
-    expect_same(rt, alloc, &stopped.disks, &failed.disks);
+    expect_as(rt, alloc, catalogue, log, next, &stopped);
     place == 2
+}
+
+/// The same is told and left beside a disk with this trouble.
+fn expect_as(
+    rt: &impl Abort,
+    alloc: Global,
+    catalogue: &Catalogue,
+    log: &[u8],
+    trouble: Trouble,
+    other: &Left,
+)
+    requires { HasDevices 1 (actuators catalogue.now) }
+{
+    let left = run_beside(rt, alloc, catalogue, log, trouble);
+    assert!(rt; left.sink.taken() == other.sink.taken());
+    expect_same(rt, alloc, &other.disks, &left.disks);
 }
 
 /// Whether a crash leaves the same of two pairs, whether what was not synced stays or goes.
 fn expect_same(rt: &impl Abort, alloc: Global, one: &Pair, other: &Pair) {
     for pick in 0..2u64 {
-        let (_, one) = images(rt, alloc, one, (pick, pick));
-        let (_, other) = images(rt, alloc, other, (pick, pick));
-        assert!(rt; one.into_bytes().slice() == other.into_bytes().slice());
+        let one = second_image(rt, alloc, one, pick);
+        expect_bytes(rt, second_disk(rt, alloc, other, pick), one.slice());
     }
+}
+
+/// The image of the second disk that a number picks.
+fn second_disk(rt: &impl Abort, alloc: Global, disks: &Pair, pick: u64) -> MemoryDisk {
+    let (_, second) = images(rt, alloc, disks, (pick, pick));
+    second
+}
+
+/// And its bytes.
+fn second_image(rt: &impl Abort, alloc: Global, disks: &Pair, pick: u64) -> Items<u8> {
+    second_disk(rt, alloc, disks, pick).into_bytes()
 }
 
 #[test]

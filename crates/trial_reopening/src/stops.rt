@@ -89,7 +89,7 @@ fn answered(rt: &impl Abort, told: &[u8]) -> usize {
     let (front, stops) = before_stops(told);
     assert!(rt; ANSWERED[2].as_bytes().starts_with(front));
     let mut answered: usize = 0;
-    for text in ANSWERED {
+    for text in &ANSWERED {
         if text.len() <= front.len() {
             answered = answered.saturating_add(1);
         }
@@ -108,11 +108,23 @@ fn may_hold(told: &[u8], answered: usize) -> bool {
 
 /// Looks at all that a crash may leave of two disks on which so many lines were answered.
 fn look(rt: &impl Abort, alloc: Global, catalogue: &Catalogue, disks: &Pair, answered: usize) {
-    for picks in PICKS {
-        let left = images(rt, alloc, disks, picks);
-        let (_, sink) = check(rt, alloc, catalogue, left);
-        assert!(rt; may_hold(sink.taken(), answered));
+    for picks in &PICKS {
+        look_at(rt, alloc, catalogue, disks, *picks, answered);
     }
+}
+
+/// Looks at the images that these numbers pick.
+fn look_at(
+    rt: &impl Abort,
+    alloc: Global,
+    catalogue: &Catalogue,
+    disks: &Pair,
+    picks: (u64, u64),
+    answered: usize,
+) {
+    let left = images(rt, alloc, disks, picks);
+    let (_, sink) = check(rt, alloc, catalogue, left);
+    assert!(rt; may_hold(sink.taken(), answered));
 }
 
 /// Runs the script over an empty pair with these troubles, and looks at what is left. Whether it was run to its end.
@@ -173,17 +185,31 @@ const APPENDED: [(u64, u64, usize); 14] = [
 fn expect_append(rt: &impl Abort, alloc: Global, catalogue: &Catalogue, calls: u64)
     requires { HasDevices 1 (actuators catalogue.now) }
 {
-    for (missing, pick, events) in APPENDED {
-        let stop = Trouble::Stops(calls.saturating_sub(missing));
-        let disks = (
-            disk(rt, alloc, &[], stop),
-            disk(rt, alloc, &[], Trouble::None),
-        );
-        let ran = run(rt, alloc, catalogue, disks, INPUT);
-        let left = images(rt, alloc, &ran.disks, (pick, 0));
-        let held = HELD[events.min(2)];
-        expect_check(rt, alloc, catalogue, left, Status::DONE, held);
+    for (missing, pick, events) in &APPENDED {
+        let stop = Trouble::Stops(calls.saturating_sub(*missing));
+        let held = HELD[(*events).min(2)];
+        expect_held(rt, alloc, catalogue, stop, *pick, held);
     }
+}
+
+/// Runs the script over a first disk with this trouble, and compares what is held in the image that a number picks.
+fn expect_held(
+    rt: &impl Abort,
+    alloc: Global,
+    catalogue: &Catalogue,
+    trouble: Trouble,
+    pick: u64,
+    held: &str,
+)
+    requires { HasDevices 1 (actuators catalogue.now) }
+{
+    let disks = (
+        disk(rt, alloc, &[], trouble),
+        disk(rt, alloc, &[], Trouble::None),
+    );
+    let ran = run(rt, alloc, catalogue, disks, INPUT);
+    let left = images(rt, alloc, &ran.disks, (pick, 0));
+    expect_check(rt, alloc, catalogue, left, Status::DONE, held);
 }
 
 #[test]

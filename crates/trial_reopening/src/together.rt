@@ -72,14 +72,29 @@ fn ask_together(
 
 /// Looks at all that a crash may leave: what both asked for is there whole, or nothing of it; and where it was done it is there.
 fn look(rt: &impl Abort, alloc: Global, catalogue: &Catalogue, disks: &Pair, done: bool) {
-    for picks in PICKS {
-        let left = images(rt, alloc, disks, picks);
-        let (_, sink) = check(rt, alloc, catalogue, left);
-        let told = sink.taken();
-        let whole = told == ALL.as_bytes();
-        let nothing = told == NOTHING.as_bytes() || told == NEW.as_bytes();
-        assert!(rt; whole || (nothing && !done));
+    for picks in &PICKS {
+        look_at(rt, alloc, catalogue, disks, *picks, done);
     }
+}
+
+/// Looks at the images that these numbers pick.
+fn look_at(
+    rt: &impl Abort,
+    alloc: Global,
+    catalogue: &Catalogue,
+    disks: &Pair,
+    picks: (u64, u64),
+    done: bool,
+) {
+    let left = images(rt, alloc, disks, picks);
+    let (_, sink) = check(rt, alloc, catalogue, left);
+    assert!(rt; may_tell(sink.taken(), done));
+}
+
+/// Whether a check may tell this.
+fn may_tell(told: &[u8], done: bool) -> bool {
+    let nothing = told == NOTHING.as_bytes() || told == NEW.as_bytes();
+    told == ALL.as_bytes() || (nothing && !done)
 }
 
 /// Asks over an empty pair with these troubles. Whether all was done.
@@ -106,18 +121,26 @@ fn try_disks(
     }
 }
 
+/// The same where the calls of the first disk behind so many, or the next one of either alone, come to nothing. Whether all was done each
+/// time.
+fn try_calls(rt: &impl Abort, alloc: Global, catalogue: &Catalogue, calls: u64) -> bool
+    requires { 0 < length (actuators catalogue.now) }
+{
+    let fails = Trouble::Fails(calls.saturating_add(1));
+    let stops = Trouble::Stops(calls);
+    let failed = try_disks(rt, alloc, catalogue, fails, Trouble::None);
+    let stopped = try_disks(rt, alloc, catalogue, stops, Trouble::None);
+    let other = try_disks(rt, alloc, catalogue, Trouble::None, fails);
+    failed && stopped && other
+}
+
 #[test]
 fn what_two_callers_ask_for_is_kept_whole_or_not_at_all(rt: HostRuntime) {
     let alloc = rt.alloc();
     let catalogue = three_points(&rt, alloc);
-    assert_eq!(&rt; catalogue.count(), 3);
+    assert!(&rt; catalogue.count() == 3);
     for calls in 0..MANY {
-        let fails = Trouble::Fails(calls.saturating_add(1));
-        let stops = Trouble::Stops(calls);
-        let failed = try_disks(&rt, alloc, &catalogue, fails, Trouble::None);
-        let stopped = try_disks(&rt, alloc, &catalogue, stops, Trouble::None);
-        let other = try_disks(&rt, alloc, &catalogue, Trouble::None, fails);
-        if failed && stopped && other {
+        if try_calls(&rt, alloc, &catalogue, calls) {
             return;
         }
     }

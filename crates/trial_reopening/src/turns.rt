@@ -91,16 +91,21 @@ fn take_turn(
 fn a_lease_goes_from_run_to_run(rt: HostRuntime) {
     let alloc = rt.alloc();
     let catalogue = three_points(&rt, alloc);
-    let mut disks = pair(&rt, alloc, &[], &[]);
-    for turn in &TURNS {
-        disks = take_turn(&rt, alloc, &catalogue, turn, disks);
-    }
-    // The tick that ended the lease stands behind the two records.
-    let ticked: &[u8] = b"\x01\0\0\0\x09\x06\0\0\0\0\0\0\xee\x48";
-    let log = [ATTACHED, SUBMIT_HEAD, AT_1000, SUBMIT_TAIL, ticked, SHUT];
-    let (first, second) = disks;
-    expect_bytes(&rt, first, &journal(&rt, alloc, b"\x02", DIGEST, &log));
+    let disks = pair(&rt, alloc, &[], &[]);
+    let [made, taken, in_force, ended] = &TURNS;
+    let disks = take_turn(&rt, alloc, &catalogue, made, disks);
+    let disks = take_turn(&rt, alloc, &catalogue, taken, disks);
+    let disks = take_turn(&rt, alloc, &catalogue, in_force, disks);
+    let (first, second) = take_turn(&rt, alloc, &catalogue, ended, disks);
+    expect_bytes(&rt, first, &ticked(&rt, alloc));
     expect_bytes(&rt, second, &[]);
+}
+
+/// The journal then: the tick that ended the lease stands behind the two records.
+fn ticked(rt: &impl Abort, alloc: Global) -> Vec<u8> {
+    let tick: &[u8] = b"\x01\0\0\0\x09\x06\0\0\0\0\0\0\xee\x48";
+    let log = [ATTACHED, SUBMIT_HEAD, AT_1000, SUBMIT_TAIL, tick, SHUT];
+    journal(rt, alloc, b"\x02", DIGEST, &log)
 }
 
 const CARRIED_OVER: Turn = Turn {

@@ -3,7 +3,7 @@
 ghost use Rattle.boss_outside_server.specs.Hosts.{IsUntouched};
 
 use crate::held::{Held, Raising};
-use crate::texts::tell_talk;
+use crate::texts::{expect_text, tell_talk};
 use crate::threads::serve_in_threads;
 use boss_model::Items;
 use boss_outside::{BytesSink, Hears, Sink, Source};
@@ -133,5 +133,5 @@ fn connections_are_served_at_the_same_time(rt: HostRuntime) {
     let mut bytes = Vec::new(alloc);
     bytes.resize(65_537, b'x').expect(&rt, "memory");
     let told = run(&rt, alloc, &catalogue, &bytes);
-    assert_eq!(rt; told.as_str(), TOLD);
+    expect_text(&rt, told.as_str(), TOLD, "a talk");
 }

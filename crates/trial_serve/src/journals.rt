@@ -7,6 +7,7 @@ use crate::clocks::call;
 use crate::connections::Talk;
 use crate::rows::PLAIN;
 use crate::stage::{Pair, Setting, run_on_disks};
+use crate::texts::expect_text;
 use boss_disk::MemoryDisk;
 use boss_manager::check_on_disks;
 use boss_model::Items;
@@ -154,14 +155,17 @@ pub fn empty_disks(rt: &impl Abort, alloc: Global, fails: u64) -> Pair {
     (empty_disk(rt, alloc, fails), empty_disk(rt, alloc, 0))
 }
 
+/// Puts down bytes.
+pub fn put_bytes(rt: &impl Abort, bytes: &mut Vec<u8>, more: &[u8]) {
+    bytes.extend_from_slice(more).expect(rt, "memory");
+}
+
 /// The journal of this catalogue with this log.
-pub fn journal(rt: &impl Abort, alloc: Global, catalogue: &Catalogue, log: &[&[u8]]) -> Vec<u8> {
+fn journal(rt: &impl Abort, alloc: Global, catalogue: &Catalogue, log: &[&[u8]]) -> Vec<u8> {
     let mut bytes = HEADING.to_vec(alloc).expect(rt, "memory");
-    bytes
-        .extend_from_slice(&catalogue.digest())
-        .expect(rt, "memory");
+    put_bytes(rt, &mut bytes, &catalogue.digest());
     for record in log {
-        bytes.extend_from_slice(record).expect(rt, "memory");
+        put_bytes(rt, &mut bytes, record);
     }
     bytes
 }
@@ -176,30 +180,78 @@ fn run_all<R: Abort + Threads + Wait + Sync>(
     let mut told = String::new(alloc);
     let mut disks = empty_disks(rt, alloc, 0);
     for setting in settings {
-        let (text, left) = run_on_disks(rt, alloc, catalogue, setting, disks);
-        told.push_str(text.as_str()).expect(rt, "memory");
-        disks = left;
+        disks = run_next(rt, alloc, catalogue, setting, disks, &mut told);
     }
     (told, disks)
 }
 
-/// The first disk has to have these bytes, and the second none.
-fn expect_disks(rt: &impl Abort, disks: Pair, bytes: &[u8], shows: &str) {
-    let (first, second) = disks;
-    assert!(rt; first.into_bytes().slice() == bytes, "{shows}");
-    assert!(rt; second.into_bytes().slice().is_empty(), "{shows}");
+/// The disks that a server leaves, which puts what it tells behind this text.
+fn run_next<R: Abort + Threads + Wait + Sync>(
+    rt: &R,
+    alloc: Global,
+    catalogue: &Catalogue,
+    setting: &Setting,
+    disks: Pair,
+    told: &mut String,
+) -> Pair {
+    let (text, left) = run_on_disks(rt, alloc, catalogue, setting, disks);
+    told.push_str(text.as_str()).expect(rt, "memory");
+    left
+}
+
+/// Whether a disk has these bytes, and no others.
+fn has_bytes(disk: MemoryDisk, bytes: &[u8]) -> bool {
+    disk.into_bytes().slice() == bytes
+}
+
+/// A disk has to have these bytes, and no others.
+pub fn expect_bytes(rt: &impl Abort, disk: MemoryDisk, bytes: &[u8], shows: &str) {
+    assert!(rt; has_bytes(disk, bytes), "{shows}");
+}
+
+/// A disk has to have the journal of this catalogue with this log.
+pub fn expect_journal(
+    rt: &impl Abort,
+    alloc: Global,
+    catalogue: &Catalogue,
+    disk: MemoryDisk,
+    log: &[&[u8]],
+    shows: &str,
+) {
+    let wanted = journal(rt, alloc, catalogue, log);
+    expect_bytes(rt, disk, wanted.as_slice(), shows);
+}
+
+/// Runs the servers of a row, and compares what is told, and what the disks have then: the first its journal, and the second nothing.
+fn expect_row<R: Abort + Threads + Wait + Sync>(
+    rt: &R,
+    alloc: Global,
+    catalogue: &Catalogue,
+    row: &Row,
+) {
+    let (told, (first, second)) = run_all(rt, alloc, catalogue, row.settings);
+    expect_text(rt, told.as_str(), row.told, row.shows);
+    expect_journal(rt, alloc, catalogue, first, row.log, row.shows);
+    expect_bytes(rt, second, &[], row.shows);
+}
+
+/// The same of each row.
+fn expect_rows<R: Abort + Threads + Wait + Sync>(
+    rt: &R,
+    alloc: Global,
+    catalogue: &Catalogue,
+    rows: &[Row],
+) {
+    for row in rows {
+        expect_row(rt, alloc, catalogue, row);
+    }
 }
 
 #[test]
 fn servers_over_a_journal(rt: HostRuntime) {
     let alloc = rt.alloc();
     let catalogue = Catalogue::read(alloc, THREE_POINTS.as_bytes()).expect(&rt, "a catalogue");
-    for row in ROWS {
-        let (told, disks) = run_all(&rt, alloc, &catalogue, row.settings);
-        assert_eq!(rt; told.as_str(), row.told, "{}", row.shows);
-        let wanted = journal(&rt, alloc, &catalogue, row.log);
-        expect_disks(&rt, disks, &wanted, row.shows);
-    }
+    expect_rows(&rt, alloc, &catalogue, ROWS);
 }
 
 /// A worker with a connection behind another.
@@ -285,12 +337,19 @@ status 0
 /// More calls than the server makes of its first disk.
 const MANY: u64 = 60;
 
+/// Whether this is what is told at this place.
+fn is_told_at(place: usize, told: &str) -> bool
+    requires { place < 5 }
+{
+    BROKEN[place].told == told
+}
+
 /// The place of what is told among those that may be.
 fn place_of(told: &str) -> Option<usize>
     ensures { IfSome result (λ place. place < 5) }
 {
     for place in 0..5usize {
-        if BROKEN[place].told == told {
+        if is_told_at(place, told) {
             return Some(place);
         }
     }
@@ -312,22 +371,70 @@ fn checked(
     sink
 }
 
-/// Whether a crash may leave only what this row has.
-fn may_be_left(
+/// Whether a check tells one of these of what a crash may leave for this pick.
+fn may_be_picked(
     rt: &impl Abort,
     alloc: Global,
     catalogue: &Catalogue,
     disks: &Pair,
     held: &[&str; 2],
+    pick: u64,
 ) -> bool {
-    for pick in 0..2u64 {
-        let sink = checked(rt, alloc, catalogue, disks, pick);
-        let told = sink.taken();
-        if told != held[0].as_bytes() && told != held[1].as_bytes() {
-            return false;
-        }
+    let sink = checked(rt, alloc, catalogue, disks, pick);
+    is_one_of(sink.taken(), held)
+}
+
+/// Whether these bytes are one of two texts.
+fn is_one_of(told: &[u8], held: &[&str; 2]) -> bool {
+    told == held[0].as_bytes() || told == held[1].as_bytes()
+}
+
+/// Fails the call of this number, and compares what is told behind what was told at this place: the same, or what comes next. A crash may
+/// leave only what that row has. Gives the place of what is told.
+fn expect_next<R: Abort + Threads + Wait + Sync>(
+    rt: &R,
+    alloc: Global,
+    catalogue: &Catalogue,
+    call: u64,
+    place: usize,
+) -> usize
+    ensures { result < 5 }
+{
+    let (told, left) = run_on_disks(rt, alloc, catalogue, &TWO, empty_disks(rt, alloc, call));
+    let next = place_of(told.as_str()).expect(rt, "what may be told");
+    assert!(rt; place <= next && next - place <= 1);
+    expect_left(rt, alloc, catalogue, &left, next, call);
+    next
+}
+
+/// A crash may leave only what the row at this place has, whether it lost what was not synced or not.
+fn expect_left(
+    rt: &impl Abort,
+    alloc: Global,
+    catalogue: &Catalogue,
+    disks: &Pair,
+    place: usize,
+    call: u64,
+)
+    requires { place < 5 }
+{
+    let held = &BROKEN[place].held;
+    let lost = may_be_picked(rt, alloc, catalogue, disks, held, 0);
+    let stays = may_be_picked(rt, alloc, catalogue, disks, held, 1);
+    assert!(rt; lost && stays, "call {call}");
+}
+
+/// The place of what is told at the end, where each call of the disk fails in turn.
+fn expect_each<R: Abort + Threads + Wait + Sync>(
+    rt: &R,
+    alloc: Global,
+    catalogue: &Catalogue,
+) -> usize {
+    let mut place: usize = 0;
+    for call in 1..MANY {
+        place = expect_next(rt, alloc, catalogue, call, place);
     }
-    true
+    place
 }
 
 /// Each call of the disk fails in turn, and none of what may be told is missing.
@@ -335,18 +442,6 @@ fn may_be_left(
 fn behind_a_disk_that_failed_no_connection_is_taken(rt: HostRuntime) {
     let alloc = rt.alloc();
     let catalogue = Catalogue::read(alloc, THREE_POINTS.as_bytes()).expect(&rt, "a catalogue");
-    let mut place: usize = 0;
-    for call in 1..MANY {
-        let disks = empty_disks(&rt, alloc, call);
-        let (told, left) = run_on_disks(&rt, alloc, &catalogue, &TWO, disks);
-        let next = place_of(told.as_str()).expect(&rt, "what may be told");
-        assert!(rt; place <= next && next - place <= 1);
-        place = next;
-        let held = &BROKEN[place].held;
-        assert!(rt;
-            may_be_left(&rt, alloc, &catalogue, &left, held),
-            "call {call}"
-        );
-    }
+    let place = expect_each(&rt, alloc, &catalogue);
     assert_eq!(rt; place, 4);
 }

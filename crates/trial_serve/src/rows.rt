@@ -2,7 +2,12 @@
 
 use crate::connections::Talk;
 use crate::stage::{Setting, addresses, run};
+use crate::texts::expect_text;
 use boss_points::Catalogue;
+use std::alloc::Global;
+use std::process::Abort;
+use std::sync::Wait;
+use std::thread::Threads;
 use trial_parts::THREE_POINTS;
 
 /// A server and what comes of it.
@@ -328,14 +333,57 @@ status 7
     },
 ];
 
+/// Runs a server, and compares what is told.
+fn expect_row<R: Abort + Threads + Wait + Sync>(
+    rt: &R,
+    alloc: Global,
+    catalogue: &Catalogue,
+    row: &Row,
+) {
+    let told = run(rt, alloc, catalogue, &row.setting);
+    expect_text(rt, told.as_str(), row.told, row.shows);
+}
+
+/// The same of each row.
+fn expect_rows<R: Abort + Threads + Wait + Sync>(
+    rt: &R,
+    alloc: Global,
+    catalogue: &Catalogue,
+    rows: &[Row],
+) {
+    for row in rows {
+        expect_row(rt, alloc, catalogue, row);
+    }
+}
+
 #[test]
 fn servers_in_memory(rt: HostRuntime) {
     let alloc = rt.alloc();
     let catalogue = Catalogue::read(alloc, THREE_POINTS.as_bytes()).expect(&rt, "a catalogue");
-    for row in ROWS {
-        let told = run(&rt, alloc, &catalogue, &row.setting);
-        assert_eq!(rt; told.as_str(), row.told, "{}", row.shows);
-    }
+    expect_rows(&rt, alloc, &catalogue, ROWS);
+}
+
+const ONE: Setting<'static> = Setting {
+    workers: &[&[ATTACH_A]],
+    ..PLAIN
+};
+
+/// Its host fails as it is bound.
+const UNBOUND: Setting<'static> = Setting {
+    host_fails: 1,
+    ..ONE
+};
+
+/// Runs a server, and compares the addresses at which its host was made to listen.
+fn expect_addresses<R: Abort + Threads + Wait + Sync>(
+    rt: &R,
+    alloc: Global,
+    catalogue: &Catalogue,
+    setting: &Setting,
+    wanted: &str,
+) {
+    let told = addresses(rt, alloc, catalogue, setting);
+    expect_text(rt, told.as_str(), wanted, "the addresses");
 }
 
 /// The words have its address; a host that fails at it listens nowhere.
@@ -343,16 +391,6 @@ fn servers_in_memory(rt: HostRuntime) {
 fn a_server_listens_at_its_address_once(rt: HostRuntime) {
     let alloc = rt.alloc();
     let catalogue = Catalogue::read(alloc, THREE_POINTS.as_bytes()).expect(&rt, "a catalogue");
-    let one = Setting {
-        workers: &[&[ATTACH_A]],
-        ..PLAIN
-    };
-    let unbound = Setting {
-        host_fails: 1,
-        ..one
-    };
-    let bound = addresses(&rt, alloc, &catalogue, &one);
-    assert_eq!(rt; bound.as_str(), "here ");
-    let unbound = addresses(&rt, alloc, &catalogue, &unbound);
-    assert_eq!(rt; unbound.as_str(), "");
+    expect_addresses(&rt, alloc, &catalogue, &ONE, "here ");
+    expect_addresses(&rt, alloc, &catalogue, &UNBOUND, "");
 }

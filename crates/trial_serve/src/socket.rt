@@ -1,7 +1,7 @@
 //! A connection over a socket of this machine, both ends in one process.
 
 use crate::listening::Listening;
-use crate::texts::put;
+use crate::texts::{expect_text, put};
 use crate::threads::serve_in_threads;
 use boss_adapters::RealHost;
 use boss_outside_server::Host;
@@ -103,5 +103,5 @@ fn a_connection_over_a_socket_is_served(rt: HostRuntime) {
     let alloc = rt.alloc();
     let catalogue = Catalogue::read(alloc, THREE_POINTS.as_bytes()).expect(&rt, "a catalogue");
     let told = run(&rt, alloc, &catalogue);
-    assert_eq!(rt; told.as_str(), TOLD);
+    expect_text(&rt, told.as_str(), TOLD, "a talk");
 }

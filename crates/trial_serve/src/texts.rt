@@ -9,6 +9,11 @@ pub fn put(rt: &impl Abort, text: &mut String, bytes: &[u8]) {
     text.push_str(bytes).expect(rt, "memory");
 }
 
+/// Compares texts.
+pub fn expect_text(rt: &impl Abort, told: &str, wanted: &str, shows: &str) {
+    assert_eq!(rt; told, wanted, "{shows}");
+}
+
 /// Puts a number behind a word.
 pub fn put_number(rt: &impl Abort, text: &mut String, word: &str, number: u64) {
     text.push_str(word).expect(rt, "memory");

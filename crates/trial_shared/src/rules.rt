@@ -1,7 +1,8 @@
 ghost use Rattle.std.specs.Prelude.{◌≡◌, ◌<◌, length};
 ghost use Rattle.boss_model.specs.Catalogue.{actuators};
 
-use crate::trials::{Asked, ask_for};
+use crate::texts::expect_text;
+use crate::trials::{Asked, ask_for, three_points};
 use boss_access::Rules;
 use boss_gate::Gatekeeper;
 use boss_points::Catalogue;
@@ -11,7 +12,6 @@ use std::process::Abort;
 use std::sync::Wait;
 use std::thread::Threads;
 use trial_keeper::FailingKeeper;
-use trial_parts::THREE_POINTS;
 
 /// `a` may write the damper from level 8 down, and nobody else may write anything.
 const RULES: &str = "[[rule]]
@@ -25,26 +25,25 @@ point = \"*\"
 allow = false
 ";
 
-/// Asks this of a machine behind the rules before anything was done, and gives what is told.
-fn told_of<R: Abort + Threads + Wait + Sync>(
+/// Asks this of a machine behind the rules before anything was done, and tells what it is told.
+fn ask_behind_rules<R: Abort + Threads + Wait + Sync>(
     rt: &R,
     alloc: Global,
     catalogue: &Catalogue,
     asked: Asked,
-) -> String
+    told: &mut String,
+)
     requires { 0 < length (actuators catalogue.now) }
 {
     let rules = Rules::read(alloc, RULES.as_bytes()).expect(rt, "rules");
     let keeper = FailingKeeper::new(alloc, catalogue, 10_000).expect(rt, "memory");
-    let mut told = String::new(alloc);
     match Manager::new(rt, alloc, keeper, 2) {
         Ok((manager, pass)) => {
             let gate = Gatekeeper::new(rules, catalogue, &manager);
             let pass = gate.admit(pass);
-            let pass = ask_for(rt, alloc, &gate, pass, asked, &mut told);
+            let pass = ask_for(rt, alloc, &gate, pass, asked, told);
             gate.close();
             manager.close(pass.inner());
-            told
         }
         Err(_) => rt.panic("no memory"),
     }
@@ -80,15 +79,26 @@ denied: 0 2
     ),
 ];
 
+/// Asks this of a machine behind the rules, and compares what is told.
+fn expect_told<R: Abort + Threads + Wait + Sync>(
+    rt: &R,
+    alloc: Global,
+    catalogue: &Catalogue,
+    asked: Asked,
+    wanted: &str,
+)
+    requires { 0 < length (actuators catalogue.now) }
+{
+    let mut told = String::new(alloc);
+    ask_behind_rules(rt, alloc, catalogue, asked, &mut told);
+    expect_text(rt, told.as_str(), wanted);
+}
+
 #[test]
 fn callers_share_one_gatekeeper(rt: HostRuntime) {
     let alloc = rt.alloc();
-    let catalogue = Catalogue::read(alloc, THREE_POINTS.as_bytes()).expect(&rt, "a catalogue");
-    if catalogue.count() != 3 {
-        rt.panic("three points");
-    }
-    for (asked, wanted) in ROWS {
-        let told = told_of(&rt, alloc, &catalogue, asked);
-        assert_eq!(&rt; told.as_str(), wanted);
+    let catalogue = three_points(&rt, alloc);
+    for row in &ROWS {
+        expect_told(&rt, alloc, &catalogue, row.0, row.1);
     }
 }

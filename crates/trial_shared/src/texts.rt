@@ -1,11 +1,16 @@
 //! What is told of answers, as lines: a few words and two numbers.
 
 use boss_model::{Answer, Cause, Refusal, Slot};
-use def_history::Outcome;
+use def_history::{Outcome, Outcomes};
 use std::process::Abort;
 
+/// Compares texts.
+pub fn expect_text(rt: &impl Abort, told: &str, wanted: &str) {
+    assert_eq!(rt; told, wanted);
+}
+
 /// Tells a line.
-pub fn tell(rt: &impl Abort, told: &mut String, what: &str, first: u64, second: u64) {
+fn tell(rt: &impl Abort, told: &mut String, what: &str, first: u64, second: u64) {
     writeln!(told, "{what}: {first} {second}").expect(rt, "memory");
 }
 
@@ -19,7 +24,24 @@ pub fn tell_outcome(rt: &impl Abort, told: &mut String, outcome: &Outcome) {
     }
 }
 
-pub fn tell_answer(rt: &impl Abort, told: &mut String, answer: &Answer) {
+/// Tells these answers, how many commands were done, behind it this number, and what came of the one that was not done.
+pub fn tell_all(
+    rt: &impl Abort,
+    told: &mut String,
+    answers: &[Answer],
+    outcomes: &Outcomes,
+    second: u64,
+) {
+    for answer in answers {
+        tell_answer(rt, told, answer);
+    }
+    tell(rt, told, "done", outcomes.done as u64, second);
+    if let Some(rest) = &outcomes.rest {
+        tell_outcome(rt, told, rest);
+    }
+}
+
+fn tell_answer(rt: &impl Abort, told: &mut String, answer: &Answer) {
     let (what, first, second) = summary(answer);
     tell(rt, told, what, first, second);
 }

@@ -4,34 +4,21 @@ ghost use Rattle.boss_model.specs.declared.state.Actuator.{Actuator};
 ghost use Rattle.boss_model.specs.Sound.{IsSound};
 ghost use Rattle.boss_shared.specs.Together.{MayAsk};
 
-use crate::texts::{tell, tell_answer, tell_outcome};
+use crate::texts::{expect_text, tell_all};
 use crate::threads::{DAMPER, renewal};
-use crate::trials::hold_damper;
+use crate::trials::{hold_damper, keeper_of};
 use boss_model::{Command, Name, SessionId};
-use boss_points::Catalogue;
 use boss_shared::{Asked, Desk, Keeper, Manager};
 use std::alloc::Global;
 use std::process::Abort;
 use std::sync::Wait;
 use std::thread::{Threads, join};
 use trial_keeper::{FailingKeeper, Taken, asked, two_asked};
-use trial_parts::THREE_POINTS;
 
 /// Tells what a caller is told.
 fn tell_asked(rt: &impl Abort, told: &mut String, asked: &Asked) {
-    for answer in &asked.answers {
-        tell_answer(rt, told, answer);
-    }
-    tell(
-        rt,
-        told,
-        "done",
-        asked.outcomes.done as u64,
-        asked.tried as u64,
-    );
-    if let Some(rest) = &asked.outcomes.rest {
-        tell_outcome(rt, told, rest);
-    }
+    let tried = asked.tried as u64;
+    tell_all(rt, told, asked.answers.as_slice(), &asked.outcomes, tried);
 }
 
 /// An attach under this name and a submit at this level, by one of several callers.
@@ -49,9 +36,14 @@ fn ask_together(rt: &impl Abort, alloc: Global, keeper: &mut FailingKeeper, told
 {
     let mut group = [caller(rt, alloc, 1, b"a", 8), caller(rt, alloc, 2, b"b", 7)];
     keeper.apply_together(&mut group);
-    for asked in &group {
-        tell_asked(rt, told, asked);
-    }
+    tell_both(rt, told, &group);
+}
+
+/// Tells what each of two callers is told.
+fn tell_both(rt: &impl Abort, told: &mut String, group: &[Asked; 2]) {
+    let [first, second] = group;
+    tell_asked(rt, told, first);
+    tell_asked(rt, told, second);
 }
 
 /// How many calls the disk is good for, how many commands that may want memory find it, and what the two callers are told. The
@@ -116,28 +108,20 @@ it has stopped: 0 0
     ),
 ];
 
-/// An engine of three points whose disk fails in the call after so many good ones, and with so much memory.
-fn three_points(rt: &impl Abort, alloc: Global, good_calls: u64, fed: u64) -> FailingKeeper
-    ensures points { 0 < length result.unkept.engine.plant }
-    ensures sound { IsSound result.unkept.engine.plant result.unkept.engine.state }
-    ensures running { result.stopped ≡ false }
-{
-    let catalogue = Catalogue::read(alloc, THREE_POINTS.as_bytes()).expect(rt, "a catalogue");
-    if catalogue.count() != 3 {
-        rt.panic("three points");
-    }
-    FailingKeeper::starving(alloc, &catalogue, good_calls, fed).expect(rt, "memory")
+/// Asks over a disk that is good for so many calls, with so much memory, and compares what is told.
+fn expect_told(rt: &impl Abort, alloc: Global, good_calls: u64, fed: u64, wanted: &str) {
+    let mut keeper = keeper_of(rt, alloc, good_calls, fed);
+    let mut told = String::new(alloc);
+    ask_together(rt, alloc, &mut keeper, &mut told);
+    expect_text(rt, told.as_str(), wanted);
+    assert!(rt; keeper.has_stopped() == (good_calls == 0));
 }
 
 #[test]
 fn each_caller_is_told_of_what_it_asked_for(rt: HostRuntime) {
     let alloc = rt.alloc();
-    for (good_calls, fed, wanted) in ROWS {
-        let mut keeper = three_points(&rt, alloc, good_calls, fed);
-        let mut told = String::new(alloc);
-        ask_together(&rt, alloc, &mut keeper, &mut told);
-        assert_eq!(&rt; told.as_str(), wanted);
-        assert!(&rt; keeper.has_stopped() == (good_calls == 0));
+    for row in &ROWS {
+        expect_told(&rt, alloc, row.0, row.1, row.2);
     }
 }
 
@@ -213,6 +197,17 @@ where
     (pass, first && second)
 }
 
+/// An attach and a submit, of which nothing is compared.
+fn hold_untold<G: Desk>(rt: &impl Abort, alloc: Global, desk: &G, pass: &mut G::Pass)
+    requires own { G.owns desk.now pass.old }
+    requires point { 0 < length (G.plant desk.now) }
+    ensures own { G.owns desk.now pass.new }
+    ensures parts { G.parts pass.new ≡ G.parts pass.old }
+{
+    let mut told = String::new(alloc);
+    hold_damper(rt, alloc, desk, pass, &mut told);
+}
+
 /// Has two threads ask over what an attach and a submit made.
 fn hold_and_ask<R: Abort + Threads, G: Desk + Sync>(
     rt: &R,
@@ -228,8 +223,7 @@ where
     ensures own { G.owns desk.now result }
     ensures parts { G.parts result ≡ G.parts pass }
 {
-    let mut told = String::new(alloc);
-    hold_damper(rt, alloc, desk, &mut pass, &mut told);
+    hold_untold(rt, alloc, desk, &mut pass);
     let one = renewal_and_reading(rt, alloc);
     let two = renewal_and_reading(rt, alloc);
     let (pass, all) = ask_in_two_threads(rt, desk, pass, one, two);
@@ -275,7 +269,7 @@ fn expect_shared(rt: &impl Abort, taken: &[Taken]) {
 #[test]
 fn two_threads_share_a_record(rt: HostRuntime) {
     let alloc = rt.alloc();
-    let keeper = three_points(&rt, alloc, 10_000, 10_000).slow(20_000);
+    let keeper = keeper_of(&rt, alloc, 10_000, 10_000).slow(20_000);
     let keeper = asked_by_two(&rt, alloc, keeper);
     expect_shared(&rt, keeper.taken());
 }

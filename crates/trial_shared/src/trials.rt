@@ -1,15 +1,15 @@
 ghost use Rattle.std.specs.Prelude.{◌≡◌, ◌≤◌, ◌<◌, false, List, length};
 ghost use Rattle.std.specs.List.{AllByRecursion};
+ghost use Rattle.boss_model.specs.Catalogue.{actuators};
 ghost use Rattle.boss_model.specs.declared.state.Actuator.{Actuator};
 ghost use Rattle.boss_model.specs.Sound.{IsAllowed, IsSound};
 ghost use Rattle.def_history.specs.History.{MayCall};
 
-use crate::texts::{tell, tell_answer, tell_outcome};
+use crate::texts::{expect_text, tell_all, tell_outcome};
 use crate::threads::{DAMPER, read_and_renew, renewal};
-use boss_model::{Command, Items, Name, Policy, SessionId, Setting};
+use boss_model::{Command, Items, Name, SessionId};
 use boss_points::Catalogue;
 use boss_shared::{Desk, Keeper, Manager};
-use def_history::Outcomes;
 use std::alloc::Global;
 use std::process::Abort;
 use std::sync::Wait;
@@ -21,20 +21,7 @@ use trial_parts::THREE_POINTS;
 fn submit(rt: &impl Abort, alloc: Global, priority: i64) -> Command
     ensures { (plant : List Actuator) → 0 < length plant → IsAllowed plant result }
 {
-    let mut writes = Items::new(alloc);
-    let write = Setting {
-        point: DAMPER,
-        value: 45_000,
-        priority,
-        lease: 60_000,
-        revert: Items::new(alloc),
-    };
-    writes.try_push(write).expect(rt, "memory");
-    Command::Submit {
-        writes,
-        policy: Policy::Abort,
-        seq: 0,
-    }
+    trial_keeper::submit(alloc, priority).expect(rt, "memory")
 }
 
 fn attach(rt: &impl Abort, name: &[u8]) -> Command
@@ -97,14 +84,26 @@ fn ask_all<G: Desk>(
     ensures parts { G.parts pass.new ≡ G.parts pass.old }
 {
     let mut answers = Vec::with_capacity(alloc, 16).expect(rt, "memory");
-    let Outcomes { done, rest } = desk.call_all(pass, session, commands, &mut answers);
-    for answer in &answers {
-        tell_answer(rt, told, answer);
-    }
-    tell(rt, told, "done", done as u64, 0);
-    if let Some(rest) = &rest {
-        tell_outcome(rt, told, rest);
-    }
+    let outcomes = desk.call_all(pass, session, commands, &mut answers);
+    tell_all(rt, told, answers.as_slice(), &outcomes, 0);
+}
+
+/// Asks the batch as this session, and tells what came of it.
+fn ask_batch<G: Desk>(
+    rt: &impl Abort,
+    alloc: Global,
+    desk: &G,
+    pass: &mut G::Pass,
+    session: SessionId,
+    told: &mut String,
+)
+    requires own { G.owns desk.now pass.old }
+    requires point { 0 < length (G.plant desk.now) }
+    ensures own { G.owns desk.now pass.new }
+    ensures parts { G.parts pass.new ≡ G.parts pass.old }
+{
+    let commands = batch(rt, alloc);
+    ask_all(rt, alloc, desk, pass, session, &commands, told);
 }
 
 /// An attach and a submit.
@@ -177,8 +176,7 @@ fn ask_over_a_failing_disk<G: Desk>(
 {
     hold_damper(rt, alloc, desk, pass, told);
     ask(rt, desk, pass, SessionId(2), &Command::Tick, 1000, told);
-    let commands = batch(rt, alloc);
-    ask_all(rt, alloc, desk, pass, SessionId(2), &commands, told);
+    ask_batch(rt, alloc, desk, pass, SessionId(2), told);
 }
 
 /// What `a` may write at level 8, it may not write at 7; and `b` may write nothing.
@@ -232,8 +230,7 @@ where
     match asked {
         Asked::InTwoThreads => ask_in_two_threads(rt, alloc, desk, pass, told),
         Asked::AtOnce => {
-            let commands = batch(rt, alloc);
-            ask_all(rt, alloc, desk, &mut pass, SessionId(1), &commands, told);
+            ask_batch(rt, alloc, desk, &mut pass, SessionId(1), told);
             pass
         }
         Asked::OverAFailingDisk => {
@@ -247,42 +244,55 @@ where
     }
 }
 
-/// Asks this of a machine of a keeper before anything was done, and gives what is told.
-fn told_of<R: Abort + Threads + Wait + Sync>(
+/// Asks this of a machine of a keeper before anything was done, and tells what it is told.
+fn ask_machine<R: Abort + Threads + Wait + Sync>(
     rt: &R,
     alloc: Global,
     keeper: FailingKeeper,
     asked: Asked,
-) -> String
+    told: &mut String,
+)
     requires points { 0 < length keeper.unkept.engine.plant }
     requires sound { IsSound keeper.unkept.engine.plant keeper.unkept.engine.state }
     requires running { keeper.stopped ≡ false }
 {
-    let mut told = String::new(alloc);
     match Manager::new(rt, alloc, keeper, 2) {
         Ok((manager, pass)) => {
-            let pass = ask_for(rt, alloc, &manager, pass, asked, &mut told);
+            let pass = ask_for(rt, alloc, &manager, pass, asked, told);
             let keeper = manager.close(pass);
-            if keeper.has_stopped() {
-                told.push_str("stopped\n").expect(rt, "memory");
-            }
-            told
+            tell_stop(rt, told, &keeper);
         }
         Err(_) => rt.panic("no memory"),
     }
 }
 
-/// An engine of three points whose disk fails in the call after so many good ones.
-fn three_points(rt: &impl Abort, alloc: Global, good_calls: u64) -> FailingKeeper
-    ensures points { 0 < length result.unkept.engine.plant }
-    ensures sound { IsSound result.unkept.engine.plant result.unkept.engine.state }
-    ensures running { result.stopped ≡ false }
+/// Tells whether a keeper has stopped.
+fn tell_stop(rt: &impl Abort, told: &mut String, keeper: &FailingKeeper) {
+    if keeper.has_stopped() {
+        told.push_str("stopped\n").expect(rt, "memory");
+    }
+}
+
+/// The catalogue of three points.
+pub fn three_points(rt: &impl Abort, alloc: Global) -> Catalogue
+    ensures { 0 < length (actuators result) }
 {
     let catalogue = Catalogue::read(alloc, THREE_POINTS.as_bytes()).expect(rt, "a catalogue");
     if catalogue.count() != 3 {
         rt.panic("three points");
     }
-    FailingKeeper::new(alloc, &catalogue, good_calls).expect(rt, "memory")
+    catalogue
+}
+
+/// An engine of three points whose disk fails in the call after so many good ones, where so many of the commands that may want memory
+/// find it before one finds none.
+pub fn keeper_of(rt: &impl Abort, alloc: Global, good_calls: u64, fed: u64) -> FailingKeeper
+    ensures points { 0 < length result.unkept.engine.plant }
+    ensures sound { IsSound result.unkept.engine.plant result.unkept.engine.state }
+    ensures running { result.stopped ≡ false }
+{
+    let catalogue = three_points(rt, alloc);
+    FailingKeeper::starving(alloc, &catalogue, good_calls, fed).expect(rt, "memory")
 }
 
 /// What is asked, how many calls the disk is good for, and what is told.
@@ -319,12 +329,24 @@ stopped
     ),
 ];
 
+/// Asks this of a machine whose disk is good for so many calls, and compares what is told.
+fn expect_told<R: Abort + Threads + Wait + Sync>(
+    rt: &R,
+    alloc: Global,
+    asked: Asked,
+    good_calls: u64,
+    wanted: &str,
+) {
+    let keeper = keeper_of(rt, alloc, good_calls, u64::MAX);
+    let mut told = String::new(alloc);
+    ask_machine(rt, alloc, keeper, asked, &mut told);
+    expect_text(rt, told.as_str(), wanted);
+}
+
 #[test]
 fn callers_share_one_machine(rt: HostRuntime) {
     let alloc = rt.alloc();
-    for (asked, good_calls, wanted) in ROWS {
-        let keeper = three_points(&rt, alloc, good_calls);
-        let told = told_of(&rt, alloc, keeper, asked);
-        assert_eq!(&rt; told.as_str(), wanted);
+    for row in &ROWS {
+        expect_told(&rt, alloc, row.0, row.1, row.2);
     }
 }

@@ -8,4 +8,4 @@ do_again-requires g c =
     let engine = c.args.engine.now in
     step-spelled engine.plant engine.state c.args.call.session c.args.call.command c.args.call.moment c.in-Some.event
     c.requires.whole c.requires.sound c.requires.allowed c.requires.moment
-    (ap (event_of c.args.call.command) (sym c.in_ok-effect.ensures.effect) ∙ sym c.event_of.ensures ∙ c.in-Some.is)
+    (ap (event_of c.args.call.command) (sym c.effect_of-effect.ensures.effect) ∙ sym c.event_of.ensures ∙ c.in-Some.is)

@@ -3,6 +3,6 @@ use Rattle.boss_model.specs.Catalogue.{actuators}
 use Rattle.trial_engine.proofs.runs.attach_all.Given as goal
 
 abbrev pub invariant-loop-line : goal.invariant-loop-line
-invariant-loop-line l = record {
+invariant-loop-line g l = record {
   plant : l.engine.plant ≡ actuators l.catalogue;
 }

@@ -1,4 +1,4 @@
-use Rattle.trial_shared.proofs.rules.told_of.Goals as goal
+use Rattle.trial_shared.proofs.rules.ask_behind_rules.Goals as goal
 
 -- the manager within owns the pass that it came with
 pub admit-pass-requires-clause-own : goal.admit-pass-requires-clause-own
