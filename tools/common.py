@@ -23,7 +23,7 @@ def need_program():
     """Ends the tool where there is no program to try."""
     if not os.access(PROGRAM, os.X_OK):
         name = os.path.basename(sys.argv[0])
-        sys.exit(f"{name}: there is no program at {PROGRAM}: run ./bossd once, or name another one in BOSSD")
+        sys.exit(f"{name}: there is no program at {PROGRAM}: run tools/build, or name another one in BOSSD")
 
 
 def heading():
