@@ -48,7 +48,7 @@ first_failure_under_keep : asked (opening ++ a_attaches ∷
     took damper 2 45000 ++
     took lamp 2 1 ++
     answer.Notices 1 2 (notice 1 1000 1 (what.Fault lamp) ∷ []) ∷
-    answer.Reading lamp (pos 1) (basis.Lease 8 1) mark.Failed ∷
+    answer.Reading lamp (pos 1) (basis.Lease 8 1) mark.Failed 0 ∷
     answer.Nothing ∷
     answer.Ticked 1000 ∷
     took lamp 2 1
@@ -78,6 +78,51 @@ unfolding step
 old_report = refl
 
 report_of_a_want : asked (at 0 0 (command.Report damper 1 true) ∷ at 0 1 (command.Read damper) ∷ [])
-    ≡ answer.Noted false ∷ answer.Reading damper (pos 20000) basis.Default mark.Pending ∷ []
+    ≡ answer.Noted false ∷ answer.Reading damper (pos 20000) basis.Default mark.Pending 0 ∷ []
 unfolding step
 report_of_a_want = refl
+
+-- A device that is found with another value is written again with the same version and value; nobody is told. A second doubt before the
+-- report says nothing new, and a reading counts.
+found_elsewhere : asked (opening ++ a_attaches ∷ at 1000 1 (submit (write damper 45000 8 60000 ∷ [])) ∷ device 1000 damper 2 true ++
+    at 5000 0 (command.Doubt damper true) ∷
+    at 5000 1 (command.Read damper) ∷
+    at 5000 0 (command.Doubt damper true) ∷
+    device 5000 damper 2 true ++
+    at 6000 0 (command.Doubt damper false) ∷
+    device 6000 damper 2 true ++
+    at 6000 1 (command.Read damper) ∷
+    at 6000 1 notices ∷ [])
+    ≡ opened ++ a_attached ∷
+    answer.Accepted 1 61000 ∷
+    took damper 2 45000 ++
+    answer.Noted true ∷
+    answer.Reading damper (pos 45000) (basis.Lease 8 1) mark.Pending 1 ∷
+    answer.Noted false ∷
+    took damper 2 45000 ++
+    answer.Noted true ∷
+    took damper 2 45000 ++
+    answer.Reading damper (pos 45000) (basis.Lease 8 1) mark.Settled 1 ∷
+    answer.Notices 1 1 [] ∷ []
+unfolding step
+found_elsewhere = refl
+
+-- its device is off for a while: under abort no lease ends, and the value is taken after five seconds
+off_for_a_while : asked (opening ++ a_attaches ∷ at 1000 1 (submit (write damper 45000 8 60000 ∷ [])) ∷ device 1000 damper 2 true ++
+    at 5000 0 (command.Doubt damper false) ∷
+    device 5000 damper 2 false ++
+    at 5000 1 (command.Read damper) ∷
+    at 10000 1 command.Tick ∷
+    device 10000 damper 2 true ++
+    at 10000 1 notices ∷ [])
+    ≡ opened ++ a_attached ∷
+    answer.Accepted 1 61000 ∷
+    took damper 2 45000 ++
+    answer.Noted true ∷
+    took damper 2 45000 ++
+    answer.Reading damper (pos 45000) (basis.Lease 8 1) mark.Failed 0 ∷
+    answer.Ticked 1000 ∷
+    took damper 2 45000 ++
+    answer.Notices 1 1 [] ∷ []
+unfolding step
+off_for_a_while = refl

@@ -16,7 +16,7 @@ use Rattle.boss_model.specs.Machine.{step}
 use Rattle.boss_model.specs.Replies.{reply_of}
 use Rattle.boss_model.specs.Run.{Call, run, answers, events, replay_all}
 use Rattle.boss_model.specs.Settle.{first_state, opened}
-use Rattle.boss_model.specs.State.{State, Persistent, first_persistent}
+use Rattle.boss_model.specs.State.{Persistent, first_persistent}
 use Rattle.boss_model.specs.Effects.{step_effect}
 use Rattle.boss_model.proofs.Building.{building, damper, at, write, device, a_attaches, opening, asked, took, a_attached}
 use Rattle.boss_model.proofs.Building as building

@@ -72,3 +72,8 @@ no_length : asked (a_attaches ∷ at 1000 1 (renew 9 0) ∷ at 1000 1 (renew 9 1
     ≡ a_attached ∷ answer.Refused (refusal.BadLease 0) ∷ answer.Refused refusal.UnknownTxn ∷ []
 unfolding step
 no_length = refl
+
+-- what the catalogue and the program tell is asked for like what stands in a slot: by any session
+asked_by_anybody : asked (at 1000 7 (command.Points 1 2) ∷ at 1000 7 command.Version ∷ []) ≡ answer.Points 1 2 ∷ answer.Version ∷ []
+unfolding step
+asked_by_anybody = refl

@@ -35,13 +35,13 @@ steps_in_turn : asked (opening ++ a_attaches ∷ at 1000 1 one_write ∷ device 
     at 71000 1 (command.Read damper) ∷
     device 71000 damper 5 true)
     ≡ opened ++ a_attached ∷ answer.Accepted 1 61000 ∷ took damper 2 45000 ++
-    answer.Reading damper (pos 30000) (basis.Pending 8 1) mark.Pending ∷
+    answer.Reading damper (pos 30000) (basis.Pending 8 1) mark.Pending 0 ∷
     took damper 3 30000 ++
-    answer.Reading damper (pos 30000) (basis.Pending 8 1) mark.Settled ∷
-    answer.Reading damper (pos 25000) (basis.Pending 8 1) mark.Pending ∷
+    answer.Reading damper (pos 30000) (basis.Pending 8 1) mark.Settled 0 ∷
+    answer.Reading damper (pos 25000) (basis.Pending 8 1) mark.Pending 0 ∷
     took damper 4 25000 ++
-    answer.Reading damper (pos 25000) (basis.Pending 8 1) mark.Settled ∷
-    answer.Reading damper (pos 20000) basis.Default mark.Pending ∷
+    answer.Reading damper (pos 25000) (basis.Pending 8 1) mark.Settled 0 ∷
+    answer.Reading damper (pos 20000) basis.Default mark.Pending 0 ∷
     took damper 5 20000
 unfolding step
 steps_in_turn = refl
@@ -119,7 +119,7 @@ cut_short : asked (a_attaches ∷ b_attaches ∷
     answer.Accepted 1 2000 ∷
     answer.Status 1 (codes "a") stage.Revert 0 1 ∷
     answer.Accepted 2 4000 ∷
-    answer.Reading damper (pos 20000) basis.Default mark.Pending ∷
+    answer.Reading damper (pos 20000) basis.Default mark.Pending 0 ∷
     answer.Status 1 (codes "a") stage.Done 0 0 ∷
     answer.Notices 1 4 (notice 1 2000 1 (what.Ended damper cause.Expired) ∷ notice 2 3000 1 (what.Cut damper 2) ∷ notice 3 3000 1 what.Done ∷ []) ∷ []
 unfolding step
@@ -135,8 +135,8 @@ two_reversions : asked (a_attaches ∷
     ≡ a_attached ∷
     answer.Accepted 1 2000 ∷
     answer.Accepted 2 2000 ∷
-    answer.Reading damper (pos 40000) (basis.Pending 5 2) mark.Pending ∷
-    answer.Reading damper (pos 30000) (basis.Pending 8 1) mark.Pending ∷
-    answer.Reading damper (pos 20000) basis.Default mark.Pending ∷ []
+    answer.Reading damper (pos 40000) (basis.Pending 5 2) mark.Pending 0 ∷
+    answer.Reading damper (pos 30000) (basis.Pending 8 1) mark.Pending 0 ∷
+    answer.Reading damper (pos 20000) basis.Default mark.Pending 0 ∷ []
 unfolding step
 two_reversions = refl

@@ -1,14 +1,15 @@
 -- Source: own.
-use Rattle.std.specs.Prelude.{ℕ, ◌+◌, ◌==◌, pos, Bool, true, false, not, ◌&&◌, if◌then◌else◌, List, map, find, Option, Some, None, slice_get, slice_set, unwrap_or}
+use Rattle.std.specs.Prelude.{ℕ, ◌+◌, ◌%◌, ◌^◌, ◌==◌, pos, Bool, true, false, not, ◌&&◌, if◌then◌else◌, List, map, find, Option, Some, None, slice_get, slice_set, unwrap_or}
 use Rattle.boss_model.specs.declared.answer.Answer.{Answer}
 use Rattle.boss_model.specs.declared.answer.Answer.TheVariants as answer
+use Rattle.boss_model.specs.declared.answer.Mark.{Mark}
 use Rattle.boss_model.specs.declared.answer.Mark.TheVariants as mark
 use Rattle.boss_model.specs.Catalogue.{Actuator, driver_of}
 use Rattle.boss_model.specs.Ends.{faulted}
 use Rattle.boss_model.specs.Limits.{retry_after}
 use Rattle.boss_model.specs.Lists.{member, without}
 use Rattle.boss_model.specs.Order.{least}
-use Rattle.boss_model.specs.Settle.{fresh}
+use Rattle.boss_model.specs.Settle.{fresh, places, changed_if, wanted_anew}
 use Rattle.boss_model.specs.State.{Proxy, Persistent, State}
 use Rattle.boss_model.specs.Target.{in_force}
 
@@ -64,3 +65,30 @@ abbrev pub report : ℕ → ℕ → ℕ → Bool → State → Reply
 report n point version ok s = if is_current point version s
     then record { answer = answer.Noted true; state = heard n point ok s }
     else record { answer = answer.Noted false; state = s }
+
+-- ---- doubts
+
+abbrev pub is_settled : Mark → Bool
+is_settled mark.Settled = true
+is_settled mark.Pending = false
+is_settled mark.Failed = false
+
+-- a doubt counts where the point is settled
+abbrev pub is_doubted : ℕ → ℕ × Proxy → Bool
+is_doubted point place = (place.0 == point) && is_settled place.1.mark
+
+abbrev pub counted : Bool → ℕ → ℕ
+counted differs count = if differs then (count + 1) % 2 ^ 64 else count
+
+-- it is to be written again, with the same version; that it fails to take it concerns no process
+abbrev pub doubted : Bool → ℕ × Proxy → Proxy
+doubted differs place = record place.1 { mark = mark.Pending; failed = true; differed = counted differs place.1.differed }
+
+abbrev pub doubt : ℕ → Bool → State → Reply
+doubt point differs s = record {
+  answer = answer.Noted (is_settled (proxy_of s.proxies point).mark);
+  state = record s {
+    proxies = changed_if (is_doubted point) (doubted differs) s.proxies;
+    wants = wanted_anew (places (is_doubted point) s.proxies) s.wants;
+  };
+}

@@ -1,13 +1,13 @@
 -- Source: own; levels 1 to 16: ASHRAE 135, clause 19.2.1.
 -- Every limit of the machine, of its lines, of its files and of its workers, each under one name, with its unit and why it is
 -- what it is. `src/limits.rt` has the same numbers for the program.
-use Rattle.std.specs.Prelude.{ℕ, ◌^◌}
+use Rattle.std.specs.Prelude.{ℕ, ◌^◌, List, codes}
 
 -- ---- the catalogue
 
 -- each driver has a worker of its own, so these are threads
 abbrev pub most_drivers : ℕ
-most_drivers = 16
+most_drivers = 256
 
 -- a building; what is kept of them, with each slot taken, stays below 32 MiB
 abbrev pub most_points : ℕ
@@ -123,7 +123,17 @@ record_room = 65536
 abbrev pub log_limit : ℕ
 log_limit = 16777216
 
+-- ---- the program
+
+-- its version, as it tells it
+abbrev pub program_version : List ℕ
+program_version = codes "0.3.0"
+
 -- ---- workers
+
+-- for connections: each is a thread, of which one that is blocked takes some 45 kB
+abbrev pub most_workers : ℕ
+most_workers = 1024
 
 -- between two ticks, in milliseconds: a lease ends so late at most, by the clock
 abbrev pub tick_pause : ℕ
@@ -145,11 +155,12 @@ watch_idle = 600
 abbrev pub lock_looks : ℕ
 lock_looks = 1000
 
--- places in line for the lock that have a bell of their own: about as many as connections that wait at once, so that a turn which is
--- passed on wakes one of them
+-- places in line for the lock that have a bell of their own: more than workers that may wait at once, so that a turn which is passed on
+-- wakes one of them
 abbrev pub bells : ℕ
-bells = 64
+bells = 2048
 
--- counters at which callers leave requests for whoever has the turn: as many as callers that wait at once, each a few hundred bytes
+-- counters at which callers leave requests for whoever has the turn: as many as callers that mostly wait at once, each a few hundred bytes;
+-- a turn looks at each of them
 abbrev pub most_counters : ℕ
-most_counters = 64
+most_counters = 256

@@ -6,7 +6,7 @@ use Rattle.boss_model.specs.declared.answer.Refusal.TheVariants as refusal
 use Rattle.boss_model.specs.declared.command.Command.{Command}
 use Rattle.boss_model.specs.declared.command.Command.TheVariants as command
 use Rattle.boss_model.specs.Catalogue.{Actuator}
-use Rattle.boss_model.specs.Devices.{Reply, proxy_of, next, report}
+use Rattle.boss_model.specs.Devices.{Reply, proxy_of, next, report, doubt}
 use Rattle.boss_model.specs.Ends.{cancel, gone}
 use Rattle.boss_model.specs.Outcomes.{Outcome, refused, did}
 use Rattle.boss_model.specs.Processes.{process_of, attached_too, detached, process_named, number_of, attach}
@@ -65,10 +65,13 @@ act plant session n command.Gone s = as_process session s (λ owner. parted sess
 act plant session n command.Tick s = answered (answer.Ticked s.persistent.now) s
 act plant session n (command.Next driver) s = next plant driver s
 act plant session n (command.Report point version ok) s = report n point version ok s
-act plant session n (command.Read point) s = answered (reading plant point (proxy_of s.proxies point).mark s.persistent) s
+act plant session n (command.Doubt point differs) s = doubt point differs s
+act plant session n (command.Read point) s = answered (reading plant point (proxy_of s.proxies point) s.persistent) s
 act plant session n (command.Array point) s = answered (array point s.persistent) s
 act plant session n (command.Status txn) s = answered (status txn s.persistent) s
 act plant session n (command.Notices name from most) s = notices_asked name session from most s
+act plant session n (command.Points from most) s = answered (answer.Points from most) s
+act plant session n command.Version s = answered answer.Version s
 
 -- ---- a step: time passes, failed devices are tried again, the points settle, the command acts, and the points settle again
 

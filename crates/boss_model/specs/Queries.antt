@@ -5,7 +5,6 @@ use Rattle.std.specs.Option.{option_map_or}
 use Rattle.std.specs.List.{range_with_len}
 use Rattle.boss_model.specs.declared.answer.Answer.{Answer}
 use Rattle.boss_model.specs.declared.answer.Answer.TheVariants as answer
-use Rattle.boss_model.specs.declared.answer.Mark.{Mark}
 use Rattle.boss_model.specs.declared.answer.Refusal.TheVariants as refusal
 use Rattle.boss_model.specs.declared.answer.Slot.{Slot}
 use Rattle.boss_model.specs.declared.answer.Slot.TheVariants as slot
@@ -17,13 +16,13 @@ use Rattle.boss_model.specs.Processes.{process_named, name_of}
 use Rattle.boss_model.specs.Records.{Transaction}
 use Rattle.boss_model.specs.Renew.{transaction_of}
 use Rattle.boss_model.specs.Reversions.{value_at, end_of}
-use Rattle.boss_model.specs.State.{Lease, Pending, Process, Persistent}
+use Rattle.boss_model.specs.State.{Lease, Pending, Process, Persistent, Proxy}
 use Rattle.boss_model.specs.Target.{target, basis_at}
 
 -- ---- the value of a point
 
-abbrev pub reading : List Actuator → ℕ → Mark → Persistent → Answer
-reading plant point mark d = answer.Reading point (target plant d point) (basis_at d point) mark
+abbrev pub reading : List Actuator → ℕ → Proxy → Persistent → Answer
+reading plant point proxy d = answer.Reading point (target plant d point) (basis_at d point) proxy.mark proxy.differed
 
 -- ---- the slots of a point
 

@@ -1,6 +1,6 @@
 -- Source: own.
 -- What plain lists that outlast a stop stand for.
-use Rattle.std.specs.Prelude.{List, map, Option, Some, None}
+use Rattle.std.specs.Prelude.{map}
 use Rattle.std.specs.Option.{option_map}
 use Rattle.boss_model.specs.declared.kept.Kept.{Kept}
 use Rattle.boss_model.specs.declared.kept.KeptPart.{KeptPart}

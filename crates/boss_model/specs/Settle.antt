@@ -11,7 +11,7 @@ use Rattle.boss_model.specs.Target.{target}
 
 -- a point whose device has not been told anything yet
 abbrev pub fresh : ℤ → Proxy
-fresh value = record { version = 1; commanded = value; mark = mark.Pending; failed = false; retry_at = 0 }
+fresh value = record { version = 1; commanded = value; mark = mark.Pending; failed = false; retry_at = 0; differed = 0 }
 
 -- the state that a persistent part opens to: nobody is attached, and every point wants its target
 abbrev pub opened : List Actuator → Persistent → State

@@ -1,4 +1,4 @@
-use crate::{Cause, Items, Name, Notice, PointId, Priority, SessionId, Stage, Txn};
+use crate::{Cause, Items, Name, Notice, PointId, Priority, SessionId, Spot, Stage, Txn};
 use std::error::Error;
 use std::fmt;
 
@@ -47,8 +47,9 @@ pub struct Slots {
 /// refused command changes nothing beyond what time alone changes.
 #[derive(Debug, Drop)]
 pub enum Refusal {
-    /// The line spells no request.
-    Malformed,
+    /// The line spells no request: nothing stands there, or what is of another kind or out of its range. None where the
+    /// line is no JSON.
+    Malformed { at: Option<Spot> },
     /// The line asks for something that is not known.
     UnknownOp,
     /// The line names a point that is not in the catalogue.
@@ -92,7 +93,7 @@ impl Refusal {
     /// What was refused, without the place, the moment or the name that goes with it.
     fn summary(&self) -> &'static str {
         match self {
-            Refusal::Malformed => "the line spells no request",
+            Refusal::Malformed { .. } => "the line spells no request",
             Refusal::UnknownOp => "what the line asks for is not known",
             Refusal::UnknownPoint { .. } => "no point has the name",
             Refusal::NotAttached => "the session holds no process",
@@ -198,6 +199,8 @@ pub enum Answer {
         value: i64,
         basis: Basis,
         mark: Mark,
+        /// How often its device was found with another value since the state was opened.
+        differed: u64,
     },
     /// The slots of the point.
     Array {
@@ -218,6 +221,13 @@ pub enum Answer {
         next: u64,
         list: Items<Notice>,
     },
+    /// The points of the catalogue from this place on, at most so many, are told.
+    Points {
+        from: u64,
+        max: u64,
+    },
+    /// The program's version, that of the journals that it begins, and the catalogue's digest and numbers are told.
+    Version,
     /// The command was refused.
     Refused(Refusal),
 }

@@ -78,6 +78,13 @@ pub enum Command {
         version: u64,
         ok: bool,
     },
+    /// Tell that a point's device is to be written again: it was found with another value than the one that it took, or it could not be
+    /// read, or it wants to be written now and then. A point that is not settled stays as it is.
+    Doubt {
+        point: PointId,
+        /// Whether it was found with another value.
+        differs: bool,
+    },
     /// Read the value that a point is to have: its Present_Value (ASHRAE 135, clause 19.2).
     Read {
         point: PointId,
@@ -97,4 +104,12 @@ pub enum Command {
         from: u64,
         max: u64,
     },
+    /// Ask for points of the catalogue: at most `max` of them, 1 to 64, from the place `from` on, which is counted from 0
+    /// and at most 2^62.
+    Points {
+        from: u64,
+        max: u64,
+    },
+    /// Ask which program serves, which journal it writes, and which catalogue it has.
+    Version,
 }

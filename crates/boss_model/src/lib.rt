@@ -16,6 +16,7 @@ mod notice;
 mod numbers;
 mod places;
 mod point;
+mod spot;
 mod state;
 
 pub use allowed::{fits_at, is_level, is_reversion};
@@ -29,13 +30,15 @@ pub use limits::{
     ANSWER_ROOM, BELLS, DONE_KEPT, DRIVE_PAUSE, FIRST_GATE, LAST_MOMENT, LAST_NUMBER, LAST_SESSION,
     LEVELS, LOCK_LOOKS, LOG_LIMIT, LONGEST_FILE, LONGEST_HOLD, LONGEST_LEASE, LONGEST_LINE,
     LONGEST_MINIMUM, LONGEST_NAME, LONGEST_RECORD, MOST_COUNTERS, MOST_DRIVERS, MOST_HELD,
-    MOST_LINES, MOST_POINTS, MOST_PROCESSES, MOST_STEPS, MOST_TOLD, MOST_WRITES, NEWEST_VERSION,
-    NOTICES_KEPT, RECORD_ROOM, RETRY_AFTER, TICK_PAUSE, WATCH_IDLE, WATCH_PAUSE,
+    MOST_LINES, MOST_POINTS, MOST_PROCESSES, MOST_STEPS, MOST_TOLD, MOST_WORKERS, MOST_WRITES,
+    NEWEST_VERSION, NOTICES_KEPT, PROGRAM_VERSION, RECORD_ROOM, RETRY_AFTER, TICK_PAUSE,
+    WATCH_IDLE, WATCH_PAUSE,
 };
 pub use memory::NoMemory;
 pub use name::Name;
 pub use notice::{Cause, Notice, Stage, What};
 pub use numbers::{DriverId, PointId, Priority, ProcId, SessionId, Txn};
-pub use places::{DriverPlan, Place, Where};
+pub use places::{DriverPlan, Form, Function, Half, Place, Round, Scale, Where};
 pub use point::Kind;
+pub use spot::{Key, Spot};
 pub use state::{Actuator, Lease, Pending, Proxy};

@@ -1,7 +1,7 @@
 //! The limits of `specs/Limits.antt`, as the code has them. Why each is what it is stands there.
 
 /// How many drivers a catalogue may have.
-pub const MOST_DRIVERS: usize = 16;
+pub const MOST_DRIVERS: usize = 256;
 
 /// How many points a catalogue may have.
 pub const MOST_POINTS: usize = 4_096;
@@ -66,6 +66,12 @@ pub const MOST_HELD: usize = 16;
 /// How long a device is left alone after a failed write, in milliseconds.
 pub const RETRY_AFTER: u64 = 5_000;
 
+/// The version of the program, as it tells it.
+pub const PROGRAM_VERSION: &str = "0.3.0";
+
+/// How many workers a server may have for connections.
+pub const MOST_WORKERS: u64 = 1_024;
+
 /// The version of a new journal.
 pub const NEWEST_VERSION: u8 = 2;
 
@@ -97,7 +103,7 @@ pub const WATCH_IDLE: u32 = 600;
 pub const LOCK_LOOKS: u32 = 1_000;
 
 /// How many places in line for the lock have a bell of their own. Those further behind share these.
-pub const BELLS: usize = 64;
+pub const BELLS: usize = 2_048;
 
 /// At how many counters callers may leave requests for whoever has the turn. Who finds none that is free goes alone.
-pub const MOST_COUNTERS: u32 = 64;
+pub const MOST_COUNTERS: u32 = 256;

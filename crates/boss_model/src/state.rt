@@ -63,4 +63,6 @@ pub struct Proxy {
     pub failed: bool,
     /// The first moment at which a device that failed is written again, in milliseconds.
     pub retry_at: u64,
+    /// How often the device was found with another value than it took, modulo 2^64.
+    pub differed: u64,
 }

@@ -21,7 +21,7 @@ on = record { point = 0; version = 2; value = pos 1 }
 
 -- the reading of the pump under a lease of this level
 abbrev read : ℕ → Answer
-read level = Reading 0 (pos 1) (Lease level 1) Pending
+read level = Reading 0 (pos 1) (Lease level 1) Pending 0
 
 abbrev stood : Turn
 stood = record { reading = 0; want = Some off; acts = wrote (decided off 0) passed true 0 (Noted true) ∷ [] }

@@ -230,7 +230,10 @@ module _ (plant : List Actuator) (n session : ℕ) (s : State) (sound : IsSoundP
   act-told command.Tick = persistent-self s.persistent
   act-told (command.Next driver) = hand_out-told (find (λ point. driver_of plant point == driver) s.wants)
   act-told (command.Report point version ok) = report-told point version ok (is_current point version s)
+  act-told (command.Doubt point differs) = persistent-self s.persistent
   act-told (command.Read point) = persistent-self s.persistent
   act-told (command.Array point) = persistent-self s.persistent
   act-told (command.Status txn) = persistent-self s.persistent
   act-told (command.Notices name from most) = notices-told name from most
+  act-told (command.Points from most) = persistent-self s.persistent
+  act-told command.Version = persistent-self s.persistent

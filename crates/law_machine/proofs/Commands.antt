@@ -1,5 +1,5 @@
 -- Commands that look at no device act on what outlasts a stop and on who is attached, and on nothing else.
-use Rattle.std.proofs.Common.{◌≡◌, ℕ, ◌≤◌, max, List, [], true, Option, Some, None, refl, ap, sym, ◌∙◌, arith}
+use Rattle.std.proofs.Common.{◌≡◌, ℕ, ◌≤◌, max, pos, List, [], true, Option, Some, None, refl, ap, sym, ◌∙◌, arith}
 use Rattle.boss_model.specs.declared.answer.Answer.{Answer}
 use Rattle.boss_model.specs.declared.answer.Answer.TheVariants as answer
 use Rattle.boss_model.specs.declared.answer.Mark.{Mark}
@@ -15,6 +15,7 @@ use Rattle.boss_model.specs.Processes.{process_of, process_named, number_of, att
 use Rattle.boss_model.specs.Queries.{reading, notices}
 use Rattle.boss_model.specs.Renew.{renew}
 use Rattle.boss_model.specs.Replies.{once}
+use Rattle.boss_model.specs.Settle.{fresh}
 use Rattle.boss_model.specs.Sound.{IsSoundPersistent}
 use Rattle.boss_model.specs.State.{Persistent, Attachment, State}
 use Rattle.boss_model.specs.Submit.{submit}
@@ -77,10 +78,13 @@ core-act plant session n command.Gone s apart = core-if (process_of s.attached s
 core-act plant session n command.Tick s apart = refl
 core-act plant session n (command.Next driver) s apart = cc
 core-act plant session n (command.Report point version ok) s apart = cc
+core-act plant session n (command.Doubt point differs) s apart = cc
 core-act plant session n (command.Read point) s apart = cc
 core-act plant session n (command.Array point) s apart = refl
 core-act plant session n (command.Status txn) s apart = refl
 core-act plant session n (command.Notices name from most) s apart = core-notices name session from most s
+core-act plant session n (command.Points from most) s apart = refl
+core-act plant session n command.Version s apart = refl
 
 -- a state of a persistent part and of who is attached
 abbrev pub shell : Persistent → List Attachment → State
@@ -126,7 +130,7 @@ tick-before plant s session other c a m sound apart early =
 -- a reading without its mark
 pub core-read : (plant : List Actuator) (session point m : ℕ) (s : State) →
     (unmarked (step plant session (command.Read point) m s).answer
-    ≡ unmarked (reading plant point mark.Pending (tick_to (moment_of s.persistent m) s.persistent)))
+    ≡ unmarked (reading plant point (fresh (pos 0)) (tick_to (moment_of s.persistent m) s.persistent)))
     × ((step plant session (command.Read point) m s).state.persistent ≡ tick_to (moment_of s.persistent m) s.persistent)
 unfolding step
 core-read plant session point m s = (refl, refl)
@@ -144,7 +148,7 @@ reading-before plant s session other point a m sound early =
     let once = core-read plant session point m s in
     let same : tick_to (moment_of s2.persistent m) s2.persistent ≡ tick_to (moment_of s.persistent m) s.persistent =
     ap (λ d. tick_to (moment_of d m) d) first.0 ∙ twice.1 in
-    (later.0 ∙ ap (λ d. unmarked (reading plant point mark.Pending d)) same ∙ sym once.0, later.1 ∙ same ∙ sym once.1)
+    (later.0 ∙ ap (λ d. unmarked (reading plant point (fresh (pos 0)) d)) same ∙ sym once.0, later.1 ∙ same ∙ sym once.1)
 
 -- ---- questions
 
@@ -159,11 +163,14 @@ question-act plant session other n command.Gone d x y question = cc
 question-act plant session other n command.Tick d x y question = refl
 question-act plant session other n (command.Next driver) d x y question = cc
 question-act plant session other n (command.Report point version ok) d x y question = cc
+question-act plant session other n (command.Doubt point differs) d x y question = cc
 question-act plant session other n (command.Read point) d x y question = cc
 question-act plant session other n (command.Array point) d x y question = refl
 question-act plant session other n (command.Status txn) d x y question = refl
 question-act plant session other n (command.Notices (Some name) from most) d x y question = refl
 question-act plant session other n (command.Notices None from most) d x y question = cc
+question-act plant session other n (command.Points from most) d x y question = refl
+question-act plant session other n command.Version d x y question = refl
 
 questions-apart : (c : Command) → is_question c ≡ true → is_apart_from_devices c ≡ true
 questions-apart (command.Attach name) question = refl
@@ -174,10 +181,13 @@ questions-apart command.Gone question = refl
 questions-apart command.Tick question = refl
 questions-apart (command.Next driver) question = cc
 questions-apart (command.Report point version ok) question = cc
+questions-apart (command.Doubt point differs) question = cc
 questions-apart (command.Read point) question = cc
 questions-apart (command.Array point) question = refl
 questions-apart (command.Status txn) question = refl
 questions-apart (command.Notices name from most) question = refl
+questions-apart (command.Points from most) question = refl
+questions-apart command.Version question = refl
 
 pub question-same : (plant : List Actuator) (s t : State) (session other : ℕ) (c : Command) (m : ℕ) → s.persistent ≡ t.persistent →
     is_question c ≡ true → (step plant session c m s).answer ≡ (step plant other c m t).answer
@@ -192,22 +202,24 @@ pub reading-same : (plant : List Actuator) (s t : State) (session other point m 
     unmarked (step plant session (command.Read point) m s).answer ≡ unmarked (step plant other (command.Read point) m t).answer
 reading-same plant s t session other point m same =
     (core-read plant session point m s).0
-    ∙ ap (λ d. unmarked (reading plant point mark.Pending (tick_to (moment_of d m) d))) same
+    ∙ ap (λ d. unmarked (reading plant point (fresh (pos 0)) (tick_to (moment_of d m) d))) same
     ∙ sym (core-read plant other point m t).0
 
--- with its mark, an answer without it is the answer again
-pub mark-alone : (given : Answer) → (stands : Mark) × (marked stands (unmarked given) ≡ given)
-mark-alone (answer.Reading point value basis stands) = (stands, refl)
-mark-alone (answer.Attached name next) = (mark.Pending, refl)
-mark-alone (answer.Accepted txn until) = (mark.Pending, refl)
-mark-alone (answer.Renewed txn until) = (mark.Pending, refl)
-mark-alone (answer.Cancelled txn at) = (mark.Pending, refl)
-mark-alone (answer.Gone ended) = (mark.Pending, refl)
-mark-alone (answer.Ticked now) = (mark.Pending, refl)
-mark-alone (answer.Want point version value) = (mark.Pending, refl)
-mark-alone answer.Nothing = (mark.Pending, refl)
-mark-alone (answer.Noted current) = (mark.Pending, refl)
-mark-alone (answer.Array point slots) = (mark.Pending, refl)
-mark-alone (answer.Status txn owner stage live pending) = (mark.Pending, refl)
-mark-alone (answer.Notices first next list) = (mark.Pending, refl)
-mark-alone (answer.Refused why) = (mark.Pending, refl)
+-- with what it tells of the device, an answer without that is the answer again
+pub mark-alone : (given : Answer) → (stands : Mark) × (differed : ℕ) × (marked stands differed (unmarked given) ≡ given)
+mark-alone (answer.Reading point value basis stands differed) = (stands, differed, refl)
+mark-alone (answer.Attached name next) = (mark.Pending, 0, refl)
+mark-alone (answer.Accepted txn until) = (mark.Pending, 0, refl)
+mark-alone (answer.Renewed txn until) = (mark.Pending, 0, refl)
+mark-alone (answer.Cancelled txn at) = (mark.Pending, 0, refl)
+mark-alone (answer.Gone ended) = (mark.Pending, 0, refl)
+mark-alone (answer.Ticked now) = (mark.Pending, 0, refl)
+mark-alone (answer.Want point version value) = (mark.Pending, 0, refl)
+mark-alone answer.Nothing = (mark.Pending, 0, refl)
+mark-alone (answer.Noted current) = (mark.Pending, 0, refl)
+mark-alone (answer.Array point slots) = (mark.Pending, 0, refl)
+mark-alone (answer.Status txn owner stage live pending) = (mark.Pending, 0, refl)
+mark-alone (answer.Notices first next list) = (mark.Pending, 0, refl)
+mark-alone (answer.Points from most) = (mark.Pending, 0, refl)
+mark-alone answer.Version = (mark.Pending, 0, refl)
+mark-alone (answer.Refused why) = (mark.Pending, 0, refl)

@@ -252,10 +252,13 @@ ended-act plant session n command.Gone s cause at moment sound reached is =
 ended-act plant session n command.Tick s cause at moment sound reached is = cc
 ended-act plant session n (command.Next driver) s cause at moment sound reached is = cc (other-hand_out cause at moment (find (λ point. driver_of plant point == driver) s.wants) s is)
 ended-act plant session n (command.Report point version ok) s cause at moment sound reached is = cc (other-report cause at moment n point version ok s is)
+ended-act plant session n (command.Doubt point differs) s cause at moment sound reached is = cc
 ended-act plant session n (command.Read point) s cause at moment sound reached is = cc
 ended-act plant session n (command.Array point) s cause at moment sound reached is = cc
 ended-act plant session n (command.Status txn) s cause at moment sound reached is = cc (other-status cause at moment (transaction_of s.persistent.txns txn) s.persistent is)
 ended-act plant session n (command.Notices name from most) s cause at moment sound reached is = cc (other-notices cause at moment name session from most s is)
+ended-act plant session n (command.Points from most) s cause at moment sound reached is = cc
+ended-act plant session n command.Version s cause at moment sound reached is = cc
 
 pub ended-step : (plant : List Actuator) (s : State) (session : ℕ) (c : Command) (m : ℕ) (cause : Cause) (at moment : ℕ) → IsSoundPersistent plant s.persistent → m ≤ last_moment →
     (step plant session c m s).answer ≡ answer.Refused (refusal.Ended cause at moment) →

@@ -15,7 +15,7 @@ use Rattle.boss_model.specs.declared.kept.Acceptance.TheVariants as acceptance
 use Rattle.boss_model.specs.declared.state.Actuator.{Actuator}
 use Rattle.boss_model.specs.declared.state.Proxy.{Proxy}
 use Rattle.boss_model.specs.Catalogue.{driver_of}
-use Rattle.boss_model.specs.Devices.{Reply, proxy_of, hand_out, is_current, taken, not_taken, heard, report}
+use Rattle.boss_model.specs.Devices.{Reply, proxy_of, hand_out, is_current, taken, not_taken, heard, report, is_doubted, doubted}
 use Rattle.boss_model.specs.Ends.{cancel, gone}
 use Rattle.boss_model.specs.Lists.{member, without}
 use Rattle.boss_model.specs.Machine.{answered, after, if_attached, joined, parted, notices_asked, act, ticked, pass_time, step}
@@ -142,6 +142,9 @@ took-other point (command.Read p) given h other = refl
 took-other point (command.Array p) given h other = refl
 took-other point (command.Status txn) given h other = refl
 took-other point (command.Notices name from most) given h other = refl
+took-other point (command.Doubt p differs) given h other = refl
+took-other point (command.Points from most) given h other = refl
+took-other point command.Version given h other = refl
 
 heard-quiet : (point : ℕ) (c : Command) (s : State) (reply : Reply) (h : Heard) →
     ((other version : ℕ) (ok : Bool) → c ≡ command.Report other version ok → false ≡ true) → IsQuiet s reply → IsHeard point s h →
@@ -231,12 +234,15 @@ heard-act plant session n point command.Gone s h is = heard-quiet point command.
 heard-act plant session n point command.Tick s h is = is
 heard-act plant session n point (command.Next driver) s h is = heard-hand_out point driver (find (λ p. driver_of plant p == driver) s.wants) s h is
 heard-act plant session n point (command.Report other version ok) s h is = heard-report n point other version ok s h is
+heard-act plant session n point (command.Doubt other differs) s h is = heard-changed (is_doubted other) (doubted differs) (λ place. refl) point s h is
 heard-act plant session n point (command.Read p) s h is = is
 heard-act plant session n point (command.Array p) s h is = is
 heard-act plant session n point (command.Status txn) s h is = heard-quiet point (command.Status txn) s (act plant session n (command.Status txn) s) h (λ other version ok e. cc)
     (record { proxies = refl; wants = refl; answer = quiet-status (transaction_of s.persistent.txns txn) s.persistent }) is
 heard-act plant session n point (command.Notices name from most) s h is = heard-quiet point (command.Notices name from most) s (act plant session n (command.Notices name from most) s) h (λ other version ok e. cc)
     (quiet-notices name session from most s) is
+heard-act plant session n point (command.Points from most) s h is = is
+heard-act plant session n point command.Version s h is = is
 
 -- ---- runs
 
@@ -311,10 +317,12 @@ told-report point other version (answer.Gone ended) h = inl refl
 told-report point other version (answer.Ticked now) h = inl refl
 told-report point other version (answer.Want p number value) h = inl refl
 told-report point other version answer.Nothing h = inl refl
-told-report point other version (answer.Reading p value basis stands) h = inl refl
+told-report point other version (answer.Reading p value basis stands differed) h = inl refl
 told-report point other version (answer.Array p slots) h = inl refl
 told-report point other version (answer.Status txn owner stage live pending) h = inl refl
 told-report point other version (answer.Notices first next list) h = inl refl
+told-report point other version (answer.Points from most) h = inl refl
+told-report point other version answer.Version h = inl refl
 told-report point other version (answer.Refused why) h = inl refl
 
 pub told : (point : ℕ) (c : Command) (given : Answer) (h : Heard) → IsTold point c given h
@@ -331,3 +339,6 @@ told point (command.Read p) given h = inl refl
 told point (command.Array p) given h = inl refl
 told point (command.Status txn) given h = inl refl
 told point (command.Notices name from most) given h = inl refl
+told point (command.Doubt p differs) given h = inl refl
+told point (command.Points from most) given h = inl refl
+told point command.Version given h = inl refl

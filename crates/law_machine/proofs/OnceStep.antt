@@ -244,10 +244,13 @@ under-asked plant session n command.Gone s some = absurd (omega arith)
 under-asked plant session n command.Tick s some = absurd (omega arith)
 under-asked plant session n (command.Next driver) s some = absurd (omega arith)
 under-asked plant session n (command.Report point version ok) s some = absurd (omega arith)
+under-asked plant session n (command.Doubt point differs) s some = absurd (omega arith)
 under-asked plant session n (command.Read point) s some = absurd (omega arith)
 under-asked plant session n (command.Array point) s some = absurd (omega arith)
 under-asked plant session n (command.Status txn) s some = absurd (omega arith)
 under-asked plant session n (command.Notices name from most) s some = absurd (omega arith)
+under-asked plant session n (command.Points from most) s some = absurd (omega arith)
+under-asked plant session n command.Version s some = absurd (omega arith)
 
 -- ---- the replies after
 
@@ -331,10 +334,13 @@ act-replied plant session n owner command.Gone s = inl (quiet-gone (process_of s
 act-replied plant session n owner command.Tick s = inl refl
 act-replied plant session n owner (command.Next driver) s = inl (quiet-hand_out _ owner s)
 act-replied plant session n owner (command.Report point version ok) s = inl (quiet-report n point version ok owner s)
+act-replied plant session n owner (command.Doubt point differs) s = inl refl
 act-replied plant session n owner (command.Read point) s = inl refl
 act-replied plant session n owner (command.Array point) s = inl refl
 act-replied plant session n owner (command.Status txn) s = inl refl
 act-replied plant session n owner (command.Notices name from most) s = inl (quiet-notices name session from most owner s)
+act-replied plant session n owner (command.Points from most) s = inl refl
+act-replied plant session n owner command.Version s = inl refl
 
 -- time leaves the replies
 pub ticked-same : (d : Persistent) (n owner : ℕ) → reply_of (tick_to n d).processes owner ≡ reply_of d.processes owner

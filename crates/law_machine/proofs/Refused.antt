@@ -66,10 +66,13 @@ leaves-act plant session n command.Gone s = leaves-if (process_of s.attached ses
 leaves-act plant session n command.Tick s = λ why is. refl
 leaves-act plant session n (command.Next driver) s = leaves-hand_out _ s
 leaves-act plant session n (command.Report point version ok) s = leaves-report n point version ok s
+leaves-act plant session n (command.Doubt point differs) s = λ why is. cc
 leaves-act plant session n (command.Read point) s = λ why is. refl
 leaves-act plant session n (command.Array point) s = λ why is. refl
 leaves-act plant session n (command.Status txn) s = λ why is. refl
 leaves-act plant session n (command.Notices name from most) s = leaves-notices name session from most s
+leaves-act plant session n (command.Points from most) s = λ why is. refl
+leaves-act plant session n command.Version s = λ why is. refl
 
 pub refused-step : (plant : List Actuator) (s : State) (session other : ℕ) (c : Command) (m : ℕ) (why : Refusal) →
     (step plant session c m s).answer ≡ answer.Refused why → (step plant session c m s).state ≡ (step plant other command.Tick m s).state

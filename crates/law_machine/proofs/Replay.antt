@@ -211,10 +211,13 @@ module _ (plant : List Actuator) (n : ℕ) (session : ℕ) (s : State) (attached
   act-acts command.Tick allowed = act-none plant n act.Tick s.persistent
   act-acts (command.Next driver) allowed = act-hand_out plant n act.Tick (find (λ point. driver_of plant point == driver) s.wants) s
   act-acts (command.Report point version ok) allowed = act-report plant n point version ok s (grind (arith, nat_tests))
+  act-acts (command.Doubt point differs) allowed = act-none plant n act.Tick s.persistent
   act-acts (command.Read point) allowed = act-none plant n act.Tick s.persistent
   act-acts (command.Array point) allowed = act-none plant n act.Tick s.persistent
   act-acts (command.Status txn) allowed = act-none plant n act.Tick s.persistent
   act-acts (command.Notices name from most) allowed = act-notices plant n act.Tick name session from most s
+  act-acts (command.Points from most) allowed = act-none plant n act.Tick s.persistent
+  act-acts command.Version allowed = act-none plant n act.Tick s.persistent
 
 -- who is concerned is a matter of the persistent part and of who is attached
 pub concerned-bare : (c : Command) (session : ℕ) (s : State) (proxies : List Proxy) (wants : List ℕ) → concerned c session (record s { proxies = proxies; wants = wants }) ≡ concerned c session s
@@ -226,10 +229,13 @@ concerned-bare command.Gone session s proxies wants = refl
 concerned-bare command.Tick session s proxies wants = refl
 concerned-bare (command.Next driver) session s proxies wants = refl
 concerned-bare (command.Report point version ok) session s proxies wants = refl
+concerned-bare (command.Doubt point differs) session s proxies wants = refl
 concerned-bare (command.Read point) session s proxies wants = refl
 concerned-bare (command.Array point) session s proxies wants = refl
 concerned-bare (command.Status txn) session s proxies wants = refl
 concerned-bare (command.Notices name from most) session s proxies wants = refl
+concerned-bare (command.Points from most) session s proxies wants = refl
+concerned-bare command.Version session s proxies wants = refl
 
 -- ---- the effect
 

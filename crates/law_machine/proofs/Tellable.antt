@@ -128,10 +128,13 @@ module _ (catalogue : Catalogue) where
   told-act session n command.Tick s sound allowed = tt
   told-act session n (command.Next driver) s sound allowed = told-want (λ point. driver_of (actuators catalogue) point == driver) _ s sound refl
   told-act session n (command.Report point version ok) s sound allowed = told-report n point version ok s
+  told-act session n (command.Doubt point differs) s sound allowed = tt
   told-act session n (command.Read point) s sound allowed = of-catalogue point allowed
   told-act session n (command.Array point) s sound allowed = of-catalogue point allowed
   told-act session n (command.Status txn) s sound allowed = told-status (transaction_of s.persistent.txns txn) s.persistent
   told-act session n (command.Notices name from most) s sound allowed = told-asked name session from most s sound.persistent allowed.3
+  told-act session n (command.Points from most) s sound allowed = allowed
+  told-act session n command.Version s sound allowed = tt
 
 pub tellable : (catalogue : Catalogue) (s : State) (session : ℕ) (c : Command) (m : ℕ) → IsSound (actuators catalogue) s → IsAllowed (actuators catalogue) c → m ≤ last_moment →
     IsTellable catalogue (step (actuators catalogue) session c m s).answer

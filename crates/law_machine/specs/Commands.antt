@@ -1,5 +1,5 @@
 -- Source: own.
-use Rattle.std.specs.Prelude.{Bool, true, false, Some}
+use Rattle.std.specs.Prelude.{ℕ, Bool, true, false, Some}
 use Rattle.boss_model.specs.declared.answer.Answer.{Answer}
 use Rattle.boss_model.specs.declared.answer.Answer.TheVariants as answer
 use Rattle.boss_model.specs.declared.answer.Mark.{Mark}
@@ -11,6 +11,7 @@ use Rattle.boss_model.specs.declared.command.Command.TheVariants as command
 abbrev pub is_apart_from_devices : Command → Bool
 is_apart_from_devices (command.Next driver) = false
 is_apart_from_devices (command.Report point version ok) = false
+is_apart_from_devices (command.Doubt point differs) = false
 is_apart_from_devices (command.Read point) = false
 is_apart_from_devices c = true
 
@@ -20,14 +21,16 @@ is_question command.Tick = true
 is_question (command.Array point) = true
 is_question (command.Status txn) = true
 is_question (command.Notices (Some name) from most) = true
+is_question (command.Points from most) = true
+is_question command.Version = true
 is_question c = false
 
--- a reading without its mark; every other answer as it is
+-- a reading without what it tells of the device, its mark and how often it differed; every other answer as it is
 abbrev pub unmarked : Answer → Answer
-unmarked (answer.Reading point value basis stands) = answer.Reading point value basis mark.Pending
+unmarked (answer.Reading point value basis stands differed) = answer.Reading point value basis mark.Pending 0
 unmarked given = given
 
--- a reading with this mark; every other answer as it is
-abbrev pub marked : Mark → Answer → Answer
-marked stands (answer.Reading point value basis other) = answer.Reading point value basis stands
-marked stands given = given
+-- a reading that tells this of the device; every other answer as it is
+abbrev pub marked : Mark → ℕ → Answer → Answer
+marked stands differed (answer.Reading point value basis other count) = answer.Reading point value basis stands differed
+marked stands differed given = given

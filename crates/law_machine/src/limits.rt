@@ -26,6 +26,7 @@ ghost use Rattle.boss_model.specs.Limits.{
   most_processes,
   most_steps,
   most_told,
+  most_workers,
   most_writes,
   newest_version,
   notices_kept,
@@ -40,8 +41,8 @@ use boss_model::{
     ANSWER_ROOM, BELLS, DONE_KEPT, DRIVE_PAUSE, FIRST_GATE, LAST_MOMENT, LAST_NUMBER, LAST_SESSION,
     LEVELS, LOCK_LOOKS, LOG_LIMIT, LONGEST_FILE, LONGEST_HOLD, LONGEST_LEASE, LONGEST_LINE,
     LONGEST_MINIMUM, LONGEST_NAME, LONGEST_RECORD, MOST_COUNTERS, MOST_DRIVERS, MOST_HELD,
-    MOST_LINES, MOST_POINTS, MOST_PROCESSES, MOST_STEPS, MOST_TOLD, MOST_WRITES, NEWEST_VERSION,
-    NOTICES_KEPT, RECORD_ROOM, RETRY_AFTER, TICK_PAUSE, WATCH_IDLE, WATCH_PAUSE,
+    MOST_LINES, MOST_POINTS, MOST_PROCESSES, MOST_STEPS, MOST_TOLD, MOST_WORKERS, MOST_WRITES,
+    NEWEST_VERSION, NOTICES_KEPT, RECORD_ROOM, RETRY_AFTER, TICK_PAUSE, WATCH_IDLE, WATCH_PAUSE,
 };
 
 /// The limits that the code has are those of the definitions.
@@ -57,5 +58,5 @@ pub fn limits_are_those_of_the_definitions()
     ensures journal { (NEWEST_VERSION ≡ newest_version) × (FIRST_GATE ≡ first_gate) × (LONGEST_RECORD ≡ longest_record)
         × (RECORD_ROOM ≡ record_room) × (LOG_LIMIT ≡ log_limit) }
     ensures workers { (TICK_PAUSE ≡ tick_pause) × (DRIVE_PAUSE ≡ drive_pause) × (WATCH_PAUSE ≡ watch_pause) × (WATCH_IDLE ≡ watch_idle)
-        × (LOCK_LOOKS ≡ lock_looks) × (BELLS ≡ bells) × (MOST_COUNTERS ≡ most_counters) }
+        × (MOST_WORKERS ≡ most_workers) × (LOCK_LOOKS ≡ lock_looks) × (BELLS ≡ bells) × (MOST_COUNTERS ≡ most_counters) }
 {}

@@ -48,11 +48,14 @@ quiet-step plant session command.Tick m s only = refl
 quiet-step plant session (command.Next driver) m s only = handed-out _ (pass_time plant (max s.persistent.now m) s)
 quiet-step plant session (command.Report point version true) m s only = taken (max s.persistent.now m) point version (pass_time plant (max s.persistent.now m) s)
 quiet-step plant session (command.Report point version false) m s only = cc
+quiet-step plant session (command.Doubt point differs) m s only = refl
 quiet-step plant session (command.Read point) m s only = refl
 quiet-step plant session (command.Array point) m s only = refl
 quiet-step plant session (command.Status txn) m s only = refl
 quiet-step plant session (command.Notices (Some name) from most) m s only = refl
 quiet-step plant session (command.Notices None from most) m s only = cc
+quiet-step plant session (command.Points from most) m s only = refl
+quiet-step plant session command.Version m s only = refl
 
 -- what a question is answered, of what lasts once time has passed
 pub said : List Actuator → Command → Persistent → Answer
@@ -69,11 +72,14 @@ question-said plant session command.Gone m s question = cc
 question-said plant session command.Tick m s question = refl
 question-said plant session (command.Next driver) m s question = cc
 question-said plant session (command.Report point version ok) m s question = cc
+question-said plant session (command.Doubt point differs) m s question = cc
 question-said plant session (command.Read point) m s question = refl
 question-said plant session (command.Array point) m s question = refl
 question-said plant session (command.Status txn) m s question = refl
 question-said plant session (command.Notices (Some name) from most) m s question = refl
 question-said plant session (command.Notices None from most) m s question = cc
+question-said plant session (command.Points from most) m s question = refl
+question-said plant session command.Version m s question = refl
 
 -- ---- at once nothing is due
 

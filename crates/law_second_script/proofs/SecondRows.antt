@@ -40,9 +40,9 @@ second = rows (opened building left.persistent)
 
 answers_at_30_and_70 : List Answer
 answers_at_30_and_70 =
-    answer.Reading damper (pos 45000) (basis.Lease 8 1) mark.Pending ∷
+    answer.Reading damper (pos 45000) (basis.Lease 8 1) mark.Pending 0 ∷
     answer.Status 1 (codes "a") stage.Run 1 0 ∷
-    answer.Reading damper (pos 20000) basis.Default mark.Pending ∷ []
+    answer.Reading damper (pos 20000) basis.Default mark.Pending 0 ∷ []
 
 asks_the_same : asked 0 on ≡ asked 0 second
 unfolding on second step left rows

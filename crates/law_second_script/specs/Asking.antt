@@ -18,10 +18,11 @@ abbrev pub asks : Command → Bool
 asks (command.Read point) = true
 asks c = is_question c
 
--- a device's worker takes its next write, or reports that the device took one
+-- a device's worker takes its next write, reports that the device took one, or wants it written again
 abbrev pub serves : Command → Bool
 serves (command.Next driver) = true
 serves (command.Report point version ok) = ok
+serves (command.Doubt point differs) = true
 serves c = false
 
 -- a row that asks, or that serves a device

@@ -4,6 +4,7 @@ use Rattle.boss_model.specs.declared.command.Command.TheVariants.{Next, Report}
 use Rattle.boss_model.specs.DeviceCall.{DeviceCall}
 use Rattle.def_history.specs.declared.entry.Entry.{Entry}
 use Rattle.boss_expiry.specs.declared.end.WorkEnd.{WorkEnd}
+use Rattle.def_lanes.specs.Works.{Course}
 use Rattle.boss_drive.specs.Drives.{IsDriveOf}
 use Rattle.boss_drive.specs.Driving.{Write, Turn, idle, served, Cut, nothing, at_next, at_reading, at_report, Made, call_of, made_by, left_by}
 use Rattle.law_settled.specs.Settled.{last_from}
@@ -38,9 +39,9 @@ module _ (driver point : ℕ) (Before : ℤ → Type 0) where
       (agrees-report point Before (asked_by w told) last w.point w.version w.value w.ok answer
       (agrees-want point Before (cond (w.point == point) (Some w.value) None) told last agrees) (open-want point Before w.point w.value told)) then
 
-  pub drive-agrees : (calls : List DeviceCall) (pausing : Type 0) (pauses : ℕ) (entries : List Entry) (told : Told) → IsDriveOf driver calls pausing pauses entries →
+  pub drive-agrees : (calls : List DeviceCall) (pausing : Type 0) (pauses : ℕ) (course : Course) (entries : List Entry) (told : Told) → IsDriveOf driver calls pausing pauses course entries →
       Agrees point Before told None → Agrees point Before (told_in point entries told) (last_from point None calls)
-  drive-agrees calls pausing pauses entries told is agrees =
+  drive-agrees calls pausing pauses course entries told is agrees =
       let made : Made = made_by driver is.turns (left_by driver is.end is.last) in
       let same : told_in point entries told ≡ told_in point made.entries told = ap (λ es. told_in point es told) is.entries_are ∙ told-deeds point made.entries told in
       subst (λ t. Agrees point Before t (last_from point None calls)) (sym same)

@@ -20,6 +20,7 @@ use Rattle.def_lanes.proofs.Lists.{each-append}
 use Rattle.boss_expiry.specs.declared.end.WorkEnd.{WorkEnd}
 use Rattle.boss_expiry.specs.Ends.{mark}
 use Rattle.boss_drive.specs.Driving.{Made, both}
+use Rattle.def_lanes.specs.Works.{Course}
 use Rattle.boss_guard.specs.GuardDrives.{IsGuardOf}
 use Rattle.boss_guard.specs.Guarding.{start}
 use Rattle.boss_guard.specs.Making.{answer_for, reads, made_by_act, made_by_acts, made_in, made_in_turns, left_by, left_by_try}
@@ -303,10 +304,10 @@ module _ (driver point : ℕ) (Before : ℤ → Type 0) where
   none-held (p ∷ points) zero = refl
   none-held (p ∷ points) (suc place) = none-held points place
 
-  pub guard-agrees : (catalogue : Catalogue) (calls : List DeviceCall) (pausing : Type 0) (pauses : ℕ) (entries : List Entry) (told : Told) →
-      IsGuardOf catalogue driver calls pausing pauses entries → point < length catalogue.points → Agrees point Before told None →
+  pub guard-agrees : (catalogue : Catalogue) (calls : List DeviceCall) (pausing : Type 0) (pauses : ℕ) (course : Course) (entries : List Entry) (told : Told) →
+      IsGuardOf catalogue driver calls pausing pauses course entries → point < length catalogue.points → Agrees point Before told None →
       Agrees point Before (told_in point entries told) (last_from point None calls)
-  guard-agrees catalogue calls pausing pauses entries told is known agrees =
+  guard-agrees catalogue calls pausing pauses course entries told is known agrees =
       let watch : Watch = start (guards_of catalogue) in
       let whole : Made = made_in_turns driver watch is.turns in
       let rest : Made = left_by driver is.end (after_turns is.turns watch) is.last in

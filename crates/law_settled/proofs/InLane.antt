@@ -38,10 +38,12 @@ module _ (plant : List Actuator) (point : ℕ) where
   asked-none driver moment s (answer.Ticked now) is apart = refl
   asked-none driver moment s answer.Nothing is apart = refl
   asked-none driver moment s (answer.Noted counts) is apart = refl
-  asked-none driver moment s (answer.Reading p value basis stands) is apart = refl
+  asked-none driver moment s (answer.Reading p value basis stands differed) is apart = refl
   asked-none driver moment s (answer.Array p slots) is apart = refl
   asked-none driver moment s (answer.Status txn owner stage live pending) is apart = refl
   asked-none driver moment s (answer.Notices first next list) is apart = refl
+  asked-none driver moment s (answer.Points from most) is apart = refl
+  asked-none driver moment s answer.Version is apart = refl
   asked-none driver moment s (answer.Refused why) is apart = refl
 
   report-none : (other version : ℕ) (ok : Bool) (given : Answer) (told : Told) → (driver_of plant point == driver_of plant other) ≡ false →
@@ -68,10 +70,13 @@ module _ (plant : List Actuator) (point : ℕ) where
   told-none session moment (command.Cancel txn seq) s given told apart is other = refl
   told-none session moment command.Gone s given told apart is other = refl
   told-none session moment command.Tick s given told apart is other = refl
+  told-none session moment (command.Doubt p differs) s given told apart is other = refl
   told-none session moment (command.Read p) s given told apart is other = refl
   told-none session moment (command.Array p) s given told apart is other = refl
   told-none session moment (command.Status txn) s given told apart is other = refl
   told-none session moment (command.Notices name from most) s given told apart is other = refl
+  told-none session moment (command.Points from most) s given told apart is other = refl
+  told-none session moment command.Version s given told apart is other = refl
 
   pub told-lane : (log : List Entry) (s : State) (told : Told) → IsLegal plant log s → AllByRecursion IsApart (deeds log) →
       told_in point (done_in plant (of_driver (driver_of plant point)) log) told ≡ told_in point log told

@@ -19,7 +19,7 @@ use Rattle.def_history.specs.History.{deeds, IsLegal, run}
 use Rattle.def_lanes.specs.Devices.{DevicesBack}
 use Rattle.def_lanes.specs.Lanes.{of_driver, done_in}
 use Rattle.def_lanes.specs.Parts.{Agreed}
-use Rattle.def_lanes.specs.Works.{Work, visit, beat, drive, lane_of_work, IsAbsent, AreApart, calls_in}
+use Rattle.def_lanes.specs.Works.{Course, not_cut, Work, visit, beat, drive, lane_of_work, IsAbsent, AreApart, calls_in}
 use Rattle.def_lanes.proofs.DeviceLemmas.{calls-one}
 use Rattle.boss_outside_server.specs.declared.waited.Waited.{Waited}
 use Rattle.boss_outside_server.specs.Waits.{new_waited}
@@ -37,12 +37,12 @@ use Rattle.law_settled.proofs.Spoken.{all-apart}
 
 -- ---- one driver's worker
 
-driven-agrees : (guarded : Bool) (catalogue : Catalogue) (driver point : ℕ) (Before : ℤ → Type 0) (calls : List DeviceCall) (pausing : Type 0) (pauses : ℕ) (entries : List Entry) (told : Told) →
-    IsDriven guarded catalogue driver calls pausing pauses entries → point < length (actuators catalogue) → Agrees point Before told None →
+driven-agrees : (guarded : Bool) (catalogue : Catalogue) (driver point : ℕ) (Before : ℤ → Type 0) (calls : List DeviceCall) (pausing : Type 0) (pauses : ℕ) (course : Course) (entries : List Entry) (told : Told) →
+    IsDriven guarded catalogue driver calls pausing pauses course entries → point < length (actuators catalogue) → Agrees point Before told None →
     Agrees point Before (told_in point entries told) (last_call point calls)
-driven-agrees true catalogue driver point Before calls pausing pauses entries told is known agrees =
-    guard-agrees driver point Before catalogue calls pausing pauses entries told is (subst (λ n. point < n) (length-map catalogue.points (λ p. p.actuator)) known) agrees
-driven-agrees false catalogue driver point Before calls pausing pauses entries told is known agrees = drive-agrees driver point Before calls pausing pauses entries told is agrees
+driven-agrees true catalogue driver point Before calls pausing pauses course entries told is known agrees =
+    guard-agrees driver point Before catalogue calls pausing pauses course entries told is (subst (λ n. point < n) (length-map catalogue.points (λ p. p.actuator)) known) agrees
+driven-agrees false catalogue driver point Before calls pausing pauses course entries told is known agrees = drive-agrees driver point Before calls pausing pauses course entries told is agrees
 
 -- the last call of the point took this value; or it has none, and the state before told so
 abbrev IsLast : State → ℕ → ℤ → List DeviceCall → Type 0
@@ -57,12 +57,12 @@ module _ (catalogue : Catalogue) (point : ℕ) (log : List Entry) (s : State) (k
   unfolding lane
   took-lane = ap (λ t. t.took) (told-lane (actuators catalogue) point log s (told_at s point) legal apart) ∙ took
 
-  pub worker-last : (calls : List DeviceCall) (pausing : Type 0) (pauses : ℕ) →
-      IsDriven (is_guarded catalogue (driver_of (actuators catalogue) point)) catalogue (driver_of (actuators catalogue) point) calls pausing pauses
+  pub worker-last : (calls : List DeviceCall) (pausing : Type 0) (pauses : ℕ) (course : Course) →
+      IsDriven (is_guarded catalogue (driver_of (actuators catalogue) point)) catalogue (driver_of (actuators catalogue) point) calls pausing pauses course
       (done_in (actuators catalogue) (of_driver (driver_of (actuators catalogue) point)) log) → IsLast s point value calls
   unfolding lane
-  worker-last calls pausing pauses is =
-      driven-agrees (is_guarded catalogue (driver_of (actuators catalogue) point)) catalogue (driver_of (actuators catalogue) point) point (λ v. (told_at s point).took ≡ Some v) calls pausing pauses lane (told_at s point)
+  worker-last calls pausing pauses course is =
+      driven-agrees (is_guarded catalogue (driver_of (actuators catalogue) point)) catalogue (driver_of (actuators catalogue) point) point (λ v. (told_at s point).took ≡ Some v) calls pausing pauses course lane (told_at s point)
       is known (λ v same. inr (refl, same)) value took-lane
 
   -- nothing was done in the driver's lane
@@ -77,42 +77,45 @@ none_of false = refl
 
 pub no-calls : (driver : ℕ) (works : List Work) → IsAbsent (of_driver driver) works → AreApart works → calls_in driver works ≡ []
 no-calls driver works absent apart =
-    ap (λ first. first ++ calls_in driver works) (sym (none_of (driver == driver))) ∙ calls-one driver [] (new_waited 0) [] works (absent, apart)
+    ap (λ first. first ++ calls_in driver works) (sym (none_of (driver == driver))) ∙ calls-one driver [] (new_waited 0) (record { moments = []; cut = not_cut }) [] works (absent, apart)
 
 module _ (P : Work → Type 0) (driver : ℕ) where
   -- the one work of the driver
   pub record HasWork (works : List Work) : Type 0 where
     pub calls : List DeviceCall
     pub waited : Waited
-    pub is : P (drive driver calls waited)
+    pub course : Course
+    pub is : P (drive driver calls waited course)
     pub all : calls_in driver works ≡ calls
 
   pub work-of : (works : List Work) → AreApart works → AllByRecursion P works → IsAbsent (of_driver driver) works ⊎ HasWork works
   work-of [] apart each = inl tt
-  work-of (visit served cut ∷ works) apart each = elim (work-of works apart.1 each.1) [
+  work-of (visit served course ∷ works) apart each = elim (work-of works apart.1 each.1) [
     | inl absent ↦ inl ((λ same. cc), absent)
-    | inr has ↦ inr (record { calls = has.calls; waited = has.waited; is = has.is; all = has.all })
+    | inr has ↦ inr (record { calls = has.calls; waited = has.waited; course = has.course; is = has.is; all = has.all })
   ]
-  work-of (beat waited ∷ works) apart each = elim (work-of works apart.1 each.1) [
+  work-of (beat waited course ∷ works) apart each = elim (work-of works apart.1 each.1) [
     | inl absent ↦ inl ((λ same. cc), absent)
-    | inr has ↦ inr (record { calls = has.calls; waited = has.waited; is = has.is; all = has.all })
+    | inr has ↦ inr (record { calls = has.calls; waited = has.waited; course = has.course; is = has.is; all = has.all })
   ]
-  work-of (drive other calls waited ∷ works) apart each = by (other == driver) refl (work-of works apart.1 each.1)
+  work-of (drive other calls waited course ∷ works) apart each = by (other == driver) refl (work-of works apart.1 each.1)
     where
       by : (here : Bool) → (other == driver) ≡ here → IsAbsent (of_driver driver) works ⊎ HasWork works →
-          IsAbsent (of_driver driver) (drive other calls waited ∷ works) ⊎ HasWork (drive other calls waited ∷ works)
+          IsAbsent (of_driver driver) (drive other calls waited course ∷ works) ⊎ HasWork (drive other calls waited course ∷ works)
       by true is rest =
           let same : other ≡ driver = grind (arith, nat_tests) in
           inr (record {
             calls = calls;
             waited = waited;
-            is = subst (λ d. P (drive d calls waited)) same each.0;
-            all = subst (λ d. calls_in d (drive other calls waited ∷ works) ≡ calls) same (calls-one other calls waited [] works apart);
+            course = course;
+            is = subst (λ d. P (drive d calls waited course)) same each.0;
+            all = subst (λ d. calls_in d (drive other calls waited course ∷ works) ≡ calls) same (calls-one other calls waited course [] works apart);
           })
       by false is (inl absent) = inl ((λ same. let equal : other ≡ driver = cc in absurd (grind (arith, nat_tests))), absent)
       by false is (inr has) = inr (record {
         calls = has.calls;
         waited = has.waited;
+        course = has.course;
         is = has.is;
         all = ap (λ b. cond b calls [] ++ calls_in driver works) is ∙ has.all;
       })
@@ -131,7 +134,7 @@ module _ (catalogue : Catalogue) (gates : List Gate) (heeds tells pausing : Type
           ap (last_call point) (no-calls driver works absent agreed.apart),
           none-last catalogue point log s known legal apart value took (agreed.none (of_driver driver) absent),
         )
-        | inr has ↦ subst (IsLast s point value) (sym has.all) (worker-last catalogue point log s known legal apart value took has.calls pausing has.waited.pauses has.is)
+        | inr has ↦ subst (IsLast s point value) (sym has.all) (worker-last catalogue point log s known legal apart value took has.calls pausing has.waited.pauses has.course has.is)
       ]
 
 -- ---- from an opened state, and from a sound one
@@ -141,14 +144,14 @@ last-opened : (plant : List Actuator) (point : ℕ) (d : Persistent) (value : �
 last-opened plant point d value calls known (inl is) = is
 last-opened plant point d value calls known (inr none) = absurd (let no : None ≡ Some value = sym (nothing-taken plant point d known) ∙ none.1 in cc)
 
-pub worker-opened : (catalogue : Catalogue) (point : ℕ) (log : List Entry) (d : Persistent) (calls : List DeviceCall) (pausing : Type 0) (pauses : ℕ) → point < length (actuators catalogue) →
+pub worker-opened : (catalogue : Catalogue) (point : ℕ) (log : List Entry) (d : Persistent) (calls : List DeviceCall) (pausing : Type 0) (pauses : ℕ) (course : Course) → point < length (actuators catalogue) →
     IsLegal (actuators catalogue) log (opened (actuators catalogue) d) → AllByRecursion IsApart (deeds log) →
-    IsDriven (is_guarded catalogue (driver_of (actuators catalogue) point)) catalogue (driver_of (actuators catalogue) point) calls pausing pauses
+    IsDriven (is_guarded catalogue (driver_of (actuators catalogue) point)) catalogue (driver_of (actuators catalogue) point) calls pausing pauses course
     (done_in (actuators catalogue) (of_driver (driver_of (actuators catalogue) point)) log) → IsSettled (run (actuators catalogue) log (opened (actuators catalogue) d)) point →
     last_call point calls ≡ Some (taking_target (actuators catalogue) (run (actuators catalogue) log (opened (actuators catalogue) d)) point)
-worker-opened catalogue point log d calls pausing pauses known legal apart is settled =
+worker-opened catalogue point log d calls pausing pauses course known legal apart is settled =
     let plant = actuators catalogue in
-    last-opened plant point d _ calls known (worker-last catalogue point log (opened plant d) known legal apart _ (settled-opened plant point log d known legal settled) calls pausing pauses is)
+    last-opened plant point d _ calls known (worker-last catalogue point log (opened plant d) known legal apart _ (settled-opened plant point log d known legal settled) calls pausing pauses course is)
 
 pub works-opened : (catalogue : Catalogue) (gates : List Gate) (heeds tells pausing : Type 0) (point : ℕ) (log : List Entry) (d : Persistent) (works : List Work) →
     heeds → point < length (actuators catalogue) → IsLegal (actuators catalogue) log (opened (actuators catalogue) d) →

@@ -1,6 +1,6 @@
 -- What is said on connections serves no device.
 use Rattle.std.proofs.Common.{◌≡◌, ◌⊎◌, inl, inr, ℕ, zero, suc, ◌==◌, Bool, true, false, cond, List, [], ◌∷◌, Option, Some, None, refl, ap, sym, ◌∙◌, subst, arith}
-use Rattle.std.specs.Prelude.{codes, option_map}
+use Rattle.std.specs.Prelude.{option_map}
 use Rattle.std.specs.List.{AllByRecursion, filter}
 use Rattle.std.proofs.lemmas.Bool.Decides.{nat_tests}
 use Rattle.serde_json.specs.Data.{Data}
@@ -10,7 +10,9 @@ use Rattle.boss_model.specs.declared.command.Command.{Command}
 use Rattle.boss_model.specs.declared.command.Command.TheVariants as command
 use Rattle.boss_model.specs.declared.command.Policy.TheVariants.{Abort}
 use Rattle.boss_model.specs.declared.state.Actuator.{Actuator}
-use Rattle.boss_model.specs.Limits.{most_told}
+use Rattle.boss_model.specs.declared.spot.Key.TheVariants as key
+use Rattle.boss_model.specs.declared.spot.Spot.TheVariants.{Line}
+use Rattle.boss_model.specs.Limits.{most_told, last_number}
 use Rattle.boss_model.specs.Catalogue.{Catalogue, actuators}
 use Rattle.def_wire.specs.declared.form.Form.{Form}
 use Rattle.def_wire.specs.declared.form.Op.{Op}
@@ -18,8 +20,8 @@ use Rattle.def_wire.specs.declared.form.Op.TheVariants as op
 use Rattle.def_wire.specs.declared.request.Ask.{Ask}
 use Rattle.def_wire.specs.declared.request.Ask.TheVariants as ask
 use Rattle.def_wire.specs.declared.request.Request.{Request}
-use Rattle.def_wire.specs.Keys.{under, under_or, whole, number_from, number_within, name, short_list, seq, policy}
-use Rattle.def_wire.specs.Requests.{Parsed, asks as asks_that, wrong, ◌>>=◌, formed, points_of, point_of, settings_of, ask_of, known_op, op_named, session_of, moment_of, value_in, request_of, parsed}
+use Rattle.def_wire.specs.Keys.{whole, number_from, number_within, name, short_list, seq, policy}
+use Rattle.def_wire.specs.Requests.{Parsed, asks as asks_that, wrong, ◌>>=◌, formed, needs, may_have, read_in, points_of, point_of, settings_of, ask_of, known_op, op_named, session_of, moment_of, value_in, request_of, parsed}
 use Rattle.def_history.specs.declared.entry.Entry.{Entry}
 use Rattle.def_history.specs.declared.entry.Entry.TheVariants.{Did, Broke}
 use Rattle.def_history.specs.History.{deeds}
@@ -27,7 +29,7 @@ use Rattle.def_connection.specs.Speech.{asks, Reply, of_answer, of_memory, of_st
 use Rattle.def_connection.specs.Watching.{watched_in, next_from}
 use Rattle.def_lanes.specs.Lanes.{of_session, in_lane, done_in}
 use Rattle.def_lanes.specs.Parts.{Agreed}
-use Rattle.def_lanes.specs.Works.{Work, Cut, visit, beat, drive, lane_of_work, IsAbsent}
+use Rattle.def_lanes.specs.Works.{Course, Work, visit, beat, drive, lane_of_work, IsAbsent}
 use Rattle.def_lanes.proofs.Lists.{each-append}
 use Rattle.def_lanes.proofs.Owners.{is_lane-self}
 use Rattle.boss_outside_server.specs.Hosts.{Served}
@@ -58,32 +60,35 @@ IsQuiet (ask.Watch name from) = Unit {0}
 
 ask-quiet : (catalogue : Catalogue) (named : Op) (d : Data) → Says IsQuiet (ask_of catalogue named d)
 unfolding Says
-ask-quiet catalogue op.Attach d = any-says IsQuiet (formed (under (codes "process") name d)) _ (λ process. refl)
-ask-quiet catalogue op.Submit d = any-says IsQuiet (formed (under (codes "writes") short_list d)) _ (λ items.
-    any-says IsQuiet (formed (under_or (codes "policy") policy Abort d)) _ (λ kind. any-says IsQuiet (formed (seq d)) _ (λ number.
+ask-quiet catalogue op.Attach d = any-says IsQuiet (needs key.Process name d) _ (λ process. refl)
+ask-quiet catalogue op.Submit d = any-says IsQuiet (needs key.Writes short_list d) _ (λ items.
+    any-says IsQuiet (may_have key.Policy policy Abort d) _ (λ kind. any-says IsQuiet (may_have key.Seq seq 0 d) _ (λ number.
     any-says IsQuiet (settings_of catalogue items) _ (λ settings. refl))))
-ask-quiet catalogue op.Renew d = any-says IsQuiet (formed (under (codes "txn") (number_from 0) d)) _ (λ txn.
-    any-says IsQuiet (formed (under (codes "length") whole d)) _ (λ long. any-says IsQuiet (formed (under_or (codes "points") short_list [] d)) _ (λ items.
-    any-says IsQuiet (formed (seq d)) _ (λ number. any-says IsQuiet (points_of catalogue items) _ (λ points. refl)))))
-ask-quiet catalogue op.Cancel d = any-says IsQuiet (formed (under (codes "txn") (number_from 0) d)) _ (λ txn. any-says IsQuiet (formed (seq d)) _ (λ number. refl))
+ask-quiet catalogue op.Renew d = any-says IsQuiet (needs key.Txn (number_from 0) d) _ (λ txn.
+    any-says IsQuiet (needs key.Length whole d) _ (λ long. any-says IsQuiet (may_have key.Points short_list [] d) _ (λ items.
+    any-says IsQuiet (may_have key.Seq seq 0 d) _ (λ number. any-says IsQuiet (points_of catalogue items) _ (λ points. refl)))))
+ask-quiet catalogue op.Cancel d = any-says IsQuiet (needs key.Txn (number_from 0) d) _ (λ txn. any-says IsQuiet (may_have key.Seq seq 0 d) _ (λ number. refl))
 ask-quiet catalogue op.Read d = any-says IsQuiet (point_of catalogue d) _ (λ point. refl)
 ask-quiet catalogue op.Array d = any-says IsQuiet (point_of catalogue d) _ (λ point. refl)
-ask-quiet catalogue op.Status d = any-says IsQuiet (formed (under (codes "txn") (number_from 0) d)) _ (λ txn. refl)
-ask-quiet catalogue op.Notices d = any-says IsQuiet (formed (under_or (codes "process") (λ p. option_map Some (name p)) None d)) _ (λ process.
-    any-says IsQuiet (formed (under_or (codes "from") (number_from 1) 1 d)) _ (λ from. any-says IsQuiet (formed (under_or (codes "max") (number_within 1 most_told) 16 d)) _ (λ most. refl)))
+ask-quiet catalogue op.Status d = any-says IsQuiet (needs key.Txn (number_from 0) d) _ (λ txn. refl)
+ask-quiet catalogue op.Notices d = any-says IsQuiet (may_have key.Process (λ p. option_map Some (name p)) None d) _ (λ process.
+    any-says IsQuiet (may_have key.From (number_from 1) 1 d) _ (λ from. any-says IsQuiet (may_have key.Max (number_within 1 most_told) 16 d) _ (λ most. refl)))
+ask-quiet catalogue op.Points d = any-says IsQuiet (may_have key.From (number_within 0 last_number) 0 d) _ (λ from.
+    any-says IsQuiet (may_have key.Max (number_within 1 most_told) most_told d) _ (λ most. refl))
+ask-quiet catalogue op.Version d = refl
 ask-quiet catalogue op.Gone d = refl
 ask-quiet catalogue op.Tick d = refl
-ask-quiet catalogue op.Watch d = any-says IsQuiet (formed (under (codes "process") name d)) _ (λ process.
-    any-says IsQuiet (formed (under_or (codes "from") (number_from 1) 1 d)) _ (λ from. tt))
+ask-quiet catalogue op.Watch d = any-says IsQuiet (needs key.Process name d) _ (λ process.
+    any-says IsQuiet (may_have key.From (number_from 1) 1 d) _ (λ from. tt))
 
 abbrev IsQuietRequest : Request → Type 0
 IsQuietRequest request = IsQuiet request.ask
 
 line-quiet : (catalogue : Catalogue) (form : Form) (line : List ℕ) → Says IsQuietRequest (parsed catalogue form line)
 unfolding parsed Says
-line-quiet catalogue form line = any-says IsQuietRequest (formed (value_in line)) (request_of catalogue form) (λ d.
-    any-says IsQuietRequest (formed (under (codes "op") as_str d)) _ (λ text. any-says IsQuietRequest (known_op (op_named form text)) _ (λ named.
-    any-says IsQuietRequest (formed (session_of form d)) _ (λ on. any-says IsQuietRequest (formed (moment_of form d)) _ (λ moment.
+line-quiet catalogue form line = any-says IsQuietRequest (read_in (value_in line)) (request_of catalogue form) (λ d.
+    any-says IsQuietRequest (needs key.Op as_str d) _ (λ text. any-says IsQuietRequest (known_op (op_named form text)) _ (λ named.
+    any-says IsQuietRequest (formed (Line key.On) (session_of form d)) _ (λ on. any-says IsQuietRequest (formed (Line key.At) (moment_of form d)) _ (λ moment.
     then-says IsQuiet IsQuietRequest (ask_of catalogue named d) _ (ask-quiet catalogue named d) (λ asked quiet. quiet))))))
 
 quiet-ask : (asked : Ask) (c : Command) → IsQuiet asked → reading_of_ask asked ≡ asks c → serves c ≡ false
@@ -125,13 +130,13 @@ apart-watched session name from [] = tt
 apart-watched session name from (turn ∷ turns) =
     (apart-quiet session turn.0 (command.Notices (Some name) from 64) turn.1 refl, apart-watched session name (next_from from turn.1) turns)
 
-apart-visit : (catalogue : Catalogue) (gates : List Gate) (tells : Type 0) (served : Served) (cut : Cut) (entries : List Entry) → IsVisit catalogue gates tells served cut entries →
+apart-visit : (catalogue : Catalogue) (gates : List Gate) (tells : Type 0) (served : Served) (course : Course) (entries : List Entry) → IsVisit catalogue gates tells served course entries →
     AllByRecursion IsApart entries
-apart-visit catalogue gates tells served cut entries (inl talks) =
+apart-visit catalogue gates tells served course entries (inl talks) =
     subst (AllByRecursion IsApart) (sym talks.exchanged.all_entries)
     (each-append IsApart (deeds_in served.session talks.exchanged.talk) _ (apart-talk catalogue served.session false talks.exchanged.talk talks.exchanged.leaves.reads)
     (apart-parting served.session _ talks.exchanged.parting))
-apart-visit catalogue gates tells served cut entries (inr watches) =
+apart-visit catalogue gates tells served course entries (inr watches) =
     subst (AllByRecursion IsApart) (sym watches.noticed.all_entries) (apart-watched served.session watches.name watches.from watches.noticed.turns)
 
 -- ---- a history of which each connection agrees with its entries
@@ -143,21 +148,21 @@ module _ (catalogue : Catalogue) (gates : List Gate) (heeds tells pausing : Type
   of-works : (session : ℕ) (works : List Work) → AllByRecursion (λ work. says catalogue gates heeds tells pausing work (done_in (actuators catalogue) (lane_of_work work) log)) works →
       IsAbsent (of_session session) works ⊎ AllByRecursion IsApart (lane_entries session)
   of-works session [] each = inl tt
-  of-works session (visit served cut ∷ works) each = by (served.session == session) refl (of-works session works each.1)
+  of-works session (visit served course ∷ works) each = by (served.session == session) refl (of-works session works each.1)
     where
       by : (here : Bool) → (served.session == session) ≡ here → IsAbsent (of_session session) works ⊎ AllByRecursion IsApart (lane_entries session) →
-          IsAbsent (of_session session) (visit served cut ∷ works) ⊎ AllByRecursion IsApart (lane_entries session)
+          IsAbsent (of_session session) (visit served course ∷ works) ⊎ AllByRecursion IsApart (lane_entries session)
       by true is rest =
           let same : served.session ≡ session = grind (arith, nat_tests) in
           inr (subst (λ s. AllByRecursion IsApart (lane_entries s)) same
-          (apart-visit catalogue gates tells served cut (lane_entries served.session) (each.0 heard)))
+          (apart-visit catalogue gates tells served course (lane_entries served.session) (each.0.1 heard)))
       by false is (inl absent) = inl ((λ same. let equal : served.session ≡ session = cc in absurd (grind (arith, nat_tests))), absent)
       by false is (inr apart) = inr apart
-  of-works session (beat waited ∷ works) each = elim (of-works session works each.1) [
+  of-works session (beat waited course ∷ works) each = elim (of-works session works each.1) [
     | inl absent ↦ inl ((λ same. cc), absent)
     | inr apart ↦ inr apart
   ]
-  of-works session (drive driver calls waited ∷ works) each = elim (of-works session works each.1) [
+  of-works session (drive driver calls waited course ∷ works) each = elim (of-works session works each.1) [
     | inl absent ↦ inl ((λ same. cc), absent)
     | inr apart ↦ inr apart
   ]

@@ -11,7 +11,7 @@ use Rattle.boss_model.specs.declared.command.Command.TheVariants as command
 use Rattle.boss_model.specs.declared.state.Actuator.{Actuator}
 use Rattle.boss_model.specs.declared.state.Proxy.{Proxy}
 use Rattle.boss_model.specs.Catalogue.{driver_of}
-use Rattle.boss_model.specs.Devices.{Reply, proxy_of, hand_out, is_current, taken, not_taken, heard, report}
+use Rattle.boss_model.specs.Devices.{Reply, proxy_of, hand_out, is_current, taken, not_taken, heard, report, is_doubted, doubted}
 use Rattle.boss_model.specs.Ends.{cancel, gone}
 use Rattle.boss_model.specs.Lists.{member, without}
 use Rattle.boss_model.specs.Machine.{answered, after, if_attached, joined, parted, notices_asked, act, ticked, pass_time, step}
@@ -211,11 +211,14 @@ at-act plant session n point command.Tick s told is = is
 at-act plant session n point (command.Next driver) s told is = at-hand_out point (find (λ p. driver_of plant p == driver) s.wants) s told
     (λ other found. find-member (λ p. driver_of plant p == driver) s.wants other found) is
 at-act plant session n point (command.Report other version ok) s told is = at-report n point other version ok s told is
+at-act plant session n point (command.Doubt other differs) s told is = at-changed (is_doubted other) (doubted differs) (λ place. refl) point s told is
 at-act plant session n point (command.Read p) s told is = is
 at-act plant session n point (command.Array p) s told is = is
 at-act plant session n point (command.Status txn) s told is = is
 at-act plant session n point (command.Notices name from most) s told is =
     at-quiet point s (act plant session n (command.Notices name from most) s) told (quiet-notices name session from most s) is
+at-act plant session n point (command.Points from most) s told is = is
+at-act plant session n point command.Version s told is = is
 
 at-step : (plant : List Actuator) (session point m : ℕ) (c : Command) (s : State) (told : Told) → IsAt point s told →
     IsAt point (step plant session c m s).state (told_by point c (step plant session c m s).answer told)

@@ -40,10 +40,11 @@ last_taken point calls = taken_from point None calls
 
 -- ---- who serves devices
 
--- it asks for a want, or reports one
+-- it asks for a want, reports one, or wants a device written again
 abbrev pub serves : Command → Bool
 serves (command.Next driver) = true
 serves (command.Report point version ok) = true
+serves (command.Doubt point differs) = true
 serves c = false
 
 -- only under session 0, which no connection has

@@ -20,7 +20,7 @@ ghost use Rattle.def_history.specs.History.{IsLegal, deeds, run};
 ghost use Rattle.def_history.specs.declared.entry.Entry.{Entry};
 ghost use Rattle.def_lanes.specs.Lanes.{done_in, of_driver};
 ghost use Rattle.def_lanes.specs.Parts.{Agreed};
-ghost use Rattle.def_lanes.specs.Works.{Work, calls_in};
+ghost use Rattle.def_lanes.specs.Works.{Course, Work, calls_in};
 ghost use Rattle.law_settled.specs.Settled.{IsApart, IsSettled, last_call, last_taken, taking_target};
 
 use boss_outside::Actuators;
@@ -40,10 +40,10 @@ pub fn a_settled_point_has_what_its_device_took<H: Host, W: Waiter>()
         IsSettled (run plant log (opened plant d)) point →
         last_call point (calls_in (driver_of plant point) works) ≡ Some (taking_target plant (run plant log (opened plant d)) point) }
     // of one driver's worker, where no connection asks for wants or reports them
-    ensures worker { (catalogue : Catalogue) (d : Persistent) (log : List Entry) (calls : List DeviceCall) (pauses point : ℕ) →
+    ensures worker { (catalogue : Catalogue) (d : Persistent) (log : List Entry) (calls : List DeviceCall) (pauses : ℕ) (course : Course) (point : ℕ) →
         let plant = actuators catalogue in let driver = driver_of plant point in
         point < length plant → IsLegal plant log (opened plant d) → AllByRecursion IsApart (deeds log) →
-        IsDriven (is_guarded catalogue driver) catalogue driver calls W.tells pauses (done_in plant (of_driver driver) log) →
+        IsDriven (is_guarded catalogue driver) catalogue driver calls W.tells pauses course (done_in plant (of_driver driver) log) →
         IsSettled (run plant log (opened plant d)) point → last_call point calls ≡ Some (taking_target plant (run plant log (opened plant d)) point) }
     // from any sound state: that, or the point has no call, and was settled before with this target
     ensures goes_on { (catalogue : Catalogue) (gates : List Gate) (s : State) (log : List Entry) (works : List Work) (point : ℕ) →

@@ -14,7 +14,7 @@ use Rattle.boss_model.specs.declared.command.Command.TheVariants as command
 use Rattle.boss_model.specs.declared.state.Actuator.{Actuator}
 use Rattle.boss_model.specs.declared.state.Proxy.{Proxy}
 use Rattle.boss_model.specs.Catalogue.{driver_of}
-use Rattle.boss_model.specs.Devices.{Reply, proxy_of, hand_out, next, is_current, taken, not_taken, faulted_first, heard, report}
+use Rattle.boss_model.specs.Devices.{Reply, proxy_of, hand_out, next, is_current, taken, not_taken, faulted_first, heard, report, is_doubted, doubted}
 use Rattle.boss_model.specs.Ends.{cancel, gone, lost, faulted}
 use Rattle.boss_model.specs.Limits.{last_moment, last_number}
 use Rattle.boss_model.specs.Lists.{member, first_some}
@@ -305,10 +305,13 @@ module _ (plant : List Actuator) (n : ℕ) (s : State) (u : IsUnsettled plant s)
   act-sound session command.Tick allowed = u
   act-sound session (command.Next driver) allowed = hand_out-sound (find (λ point. driver_of plant point == driver) s.wants)
   act-sound session (command.Report point version ok) allowed = report-sound point version ok
+  act-sound session (command.Doubt point differs) allowed = changed-unsettled plant (is_doubted point) (doubted differs) (λ place. refl) s u
   act-sound session (command.Read point) allowed = u
   act-sound session (command.Array point) allowed = u
   act-sound session (command.Status txn) allowed = u
   act-sound session (command.Notices name from most) allowed = notices-sound name session from most
+  act-sound session (command.Points from most) allowed = u
+  act-sound session command.Version allowed = u
 
 pub step-sound : (plant : List Actuator) (session : ℕ) (c : Command) (m : ℕ) (s : State) → IsAllowed plant c → m ≤ last_moment → IsSound plant s → IsSound plant (step plant session c m s).state
 unfolding step

@@ -129,10 +129,13 @@ module _ (plant : List Actuator) (whole : IsPlant plant) (n session : ℕ) (s : 
   act-spelled command.Tick allowed differs = tt
   act-spelled (command.Next driver) allowed differs = tt
   act-spelled (command.Report point version ok) allowed differs = point-of plant whole point allowed
+  act-spelled (command.Doubt point differs) allowed differing = tt
   act-spelled (command.Read point) allowed differs = tt
   act-spelled (command.Array point) allowed differs = tt
   act-spelled (command.Status txn) allowed differs = tt
   act-spelled (command.Notices name from most) allowed differs = tt
+  act-spelled (command.Points from most) allowed differs = tt
+  act-spelled command.Version allowed differs = tt
 
 -- ---- the event
 

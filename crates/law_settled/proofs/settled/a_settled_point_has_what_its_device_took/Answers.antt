@@ -9,8 +9,8 @@ returns-clause-served g c catalogue gates d log works point heard known legal ag
     works-opened catalogue gates _ _ _ point log d works heard known legal agreed settled
 
 pub returns-clause-worker : goal.returns-clause-worker
-returns-clause-worker g c catalogue d log calls pauses point known legal apart is settled =
-    worker-opened catalogue point log d calls _ pauses known legal apart is settled
+returns-clause-worker g c catalogue d log calls pauses course point known legal apart is settled =
+    worker-opened catalogue point log d calls _ pauses course known legal apart is settled
 
 pub returns-clause-goes_on : goal.returns-clause-goes_on
 returns-clause-goes_on g c catalogue gates s log works point heard known sound legal agreed settled =
