@@ -21,7 +21,7 @@ use Rattle.def_lanes.proofs.Wants.{want-driver}
 use Rattle.boss_lock.specs.Places.{entry_at, entries_at}
 use Rattle.boss_expiry.specs.declared.end.WorkEnd.{WorkEnd}
 use Rattle.boss_expiry.specs.declared.end.WorkEnd.TheVariants.{Finished, Closed, ClockFault, Stopped, DiskFault}
-use Rattle.boss_expiry.specs.Ends.{mark}
+use Rattle.boss_expiry.specs.Ends.{cut_of, mark}
 use Rattle.boss_drive.specs.Drives.{IsDriveOf}
 use Rattle.boss_drive.specs.Driving.{Write, Turn, idle, served, Cut, nothing, at_next, at_reading, at_report, Made, asked, made_in, left_by, made_by, Stand, idles, Driven}
 
@@ -113,7 +113,8 @@ module _ (plant : List Actuator) (opening : State) (seen : List Entry) (mine : L
       let all : AllByRecursion (WasLegal plant) (entries_at seen mine) = at-places (WasLegal plant) seen mine (all-legal plant seen opening legal) in
       (each-parts (WasLegal plant) old.own (made_by driver is.turns (left_by driver end is.last)).entries (subst (AllByRecursion (WasLegal plant)) (sym own ∙ is.made.entries) all)).1
 
-  pub driven-added : Added plant (of_driver driver) (IsDriveOf driver (made_by driver is.turns (left_by driver end is.last)).calls pausing pauses') clocking old.own new.own old.given new.given
+  pub driven-added : Added plant (of_driver driver) (IsDriveOf driver (made_by driver is.turns (left_by driver end is.last)).calls pausing pauses' (record { moments = (made_by driver is.turns (left_by driver end is.last)).moments; cut = cut_of end })) clocking
+      (made_by driver is.turns (left_by driver end is.last)).moments old.own new.own old.given new.given
   unfolding IsOwn
   driven-added =
       let last : Made = left_by driver end is.last in
@@ -129,9 +130,10 @@ module _ (plant : List Actuator) (opening : State) (seen : List Entry) (mine : L
           fits = is.fits;
           entries_are = refl;
           calls_are = refl;
+          moments_are = refl;
+          cut_is = refl;
           waited = λ tells. is.waited tells ∙ ap (λ first. paused (idles is.turns) first) (fresh tells);
         };
-        gains = all.moments;
         gave = is.made.gave;
-        timed = λ tells. timed-deeds all.moments all.entries (made-timed driver is.turns last (left-timed driver end is.last));
+        timed = timed-deeds all.moments all.entries (made-timed driver is.turns last (left-timed driver end is.last));
       }

@@ -8,6 +8,7 @@ ghost use Rattle.boss_model.specs.DeviceCall.{DeviceCall};
 ghost use Rattle.boss_model.specs.State.{State};
 ghost use Rattle.boss_shared.specs.Passes.{IsPassOf};
 ghost use Rattle.boss_expiry.specs.declared.end.WorkEnd.{WorkEnd};
+ghost use Rattle.boss_expiry.specs.Ends.{cut_of};
 ghost use Rattle.boss_drive.specs.Drives.{IsDriveOf};
 ghost use Rattle.boss_drive.specs.Driving.{Driven};
 
@@ -24,6 +25,7 @@ pub fn a_drive_adds_to_its_lane<A: Actuators, C: Clock, W: Waiter>()
         (record { own = own; given = given; whole = A.whole devices; calls = A.calls devices })
         (record { own = entries_at seen mine; given = given'; whole = A.whole devices'; calls = A.calls devices' })
         W.tells pauses pauses' most end → (W.tells → pauses ≡ 0) →
-        (calls : List DeviceCall) × Added plant (of_driver driver) (IsDriveOf driver calls W.tells pauses') C.tells own (entries_at seen mine) given given'
+        (calls : List DeviceCall) × (moments : List ℕ)
+        × Added plant (of_driver driver) (IsDriveOf driver calls W.tells pauses' (record { moments = moments; cut = cut_of end })) C.tells moments own (entries_at seen mine) given given'
         × (A.tells → A.whole devices' → A.whole devices × (A.calls devices' ≡ A.calls devices ++ calls)) }
 {}

@@ -17,7 +17,7 @@ use Rattle.def_lanes.proofs.Moments.{timed-front, timed-next}
 use Rattle.boss_expiry.specs.Beats.{IsBeatOf}
 use Rattle.boss_expiry.specs.declared.end.WorkEnd.{WorkEnd}
 use Rattle.boss_expiry.specs.declared.end.WorkEnd.TheVariants.{Finished, Closed, ClockFault, Stopped, DiskFault}
-use Rattle.boss_expiry.specs.Ends.{mark, unused}
+use Rattle.boss_expiry.specs.Ends.{cut_of, mark, unused}
 use Rattle.boss_expiry.specs.Ticking.{ticks, moments, Expired}
 
 ticks-lane : (plant : List Actuator) (turns : List (ℕ × Answer)) → AllByRecursion (λ entry. lane_of plant entry ≡ of_time) (ticks turns)
@@ -42,21 +42,26 @@ mark-deeds command moment DiskFault = refl
 
 pub expired-added : (plant : List Actuator) (clocking pausing : Type 0) (own own' : List Entry) (given given' : List ℕ) (pauses pauses' most : ℕ) (end : WorkEnd) →
     Expired own own' clocking given given' pausing pauses pauses' most end → (pausing → pauses ≡ 0) →
-    Added plant of_time (IsBeatOf pausing pauses') clocking own own' given given'
+    (moments : List ℕ) × Added plant of_time (IsBeatOf pausing pauses' (record { moments = moments; cut = cut_of end })) clocking moments own own' given given'
 expired-added plant clocking pausing own own' given given' pauses pauses' most end is fresh =
     let made : deeds (ticks is.turns ++ mark Tick is.last end) ≡ ticks is.turns =
     deeds-append (ticks is.turns) (mark Tick is.last end) ∙ ap (λ rest. deeds (ticks is.turns) ++ rest) (mark-deeds Tick is.last end)
-    ∙ append-nil (deeds (ticks is.turns)) ∙ ticks-deeds is.turns in
-    record {
-      more = ticks is.turns;
-      grew = ap deeds is.entries ∙ deeds-append own (ticks is.turns ++ mark Tick is.last end) ∙ ap (λ rest. deeds own ++ rest) made;
-      of_lane = ticks-lane plant is.turns;
-      agrees = record {
-        turns = is.turns;
-        entries_are = refl;
-        waited = λ tells. is.waited tells ∙ ap (λ first. paused (length is.turns) first) (fresh tells);
-      };
-      gains = moments is.turns ++ unused is.last end;
-      gave = is.gave;
-      timed = λ tells. timed-front (moments is.turns) (unused is.last end) (ticks is.turns) (ticks-timed is.turns);
-    }
+    ∙ append-nil (deeds (ticks is.turns)) ∙ ticks-deeds is.turns in (
+      moments is.turns ++ unused is.last end,
+      record {
+        more = ticks is.turns;
+        grew = ap deeds is.entries ∙ deeds-append own (ticks is.turns ++ mark Tick is.last end) ∙ ap (λ rest. deeds own ++ rest) made;
+        of_lane = ticks-lane plant is.turns;
+        agrees = record {
+          turns = is.turns;
+          last = is.last;
+          end = end;
+          entries_are = refl;
+          moments_are = refl;
+          cut_is = refl;
+          waited = λ tells. is.waited tells ∙ ap (λ first. paused (length is.turns) first) (fresh tells);
+        };
+        gave = is.gave;
+        timed = timed-front (moments is.turns) (unused is.last end) (ticks is.turns) (ticks-timed is.turns);
+      },
+    )

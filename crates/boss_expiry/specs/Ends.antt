@@ -6,6 +6,7 @@ use Rattle.boss_outside.specs.Counts.{Rose}
 use Rattle.def_history.specs.declared.entry.Entry.{Entry}
 use Rattle.def_history.specs.declared.entry.Entry.TheVariants.{Broke}
 use Rattle.def_history.specs.History.{is_broken}
+use Rattle.def_lanes.specs.Works.{Cut, not_cut, by_clock, by_disk}
 use Rattle.boss_expiry.specs.declared.end.WorkEnd.{WorkEnd}
 use Rattle.boss_expiry.specs.declared.end.WorkEnd.TheVariants.{Finished, Closed, ClockFault, Stopped, DiskFault}
 
@@ -32,6 +33,14 @@ TookTurns taken turns Closed = taken < turns
 TookTurns taken turns ClockFault = taken < turns
 TookTurns taken turns Stopped = taken < turns
 TookTurns taken turns DiskFault = taken < turns
+
+-- what cut the work off
+abbrev pub cut_of : WorkEnd → Cut
+cut_of Finished = not_cut
+cut_of Closed = not_cut
+cut_of ClockFault = by_clock
+cut_of Stopped = by_disk
+cut_of DiskFault = by_disk
 
 -- a last reading of the clock that has no entry
 abbrev pub unused : ℕ → WorkEnd → List ℕ

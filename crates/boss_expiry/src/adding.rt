@@ -4,6 +4,7 @@ ghost use Rattle.def_lanes.specs.Lanes.{of_time};
 ghost use Rattle.def_lanes.specs.Parts.{Added};
 ghost use Rattle.boss_model.specs.declared.state.Actuator.{Actuator};
 ghost use Rattle.boss_expiry.specs.Beats.{IsBeatOf};
+ghost use Rattle.boss_expiry.specs.Ends.{cut_of};
 ghost use Rattle.boss_expiry.specs.declared.end.WorkEnd.{WorkEnd};
 ghost use Rattle.boss_expiry.specs.Ticking.{Expired};
 
@@ -14,5 +15,5 @@ use boss_outside_server::{Clock, Waiter};
 pub fn passing_time_adds_to_its_lane<C: Clock, W: Waiter>()
     ensures { (plant : List Actuator) (own own' : List Entry) (given given' : List ℕ) (pauses pauses' most : ℕ) (end : WorkEnd) →
         Expired own own' C.tells given given' W.tells pauses pauses' most end → (W.tells → pauses ≡ 0) →
-        Added plant of_time (IsBeatOf W.tells pauses') C.tells own own' given given' }
+        (moments : List ℕ) × Added plant of_time (IsBeatOf W.tells pauses' (record { moments = moments; cut = cut_of end })) C.tells moments own own' given given' }
 {}

@@ -30,10 +30,13 @@ unnamed_holds session command.Gone given held unnamed = absurd cc
 unnamed_holds session command.Tick given held unnamed = refl
 unnamed_holds session (command.Next driver) given held unnamed = refl
 unnamed_holds session (command.Report point version ok) given held unnamed = refl
+unnamed_holds session (command.Doubt point differs) given held unnamed = refl
 unnamed_holds session (command.Read point) given held unnamed = refl
 unnamed_holds session (command.Array point) given held unnamed = refl
 unnamed_holds session (command.Status txn) given held unnamed = refl
 unnamed_holds session (command.Notices name from most) given held unnamed = refl
+unnamed_holds session (command.Points from most) given held unnamed = refl
+unnamed_holds session command.Version given held unnamed = refl
 
 module _ (gate : Gate) (one : Holding) (gates : List Gate) (session : ℕ) where
   through_is : (call : Command × ℕ) → is_through gate one session call ≡ true → (is_naming call.0 ≡ false) × (denied_at gate one session call.0 ≡ None)

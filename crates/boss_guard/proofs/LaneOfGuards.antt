@@ -1,5 +1,5 @@
 -- What a guarded worker adds is all in its driver's lane.
-use Rattle.std.proofs.Common.{◌≡◌, ℕ, zero, suc, max, map, List, [], ◌∷◌, ◌++◌, Option, Some, None, refl, sym, ap, ◌∙◌, subst}
+use Rattle.std.proofs.Common.{◌≡◌, ◌⊎◌, inl, inr, ℕ, zero, suc, max, map, List, [], ◌∷◌, ◌++◌, Option, Some, None, refl, sym, ap, ◌∙◌, subst}
 use Rattle.std.specs.List.{AllByRecursion}
 use Rattle.boss_model.specs.declared.command.Command.{Command}
 use Rattle.boss_model.specs.declared.command.Command.TheVariants.{Next, Read, Report}
@@ -25,14 +25,15 @@ use Rattle.def_guards.proofs.Wants.{OfWant, OfDecision, OfAct, OfTurn, OfCut, Ar
 use Rattle.boss_lock.specs.Places.{entries_at}
 use Rattle.boss_expiry.specs.declared.end.WorkEnd.{WorkEnd}
 use Rattle.boss_expiry.specs.declared.end.WorkEnd.TheVariants.{Finished, Closed, ClockFault, Stopped, DiskFault}
-use Rattle.boss_expiry.specs.Ends.{mark}
+use Rattle.boss_expiry.specs.Ends.{cut_of, mark}
 use Rattle.boss_drive.specs.Driving.{Made, Stand, Gained}
 use Rattle.boss_drive.proofs.Laning.{WasLegal, all-legal, at-places}
 use Rattle.boss_shared.specs.Passes.{IsPassOf}
 use Rattle.boss_guard.specs.declared.end.GuardEnd.{GuardEnd}
 use Rattle.boss_guard.specs.declared.end.GuardEnd.TheVariants.{Worked, NoMemory}
 use Rattle.boss_guard.specs.GuardDrives.{IsGuardOf}
-use Rattle.boss_guard.specs.Guarding.{Guarded, start}
+use Rattle.def_lanes.specs.Works.{Cut as Cutting, by_memory}
+use Rattle.boss_guard.specs.Guarding.{cut_of_guard, Guarded, start}
 use Rattle.boss_guard.specs.Making.{answer_for, reads, made_by_act, made_by_acts, made_in, made_in_turns, made_by, left_by, left_by_try, left_by_write}
 use Rattle.boss_guard.specs.Trying.{Leaves}
 use Rattle.boss_guard.proofs.Timing.{guarded_timed}
@@ -129,10 +130,11 @@ nothing_held P catalogue place held is = let none : (guard_at (guards_of catalog
 
 module _ (catalogue : Catalogue) (opening : State) (seen : List Entry) (mine : List ℕ) (driver : ℕ) (clocking recording pausing : Type 0) (old new : Stand) (pauses pauses' : ℕ)
     (pass : IsPassOf (actuators catalogue) opening seen mine) (own : new.own ≡ entries_at seen mine) (fresh : pausing → pauses ≡ 0) where
-  turned_adds : (end : WorkEnd) (turns : List Turn) (last : Cut) → AreTurns (start (guards_of catalogue)) turns → FitsCut (after_turns turns (start (guards_of catalogue))) last →
+  turned_adds : (end : WorkEnd) (cut : Cutting) (turns : List Turn) (last : Cut) → (cut ≡ cut_of end) ⊎ ((cut ≡ by_memory) × (turns ≡ [])) → AreTurns (start (guards_of catalogue)) turns → FitsCut (after_turns turns (start (guards_of catalogue))) last →
       Leaves end last → Gained clocking recording old new (made_by driver end (start (guards_of catalogue)) turns last) → (pausing → pauses' ≡ paused (idles turns) pauses) →
-      Added (actuators catalogue) (of_driver driver) (IsGuardOf catalogue driver (made_by driver end (start (guards_of catalogue)) turns last).calls pausing pauses') clocking old.own new.own old.given new.given
-  turned_adds end turns last are fits leaves made waited =
+      Added (actuators catalogue) (of_driver driver) (IsGuardOf catalogue driver (made_by driver end (start (guards_of catalogue)) turns last).calls pausing pauses'
+      (record { moments = (made_by driver end (start (guards_of catalogue)) turns last).moments; cut = cut })) clocking (made_by driver end (start (guards_of catalogue)) turns last).moments old.own new.own old.given new.given
+  turned_adds end cut turns last cut_is are fits leaves made waited =
       let all : Made = made_by driver end (start (guards_of catalogue)) turns last in
       let legal : AllByRecursion (WasLegal (actuators catalogue)) all.entries =
       (each-parts (WasLegal (actuators catalogue)) old.own all.entries (subst (AllByRecursion (WasLegal (actuators catalogue))) (sym own ∙ made.entries)
@@ -150,19 +152,22 @@ module _ (catalogue : Catalogue) (opening : State) (seen : List Entry) (mine : L
           leaves = leaves;
           entries_are = refl;
           calls_are = refl;
+          moments_are = refl;
+          cut_is = cut_is;
           waited = λ tells. waited tells ∙ ap (paused (idles turns)) (fresh tells);
         };
-        gains = all.moments;
         gave = made.gave;
-        timed = λ tells. timed-deeds all.moments all.entries (guarded_timed driver end (guards_of catalogue) turns last are fits);
+        timed = timed-deeds all.moments all.entries (guarded_timed driver end (guards_of catalogue) turns last are fits);
       }
 
   pub guarded_adds : (most : ℕ) (end : GuardEnd) → Guarded driver (guards_of catalogue) clocking recording old new pausing pauses pauses' most end →
-      (calls : List DeviceCall) × Added (actuators catalogue) (of_driver driver) (IsGuardOf catalogue driver calls pausing pauses') clocking old.own new.own old.given new.given
+      (calls : List DeviceCall) × (moments : List ℕ)
+      × Added (actuators catalogue) (of_driver driver) (IsGuardOf catalogue driver calls pausing pauses' (record { moments = moments; cut = cut_of_guard end })) clocking moments old.own new.own old.given new.given
       × (recording → new.whole → old.whole × (new.calls ≡ old.calls ++ calls))
   guarded_adds most (Worked end) is = (
     (made_by driver end (start (guards_of catalogue)) is.turns is.last).calls,
-    turned_adds end is.turns is.last is.are is.fits is.leaves is.made is.waited,
+    (made_by driver end (start (guards_of catalogue)) is.turns is.last).moments,
+    turned_adds end (cut_of end) is.turns is.last (inl refl) is.are is.fits is.leaves is.made is.waited,
     is.made.wrote,
   )
-  guarded_adds most NoMemory is = ([], turned_adds Finished [] nothing tt tt tt is.0 is.1, is.0.wrote)
+  guarded_adds most NoMemory is = ([], [], turned_adds Finished by_memory [] nothing (inr (refl, refl)) tt tt tt is.0 is.1, is.0.wrote)

@@ -11,6 +11,7 @@ use Rattle.def_guards.specs.Turns.{Turn, after_turn, after_turns, at_clock, at_r
 use Rattle.def_guards.specs.Spacing.{Call, KeepsTimes, call_to, is_shown, calls_by, calls_on, calls_in, calls_at, calls_cut}
 use Rattle.def_guards.proofs.Spaced.{keeps_times}
 use Rattle.boss_expiry.specs.declared.end.WorkEnd.{WorkEnd}
+use Rattle.def_lanes.specs.Works.{Course}
 use Rattle.boss_guard.specs.GuardDrives.{IsGuardOf, values_at}
 use Rattle.boss_guard.specs.Guarding.{start}
 use Rattle.boss_guard.specs.Making.{made_by_act, made_by_acts, made_in, made_in_turns, made_by, left_by, left_by_try}
@@ -75,11 +76,11 @@ guard_is [] point told is = absurd cc
 guard_is (first ∷ points) zero told is = let same : first ≡ told = cc in (omega arith, ap guard_of same)
 guard_is (first ∷ points) (suc point) told is = let more = guard_is points point told is in (omega (arith, more.0), more.1)
 
-pub device_keeps : (catalogue : Catalogue) (driver : ℕ) (calls : List DeviceCall) (pausing : Type 0) (pauses : ℕ) (entries : List Entry) (point : ℕ) (told : Point) →
-    (made : IsGuardOf catalogue driver calls pausing pauses entries) → slice_get catalogue.points point ≡ Some told →
+pub device_keeps : (catalogue : Catalogue) (driver : ℕ) (calls : List DeviceCall) (pausing : Type 0) (pauses : ℕ) (course : Course) (entries : List Entry) (point : ℕ) (told : Point) →
+    (made : IsGuardOf catalogue driver calls pausing pauses course entries) → slice_get catalogue.points point ≡ Some told →
     (map (λ write. write.value) (calls_in point made.turns ++ calls_cut point made.last) ≡ values_at point calls)
     × KeepsTimes (times_for (nat_abs told.min_on) (nat_abs told.min_off)) (calls_in point made.turns ++ calls_cut point made.last)
-device_keeps catalogue driver calls pausing pauses entries point told is found =
+device_keeps catalogue driver calls pausing pauses course entries point told is found =
     let at = guard_is catalogue.points point told found in
     let fresh : (guard_at (guards_of catalogue) point).last ≡ None = ap (λ (guard : Guard). guard.last) at.1 in (
       all_are point driver is.end (start (guards_of catalogue)) is.turns is.last ∙ ap (values_at point) (sym is.calls_are),

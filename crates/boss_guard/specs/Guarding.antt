@@ -7,7 +7,8 @@ use Rattle.def_guards.specs.Acts.{Watch}
 use Rattle.def_guards.specs.Turns.{Turn, Cut, AreTurns, FitsCut, after_turns, idles}
 use Rattle.def_lanes.specs.Waits.{paused}
 use Rattle.boss_expiry.specs.declared.end.WorkEnd.{WorkEnd}
-use Rattle.boss_expiry.specs.Ends.{ClockCause, EndCause, TookTurns}
+use Rattle.def_lanes.specs.Works.{Cut as Cutting, by_memory}
+use Rattle.boss_expiry.specs.Ends.{cut_of, ClockCause, EndCause, TookTurns}
 use Rattle.boss_drive.specs.Driving.{Stand, Gained}
 use Rattle.boss_guard.specs.declared.end.GuardEnd.{GuardEnd}
 use Rattle.boss_guard.specs.declared.end.GuardEnd.TheVariants.{Worked, NoMemory}
@@ -40,6 +41,11 @@ Guarded driver guards clocking recording old new pausing pauses pauses' most NoM
 abbrev pub GuardClock : ℕ → ℕ → GuardEnd → Type 0
 GuardClock before now (Worked end) = ClockCause before now end
 GuardClock before now NoMemory = now ≡ before
+
+-- what cut the work off
+abbrev pub cut_of_guard : GuardEnd → Cutting
+cut_of_guard (Worked end) = cut_of end
+cut_of_guard NoMemory = by_memory
 
 -- a pause said Close, or the mark of a failed disk is what the pass has seen last
 abbrev pub GuardCause : List Entry → Type 0 → Bool → ℕ → ℕ → GuardEnd → Type 0

@@ -10,7 +10,7 @@ ghost use Rattle.boss_shared.specs.Passes.{IsPassOf};
 ghost use Rattle.def_guards.specs.Guards.{guards_of};
 ghost use Rattle.boss_guard.specs.declared.end.GuardEnd.{GuardEnd};
 ghost use Rattle.boss_guard.specs.GuardDrives.{IsGuardOf};
-ghost use Rattle.boss_guard.specs.Guarding.{Guarded};
+ghost use Rattle.boss_guard.specs.Guarding.{cut_of_guard, Guarded};
 
 use boss_outside::Actuators;
 use boss_outside_server::{Clock, Waiter};
@@ -25,6 +25,7 @@ pub fn a_guarded_drive_adds_to_its_lane<A: Actuators, C: Clock, W: Waiter>()
         (record { own = own; given = given; whole = A.whole devices; calls = A.calls devices })
         (record { own = entries_at seen mine; given = given'; whole = A.whole devices'; calls = A.calls devices' })
         W.tells pauses pauses' most end → (W.tells → pauses ≡ 0) →
-        (calls : List DeviceCall) × Added (actuators catalogue) (of_driver driver) (IsGuardOf catalogue driver calls W.tells pauses') C.tells own (entries_at seen mine) given given'
+        (calls : List DeviceCall) × (moments : List ℕ)
+        × Added (actuators catalogue) (of_driver driver) (IsGuardOf catalogue driver calls W.tells pauses' (record { moments = moments; cut = cut_of_guard end })) C.tells moments own (entries_at seen mine) given given'
         × (A.tells → A.whole devices' → A.whole devices × (A.calls devices' ≡ A.calls devices ++ calls)) }
 {}

@@ -1,5 +1,5 @@
 -- Source: own.
-use Rattle.std.specs.Prelude.{ℕ, Bool, ◌==◌, nat_lt, List, if◌then◌else◌}
+use Rattle.std.specs.Prelude.{ℕ, ◌+◌, ◌-◌, ◌^◌, min, Bool, ◌==◌, nat_lt, List, if◌then◌else◌}
 use Rattle.std.specs.List.{list_any}
 use Rattle.boss_outside.specs.Counts.{one_more}
 
@@ -25,10 +25,10 @@ after_call plan failed = record {
   faults = if failed then one_more plan.faults else plan.faults;
 }
 
--- the plan after a part was taken back: with one fault more where the part had one
+-- the plan after a part was taken back: with the part's faults more, as far as a `u64` counts; a part without one changes no count
 abbrev pub after_join : Plan → Plan → Plan
 after_join plan part = record {
   fails = plan.fails;
   calls = plan.calls;
-  faults = if nat_lt 0 part.faults then one_more plan.faults else plan.faults;
+  faults = if nat_lt 0 part.faults then min (plan.faults + part.faults) (2 ^ 64 - 1) else plan.faults;
 }

@@ -44,13 +44,11 @@ impl FaultPlan {
         Ok(FaultPlan::new(Items::from_vec(fails)))
     }
 
-    /// Counts a fault where the part that is taken back had one.
+    /// Counts the faults of the part that is taken back too.
     pub fn join(&mut self, part: FaultPlan)
         ensures { self.new ≡ after_join self.old part }
     {
-        if part.faults > 0 {
-            self.fault();
-        }
+        self.faults = self.faults.saturating_add(part.faults);
     }
 
     /// Counts a call, and a fault where the call is one that fails.

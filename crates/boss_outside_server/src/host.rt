@@ -25,6 +25,8 @@ pub struct Announcement {
     pub drivers: u16,
     /// How many events its journal holds.
     pub events: u64,
+    /// The moment of the journal's last change, in milliseconds since 1970; 0 where there was none yet.
+    pub now: u64,
 }
 
 /// Something that hands out connections, one at a time, and takes each back when it has ended.

@@ -1,4 +1,4 @@
-ghost use Rattle.std.specs.Prelude.{◌≡◌, ◌≤◌, ◌++◌, map, IfOk, IsTrue, IsErr, is_err};
+ghost use Rattle.std.specs.Prelude.{◌≡◌, ◌+◌, ◌-◌, ◌^◌, ◌≤◌, ◌++◌, min, map, IfOk, IsTrue, IsErr, is_err};
 ghost use Rattle.std.specs.List.{AllByRecursion};
 ghost use Rattle.boss_model.specs.Limits.{last_moment};
 ghost use Rattle.boss_outside.specs.Counts.{HasCause, Joins};
@@ -80,6 +80,11 @@ impl Clock for ListClock {
 
     ghost faults = { λ clock. clock.plan.faults };
 
+    /// It gives its moments as they are.
+    fn begin(&mut self, _least: u64)
+        ensures { self.new ≡ self.old }
+    {}
+
     fn now(&mut self) -> Result<u64, Failed>
         ensures bound { IfOk result (λ moment. moment ≤ last_moment) }
         ensures moments { Gains self.old.given self.new.given result }
@@ -101,6 +106,7 @@ impl Clock for ListClock {
     fn join(&mut self, other: Self)
         ensures moments { self.new.given ≡ self.old.given ++ other.given }
         ensures cause { Joins self.old.plan.faults other.plan.faults self.new.plan.faults }
+        ensures sum { min (self.old.plan.faults + other.plan.faults) (2 ^ 64 - 1) ≤ self.new.plan.faults }
         ensures same { self.new
             ≡ record self.old { given = self.old.given ++ other.given; plan = after_join self.old.plan other.plan } }
     {

@@ -1,10 +1,10 @@
 -- An account from what was there before parts were made.
-use Rattle.std.proofs.Common.{◌≡◌, ℕ, ◌+◌, Bool, true, false, List, ◌++◌, length, take, drop, Result, Ok, Err, OnOk, is_err, refl, ap, sym, ◌∙◌, subst, arith, length-append}
+use Rattle.std.proofs.Common.{◌≡◌, ℕ, ◌+◌, ◌-◌, ◌^◌, ◌≤◌, min, Bool, true, false, List, ◌++◌, length, take, drop, Result, Ok, Err, OnOk, is_err, refl, ap, sym, ◌∙◌, subst, arith, length-append}
 use Rattle.std.proofs.Math.Seq.{drop-append_seam, take-append_seam}
 use Rattle.boss_model.specs.DeviceCall.{DeviceCall}
 use Rattle.def_history.specs.declared.entry.Entry.{Entry}
-use Rattle.def_lanes.specs.Parts.{Terms, Part}
-use Rattle.def_lanes.specs.Works.{Work, served_in}
+use Rattle.def_lanes.specs.Parts.{Terms}
+use Rattle.def_lanes.specs.Works.{clock_cuts, served_in, moments_in}
 use Rattle.boss_outside_server.specs.Hosts.{Served}
 use Rattle.boss_outside_server.specs.declared.clock.Clock as clock
 use Rattle.boss_outside_server.specs.declared.host.Host as host
@@ -59,10 +59,9 @@ module _ {A : Type 0} (calls : A → List DeviceCall) (whole : A → Type 0) (te
       part = record {
         agreed = account.together.part.agreed;
         of_them = account.together.part.of_them;
+        in_turn = account.together.part.in_turn;
         came_back = λ told. account.together.part.came_back told ∙ ap (λ front. front ++ served_in account.works) (hosts told);
-        gains = account.together.part.gains;
-        gave = λ told. account.together.part.gave told ∙ ap (λ front. front ++ account.together.part.gains) (clocks told);
-        timed = account.together.part.timed;
+        gave = λ told. account.together.part.gave told ∙ ap (λ front. front ++ moments_in account.works) (clocks told);
       };
       handed =
           let both : RoseBy (0 + length (served_in account.works)) first_hosted.handed hosted'.handed =
@@ -70,10 +69,10 @@ module _ {A : Type 0} (calls : A → List DeviceCall) (whole : A → Type 0) (te
           omega (arith, both);
       numbered = account.together.numbered;
       whole = account.together.whole;
-      uncut = account.together.uncut;
       flagged = account.together.flagged;
       host_count = subst (λ count. RoseWhere flags.host count hosted'.faults) host_same account.together.host_count;
       clock_count = λ sound. subst (λ count. RoseWhere flags.clock count ticked') clock_same (account.together.clock_count sound);
+      cuts = λ sound. subst (λ count. min (count + clock_cuts account.works) (2 ^ 64 - 1) ≤ ticked') clock_same (account.together.cuts sound);
       broken = account.together.broken;
     };
     back = account.back;

@@ -1,5 +1,6 @@
 -- What a worker that has not begun gives back.
 use Rattle.std.proofs.Common.{◌≡◌, ℕ, ◌≤◌, List, [], ◌∷◌, refl, ap, sym, ◌∙◌}
+use Rattle.boss_model.specs.Limits.{most_workers}
 use Rattle.boss_model.specs.Catalogue.{actuators as points_of, Catalogue}
 use Rattle.boss_lock.specs.Places.{entries_at}
 use Rattle.boss_outside.specs.declared.actuators.Actuators as actuators
@@ -45,7 +46,7 @@ module _ {H In Out A : Type 0} (h : host.Ghosts H In Out) (workers number : ℕ)
 module _ {G Pass H In Out C W A : Type 0} (g : desk.Ghosts G Pass) (h : host.Ghosts H In Out) (k : clock.Ghosts C) (w : waiter.Ghosts W) (a : actuators.Ghosts A) where
   -- a worker made of fresh parts is ready
   pub fresh-worker : (catalogue : Catalogue) (it : G) (workers number : ℕ) (pass : Pass) (duty : Duty H A) (tick : C) (wait : W) (flags : Flags) (expected : ℕ) → g.owns it pass → g.parts pass ≡ 1 → g.mine pass ≡ [] → AreFree (g.denies it) (g.held pass) →
-      points_of catalogue ≡ g.plant it → IsFreshClock k tick → IsFreshWaiter w expected wait → (w.tells → expected ≡ workers) → workers ≤ 32 → IsFreshDuty h workers number duty → flags ≡ no_flags →
+      points_of catalogue ≡ g.plant it → IsFreshClock k tick → IsFreshWaiter w expected wait → (w.tells → expected ≡ workers) → workers ≤ most_workers → IsFreshDuty h workers number duty → flags ≡ no_flags →
       IsReady g h k w a catalogue it workers number pass duty tick wait flags
   fresh-worker catalogue it workers number pass duty tick wait flags expected own one none free plant fresh_clock fresh_waiter told few fresh unmarked = record {
     own = own;

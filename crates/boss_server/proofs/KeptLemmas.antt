@@ -9,7 +9,6 @@ use Rattle.boss_shared.specs.Keeping.{IsHeld}
 use Rattle.boss_outside_server.specs.Hosts.{Served}
 use Rattle.boss_outside_server.specs.declared.waited.Waited.{Waited}
 use Rattle.boss_worker.specs.declared.flags.Flags.{Flags}
-use Rattle.boss_worker.specs.Troubles.{IsQuiet}
 use Rattle.boss_worker.proofs.FlagLemmas.{flagged-more}
 use Rattle.boss_server.specs.Accounts.{Account}
 use Rattle.boss_server.specs.Hosted.{Hosted}
@@ -30,7 +29,6 @@ module _ {A : Type 0} (calls : A → List DeviceCall) (whole : A → Type 0) (te
       Account calls whole terms pausing n shares log log served served' given given' hosted hosted' ticked ticked' waits waits' was others devices (told_flags stopped flags) unrun
   account-told account same =
       let sound : stopped ≡ false → flags.disk ≡ false = unbroken flags.disk stopped (is_broken log) account.together.broken same in
-      let quiet : IsQuiet (told_flags stopped flags) → IsQuiet flags = λ calm. record { disk = sound calm.disk; clock = calm.clock; memory = calm.memory } in
       record {
         works = account.works;
         together = record {
@@ -38,25 +36,15 @@ module _ {A : Type 0} (calls : A → List DeviceCall) (whole : A → Type 0) (te
           handed = account.together.handed;
           numbered = account.together.numbered;
           whole = λ all accepted calm. account.together.whole all accepted (sound calm);
-          uncut = λ calm. account.together.uncut (quiet calm);
           flagged = flagged-more flags (told_flags stopped flags) (λ raised. same ∙ account.together.broken raised) (λ is. is) (λ is. is) account.works account.together.flagged;
           host_count = account.together.host_count;
           clock_count = λ calm. account.together.clock_count (sound calm);
+          cuts = λ calm. account.together.cuts (sound calm);
           broken = λ raised. sym same ∙ raised;
         };
         back = account.back;
         devices_are = account.devices_are;
-        returned = record {
-          drivers = account.returned.drivers;
-          back = account.returned.back;
-          notes = account.returned.notes;
-          each = account.returned.each;
-          waited = account.returned.waited;
-          kept = account.returned.kept;
-          noted = account.returned.noted;
-          ended = λ calm. account.returned.ended (quiet calm);
-          worked = account.returned.worked;
-        };
+        returned = account.returned;
       }
 
   pub kept-ran : {K : Type 0} (k : keeper.Ghosts K) (start end : K) (own : List Entry) → own ≡ log →

@@ -20,13 +20,10 @@ use Rattle.boss_outside_server.specs.declared.waited.Waited.{Waited}
 use Rattle.boss_outside.specs.declared.actuators.Actuators as actuators
 use Rattle.boss_worker.specs.declared.duty.Duty.{Duty}
 use Rattle.boss_worker.specs.declared.duty.Duty.TheVariants.{Connections, Time, Devices}
-use Rattle.boss_worker.specs.declared.flags.Flags.{Flags}
 use Rattle.boss_worker.specs.Ended.{is_worked, HasEnded, AreEnded}
-use Rattle.boss_worker.specs.Troubles.{no_flags, both_flags, IsQuiet}
 use Rattle.boss_worker.specs.Workers.{was_at, devices_at, IsPlaced, HasCalls}
 use Rattle.boss_server.specs.Accounts.{Returned}
 use Rattle.boss_server.specs.Places.{put_back, FitsAmong}
-use Rattle.boss_server.proofs.TogetherLemmas.{quiet-both}
 
 -- ---- devices
 
@@ -118,7 +115,7 @@ worked-next workers n works others unrun ran first then all number low less =
         (subst (λ m. is_worked workers m others ≡ true) here (then (ran-not ran (or_parts unrun (not ran) all).1) (omega (arith, here, low))))
 
 module _ {A : Type 0} (calls : A → List DeviceCall) (whole : A → Type 0) (terms : Terms) (pausing : Type 0) where
-  pub returned-first : (own : List Entry) (waits : List Waited) → Returned calls whole terms pausing 0 [] own waits waits [] [] no_flags false
+  pub returned-first : (own : List Entry) (waits : List Waited) → Returned calls whole terms pausing 0 [] own waits waits [] [] false
   returned-first own waits = record {
     drivers = omega arith;
     back = tt;
@@ -127,27 +124,26 @@ module _ {A : Type 0} (calls : A → List DeviceCall) (whole : A → Type 0) (te
     waited = tt;
     noted = λ told. sym (append-nil waits);
     kept = λ told number waited is. absurd cc;
-    ended = λ quiet. tt;
+    ended = tt;
     worked = λ all number low less. absurd (omega (arith, less));
   }
 
-  ended-next : (n : ℕ) (works others : List Work) (own part own' : List Entry) (flags more : Flags) → (IsQuiet flags → AreEnded terms.plant pausing own works) → (IsQuiet more → AreEnded terms.plant pausing part others) →
+  ended-next : (n : ℕ) (works others : List Work) (own part own' : List Entry) → AreEnded terms.plant pausing own works → AreEnded terms.plant pausing part others →
       Agreed terms.plant terms.says own works → Agreed terms.plant terms.says part others → AreOf terms.workers 0 n works → AreOf terms.workers n (suc n) others → Joined own part own' →
-      IsQuiet (both_flags flags more) → AreEnded terms.plant pausing own' (works ++ others)
-  ended-next n works others own part own' flags more first then agreed also of_first of_next joined quiet =
-      let both = quiet-both flags more quiet in
+      AreEnded terms.plant pausing own' (works ++ others)
+  ended-next n works others own part own' first then agreed also of_first of_next joined =
       (agreed-both terms.plant (HasEnded pausing) own part own' works others
-      (record { each = first both.0; none = agreed.none; apart = agreed.apart }) (record { each = then both.1; none = also.none; apart = also.apart }) joined
+      (record { each = first; none = agreed.none; apart = agreed.apart }) (record { each = then; none = also.none; apart = also.apart }) joined
       (strange-owners terms.workers 0 n (suc n) works others of_first of_next)).each
 
 module _ {H A : Type 0} (a : actuators.Ghosts A) (terms : Terms) (pausing : Type 0) where
-  pub returned-next : (n : ℕ) (duty : Duty H A) (works others : List Work) (own part own' : List Entry) (waits waits' waits'' : List Waited) (was now : List A) (note : Waited) (flags more : Flags) (unrun ran : Bool) →
-      Returned a.calls (λ device. a.tells × a.whole device) terms pausing n works own waits waits' was now flags unrun →
+  pub returned-next : (n : ℕ) (duty : Duty H A) (works others : List Work) (own part own' : List Entry) (waits waits' waits'' : List Waited) (was now : List A) (note : Waited) (unrun ran : Bool) →
+      Returned a.calls (λ device. a.tells × a.whole device) terms pausing n works own waits waits' was now unrun →
       Agreed terms.plant terms.says own works → Agreed terms.plant terms.says part others → AreOf terms.workers 0 n works → AreOf terms.workers n (suc n) others → Joined own part own' →
       IsPlaced terms.workers n duty → HasCalls a others duty → AllByRecursion (IsNoteOf note) others → (pausing → WaitedAt terms.workers n (length others) note) →
-      (ran ≡ true → terms.workers ≤ n → is_worked terms.workers n others ≡ true) → (IsQuiet more → AreEnded terms.plant pausing part others) → (pausing → waits'' ≡ waits' ++ note ∷ []) →
-      Returned a.calls (λ device. a.tells × a.whole device) terms pausing (suc n) (works ++ others) own' waits waits'' (was ++ was_at duty) (now ++ devices_at duty) (both_flags flags more) (unrun || not ran)
-  returned-next n duty works others own part own' waits waits' waits'' was now note flags more unrun ran returned agreed also of_first of_next joined placed called paired kept then_worked then_ended noted = record {
+      (ran ≡ true → terms.workers ≤ n → is_worked terms.workers n others ≡ true) → AreEnded terms.plant pausing part others → (pausing → waits'' ≡ waits' ++ note ∷ []) →
+      Returned a.calls (λ device. a.tells × a.whole device) terms pausing (suc n) (works ++ others) own' waits waits'' (was ++ was_at duty) (now ++ devices_at duty) (unrun || not ran)
+  returned-next n duty works others own part own' waits waits' waits'' was now note unrun ran returned agreed also of_first of_next joined placed called paired kept then_worked then_ended noted = record {
     drivers = drivers-next a terms.workers n duty was placed returned.drivers;
     back = back-next a terms.workers n duty was now works others placed called returned.drivers returned.back of_first of_next;
     notes = returned.notes ++ note ∷ [];
@@ -156,6 +152,6 @@ module _ {H A : Type 0} (a : actuators.Ghosts A) (terms : Terms) (pausing : Type
     noted = λ told. noted told ∙ ap (λ list. list ++ note ∷ []) (returned.noted told) ∙ append_assoc waits returned.notes (note ∷ []);
     kept = λ told. waited-at-next terms.workers returned.notes note works others (returned.kept told) (subst (λ m. AreOf terms.workers 0 m works) (sym returned.each) of_first)
         (subst (λ m. AreOf terms.workers m (suc m) others) (sym returned.each) of_next) (subst (λ m. WaitedAt terms.workers m (length others) note) (sym returned.each) (kept told));
-    ended = ended-next a.calls (λ device. a.tells × a.whole device) terms pausing n works others own part own' flags more returned.ended then_ended agreed also of_first of_next joined;
+    ended = ended-next a.calls (λ device. a.tells × a.whole device) terms pausing n works others own part own' returned.ended then_ended agreed also of_first of_next joined;
     worked = worked-next terms.workers n works others unrun ran returned.worked then_worked;
   }

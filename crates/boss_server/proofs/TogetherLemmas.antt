@@ -1,5 +1,5 @@
 -- Workers taken together: at first none, and then one more.
-use Rattle.std.proofs.Common.{◌≡◌, ◌⊎◌, inl, inr, ℕ, suc, ◌+◌, ◌<◌, ◌≤◌, ◌==◌, ◌||◌, not, Bool, true, false, List, [], ◌∷◌, ◌++◌, length, refl, ap, sym, ◌∙◌, subst, arith, length-append}
+use Rattle.std.proofs.Common.{◌≡◌, ◌⊎◌, inl, inr, ℕ, suc, ◌+◌, ◌-◌, ◌^◌, ◌<◌, ◌≤◌, ◌==◌, ◌||◌, min, not, Bool, true, false, List, [], ◌∷◌, ◌++◌, length, refl, ap, sym, ◌∙◌, subst, arith, length-append}
 use Rattle.std.proofs.lemmas.Bool.{or_parts, cases_Bool, cases_lt, cond-true, cond-false}
 use Rattle.std.proofs.lemmas.Bool.Decides.{nat_tests}
 use Rattle.std.proofs.lemmas.List.{append-nil}
@@ -8,26 +8,19 @@ use Rattle.boss_outside.specs.Counts.{Rose, Joins}
 use Rattle.def_history.specs.declared.entry.Entry.{Entry}
 use Rattle.def_history.specs.History.{deeds, is_broken}
 use Rattle.def_lanes.specs.Parts.{Terms, Part, Joined}
-use Rattle.def_lanes.specs.Works.{Work, owner, served_in, AreOf}
+use Rattle.def_lanes.specs.Works.{Work, clock_cuts, owner, served_in, AreOf}
 use Rattle.def_lanes.proofs.Lists.{each-append}
-use Rattle.def_lanes.proofs.Owners.{served_in-append}
+use Rattle.def_lanes.proofs.Owners.{clock_cuts-append, served_in-append}
 use Rattle.def_lanes.proofs.PartLemmas.{part-nothing, part-next}
 use Rattle.boss_lock.specs.Places.{IsLonger}
 use Rattle.boss_outside_server.specs.Hosts.{Served}
 use Rattle.boss_worker.specs.declared.flags.Flags.{Flags}
-use Rattle.boss_worker.specs.Troubles.{no_flags, both_flags, IsQuiet, Counts}
-use Rattle.boss_worker.specs.Visits.{sessions_in, GoBySteps, IsUncut, IsFlagged, Left}
+use Rattle.boss_worker.specs.Troubles.{no_flags, both_flags, Counts}
+use Rattle.boss_worker.specs.Visits.{sessions_in, GoBySteps, IsFlagged, Left}
 use Rattle.boss_worker.proofs.FlagLemmas.{flagged-more}
 use Rattle.boss_server.specs.Hosted.{Hosted, RoseBy}
 use Rattle.boss_server.specs.Together.{works_of, RoseWhere, Together}
 use Rattle.boss_server.proofs.DeskJoins.{broken-longer}
-
-pub quiet-both : (flags others : Flags) → IsQuiet (both_flags flags others) → IsQuiet flags × IsQuiet others
-quiet-both flags others quiet =
-    let disk = or_parts flags.disk others.disk quiet.disk in
-    let clock = or_parts flags.clock others.clock quiet.clock in
-    let memory = or_parts flags.memory others.memory quiet.memory in
-    (record { disk = disk.0; clock = clock.0; memory = memory.0 }, record { disk = disk.1; clock = clock.1; memory = memory.1 })
 
 -- what one flag says is said of both
 or-first : (flag other : Bool) → flag ≡ true → (flag || other) ≡ true
@@ -114,10 +107,10 @@ module _ (terms : Terms) where
     handed = rose-none hosted.handed;
     numbered = λ number. tt;
     whole = λ all accepted sound. refl;
-    uncut = λ quiet. tt;
     flagged = tt;
     host_count = refl;
     clock_count = λ sound. refl;
+    cuts = λ sound. omega arith;
     broken = λ is. absurd (let no : false ≡ true = is in cc);
   }
 
@@ -126,10 +119,10 @@ module _ (terms : Terms) where
       Together terms n shares works own seen served served' given given' hosted hosted' ticked ticked' flags unrun →
       Left ran terms n share others part seen' [] back [] gave handed faults misses more →
       Joined own part own' → IsLonger seen seen' seen'' → (terms.hosting → served'' ≡ served' ++ back) → (terms.clocking → given'' ≡ given' ++ gave) →
-      Joins hosted'.faults faults hosted''.faults → RoseBy handed hosted'.handed hosted''.handed → Joins ticked' misses ticked'' →
+      Joins hosted'.faults faults hosted''.faults → RoseBy handed hosted'.handed hosted''.handed → Joins ticked' misses ticked'' → min (ticked' + misses) (2 ^ 64 - 1) ≤ ticked'' →
       Together terms (suc n) (shares + share) (works ++ others) own' seen'' served served'' given given'' hosted hosted'' ticked ticked'' (both_flags flags more) (unrun || not ran)
   together-next n shares share works others own own' part seen seen' seen'' served served' back served'' given given' gave given'' hosted hosted' hosted'' ticked ticked' ticked'' handed faults misses
-      flags more unrun ran together left joined longer hosts clocks host_joins host_rose clock_joins = record {
+      flags more unrun ran together left joined longer hosts clocks host_joins host_rose clock_joins clock_sum = record {
         part = part-next terms n works others own part own' served served' back served'' given given' gave given'' together.part left.part joined hosts clocks;
         handed =
             let sum : length (served_in works) + handed ≡ length (served_in (works ++ others)) =
@@ -146,13 +139,17 @@ module _ (terms : Terms) where
             let sum : length (served_in (works ++ others)) ≡ length (served_in works) + length (served_in others) =
             ap length (served_in-append works others) ∙ length-append (served_in works) (served_in others) in
             omega (arith, sum, first, then, left.each);
-        uncut = λ quiet. let both = quiet-both flags more quiet in each-append IsUncut works others (together.uncut both.0) (left.uncut both.1);
         flagged = each-append (IsFlagged (both_flags flags more)) works others
             (flagged-more flags (both_flags flags more) (or-first flags.disk more.disk) (or-first flags.clock more.clock) (or-first flags.memory more.memory) works together.flagged)
             (flagged-more more (both_flags flags more) (or-second flags.disk more.disk) (or-second flags.clock more.clock) (or-second flags.memory more.memory) others left.flagged);
         host_count = rose-then flags.host more.host hosted.faults hosted'.faults hosted''.faults faults together.host_count left.hosted host_joins;
         clock_count = λ sound. let both = or_parts flags.disk more.disk sound in
             rose-then flags.clock more.clock ticked ticked' ticked'' misses (together.clock_count both.0) (left.ticked both.1) clock_joins;
+        cuts = λ sound. let both = or_parts flags.disk more.disk sound in
+            let first = together.cuts both.0 in
+            let then = left.cuts both.1 in
+            let all : clock_cuts (works ++ others) ≡ clock_cuts works + clock_cuts others = clock_cuts-append works others in
+            omega (arith, first, then, all, clock_sum);
         broken = either-broken flags.disk more.disk seen seen' seen'' together.broken left.broken longer;
       }
     where

@@ -1,15 +1,14 @@
 -- Source: own.
 -- What several workers left, taken together.
-use Rattle.std.specs.Prelude.{◌≡◌, ℕ, ◌+◌, ◌==◌, Bool, true, false, List, filter, length}
+use Rattle.std.specs.Prelude.{◌≡◌, ℕ, ◌+◌, ◌-◌, ◌^◌, ◌≤◌, ◌==◌, min, Bool, true, false, List, filter, length}
 use Rattle.boss_outside.specs.Counts.{Rose}
 use Rattle.def_history.specs.declared.entry.Entry.{Entry}
 use Rattle.def_history.specs.History.{is_broken}
 use Rattle.def_lanes.specs.Parts.{Terms, Part}
-use Rattle.def_lanes.specs.Works.{Work, owner, served_in}
+use Rattle.def_lanes.specs.Works.{Work, clock_cuts, owner, served_in}
 use Rattle.boss_outside_server.specs.Hosts.{Served}
 use Rattle.boss_worker.specs.declared.flags.Flags.{Flags}
-use Rattle.boss_worker.specs.Troubles.{IsQuiet}
-use Rattle.boss_worker.specs.Visits.{sessions_in, AreUncut, AreFlagged, GoBySteps}
+use Rattle.boss_worker.specs.Visits.{sessions_in, AreFlagged, GoBySteps}
 use Rattle.boss_server.specs.Hosted.{Hosted, RoseBy}
 
 -- a count rose exactly where the flag stands
@@ -31,8 +30,9 @@ pub record Together (terms : Terms) (n shares : ℕ) (works : List Work) (own se
   pub handed : RoseBy (length (served_in works)) hosted.handed hosted'.handed
   pub numbered : (number : ℕ) → GoBySteps terms.workers (1 + number) (sessions_in (works_of terms.workers number works))
   pub whole : unrun ≡ false → flags.host ≡ false → flags.disk ≡ false → length (served_in works) ≡ shares
-  pub uncut : IsQuiet flags → AreUncut works
   pub flagged : AreFlagged flags works
   pub host_count : RoseWhere flags.host hosted.faults hosted'.faults
   pub clock_count : flags.disk ≡ false → RoseWhere flags.clock ticked ticked'
+  -- one failed reading of a clock cuts one work off
+  pub cuts : flags.disk ≡ false → min (ticked + clock_cuts works) (2 ^ 64 - 1) ≤ ticked'
   pub broken : flags.disk ≡ true → is_broken seen ≡ true

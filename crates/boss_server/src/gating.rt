@@ -1,4 +1,5 @@
 ghost use Rattle.std.specs.Prelude.{◌≡◌, ◌+◌, ◌≤◌, [], ◌∷◌, take, drop, vec_len, IfOk, OnErr};
+ghost use Rattle.boss_model.specs.Limits.{most_workers};
 ghost use Rattle.boss_model.specs.Catalogue.{actuators};
 ghost use Rattle.boss_access.specs.Decisions.{first_denied};
 ghost use Rattle.boss_worker.specs.Desks.{own_of};
@@ -50,7 +51,7 @@ where
     requires open { G.denies server.desk.now ≡ [] }
     requires sound { H.sound outside.old.host.now }
     requires some { 1 ≤ server.workers }
-    requires few { server.workers ≤ 32 }
+    requires few { server.workers ≤ most_workers }
     requires device { drives ≤ vec_len outside.old.devices.now }
     ensures references { KeepsReferences outside.old outside.new }
     ensures own { G.owns server.entry.desk.now result.0 }
@@ -106,7 +107,7 @@ where
     requires open { G.denies server.desk.now ≡ [] }
     requires sound { H.sound outside.old.host.now }
     requires some { 1 ≤ server.workers }
-    requires few { server.workers ≤ 32 }
+    requires few { server.workers ≤ most_workers }
     requires device { drives ≤ vec_len outside.old.devices.now }
     ensures references { KeepsReferences outside.old outside.new }
     ensures own { G.owns server.entry.desk.now result.0 }
@@ -162,7 +163,7 @@ where
     requires open { G.denies server.desk.now ≡ [] }
     requires sound { H.sound outside.old.host.now }
     requires some { 1 ≤ server.workers }
-    requires few { server.workers ≤ 32 }
+    requires few { server.workers ≤ most_workers }
     requires device { drives ≤ vec_len outside.old.devices.now }
     ensures references { KeepsReferences outside.old outside.new }
     ensures own { G.owns server.entry.desk.now result.0 }

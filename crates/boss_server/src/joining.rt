@@ -1,4 +1,4 @@
-ghost use Rattle.std.specs.Prelude.{◌≡◌, ℕ, ◌+◌, ◌<◌, ◌≤◌, ◌∷◌, ◌++◌, List, [], Bool, length, insert, vec_len, vec_capacity};
+ghost use Rattle.std.specs.Prelude.{◌≡◌, ℕ, ◌+◌, ◌-◌, ◌^◌, ◌<◌, ◌≤◌, ◌∷◌, ◌++◌, min, List, [], Bool, length, insert, vec_len, vec_capacity};
 ghost use Rattle.boss_outside.specs.Counts.{Joins};
 ghost use Rattle.boss_lock.specs.Places.{IsLonger};
 ghost use Rattle.def_lanes.specs.Parts.{Joined};
@@ -74,6 +74,7 @@ pub(crate) fn join_one<'a, G: Desk, H: Host, C: Clock, W: Waiter, A: Actuators +
     ensures handed { RoseBy (handed_at H.Host worker.entry.duty) (H.handed outside.old.host.now) (H.handed outside.new.host.now) }
     ensures given { C.tells → C.given outside.new.clock.now ≡ C.given outside.old.clock.now ++ C.given worker.entry.clock }
     ensures ticked { Joins (C.faults outside.old.clock.now) (C.faults worker.entry.clock) (C.faults outside.new.clock.now) }
+    ensures ticks { min (C.faults outside.old.clock.now + C.faults worker.entry.clock) (2 ^ 64 - 1) ≤ C.faults outside.new.clock.now }
     ensures waited { W.tells → W.waits outside.new.waiter.now ≡ W.waits outside.old.waiter.now ++ W.waited worker.entry.waiter ∷ [] }
     ensures spawner { outside.new.spawner.now ≡ outside.old.spawner.now }
     ensures devices { outside.new.devices.now.items ≡ put_back worker.entry.duty outside.old.devices.now.items }

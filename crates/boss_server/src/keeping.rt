@@ -1,4 +1,5 @@
 ghost use Rattle.std.specs.Prelude.{◌≡◌, ◌+◌, ◌≤◌, List, [], false, length, take, drop, IfOk, OnErr};
+ghost use Rattle.boss_model.specs.Limits.{most_drivers, most_workers};
 ghost use Rattle.boss_model.specs.declared.event.Event.{Event};
 ghost use Rattle.boss_model.specs.Catalogue.{actuators};
 ghost use Rattle.boss_model.specs.Sound.{IsSound};
@@ -34,12 +35,12 @@ pub struct Ended {
 /// How many drivers have a device.
 fn drives_for<A>(catalogue: &Catalogue, devices: &Vec<A>) -> u16
     ensures drives { result ≡ drives_of catalogue.now devices.now.items }
-    ensures few { result ≤ 16 }
+    ensures few { result ≤ most_drivers }
 {
     devices.len().min(usize::from(catalogue.drivers())) as u16
 }
 
-/// Serves so many connections over a keeper whose disk never failed, by so many workers, 1 to 32 of them, lets time pass, and drives
+/// Serves so many connections over a keeper whose disk never failed, by so many workers, 1 to 1,024 of them, lets time pass, and drives
 /// the devices, of which each is that of the driver with its place as number; then gives the keeper back. Where there are rules they
 /// judge each submit. It then stands for one
 /// history from the keeper as it was handed over, which is all that the workers did.
@@ -72,7 +73,7 @@ where
     requires plant { actuators site.catalogue.now ≡ K.plant keeper }
     requires sound { H.sound outside.old.host.now }
     requires some { 1 ≤ workers }
-    requires few { workers ≤ 32 }
+    requires few { workers ≤ most_workers }
     ensures references { KeepsReferences outside.old outside.new }
     ensures sound { H.sound outside.new.host.now }
     ensures listens { H.tells → H.listens outside.new.host.now ≡ H.listens outside.old.host.now }

@@ -1,4 +1,5 @@
 ghost use Rattle.std.specs.Prelude.{◌≡◌, ℕ, ◌+◌, ◌<◌, ◌≤◌, ◌∷◌, ◌++◌, [], length, vec_len, vec_capacity, IfOk, OnOk};
+ghost use Rattle.boss_model.specs.Limits.{most_workers};
 ghost use Rattle.boss_model.specs.Catalogue.{actuators};
 ghost use Rattle.boss_worker.specs.Desks.{own_of};
 ghost use Rattle.boss_worker.specs.Workers.{share_at, was_at, IsReady};
@@ -43,7 +44,7 @@ fn make_next<'a, G: Desk, H: Host, C: Clock, W: Waiter, A: Actuators + Drop, P>(
     requires plant { actuators server.now.catalogue.now ≡ G.plant server.now.desk }
     requires sound { H.sound outside.old.host.now }
     requires number { number < server.now.workers }
-    requires few { server.now.workers ≤ 32 }
+    requires few { server.now.workers ≤ most_workers }
     requires room { vec_len made.old < vec_capacity made.old }
     requires next { number ≡ length made.old.items }
     requires ready { AllInTurn made.old.items 0 (λ number worker. (worker.server.now ≡ server.now) × (worker.number ≡ number)
@@ -108,7 +109,7 @@ fn make_connections<'a, G: Desk, H: Host, C: Clock, W: Waiter, A: Actuators + Dr
     requires plant { actuators server.now.catalogue.now ≡ G.plant server.now.desk }
     requires sound { H.sound outside.old.host.now }
     requires some { 1 ≤ server.now.workers }
-    requires few { server.now.workers ≤ 32 }
+    requires few { server.now.workers ≤ most_workers }
     requires none { made.old.items ≡ [] }
     requires room { server.now.workers ≤ vec_capacity made.old }
     ensures references { KeepsReferences outside.old outside.new }
@@ -148,7 +149,7 @@ fn make_time<'a, G: Desk, H: Host, C: Clock, W: Waiter, A: Actuators + Drop>(
     requires parts { 2 ≤ G.parts pass.old }
     requires told { W.tells → (W.waited waiter.old).expected ≡ server.now.workers }
     requires plant { actuators server.now.catalogue.now ≡ G.plant server.now.desk }
-    requires few { server.now.workers ≤ 32 }
+    requires few { server.now.workers ≤ most_workers }
     requires next { length made.old.items ≡ server.now.workers }
     requires room { vec_len made.old < vec_capacity made.old }
     requires ready { AllInTurn made.old.items 0 (λ number worker. (worker.server.now ≡ server.now) × (worker.number ≡ number)
@@ -199,7 +200,7 @@ fn make_drive<'a, G: Desk, H: Host, C: Clock, W: Waiter, A: Actuators + Drop, P>
     requires parts { 2 ≤ G.parts pass.old }
     requires told { W.tells → (W.waited outside.old.waiter.now).expected ≡ server.now.workers }
     requires plant { actuators server.now.catalogue.now ≡ G.plant server.now.desk }
-    requires few { server.now.workers ≤ 32 }
+    requires few { server.now.workers ≤ most_workers }
     requires some { 0 < vec_len outside.old.devices.now }
     requires next { length made.old.items ≡ server.now.workers + 1 + driver }
     requires room { vec_len made.old < vec_capacity made.old }
@@ -258,7 +259,7 @@ fn make_drives<'a, G: Desk, H: Host, C: Clock, W: Waiter, A: Actuators + Drop, P
     requires parts { drives + 1 ≤ G.parts pass.old }
     requires told { W.tells → (W.waited outside.old.waiter.now).expected ≡ server.now.workers }
     requires plant { actuators server.now.catalogue.now ≡ G.plant server.now.desk }
-    requires few { server.now.workers ≤ 32 }
+    requires few { server.now.workers ≤ most_workers }
     requires some { drives ≤ vec_len outside.old.devices.now }
     requires next { length made.old.items ≡ server.now.workers + 1 }
     requires room { vec_len made.old + drives ≤ vec_capacity made.old }
@@ -305,7 +306,7 @@ pub(crate) fn make_all<'a, G: Desk, H: Host, C: Clock, W: Waiter, A: Actuators +
     requires plant { actuators server.now.catalogue.now ≡ G.plant server.now.desk }
     requires sound { H.sound outside.old.host.now }
     requires some { 1 ≤ server.now.workers }
-    requires few { server.now.workers ≤ 32 }
+    requires few { server.now.workers ≤ most_workers }
     requires device { drives ≤ vec_len outside.old.devices.now }
     requires none { made.old.items ≡ [] }
     requires room { server.now.workers + 1 + drives ≤ vec_capacity made.old }

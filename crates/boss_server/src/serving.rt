@@ -1,4 +1,5 @@
 ghost use Rattle.std.specs.Prelude.{◌≡◌, ◌+◌, ◌≤◌, [], length, take, drop, vec_len, IfOk, OnErr};
+ghost use Rattle.boss_model.specs.Limits.{most_workers};
 ghost use Rattle.boss_model.specs.Catalogue.{actuators};
 ghost use Rattle.boss_worker.specs.Desks.{own_of};
 ghost use Rattle.boss_worker.specs.Saying.{terms_of};
@@ -47,7 +48,7 @@ where
     requires plant { actuators server.now.catalogue.now ≡ G.plant server.now.desk }
     requires sound { H.sound outside.old.host.now }
     requires some { 1 ≤ server.now.workers }
-    requires few { server.now.workers ≤ 32 }
+    requires few { server.now.workers ≤ most_workers }
     requires device { drives ≤ vec_len outside.old.devices.now }
     ensures references { KeepsReferences outside.old outside.new }
     ensures own { G.owns server.now.desk pass.new }

@@ -32,10 +32,13 @@ denied-other gate session held command.Gone is = refl
 denied-other gate session held command.Tick is = refl
 denied-other gate session held (command.Next driver) is = refl
 denied-other gate session held (command.Report point version ok) is = refl
+denied-other gate session held (command.Doubt point differs) is = refl
 denied-other gate session held (command.Read point) is = refl
 denied-other gate session held (command.Array point) is = refl
 denied-other gate session held (command.Status txn) is = refl
 denied-other gate session held (command.Notices known from most) is = refl
+denied-other gate session held (command.Points from most) is = refl
+denied-other gate session held command.Version is = refl
 
 denied-own : (gate : Gate) (session : ℕ) (name : List ℕ) (asked : Command) → denied_at gate (Some (session, name)) session asked ≡ denied_by gate (Some name) asked
 denied-own gate session name (command.Attach known) = refl
@@ -46,10 +49,13 @@ denied-own gate session name command.Gone = refl
 denied-own gate session name command.Tick = refl
 denied-own gate session name (command.Next driver) = refl
 denied-own gate session name (command.Report point version ok) = refl
+denied-own gate session name (command.Doubt point differs) = refl
 denied-own gate session name (command.Read point) = refl
 denied-own gate session name (command.Array point) = refl
 denied-own gate session name (command.Status txn) = refl
 denied-own gate session name (command.Notices known from most) = refl
+denied-own gate session name (command.Points from most) = refl
+denied-own gate session name command.Version = refl
 
 denied-one : (gate : Gate) (session : ℕ) (name : Option (List ℕ)) (one : Holding) (asked : Command) → HoldsAt session name one → denied_at gate one session asked ≡ denied_by gate name asked
 denied-one gate session None None asked holds = refl
@@ -70,10 +76,12 @@ moves session name one (command.Attach known) (answer.Ticked now) = inl (refl, r
 moves session name one (command.Attach known) (answer.Want point version value) = inl (refl, refl)
 moves session name one (command.Attach known) answer.Nothing = inl (refl, refl)
 moves session name one (command.Attach known) (answer.Noted current) = inl (refl, refl)
-moves session name one (command.Attach known) (answer.Reading point value basis mark) = inl (refl, refl)
+moves session name one (command.Attach known) (answer.Reading point value basis mark differed) = inl (refl, refl)
 moves session name one (command.Attach known) (answer.Array point slots) = inl (refl, refl)
 moves session name one (command.Attach known) (answer.Status txn owner stage live pending) = inl (refl, refl)
 moves session name one (command.Attach known) (answer.Notices first next list) = inl (refl, refl)
+moves session name one (command.Attach known) (answer.Points from most) = inl (refl, refl)
+moves session name one (command.Attach known) answer.Version = inl (refl, refl)
 moves session name one (command.Attach known) (answer.Refused refusal) = inl (refl, refl)
 moves session name one (command.Submit writes policy seq) given = inl (refl, refl)
 moves session name one (command.Renew txn length points seq) given = inl (refl, refl)
@@ -87,18 +95,23 @@ moves session name one command.Gone (answer.Ticked now) = inl (refl, refl)
 moves session name one command.Gone (answer.Want point version value) = inl (refl, refl)
 moves session name one command.Gone answer.Nothing = inl (refl, refl)
 moves session name one command.Gone (answer.Noted current) = inl (refl, refl)
-moves session name one command.Gone (answer.Reading point value basis mark) = inl (refl, refl)
+moves session name one command.Gone (answer.Reading point value basis mark differed) = inl (refl, refl)
 moves session name one command.Gone (answer.Array point slots) = inl (refl, refl)
 moves session name one command.Gone (answer.Status txn owner stage live pending) = inl (refl, refl)
 moves session name one command.Gone (answer.Notices first next list) = inl (refl, refl)
+moves session name one command.Gone (answer.Points from most) = inl (refl, refl)
+moves session name one command.Gone answer.Version = inl (refl, refl)
 moves session name one command.Gone (answer.Refused refusal) = inl (refl, refl)
 moves session name one command.Tick given = inl (refl, refl)
 moves session name one (command.Next driver) given = inl (refl, refl)
 moves session name one (command.Report point version ok) given = inl (refl, refl)
+moves session name one (command.Doubt point differs) given = inl (refl, refl)
 moves session name one (command.Read point) given = inl (refl, refl)
 moves session name one (command.Array point) given = inl (refl, refl)
 moves session name one (command.Status txn) given = inl (refl, refl)
 moves session name one (command.Notices known from most) given = inl (refl, refl)
+moves session name one (command.Points from most) given = inl (refl, refl)
+moves session name one command.Version given = inl (refl, refl)
 
 holds-moved : (session : ℕ) (name name' : Option (List ℕ)) (one one' : Holding) → Moves session name name' one one' → HoldsAt session name one → HoldsAt session name' one'
 holds-moved session name name' one one' (inl stays) holds = subst (λ n. HoldsAt session n one') (sym stays.0) (subst (HoldsAt session name) (sym stays.1) holds)

@@ -91,10 +91,13 @@ memory-attaches command.Gone = refl
 memory-attaches command.Tick = refl
 memory-attaches (command.Next driver) = refl
 memory-attaches (command.Report point version ok) = refl
+memory-attaches (command.Doubt point differs) = refl
 memory-attaches (command.Read point) = refl
 memory-attaches (command.Array point) = refl
 memory-attaches (command.Status txn) = refl
 memory-attaches (command.Notices name from most) = refl
+memory-attaches (command.Points from most) = refl
+memory-attaches command.Version = refl
 
 pub stop-attaches : (asked : Command) → attaches_by asked of_stop ≡ false
 stop-attaches (command.Attach name) = refl
@@ -105,10 +108,13 @@ stop-attaches command.Gone = refl
 stop-attaches command.Tick = refl
 stop-attaches (command.Next driver) = refl
 stop-attaches (command.Report point version ok) = refl
+stop-attaches (command.Doubt point differs) = refl
 stop-attaches (command.Read point) = refl
 stop-attaches (command.Array point) = refl
 stop-attaches (command.Status txn) = refl
 stop-attaches (command.Notices name from most) = refl
+stop-attaches (command.Points from most) = refl
+stop-attaches command.Version = refl
 
 pub denial-attaches : (index rule : ℕ) (asked : Command) → attaches_by asked (of_denial index rule) ≡ false
 denial-attaches index rule (command.Attach name) = refl
@@ -119,10 +125,13 @@ denial-attaches index rule command.Gone = refl
 denial-attaches index rule command.Tick = refl
 denial-attaches index rule (command.Next driver) = refl
 denial-attaches index rule (command.Report point version ok) = refl
+denial-attaches index rule (command.Doubt point differs) = refl
 denial-attaches index rule (command.Read point) = refl
 denial-attaches index rule (command.Array point) = refl
 denial-attaches index rule (command.Status txn) = refl
 denial-attaches index rule (command.Notices name from most) = refl
+denial-attaches index rule (command.Points from most) = refl
+denial-attaches index rule command.Version = refl
 
 or-false : (b : Bool) → (b || false) ≡ b
 or-false true = refl

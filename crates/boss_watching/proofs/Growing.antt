@@ -218,10 +218,13 @@ act-grows plant session n command.Gone s = gone-grows (process_of s.attached ses
 act-grows plant session n command.Tick s = grown-same s.persistent.processes
 act-grows plant session n (command.Next driver) s = hand_out-grows _ s
 act-grows plant session n (command.Report point version ok) s = report-grows n point version ok s
+act-grows plant session n (command.Doubt point differs) s = grown-same s.persistent.processes
 act-grows plant session n (command.Read point) s = grown-same s.persistent.processes
 act-grows plant session n (command.Array point) s = grown-same s.persistent.processes
 act-grows plant session n (command.Status txn) s = grown-same s.persistent.processes
 act-grows plant session n (command.Notices name from most) s = notices-grows name session from most s
+act-grows plant session n (command.Points from most) s = grown-same s.persistent.processes
+act-grows plant session n command.Version s = grown-same s.persistent.processes
 
 pub step-grows : (plant : List Actuator) (session : ℕ) (c : Command) (m : ℕ) (s : State) → Grown s.persistent.processes (step plant session c m s).state.persistent.processes
 unfolding step

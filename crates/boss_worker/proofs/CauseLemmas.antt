@@ -10,9 +10,12 @@ use Rattle.boss_watching.specs.declared.end.WatchEnd.TheVariants as watch
 use Rattle.boss_watching.specs.Ends.{ClockCause as WatchClock, DiskCause as WatchDisk}
 use Rattle.boss_expiry.specs.declared.end.WorkEnd.{WorkEnd}
 use Rattle.boss_expiry.specs.declared.end.WorkEnd.TheVariants as work
-use Rattle.boss_expiry.specs.Ends.{ClockCause as WorkClock, EndCause}
+use Rattle.boss_expiry.specs.Ends.{cut_of, ClockCause as WorkClock, EndCause}
+use Rattle.boss_guard.specs.declared.end.GuardEnd.{GuardEnd}
+use Rattle.boss_guard.specs.declared.end.GuardEnd.TheVariants as guard
+use Rattle.boss_guard.specs.Guarding.{cut_of_guard}
 use Rattle.boss_worker.specs.declared.trouble.Trouble.TheVariants.{Nothing, Disk, Clock, Memory}
-use Rattle.boss_worker.specs.Troubles.{trouble_of, trouble_of_watch, trouble_of_work, ClockTrouble}
+use Rattle.boss_worker.specs.Troubles.{cut_by, trouble_of, trouble_of_guard, trouble_of_watch, trouble_of_work, ClockTrouble}
 
 pub clock-served : (end : SessionEnd) (before now : ℕ) → ClockCause before now (Some end) → ClockTrouble before now (trouble_of end)
 clock-served session.End before now cause = cause
@@ -81,3 +84,14 @@ not-watch session.Limit other = refl
 not-watch session.Stopped other = refl
 not-watch session.DiskFault other = refl
 not-watch session.NoMemory other = refl
+
+pub cut-worked : (end : WorkEnd) → cut_of end ≡ cut_by (trouble_of_work end)
+cut-worked work.Finished = refl
+cut-worked work.Closed = refl
+cut-worked work.ClockFault = refl
+cut-worked work.Stopped = refl
+cut-worked work.DiskFault = refl
+
+pub cut-guarded : (end : GuardEnd) → cut_of_guard end ≡ cut_by (trouble_of_guard end)
+cut-guarded (guard.Worked end) = cut-worked end
+cut-guarded guard.NoMemory = refl

@@ -7,11 +7,12 @@ use Rattle.def_history.specs.declared.entry.Entry.{Entry}
 use Rattle.def_history.specs.History.{deeds, is_broken}
 use Rattle.def_lanes.specs.Lanes.{of_driver}
 use Rattle.def_lanes.specs.Parts.{Added}
+use Rattle.def_lanes.specs.Works.{not_cut, by_memory, Course}
 use Rattle.def_lanes.proofs.Choices.{deeds-append}
 use Rattle.boss_lock.specs.Places.{entries_at}
 use Rattle.boss_shared.specs.Passes.{IsPassOf}
 use Rattle.boss_expiry.specs.declared.end.WorkEnd.{WorkEnd}
-use Rattle.boss_expiry.specs.Ends.{EndCause}
+use Rattle.boss_expiry.specs.Ends.{cut_of, EndCause}
 use Rattle.boss_drive.specs.Driving.{Stand, Driven, made_by, left_by}
 use Rattle.boss_drive.proofs.Laning.{driven-added}
 use Rattle.def_guards.specs.declared.guard.Guard.{Guard}
@@ -20,14 +21,14 @@ use Rattle.def_guards.specs.Guards.{guards_of, is_guarded}
 use Rattle.def_guards.specs.Turns.{Turn as GuardTurn, after_turn, after_turns}
 use Rattle.boss_guard.specs.declared.end.GuardEnd.{GuardEnd}
 use Rattle.boss_guard.specs.declared.end.GuardEnd.TheVariants as guard
-use Rattle.boss_guard.specs.Guarding.{Guarded, GuardCause, GuardClock, Turned, start}
+use Rattle.boss_guard.specs.Guarding.{cut_of_guard, Guarded, GuardCause, GuardClock, Turned, start}
 use Rattle.boss_guard.specs.Making.{made_by_acts, made_in_turns, left_by as left_by_guard}
 use Rattle.boss_guard.proofs.LaneOfGuards.{guarded_adds}
 use Rattle.boss_worker.specs.declared.trouble.Trouble.TheVariants.{Disk, Memory}
 use Rattle.boss_worker.specs.Drove.{Drove, WasTold}
 use Rattle.boss_worker.specs.Saying.{IsDriven}
-use Rattle.boss_worker.specs.Troubles.{no_flags, trouble_of_guard, trouble_of_work, ClockTrouble}
-use Rattle.boss_worker.proofs.CauseLemmas.{broken-worked, clock-worked}
+use Rattle.boss_worker.specs.Troubles.{trouble_of_guard, trouble_of_work, ClockTrouble}
+use Rattle.boss_worker.proofs.CauseLemmas.{broken-worked, clock-worked, cut-guarded, cut-worked}
 use Rattle.boss_worker.proofs.EndedLemmas.{told-to-end, turns-long}
 
 -- ---- what it added
@@ -35,22 +36,27 @@ use Rattle.boss_worker.proofs.EndedLemmas.{told-to-end, turns-long}
 module _ (catalogue : Catalogue) (opening : State) (seen : List Entry) (mine : List ℕ) (driver : ℕ) (clocking recording : Type 0) (old new : Stand) (pausing : Type 0) (pauses pauses' most : ℕ)
     (pass : IsPassOf (actuators catalogue) opening seen mine) (own : new.own ≡ entries_at seen mine) (fresh : pausing → pauses ≡ 0) where
   pub drove-plain : (end : WorkEnd) → is_guarded catalogue driver ≡ false → Driven driver clocking recording old new pausing pauses pauses' most end →
-      Drove catalogue driver clocking recording old new pausing pauses'
+      Drove catalogue driver clocking recording old new pausing pauses' (trouble_of_work end)
   drove-plain end is driven =
-      let calls : List DeviceCall = (made_by driver driven.turns (left_by driver end driven.last)).calls in record {
+      let calls : List DeviceCall = (made_by driver driven.turns (left_by driver end driven.last)).calls in
+      let course : Course = record { moments = (made_by driver driven.turns (left_by driver end driven.last)).moments; cut = cut_of end } in record {
         calls = calls;
-        added = subst (λ kept. Added (actuators catalogue) (of_driver driver) (IsDriven kept catalogue driver calls pausing pauses') clocking old.own new.own old.given new.given) (sym is)
+        course = course;
+        cut_is = cut-worked end;
+        added = subst (λ kept. Added (actuators catalogue) (of_driver driver) (IsDriven kept catalogue driver calls pausing pauses' course) clocking course.moments old.own new.own old.given new.given) (sym is)
             (driven-added (actuators catalogue) opening seen mine driver clocking recording pausing old new pauses pauses' most end pass.legal own driven fresh);
         wrote = driven.made.wrote;
       }
 
   pub drove-guarded : (end : GuardEnd) → is_guarded catalogue driver ≡ true → Guarded driver (guards_of catalogue) clocking recording old new pausing pauses pauses' most end →
-      Drove catalogue driver clocking recording old new pausing pauses'
+      Drove catalogue driver clocking recording old new pausing pauses' (trouble_of_guard end)
   drove-guarded end is guarded =
       let adds = guarded_adds catalogue opening seen mine driver clocking recording pausing old new pauses pauses' pass own fresh most end guarded in record {
         calls = adds.0;
-        added = subst (λ kept. Added (actuators catalogue) (of_driver driver) (IsDriven kept catalogue driver adds.0 pausing pauses') clocking old.own new.own old.given new.given) (sym is) adds.1;
-        wrote = adds.2;
+        course = record { moments = adds.1; cut = cut_of_guard end };
+        cut_is = cut-guarded end;
+        added = subst (λ kept. Added (actuators catalogue) (of_driver driver) (IsDriven kept catalogue driver adds.0 pausing pauses' (record { moments = adds.1; cut = cut_of_guard end })) clocking adds.1 old.own new.own old.given new.given) (sym is) adds.2;
+        wrote = adds.3;
       }
 
 -- ---- causes
@@ -82,26 +88,26 @@ all-new own own' more grew empty = ap deeds grew ∙ deeds-append own more ∙ a
 module _ (driver : ℕ) (clocking recording : Type 0) (old new : Stand) (pausing : Type 0) (pauses pauses' most : ℕ) (seen : List Entry) (closed : Bool) (before now : ℕ) where
   pub told-plain : (end : WorkEnd) → Driven driver clocking recording old new pausing pauses pauses' most end → EndCause seen pausing closed before now end →
       WasTold old.own new.own pausing closed most (trouble_of_work end)
-  told-plain end driven cause empty enough quiet told few =
+  told-plain end driven cause empty enough uncut told few =
       let made = made_by driver driven.turns (left_by driver end driven.last) in
       let all : deeds new.own ≡ deeds made.entries = all-new old.own new.own made.entries driven.made.entries empty in
       let long : length driven.turns ≤ length (deeds made.entries) = turns-long driver driven.turns (left_by driver end driven.last) in
-      told-to-end end (length driven.turns) most (length (deeds new.own)) seen pausing closed before now no_flags enough driven.taken cause
-      (subst (λ done. length driven.turns ≤ length done) (sym all) long) quiet told few
+      told-to-end end (length driven.turns) most (length (deeds new.own)) seen pausing closed before now enough driven.taken cause
+      (subst (λ done. length driven.turns ≤ length done) (sym all) long) uncut told few
 
   told-turned : (guards : List Guard) (end : WorkEnd) → Turned driver guards clocking recording old new pausing pauses pauses' most end → EndCause seen pausing closed before now end →
       WasTold old.own new.own pausing closed most (trouble_of_work end)
-  told-turned guards end turned cause empty enough quiet told few =
+  told-turned guards end turned cause empty enough uncut told few =
       let whole : List Entry = (made_in_turns driver (start guards) turned.turns).entries in
       let last : List Entry = (left_by_guard driver end (after_turns turned.turns (start guards)) turned.last).entries in
       let all : deeds new.own ≡ deeds (whole ++ last) = all-new old.own new.own (whole ++ last) turned.made.entries empty in
       let parts : length (deeds (whole ++ last)) ≡ length (deeds whole) + length (deeds last) = ap length (deeds-append whole last) ∙ length-append (deeds whole) (deeds last) in
       let some : length turned.turns ≤ length (deeds whole) = guard-turns-long driver turned.turns (start guards) in
       let long : length turned.turns ≤ length (deeds (whole ++ last)) = omega (arith, some, parts) in
-      told-to-end end (length turned.turns) most (length (deeds new.own)) seen pausing closed before now no_flags enough turned.taken cause
-      (subst (λ done. length turned.turns ≤ length done) (sym all) long) quiet told few
+      told-to-end end (length turned.turns) most (length (deeds new.own)) seen pausing closed before now enough turned.taken cause
+      (subst (λ done. length turned.turns ≤ length done) (sym all) long) uncut told few
 
   pub told-guarded : (guards : List Guard) (end : GuardEnd) → Guarded driver guards clocking recording old new pausing pauses pauses' most end → GuardCause seen pausing closed before now end →
       WasTold old.own new.own pausing closed most (trouble_of_guard end)
-  told-guarded guards (guard.Worked end) guarded cause empty enough quiet told few = told-turned guards end guarded cause empty enough quiet told few
-  told-guarded guards guard.NoMemory guarded cause empty enough quiet told few = absurd (let no : true ≡ false = quiet.memory in cc)
+  told-guarded guards (guard.Worked end) guarded cause empty enough uncut told few = told-turned guards end guarded cause empty enough uncut told few
+  told-guarded guards guard.NoMemory guarded cause empty enough uncut told few = absurd (let no : by_memory ≡ not_cut = uncut in cc)

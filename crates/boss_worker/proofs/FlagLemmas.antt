@@ -1,19 +1,13 @@
 -- Flags, as one end after another raises them.
-use Rattle.std.proofs.Common.{◌≡◌, ℕ, true, false, List, refl, sym, subst, arith}
-use Rattle.def_lanes.specs.Works.{Cut, not_cut, by_disk, by_clock, by_memory, Work, visit, beat, drive}
+use Rattle.std.proofs.Common.{◌≡◌, ℕ, ◌+◌, ◌-◌, ◌^◌, ◌≤◌, min, true, if◌then◌else◌, List, [], ◌∷◌, ◌++◌, refl, ap, sym, subst, arith}
+use Rattle.def_lanes.specs.Works.{Cut, not_cut, by_disk, by_clock, by_memory, Work, clock_cuts, course_of, is_clock}
 use Rattle.def_lanes.proofs.Lists.{each-map}
+use Rattle.def_lanes.proofs.Owners.{clock_cuts-append}
 use Rattle.boss_worker.specs.declared.flags.Flags.{Flags}
 use Rattle.boss_worker.specs.declared.trouble.Trouble.{Trouble}
 use Rattle.boss_worker.specs.declared.trouble.Trouble.TheVariants.{Nothing, Disk, Clock, Memory}
-use Rattle.boss_worker.specs.Troubles.{flags_after, cut_by, IsQuiet, Counts, ClockTrouble}
+use Rattle.boss_worker.specs.Troubles.{flags_after, cut_by, Counts, ClockTrouble}
 use Rattle.boss_worker.specs.Visits.{IsMarked, IsFlagged, AreFlagged}
-
--- where nothing was noted, neither was before nor by this end
-pub quiet-after : (trouble : Trouble) (flags : Flags) → IsQuiet (flags_after trouble flags) → IsQuiet flags × (cut_by trouble ≡ not_cut)
-quiet-after Nothing flags quiet = (quiet, refl)
-quiet-after Disk flags quiet = absurd (let no : true ≡ false = quiet.disk in cc)
-quiet-after Clock flags quiet = absurd (let no : true ≡ false = quiet.clock in cc)
-quiet-after Memory flags quiet = absurd (let no : true ≡ false = quiet.memory in cc)
 
 -- a flag that stands stays
 pub marked-more : (flags more : Flags) → (flags.disk ≡ true → more.disk ≡ true) → (flags.clock ≡ true → more.clock ≡ true) → (flags.memory ≡ true → more.memory ≡ true) → (cut : Cut) →
@@ -23,15 +17,9 @@ marked-more flags more disk clock memory by_disk marked = disk marked
 marked-more flags more disk clock memory by_clock marked = clock marked
 marked-more flags more disk clock memory by_memory marked = memory marked
 
-flagged-one : (flags more : Flags) → (flags.disk ≡ true → more.disk ≡ true) → (flags.clock ≡ true → more.clock ≡ true) → (flags.memory ≡ true → more.memory ≡ true) → (work : Work) →
-    IsFlagged flags work → IsFlagged more work
-flagged-one flags more disk clock memory (visit served cut) flagged = marked-more flags more disk clock memory cut flagged
-flagged-one flags more disk clock memory (beat waited) flagged = tt
-flagged-one flags more disk clock memory (drive driver calls waited) flagged = tt
-
 pub flagged-more : (flags more : Flags) → (flags.disk ≡ true → more.disk ≡ true) → (flags.clock ≡ true → more.clock ≡ true) → (flags.memory ≡ true → more.memory ≡ true) → (works : List Work) →
     AreFlagged flags works → AreFlagged more works
-flagged-more flags more disk clock memory works flagged = each-map (IsFlagged flags) (IsFlagged more) (flagged-one flags more disk clock memory) works flagged
+flagged-more flags more disk clock memory works flagged = each-map (IsFlagged flags) (IsFlagged more) (λ work. marked-more flags more disk clock memory (course_of work).cut) works flagged
 
 -- by one end more, which raises its own flag
 pub flagged-after : (trouble : Trouble) (flags : Flags) (works : List Work) → AreFlagged flags works → AreFlagged (flags_after trouble flags) works
@@ -63,3 +51,17 @@ clock-after Nothing flags before now other cause counts = subst (Counts flags.cl
 clock-after Disk flags before now other cause counts = absurd (other refl)
 clock-after Clock flags before now other cause counts = omega (arith, cause)
 clock-after Memory flags before now other cause counts = subst (Counts flags.clock) (sym cause) counts
+
+-- one failed reading more where the clock cut a work off
+pub cuts-more : (trouble : Trouble) (work : Work) (works : List Work) (before now : ℕ) → (course_of work).cut ≡ cut_by trouble → ¬ (trouble ≡ Disk) → ClockTrouble before now trouble →
+    min (clock_cuts works) (2 ^ 64 - 1) ≤ before → min (clock_cuts (works ++ work ∷ [])) (2 ^ 64 - 1) ≤ now
+cuts-more trouble work works before now is other cause counts =
+    let all : clock_cuts (works ++ work ∷ []) ≡ clock_cuts works + clock_cuts (work ∷ []) = clock_cuts-append works (work ∷ []) in
+    one trouble (clock_cuts (work ∷ [])) (ap (λ cut. (if is_clock cut then 1 else 0) + 0) is) other cause all
+  where
+    one : (t : Trouble) (count : ℕ) → count ≡ (if is_clock (cut_by t) then 1 else 0) + 0 → ¬ (t ≡ Disk) → ClockTrouble before now t →
+        clock_cuts (works ++ work ∷ []) ≡ clock_cuts works + count → min (clock_cuts (works ++ work ∷ [])) (2 ^ 64 - 1) ≤ now
+    one Nothing count many not_disk calm all = let same : now ≡ before = calm in omega (arith, many, all, same, counts)
+    one Disk count many not_disk calm all = absurd (not_disk refl)
+    one Clock count many not_disk rose all = let more : min (before + 1) (2 ^ 64 - 1) ≤ now = rose in omega (arith, many, all, more, counts)
+    one Memory count many not_disk calm all = let same : now ≡ before = calm in omega (arith, many, all, same, counts)

@@ -1,12 +1,12 @@
 -- One connection more, and where the work ends.
-use Rattle.std.proofs.Common.{◌≡◌, ℕ, suc, ◌+◌, ◌*◌, ◌<◌, Bool, true, false, List, [], ◌∷◌, ◌++◌, length, map, refl, ap, sym, ◌∙◌, subst, arith, length-append}
+use Rattle.std.proofs.Common.{◌≡◌, ℕ, suc, ◌+◌, ◌-◌, ◌*◌, ◌^◌, ◌<◌, ◌≤◌, min, Bool, true, false, List, [], ◌∷◌, ◌++◌, length, map, refl, ap, sym, ◌∙◌, subst, arith, length-append}
 use Rattle.std.specs.List.{AllByRecursion}
 use Rattle.std.proofs.lemmas.List.{length-map, map-append}
 use Rattle.def_history.specs.declared.entry.Entry.{Entry}
 use Rattle.def_history.specs.History.{deeds, is_broken}
 use Rattle.def_lanes.specs.Lanes.{of_session}
 use Rattle.def_lanes.specs.Parts.{Terms, Part, Added}
-use Rattle.def_lanes.specs.Works.{Work, visit, lane_of_work, owner, served_by, served_in}
+use Rattle.def_lanes.specs.Works.{Work, visit, clock_cuts, course_of, lane_of_work, moments_in, owner, served_by, served_in}
 use Rattle.def_lanes.proofs.Lists.{each-append}
 use Rattle.def_lanes.proofs.Owners.{before-absent, before-more, owner-session, served_in-append}
 use Rattle.def_lanes.proofs.PartLemmas.{part-nothing, part-more}
@@ -14,9 +14,9 @@ use Rattle.boss_outside_server.specs.Hosts.{Served}
 use Rattle.boss_worker.specs.declared.flags.Flags.{Flags}
 use Rattle.boss_worker.specs.declared.trouble.Trouble.{Trouble}
 use Rattle.boss_worker.specs.declared.trouble.Trouble.TheVariants.{Nothing, Disk, Clock, Memory}
-use Rattle.boss_worker.specs.Troubles.{no_flags, flags_after, failed_host, cut_by, ClockTrouble, Counts}
-use Rattle.boss_worker.specs.Visits.{sessions_in, GoBySteps, IsUncut, IsFlagged, SoFar, Left}
-use Rattle.boss_worker.proofs.FlagLemmas.{flagged-after, flagged-more, host-after, marked-after, quiet-after}
+use Rattle.boss_worker.specs.Troubles.{no_flags, flags_after, failed_host, course_by, cut_by, ClockTrouble, Counts}
+use Rattle.boss_worker.specs.Visits.{sessions_in, GoBySteps, IsFlagged, SoFar, Left}
+use Rattle.boss_worker.proofs.FlagLemmas.{cuts-more, flagged-after, flagged-more, host-after, marked-after}
 
 -- one number more
 steps-more : (step first : ℕ) (numbers : List ℕ) (next : ℕ) → GoBySteps step first numbers → next ≡ first + step * length numbers → GoBySteps step first (numbers ++ next ∷ [])
@@ -32,34 +32,31 @@ module _ (terms : Terms) (number : ℕ) where
     next_is = rw no_handed (omega (arith, first));
     numbered = tt;
     before = tt;
-    uncut = λ quiet. tt;
     flagged = tt;
   }
 
   pub so-far-more : (works : List Work) (own own' : List Entry) (served served' served'' : List Served) (given given' given'' : List ℕ) (handed handed' next later : ℕ) (flags : Flags)
-      (trouble : Trouble) (one : Served) → SoFar terms number works own served served' given given' handed next flags →
-      Added terms.plant (of_session one.session) (terms.says (visit one (cut_by trouble))) terms.clocking own own' given' given'' →
+      (trouble : Trouble) (one : Served) (moments : List ℕ) → SoFar terms number works own served served' given given' handed next flags →
+      Added terms.plant (of_session one.session) (terms.says (visit one (course_by moments trouble))) terms.clocking moments own own' given' given'' →
       (terms.hosting → served'' ≡ served' ++ one ∷ []) → one.session ≡ next → number < terms.workers → handed' ≡ handed + 1 → later ≡ next + terms.workers →
-      SoFar terms number (works ++ visit one (cut_by trouble) ∷ []) own' served served'' given given'' handed' later (flags_after trouble flags)
-  so-far-more works own own' served served' served'' given given' given'' handed handed' next later flags trouble one so_far added back is low one_more further =
-      let owned = owner-session terms.workers number handed one (cut_by trouble) low (is ∙ so_far.next_is) in
-      let grown : length (served_in (works ++ visit one (cut_by trouble) ∷ [])) ≡ length (served_in works) + 1 =
-      ap length (served_in-append works (visit one (cut_by trouble) ∷ [])) ∙ length-append (served_in works) (one ∷ []) in
-      let all : sessions_in (works ++ visit one (cut_by trouble) ∷ []) ≡ sessions_in works ++ one.session ∷ [] =
-      ap (map (λ (served : Served). served.session)) (served_in-append works (visit one (cut_by trouble) ∷ []))
+      SoFar terms number (works ++ visit one (course_by moments trouble) ∷ []) own' served served'' given given'' handed' later (flags_after trouble flags)
+  so-far-more works own own' served served' served'' given given' given'' handed handed' next later flags trouble one moments so_far added back is low one_more further =
+      let owned = owner-session terms.workers number handed one (course_by moments trouble) low (is ∙ so_far.next_is) in
+      let grown : length (served_in (works ++ visit one (course_by moments trouble) ∷ [])) ≡ length (served_in works) + 1 =
+      ap length (served_in-append works (visit one (course_by moments trouble) ∷ [])) ∙ length-append (served_in works) (one ∷ []) in
+      let all : sessions_in (works ++ visit one (course_by moments trouble) ∷ []) ≡ sessions_in works ++ one.session ∷ [] =
+      ap (map (λ (served : Served). served.session)) (served_in-append works (visit one (course_by moments trouble) ∷ []))
       ∙ map-append (λ (served : Served). served.session) (served_in works) (one ∷ []) in
       let many : length (sessions_in works) ≡ handed = length-map (served_in works) (λ (served : Served). served.session) ∙ so_far.each in
       record {
-        part = part-more terms number (suc number) works (visit one (cut_by trouble)) own own' served served' served'' given given' given'' so_far.part added
+        part = part-more terms number (suc number) works (visit one (course_by moments trouble)) own own' served served' served'' given given' given'' so_far.part added
             (omega (arith, owned)) (omega (arith, owned)) (subst (λ s. AllByRecursion (λ work. ¬ (lane_of_work work ≡ of_session s)) works) (sym is) (before-absent next works so_far.before)) back;
         each = omega (arith, grown, so_far.each, one_more);
         next_is = next-turn (so_far.next_is);
         numbered = subst (GoBySteps terms.workers (1 + number)) (sym all) (steps-more terms.workers (1 + number) (sessions_in works) one.session so_far.numbered
             (is ∙ so_far.next_is ∙ ap (λ n. 1 + number + terms.workers * n) (sym many)));
-        before = before-more next later works one (cut_by trouble) so_far.before is (omega (arith, further, low));
-        uncut = λ quiet. let both = quiet-after trouble flags quiet in
-            each-append IsUncut works (visit one (cut_by trouble) ∷ []) (so_far.uncut both.0) (both.1, tt);
-        flagged = each-append (IsFlagged (flags_after trouble flags)) works (visit one (cut_by trouble) ∷ []) (flagged-after trouble flags works so_far.flagged) (marked-after trouble flags, tt);
+        before = before-more next later works one (course_by moments trouble) so_far.before is (omega (arith, further, low));
+        flagged = each-append (IsFlagged (flags_after trouble flags)) works (visit one (course_by moments trouble) ∷ []) (flagged-after trouble flags works so_far.flagged) (marked-after trouble flags, tt);
       }
     where
       next-turn : next ≡ 1 + number + terms.workers * handed → later ≡ 1 + number + terms.workers * handed'
@@ -73,47 +70,45 @@ module _ (terms : Terms) (number : ℕ) where
     part = record {
       agreed = so_far.part.agreed;
       of_them = so_far.part.of_them;
+      in_turn = so_far.part.in_turn;
       came_back = λ told. stays told ∙ so_far.part.came_back told;
-      gains = so_far.part.gains;
       gave = so_far.part.gave;
-      timed = so_far.part.timed;
     };
     each = so_far.each ∙ sym same;
     next_is = so_far.next_is ∙ ap (λ n. 1 + number + terms.workers * n) (sym same);
     numbered = so_far.numbered;
     before = so_far.before;
-    uncut = so_far.uncut;
     flagged = so_far.flagged;
   }
 
   -- where the work ends
   module _ (share : ℕ) (works : List Work) (own seen : List Entry) (served served' : List Served) (given given' : List ℕ) (handed next host_faults clock_faults : ℕ) (flags : Flags)
       (so_far : SoFar terms number works own served served' given given' handed next flags) where
-    pub left-closed : flags.host ≡ false → flags.disk ≡ false → host_faults ≡ 0 → Counts flags.clock clock_faults → handed ≡ share →
+    pub left-closed : flags.host ≡ false → flags.disk ≡ false → host_faults ≡ 0 → Counts flags.clock clock_faults → min (clock_cuts works) (2 ^ 64 - 1) ≤ clock_faults → handed ≡ share →
         Left true terms number share works own seen served served' given given' handed host_faults clock_faults flags
-    left-closed no_host no_disk calm ticked all = record {
+    left-closed no_host no_disk calm ticked cuts all = record {
       part = so_far.part;
       each = so_far.each;
       numbered = so_far.numbered;
       whole = λ ran hosted sound. all;
-      uncut = so_far.uncut;
       flagged = so_far.flagged;
       hosted = subst (λ flag. Counts flag host_faults) (sym no_host) calm;
       ticked = λ sound. ticked;
+      cuts = λ sound. cuts;
       broken = λ broke. absurd (let no : true ≡ false = sym broke ∙ no_disk in cc);
     }
 
-    pub left-failed : flags.disk ≡ false → 0 < host_faults → Counts flags.clock clock_faults →
+    pub left-failed : flags.disk ≡ false → 0 < host_faults → Counts flags.clock clock_faults → min (clock_cuts works) (2 ^ 64 - 1) ≤ clock_faults →
         Left true terms number share works own seen served served' given given' handed host_faults clock_faults (failed_host flags)
-    left-failed no_disk rose ticked = record {
+    left-failed no_disk rose ticked cuts = record {
       part = so_far.part;
       each = so_far.each;
       numbered = so_far.numbered;
       whole = λ ran hosted sound. absurd (let no : true ≡ false = hosted in cc);
-      uncut = λ quiet. so_far.uncut (record { disk = quiet.disk; clock = quiet.clock; memory = quiet.memory });
       flagged = flagged-more flags (failed_host flags) (λ is. is) (λ is. is) (λ is. is) works so_far.flagged;
       hosted = rose;
       ticked = λ sound. ticked;
+      cuts = λ sound. cuts;
       broken = λ broke. absurd (let no : true ≡ false = sym broke ∙ no_disk in cc);
     }
 
@@ -124,10 +119,10 @@ module _ (terms : Terms) (number : ℕ) where
       each = so_far.each;
       numbered = so_far.numbered;
       whole = λ ran hosted sound. absurd (let no : true ≡ false = sym disk ∙ sound in cc);
-      uncut = so_far.uncut;
       flagged = so_far.flagged;
       hosted = subst (λ flag. Counts flag host_faults) (sym no_host) calm;
       ticked = λ sound. absurd (let no : true ≡ false = sym disk ∙ sound in cc);
+      cuts = λ sound. absurd (let no : true ≡ false = sym disk ∙ sound in cc);
       broken = λ flag. broke;
     }
 
@@ -138,10 +133,9 @@ pub part-fresh : (terms : Terms) (first end : ℕ) (works : List Work) (own : Li
 part-fresh terms first end works own served served' given given' part none no_moment = record {
   agreed = part.agreed;
   of_them = part.of_them;
+  in_turn = part.in_turn;
   came_back = λ told. part.came_back told ∙ ap (λ front. front ++ served_in works) (none told);
-  gains = part.gains;
-  gave = λ told. part.gave told ∙ ap (λ front. front ++ part.gains) (no_moment told);
-  timed = part.timed;
+  gave = λ told. part.gave told ∙ ap (λ front. front ++ moments_in works) (no_moment told);
 }
 
 pub left-fresh : (ran : Bool) (terms : Terms) (number share : ℕ) (works : List Work) (own seen : List Entry) (served served' : List Served) (given given' : List ℕ) (handed host_faults clock_faults : ℕ) (flags : Flags) →
@@ -152,10 +146,10 @@ left-fresh ran terms number share works own seen served served' given given' han
   each = left.each;
   numbered = left.numbered;
   whole = left.whole;
-  uncut = left.uncut;
   flagged = left.flagged;
   hosted = left.hosted;
   ticked = left.ticked;
+  cuts = left.cuts;
   broken = left.broken;
 }
 
@@ -168,32 +162,35 @@ left-nothing terms number share own seen served given handed host_faults clock_f
   each = sym no_handed;
   numbered = tt;
   whole = λ ran. absurd (let no : false ≡ true = ran in cc);
-  uncut = λ quiet. tt;
   flagged = tt;
   hosted = subst (λ (f : Flags). Counts f.host host_faults) (sym unmarked) no_fault;
   ticked = λ sound. subst (λ (f : Flags). Counts f.clock clock_faults) (sym unmarked) no_miss;
+  cuts = λ sound. omega arith;
   broken = λ is. absurd (let no : false ≡ true = ap (λ (f : Flags). f.disk) (sym unmarked) ∙ is in cc);
 }
 
 -- a worker that serves no connection left one work
 pub left-one : (terms : Terms) (number : ℕ) (work : Work) (own own' seen : List Entry) (given given' : List ℕ) (misses misses' : ℕ) (flags : Flags) (trouble : Trouble) →
-    Added terms.plant (lane_of_work work) (terms.says work) terms.clocking own own' given given' → deeds own ≡ [] → (terms.clocking → given ≡ []) → misses ≡ 0 → flags ≡ no_flags →
-    served_by work ≡ [] → IsUncut work → IsFlagged (flags_after trouble flags) work → number ≡ owner terms.workers work → ClockTrouble misses misses' trouble → (trouble ≡ Disk → is_broken seen ≡ true) →
+    Added terms.plant (lane_of_work work) (terms.says work) terms.clocking (course_of work).moments own own' given given' → deeds own ≡ [] → (terms.clocking → given ≡ []) → misses ≡ 0 → flags ≡ no_flags →
+    served_by work ≡ [] → (course_of work).cut ≡ cut_by trouble → IsFlagged (flags_after trouble flags) work → number ≡ owner terms.workers work → ClockTrouble misses misses' trouble → (trouble ≡ Disk → is_broken seen ≡ true) →
     Left true terms number 0 (work ∷ []) own' seen [] [] [] given' 0 0 misses' (flags_after trouble flags)
-left-one terms number work own own' seen given given' misses misses' flags trouble added empty no_moment no_miss unmarked serves uncut flagged owned cause broken = record {
+left-one terms number work own own' seen given given' misses misses' flags trouble added empty no_moment no_miss unmarked serves cut_is flagged owned cause broken = record {
   part = part-fresh terms number (suc number) (work ∷ []) own' [] [] given given'
       (part-more terms number (suc number) [] work own own' [] [] [] given given given' (part-nothing terms number (suc number) own [] given empty) added
       (omega (arith, owned)) (omega (arith, owned)) tt (λ told. sym serves)) (λ told. refl) no_moment;
   each = ap (λ list. length (list ++ [])) serves;
   numbered = subst (λ list. GoBySteps terms.workers (1 + number) (map (λ (served : Served). served.session) (list ++ []))) (sym serves) tt;
   whole = λ ran accepted sound. refl;
-  uncut = λ quiet. (uncut, tt);
   flagged = (flagged, tt);
   hosted = subst (λ flag. Counts flag 0) (sym (host-after trouble flags ∙ ap (λ (f : Flags). f.host) unmarked)) refl;
   ticked = λ sound. counted trouble cause sound;
+  cuts = λ sound. cuts-more trouble work [] misses misses' cut_is (λ is. disked trouble is sound) cause (omega (arith, no_miss));
   broken = λ is. raised trouble refl is;
 }
   where
+    disked : (t : Trouble) → t ≡ Disk → (flags_after t flags).disk ≡ false → ⊥
+    disked t is sound = let no : true ≡ false = ap (λ x. (flags_after x flags).disk) (sym is) ∙ sound in cc
+
     counted : (t : Trouble) → ClockTrouble misses misses' t → (flags_after t flags).disk ≡ false → Counts (flags_after t flags).clock misses'
     counted Nothing calm sound = subst (λ (f : Flags). Counts f.clock misses') (sym unmarked) (calm ∙ no_miss)
     counted Disk calm sound = absurd (let no : true ≡ false = sound in cc)

@@ -6,9 +6,9 @@ use Rattle.boss_model.specs.Catalogue.{actuators, Catalogue}
 use Rattle.def_history.specs.declared.entry.Entry.{Entry}
 use Rattle.def_history.specs.History.{deeds}
 use Rattle.def_lanes.specs.Lanes.{of_session}
-use Rattle.def_lanes.specs.Parts.{Added}
+use Rattle.def_lanes.specs.Parts.{Added, AreTimed}
 use Rattle.def_lanes.specs.Works.{not_cut, by_disk, by_clock, by_memory}
-use Rattle.def_lanes.proofs.Adding.{added-nothing, added-then}
+use Rattle.def_lanes.proofs.Adding.{added-nothing, added-says, added-then}
 use Rattle.boss_outside.specs.declared.source.ReadAt.{ReadAt}
 use Rattle.boss_outside.specs.Notes.{AllRead, IsUnread}
 use Rattle.boss_outside.proofs.Noting.{notes-all}
@@ -31,8 +31,9 @@ use Rattle.boss_watching.specs.declared.end.WatchEnd.{WatchEnd}
 use Rattle.boss_watching.specs.declared.end.WatchEnd.TheVariants as watch
 use Rattle.boss_watching.specs.Ends.{is_unanswered_end, HasCalled}
 use Rattle.boss_watching.specs.Notes.{notes}
+use Rattle.boss_worker.specs.declared.trouble.Trouble.{Trouble}
 use Rattle.boss_worker.specs.Saying.{IsVisit}
-use Rattle.boss_worker.specs.Troubles.{trouble_of, trouble_of_watch, cut_by}
+use Rattle.boss_worker.specs.Troubles.{trouble_of, trouble_of_watch, course_by, cut_by}
 
 cut-trouble : (end : SessionEnd) → cut_by (trouble_of end) ≡ cut_of end
 cut-trouble session.End = refl
@@ -93,14 +94,14 @@ module _ (catalogue : Catalogue) (gates : List Gate) (heeds tells ticks : Type 0
     (own own' : List Entry) (before : List ℕ) (count : ℕ) (empty : before ≡ []) (quiet : count ≡ 0) (given given' : List ℕ) where
   -- a connection that was served up to its end
   pub talk-visit : (begun : Option (List ReadAt)) (reads : ℕ) (end : SessionEnd) → IsUnread begun →
-      Connected (speech_of catalogue gates) served.session heeds tells ticks bytes served.left begun served.reads
-      (standing own before count given false 0) (standing own' served.taken served.write_faults given' false 0) end →
+      (connected : Connected (speech_of catalogue gates) served.session heeds tells ticks bytes served.left begun served.reads
+      (standing own before count given false 0) (standing own' served.taken served.write_faults given' false 0) end) →
       reads ≡ 0 → ReadCause reads served.read_faults (Some end) → WriteCause count served.write_faults (Some end) → is_watch end ≡ false →
-      Added (actuators catalogue) (of_session served.session) (λ entries. heeds → IsVisit catalogue gates tells served (cut_by (trouble_of end)) entries) ticks own own' given given'
+      Added (actuators catalogue) (of_session served.session) (λ entries. heeds → IsVisit catalogue gates tells served (course_by connected.talked.moments (trouble_of end)) entries) ticks connected.talked.moments own own' given given'
   talk-visit begun reads end unheard connected unread read write watched =
       talk-says (actuators catalogue) (speech_of catalogue gates) served.session tells ticks some (spoken_of connected.taken) connected.stop (is_stop_end end)
       (standing own before count given false 0) (standing own' served.taken served.write_faults given' false 0) connected.talked
-      (λ entries. heeds → IsVisit catalogue gates tells served (cut_by (trouble_of end)) entries) (λ told. inl (talk-of told))
+      (λ entries. heeds → IsVisit catalogue gates tells served (course_by connected.talked.moments (trouble_of end)) entries) (λ told. inl (talk-of told))
     where
       answered : heeds → tells → AllRead (IsAnswered (speech_of catalogue gates) served.held 0 connected.talked.exchanged.talk) served.reads
       answered told now =
@@ -108,7 +109,7 @@ module _ (catalogue : Catalogue) (gates : List Gate) (heeds tells ticks : Type 0
           (subst (λ n. AllRead (IsAnswered (speech_of catalogue gates) bytes n connected.talked.exchanged.talk) served.reads) (ap length empty)
           (notes-all (IsAnswered (speech_of catalogue gates) bytes (length before) connected.talked.exchanged.talk) begun served.reads unheard (connected.answered told now)))
 
-      talk-of : heeds → IsTalkOf (speech_of catalogue gates) tells served (cut_by (trouble_of end)) connected.talked.more
+      talk-of : heeds → IsTalkOf (speech_of catalogue gates) tells served (course_by connected.talked.moments (trouble_of end)) connected.talked.more
       talk-of told =
           let lost : Lost served.held served.left connected.taken connected.stop =
           subst (λ b. Lost b served.left connected.taken connected.stop) (sym (held told)) (connected.lost told) in
@@ -119,7 +120,6 @@ module _ (catalogue : Catalogue) (gates : List Gate) (heeds tells ticks : Type 0
             taken = connected.taken;
             stop = connected.stop;
             broken = is_stop_end end;
-            moments = connected.talked.moments;
             ended = subst (λ cut. IsEnded served connected.taken connected.stop (is_stop_end end) cut) (sym (cut-trouble end))
                 (has-ended served connected.taken connected.stop end lost connected.end_is
                 (subst (λ n. ReadCause n served.read_faults (Some end)) unread read)
@@ -131,37 +131,40 @@ module _ (catalogue : Catalogue) (gates : List Gate) (heeds tells ticks : Type 0
   -- the talk stopped since its first line asked to watch
   talked-watch : (begun reads : Option (List ReadAt)) (mid : List Entry) (between : List ℕ) (counted : ℕ) (gave : List ℕ) (name : List ℕ) (from : ℕ) →
       (connected : Connected (speech_of catalogue gates) served.session heeds tells ticks bytes served.left begun reads (standing own before count given false 0) (standing mid between counted gave false 0) (session.Watch name from)) →
-      Talked (speech_of catalogue gates) served.session tells ticks (spoken_of connected.taken) (watching name from) false (standing own before count given false 0) (standing mid between counted gave false 0)
+      (talked : Talked (speech_of catalogue gates) served.session tells ticks (spoken_of connected.taken) (watching name from) false (standing own before count given false 0) (standing mid between counted gave false 0))
+      × (talked.moments ≡ connected.talked.moments)
   talked-watch begun reads mid between counted gave name from connected =
-      subst (λ stop. Talked (speech_of catalogue gates) served.session tells ticks (spoken_of connected.taken) stop false (standing own before count given false 0) (standing mid between counted gave false 0))
-      (watch-stop name from connected.stop (connected.end_is refl)) connected.talked
+      subst (λ stop. (talked : Talked (speech_of catalogue gates) served.session tells ticks (spoken_of connected.taken) stop false (standing own before count given false 0) (standing mid between counted gave false 0))
+      × (talked.moments ≡ connected.talked.moments)) (watch-stop name from connected.stop (connected.end_is refl)) (connected.talked, refl)
 
   -- a connection whose first line asked to watch, and which then did
   pub watch-visit : (begun reads : Option (List ReadAt)) (mid : List Entry) (between : List ℕ) (counted : ℕ) (gave : List ℕ) (name : List ℕ) (from idle : ℕ) (end : WatchEnd) →
       (connected : Connected (speech_of catalogue gates) served.session heeds tells ticks bytes served.left begun reads (standing own before count given false 0) (standing mid between counted gave false 0) (session.Watch name from)) →
-      counted ≡ count → Watched (notes catalogue) served.session name tells ticks (is_unanswered_end end) from (standing mid between counted gave false 0) (standing own' served.taken served.write_faults given' false 0) →
+      counted ≡ count → (watched : Watched (notes catalogue) served.session name tells ticks (is_unanswered_end end) from (standing mid between counted gave false 0) (standing own' served.taken served.write_faults given' false 0)) →
       0 < idle → HasCalled idle mid own' end →
-      Added (actuators catalogue) (of_session served.session) (λ entries. heeds → IsVisit catalogue gates tells served (cut_by (trouble_of_watch end)) entries) ticks own own' given given'
+      Added (actuators catalogue) (of_session served.session) (λ entries. heeds → IsVisit catalogue gates tells served (course_by watched.moments (trouble_of_watch end)) entries) ticks watched.moments own own' given given'
   watch-visit begun reads mid between counted gave name from idle end connected calm watched some_turns called =
       let silent = talk-silent (speech_of catalogue gates) served.session tells ticks (spoken_of connected.taken) name from false (standing own before count given false 0)
-      (standing mid between counted gave false 0) (talked-watch begun reads mid between counted gave name from connected) in
-      added-then (actuators catalogue) (of_session served.session) ticks (λ entries. entries ≡ [])
-      (λ more. (deeds own' ≡ deeds mid ++ more) × ((moments : List ℕ) × Noticed (notes catalogue) served.session name tells (is_unanswered_end end) from between served.taken counted served.write_faults more moments))
-      (λ entries. heeds → IsVisit catalogue gates tells served (cut_by (trouble_of_watch end)) entries)
-      (λ none more nothing said told. inr (watch-of silent.1 (none ++ more) more (ap (λ front. front ++ more) nothing) said.0 said.1.0 said.1.1 told))
+      (standing mid between counted gave false 0) (talked-watch begun reads mid between counted gave name from connected).0 in
+      subst (λ moments. Added (actuators catalogue) (of_session served.session) (λ entries. heeds → IsVisit catalogue gates tells served (course_by watched.moments (trouble_of_watch end)) entries) ticks moments own own' given given')
+      (ap (λ none. none ++ watched.moments) (sym (talked-watch begun reads mid between counted gave name from connected).1 ∙ silent.2))
+      (added-then (actuators catalogue) (of_session served.session) ticks connected.talked.moments watched.moments (λ entries. entries ≡ [])
+      (λ more. (deeds own' ≡ deeds mid ++ more) × Noticed (notes catalogue) served.session name tells (is_unanswered_end end) from between served.taken counted served.write_faults more watched.moments)
+      (λ entries. heeds → IsVisit catalogue gates tells served (course_by watched.moments (trouble_of_watch end)) entries)
+      (λ none more nothing said told. inr (watch-of silent.1 (none ++ more) more (ap (λ front. front ++ more) nothing) said.0 said.1 told))
       own mid own' given gave given'
       (added-nothing (actuators catalogue) (of_session served.session) ticks (λ entries. entries ≡ []) own mid given gave connected.talked.moments silent.0 refl connected.talked.gave)
       (grown (watch-added (actuators catalogue) (speech_of catalogue gates) served.session tells ticks some (notes catalogue) (is_unanswered_end end) name from (standing mid between counted gave false 0)
-      (standing own' served.taken served.write_faults given' false 0) watched))
+      (standing own' served.taken served.write_faults given' false 0) watched)))
     where
-      watch-of : (tells → between ≡ before) → (all more : List Entry) → all ≡ more → deeds own' ≡ deeds mid ++ more → (moments : List ℕ) →
-          Noticed (notes catalogue) served.session name tells (is_unanswered_end end) from between served.taken counted served.write_faults more moments → heeds →
-          IsWatchOf (speech_of catalogue gates) (notes catalogue) tells served (cut_by (trouble_of_watch end)) all
-      watch-of same all more is grew moments noticed told =
+      watch-of : (tells → between ≡ before) → (all more : List Entry) → all ≡ more → deeds own' ≡ deeds mid ++ more →
+          Noticed (notes catalogue) served.session name tells (is_unanswered_end end) from between served.taken counted served.write_faults more watched.moments → heeds →
+          IsWatchOf (speech_of catalogue gates) (notes catalogue) tells served (course_by watched.moments (trouble_of_watch end)) all
+      watch-of same all more is grew noticed told =
           let is_watching = watch-stop name from connected.stop (connected.end_is refl) in
           let lost : Lost served.held served.left connected.taken (watching name from) =
           subst (λ stop. Lost served.held served.left connected.taken stop) is_watching (subst (λ b. Lost b served.left connected.taken connected.stop) (sym (held told)) (connected.lost told)) in
-          let first = watch-line (speech_of catalogue gates) (spoken_of connected.taken) name from _ _ _ (talked-watch begun reads mid between counted gave name from connected).exchanged.leaves in
+          let first = watch-line (speech_of catalogue gates) (spoken_of connected.taken) name from _ _ _ (talked-watch begun reads mid between counted gave name from connected).0.exchanged.leaves in
           record {
             name = name;
             from = from;
@@ -171,22 +174,28 @@ module _ (catalogue : Catalogue) (gates : List Gate) (heeds tells ticks : Type 0
             lines = first.1;
             asked = first.2;
             some = λ whole none. longer-some (deeds mid) (deeds own') more grew (called-longer idle mid own' end some_turns called whole) (sym is ∙ none);
-            moments = moments;
-            noticed = subst (λ entries. Noticed (notes catalogue) served.session name tells (is_unanswered (cut_by (trouble_of_watch end))) from [] served.taken 0 served.write_faults entries moments) (sym is)
-                (subst (λ un. Noticed (notes catalogue) served.session name tells un from [] served.taken 0 served.write_faults more moments) (unanswered-trouble end)
-                (noticed-fresh (notes catalogue) served.session name tells (is_unanswered_end end) from between served.taken counted served.write_faults more moments (λ t. same t ∙ empty) (calm ∙ quiet) noticed));
+            noticed = subst (λ entries. Noticed (notes catalogue) served.session name tells (is_unanswered (cut_by (trouble_of_watch end))) from [] served.taken 0 served.write_faults entries watched.moments) (sym is)
+                (subst (λ un. Noticed (notes catalogue) served.session name tells un from [] served.taken 0 served.write_faults more watched.moments) (unanswered-trouble end)
+                (noticed-fresh (notes catalogue) served.session name tells (is_unanswered_end end) from between served.taken counted served.write_faults more watched.moments (λ t. same t ∙ empty) (calm ∙ quiet) noticed));
           }
 
       grown : Added (actuators catalogue) (of_session served.session)
-          (λ more. (moments : List ℕ) × Noticed (notes catalogue) served.session name tells (is_unanswered_end end) from between served.taken counted served.write_faults more moments) ticks mid own' gave given' →
+          (λ more. Noticed (notes catalogue) served.session name tells (is_unanswered_end end) from between served.taken counted served.write_faults more watched.moments) ticks watched.moments mid own' gave given' →
           Added (actuators catalogue) (of_session served.session)
-          (λ more. (deeds own' ≡ deeds mid ++ more) × ((moments : List ℕ) × Noticed (notes catalogue) served.session name tells (is_unanswered_end end) from between served.taken counted served.write_faults more moments)) ticks mid own' gave given'
+          (λ more. (deeds own' ≡ deeds mid ++ more) × Noticed (notes catalogue) served.session name tells (is_unanswered_end end) from between served.taken counted served.write_faults more watched.moments) ticks watched.moments mid own' gave given'
       grown added = record {
         more = added.more;
         grew = added.grew;
         of_lane = added.of_lane;
         agrees = (added.grew, added.agrees);
-        gains = added.gains;
         gave = added.gave;
         timed = added.timed;
       }
+
+-- what a connection added was called at moments that the clock gave for it
+pub visit-timed : (catalogue : Catalogue) (gates : List Gate) (heeds tells ticks : Type 0) (served : Served) (trouble : Trouble) (moments : List ℕ) (own own' : List Entry) (given given' : List ℕ) →
+    Added (actuators catalogue) (of_session served.session) (λ entries. heeds → IsVisit catalogue gates tells served (course_by moments trouble) entries) ticks moments own own' given given' →
+    Added (actuators catalogue) (of_session served.session) (λ entries. AreTimed moments entries × (heeds → IsVisit catalogue gates tells served (course_by moments trouble) entries)) ticks moments own own' given given'
+visit-timed catalogue gates heeds tells ticks served trouble moments own own' given given' added =
+    added-says (actuators catalogue) (of_session served.session) ticks moments (λ entries. heeds → IsVisit catalogue gates tells served (course_by moments trouble) entries)
+    (λ entries. AreTimed moments entries × (heeds → IsVisit catalogue gates tells served (course_by moments trouble) entries)) (λ more timed said. (timed, said)) own own' given given' added

@@ -3,7 +3,6 @@ use Rattle.std.proofs.Common.{◌≡◌, ℕ, suc, ◌+◌, ◌<◌, ◌≤◌, 
 use Rattle.boss_model.specs.Limits.{drive_pause, tick_pause, watch_pause}
 use Rattle.def_lanes.specs.Waits.{IsSteady, PausedFor, WaitedAt}
 use Rattle.def_lanes.specs.Works.{Work, visit, beat, drive, owner, AreOf, served_in}
-use Rattle.boss_outside_server.specs.declared.waited.Leaving.{Leaving}
 use Rattle.boss_outside_server.specs.declared.waited.Leaving.TheVariants.{NotYet}
 use Rattle.boss_outside_server.specs.declared.waited.Waited.{Waited}
 use Rattle.boss_outside_server.specs.Waits.{after_leave, leaving_after, new_waited}
@@ -59,9 +58,9 @@ waited-unrun workers number old fresh behind = subst (WaitedAt workers number 0)
 -- a worker for connections did nothing else
 visit-one : (workers number : ℕ) → number < workers → (work : Work) → (number ≤ owner workers work) × (owner workers work < suc number) → (works : List Work) →
     length (served_in (work ∷ works)) ≡ suc (length (served_in works))
-visit-one workers number low (visit served cut) within works = refl
-visit-one workers number low (beat waited) within works = absurd (omega (arith, low, within.1))
-visit-one workers number low (drive driver calls waited) within works = absurd (omega (arith, low, within.1))
+visit-one workers number low (visit served course) within works = refl
+visit-one workers number low (beat waited course) within works = absurd (omega (arith, low, within.1))
+visit-one workers number low (drive driver calls waited course) within works = absurd (omega (arith, low, within.1))
 
 pub visits-counted : (workers number : ℕ) → number < workers → (works : List Work) → AreOf workers number (suc number) works → length (served_in works) ≡ length works
 visits-counted workers number low [] of_them = refl

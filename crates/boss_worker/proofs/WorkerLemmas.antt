@@ -1,5 +1,5 @@
 -- What a worker left that was ready, by its duty.
-use Rattle.std.proofs.Common.{◌+◌, arith, ◌≡◌, ℕ, ◌≤◌, true, false, [], ◌∷◌, refl, ap, sym, ◌∙◌, subst, append-nil}
+use Rattle.std.proofs.Common.{arith, ◌≡◌, ℕ, ◌≤◌, true, false, [], ◌∷◌, refl, ap, sym, ◌∙◌, subst, append-nil}
 use Rattle.std.specs.declared.snapshot.Snapshot.{Snapshot}
 use Rattle.boss_model.specs.Catalogue.{actuators as points_of, Catalogue}
 use Rattle.boss_model.specs.Limits.{drive_pause, last_number, tick_pause}
@@ -81,29 +81,31 @@ module _ {G Pass H In Out C W A : Type 0} (g : desk.Ghosts G Pass) (h : host.Gho
     waits = waits;
     placed = fresh-placed h workers number duty ready.fresh;
     worked = λ ran. absurd (let no : false ≡ true = ran in cc);
-    ended = λ quiet. tt;
+    ended = tt;
   }
 
   module _ (pass' : Pass) (tick' : C) (wait' : W) (most : ℕ) (enough : last_number ≤ most) (end : WorkEnd) (own : g.owns it pass') (parts : g.parts pass' ≡ g.parts pass) (clock : ClockCause (k.faults tick) (k.faults tick') end)
       (cause : EndCause (g.seen pass') w.tells (w.waited wait').closed (w.closes wait) (w.closes wait') end) (paused : w.tells → PausedFor tick_pause (w.waited wait) (w.waited wait')) where
     pub has-left-time : duty ≡ Time → Expired (own_of g pass) (own_of g pass') k.tells (k.given tick) (k.given tick') w.tells (w.waited wait).pauses (w.waited wait').pauses most end →
         HasLeft g h k w a true (terms_of catalogue (g.denies it) workers heeds tells h.tells k.tells w.tells) it number pass' duty tick' wait' (flags_after (trouble_of_work end) flags)
-    has-left-time is expired = subst (λ d. HasLeft g h k w a true (terms_of catalogue (g.denies it) workers heeds tells h.tells k.tells w.tells) it number pass' d tick' wait' (flags_after (trouble_of_work end) flags)) (sym is)
+    has-left-time is expired =
+        let left = left-time catalogue (g.denies it) workers number heeds tells h.tells k.tells w.tells (own_of g pass) (own_of g pass') (g.seen pass') (k.given tick) (k.given tick') (k.faults tick) (k.faults tick')
+        (w.waited wait).pauses most (w.closes wait) (w.closes wait') (w.waited wait') end flags ready.empty ready.given no-pause ready.clock_faults ready.unmarked clock cause
+        (subst (IsFreshDuty h workers number) is ready.fresh) expired in
+        subst (λ d. HasLeft g h k w a true (terms_of catalogue (g.denies it) workers heeds tells h.tells k.tells w.tells) it number pass' d tick' wait' (flags_after (trouble_of_work end) flags)) (sym is)
         (record {
           own = own;
           one = parts ∙ ready.one;
-          works = beat (w.waited wait') ∷ [];
-          left = left-time catalogue (g.denies it) workers number heeds tells h.tells k.tells w.tells (own_of g pass) (own_of g pass') (g.seen pass') (k.given tick) (k.given tick') (k.faults tick) (k.faults tick')
-              (w.waited wait).pauses most (w.closes wait) (w.closes wait') (w.waited wait') end flags ready.empty ready.given no-pause ready.clock_faults ready.unmarked clock cause
-              (subst (IsFreshDuty h workers number) is ready.fresh) expired;
+          works = beat (w.waited wait') left.0 ∷ [];
+          left = left.2;
           called = tt;
           noted = (refl, tt);
           waits = λ told. waited-time workers number (w.waited wait) (w.waited wait') (ready.waited told) 1 (subst (IsFreshDuty h workers number) is ready.fresh) (paused told);
           placed = subst (IsFreshDuty h workers number) is ready.fresh;
-          worked = λ ran low. worked-one workers number (beat (w.waited wait')) (subst (IsFreshDuty h workers number) is ready.fresh);
-          ended = λ quiet. (
-            (λ told few. time-ended (points_of catalogue) k.tells w.tells (own_of g pass) (own_of g pass') (g.seen pass') (k.given tick) (k.given tick')
-                (w.waited wait).pauses (w.waited wait').pauses most (w.closes wait) (w.closes wait') (w.waited wait').closed end flags ready.empty no-pause cause enough quiet told expired few),
+          worked = λ ran low. worked-one workers number (beat (w.waited wait') left.0) (subst (IsFreshDuty h workers number) is ready.fresh);
+          ended = (
+            (λ told few uncut. time-ended (points_of catalogue) k.tells w.tells (own_of g pass) (own_of g pass') (g.seen pass') (k.given tick) (k.given tick')
+                (w.waited wait).pauses (w.waited wait').pauses most (w.closes wait) (w.closes wait') (w.waited wait').closed end ready.empty no-pause cause enough told expired few (sym left.1 ∙ uncut)),
             tt,
           );
         })
@@ -113,7 +115,7 @@ module _ {G Pass H In Out C W A : Type 0} (g : desk.Ghosts G Pass) (h : host.Gho
       (was_told : WasTold (own_of g pass) (own_of g pass') w.tells (w.waited wait').closed most trouble) (paused : w.tells → PausedFor drive_pause (w.waited wait) (w.waited wait')) where
     pub has-left-devices : (driver : ℕ) (devices devices' : A) (was : Snapshot A) → duty ≡ Devices driver devices was →
         Drove catalogue driver k.tells a.tells (record { own = own_of g pass; given = k.given tick; whole = a.whole devices; calls = a.calls devices })
-        (record { own = own_of g pass'; given = k.given tick'; whole = a.whole devices'; calls = a.calls devices' }) w.tells (w.waited wait').pauses →
+        (record { own = own_of g pass'; given = k.given tick'; whole = a.whole devices'; calls = a.calls devices' }) w.tells (w.waited wait').pauses trouble →
         HasLeft g h k w a true (terms_of catalogue (g.denies it) workers heeds tells h.tells k.tells w.tells) it number pass' (Devices driver devices' was) tick' wait' (flags_after trouble flags)
     has-left-devices driver devices devices' was is drove =
         let fresh = subst (IsFreshDuty h workers number) is ready.fresh in
@@ -122,17 +124,17 @@ module _ {G Pass H In Out C W A : Type 0} (g : desk.Ghosts G Pass) (h : host.Gho
         record {
           own = own;
           one = parts ∙ ready.one;
-          works = drive driver drove.calls (w.waited wait') ∷ [];
+          works = drive driver drove.calls (w.waited wait') drove.course ∷ [];
           left = left-driven catalogue (g.denies it) workers number heeds tells h.tells k.tells a.tells w.tells old new (g.seen pass') (k.faults tick) (k.faults tick') (w.waited wait') trouble flags
               ready.empty ready.given ready.clock_faults ready.unmarked clock broken driver drove fresh.0;
-          called = λ told whole. calls-driven driver (w.waited wait') (a.calls was.value) (a.calls devices) (a.calls devices') drove.calls (ap a.calls fresh.1) (drove.wrote told whole).1;
+          called = λ told whole. calls-driven driver (w.waited wait') drove.course (a.calls was.value) (a.calls devices) (a.calls devices') drove.calls (ap a.calls fresh.1) (drove.wrote told whole).1;
           noted = (refl, tt);
           waits = λ told. waited-drive workers number (w.waited wait) (w.waited wait') (ready.waited told) 1 driver fresh.0 (paused told);
           placed = fresh.0;
-          worked = λ ran low. worked-one workers number (drive driver drove.calls (w.waited wait')) fresh.0;
-          ended = λ quiet. (
+          worked = λ ran low. worked-one workers number (drive driver drove.calls (w.waited wait') drove.course) fresh.0;
+          ended = (
             driven-ended catalogue (g.denies it) workers number heeds tells h.tells k.tells a.tells w.tells old new (g.seen pass') (k.faults tick) (k.faults tick') (w.waited wait') trouble flags
-                ready.empty ready.given ready.clock_faults ready.unmarked clock broken driver drove most enough was_told quiet,
+                ready.empty ready.given ready.clock_faults ready.unmarked clock broken driver drove most enough was_told,
             tt,
           );
         }

@@ -1,9 +1,9 @@
 -- Source: own.
 -- What went wrong at the workers of a server, and what counts say of it.
-use Rattle.std.specs.Prelude.{◌≡◌, ℕ, ◌<◌, Bool, true, false, ◌||◌}
+use Rattle.std.specs.Prelude.{◌≡◌, ℕ, ◌<◌, Bool, true, false, ◌||◌, List}
 use Rattle.boss_outside.specs.Counts.{Rose}
 use Rattle.boss_sessions.specs.declared.end.SessionEnd.{SessionEnd}
-use Rattle.def_lanes.specs.Works.{Cut, not_cut, by_disk, by_clock, by_memory}
+use Rattle.def_lanes.specs.Works.{Course, Cut, not_cut, by_disk, by_clock, by_memory}
 use Rattle.boss_sessions.specs.declared.end.SessionEnd.TheVariants as session
 use Rattle.boss_expiry.specs.declared.end.WorkEnd.{WorkEnd}
 use Rattle.boss_expiry.specs.declared.end.WorkEnd.TheVariants as work
@@ -48,6 +48,10 @@ cut_by Disk = by_disk
 cut_by Clock = by_clock
 cut_by Memory = by_memory
 
+-- how a connection went that was cut off so
+abbrev pub course_by : List ℕ → Trouble → Course
+course_by moments trouble = record { moments = moments; cut = cut_by trouble }
+
 -- ---- flags
 
 abbrev pub no_flags : Flags
@@ -69,12 +73,6 @@ both_flags flags others = record {
   clock = flags.clock || others.clock;
   memory = flags.memory || others.memory;
 }
-
--- no end concerned the server
-pub record IsQuiet (flags : Flags) : Type 0 where
-  pub disk : flags.disk ≡ false
-  pub clock : flags.clock ≡ false
-  pub memory : flags.memory ≡ false
 
 -- ---- counts, of which the flags are the causes
 

@@ -1,26 +1,17 @@
 -- Source: own.
 -- What a worker left when it ended.
-use Rattle.std.specs.Prelude.{◌≡◌, ℕ, suc, ◌+◌, ◌*◌, ◌<◌, ◌^◌, Bool, true, false, List, [], ◌∷◌, length, map}
+use Rattle.std.specs.Prelude.{◌≡◌, ℕ, suc, ◌+◌, ◌-◌, ◌*◌, ◌<◌, ◌≤◌, ◌^◌, min, Bool, true, false, List, [], ◌∷◌, length, map}
 use Rattle.std.specs.List.{AllByRecursion}
 use Rattle.def_history.specs.declared.entry.Entry.{Entry}
 use Rattle.def_history.specs.History.{is_broken}
 use Rattle.def_lanes.specs.Parts.{Terms, Part}
-use Rattle.def_lanes.specs.Works.{Cut, not_cut, by_disk, by_clock, by_memory, Work, visit, beat, drive, AreBefore, served_in}
+use Rattle.def_lanes.specs.Works.{Cut, not_cut, by_disk, by_clock, by_memory, Work, course_of, AreBefore, clock_cuts, served_in}
 use Rattle.boss_outside_server.specs.Hosts.{Served}
 use Rattle.boss_outside_server.specs.declared.host.Host as host
 use Rattle.boss_worker.specs.declared.flags.Flags.{Flags}
-use Rattle.boss_worker.specs.Troubles.{IsQuiet, Counts}
+use Rattle.boss_worker.specs.Troubles.{Counts}
 
--- no connection was cut off
-abbrev pub IsUncut : Work → Type 0
-IsUncut (visit served cut) = cut ≡ not_cut
-IsUncut (beat waited) = Unit {0}
-IsUncut (drive driver calls waited) = Unit {0}
-
-abbrev pub AreUncut : List Work → Type 0
-AreUncut works = AllByRecursion IsUncut works
-
--- the flag stands of what a connection was cut off by
+-- the flag stands of what a work was cut off by
 abbrev pub IsMarked : Flags → Cut → Type 0
 IsMarked flags not_cut = Unit {0}
 IsMarked flags by_disk = flags.disk ≡ true
@@ -28,9 +19,7 @@ IsMarked flags by_clock = flags.clock ≡ true
 IsMarked flags by_memory = flags.memory ≡ true
 
 abbrev pub IsFlagged : Flags → Work → Type 0
-IsFlagged flags (visit served cut) = IsMarked flags cut
-IsFlagged flags (beat waited) = Unit {0}
-IsFlagged flags (drive driver calls waited) = Unit {0}
+IsFlagged flags work = IsMarked flags (course_of work).cut
 
 abbrev pub AreFlagged : Flags → List Work → Type 0
 AreFlagged flags works = AllByRecursion (IsFlagged flags) works
@@ -62,7 +51,6 @@ pub record SoFar (terms : Terms) (number : ℕ) (works : List Work) (own : List 
   pub next_is : next ≡ 1 + number + terms.workers * handed
   pub numbered : GoBySteps terms.workers (1 + number) (sessions_in works)
   pub before : AreBefore next works
-  pub uncut : IsQuiet flags → AreUncut works
   pub flagged : AreFlagged flags works
 
 -- what a worker left: its works agree with its own entries; each connection that it was handed was given back, and those are as
@@ -75,8 +63,9 @@ pub record Left (ran : Bool) (terms : Terms) (number share : ℕ) (works : List 
   pub each : length (served_in works) ≡ handed
   pub numbered : GoBySteps terms.workers (1 + number) (sessions_in works)
   pub whole : ran ≡ true → flags.host ≡ false → flags.disk ≡ false → handed ≡ share
-  pub uncut : IsQuiet flags → AreUncut works
   pub flagged : AreFlagged flags works
   pub hosted : Counts flags.host host_faults
   pub ticked : flags.disk ≡ false → Counts flags.clock clock_faults
+  -- one failed reading of its clock cuts one work off
+  pub cuts : flags.disk ≡ false → min (clock_cuts works) (2 ^ 64 - 1) ≤ clock_faults
   pub broken : flags.disk ≡ true → is_broken seen ≡ true

@@ -2,6 +2,7 @@
 -- A worker before it runs, and what it left.
 use Rattle.std.specs.Prelude.{◌≡◌, ℕ, ◌+◌, ◌<◌, ◌≤◌, Bool, true, List, [], ◌∷◌, ◌++◌, length}
 use Rattle.std.specs.List.{AllByRecursion}
+use Rattle.boss_model.specs.Limits.{most_workers}
 use Rattle.boss_model.specs.Catalogue.{actuators as points_of, Catalogue}
 use Rattle.def_lanes.specs.Parts.{Terms}
 use Rattle.def_lanes.specs.Waits.{IsNoteOf, WaitedAt}
@@ -19,7 +20,7 @@ use Rattle.boss_worker.specs.declared.duty.Duty.TheVariants.{Connections, Time, 
 use Rattle.boss_worker.specs.declared.flags.Flags.{Flags}
 use Rattle.boss_worker.specs.Desks.{own_of}
 use Rattle.boss_worker.specs.Ended.{is_worked, AreEnded}
-use Rattle.boss_worker.specs.Troubles.{no_flags, IsQuiet}
+use Rattle.boss_worker.specs.Troubles.{no_flags}
 use Rattle.boss_worker.specs.Visits.{IsFreshHost, Left}
 
 module _ {H In Out A : Type 0} (h : host.Ghosts H In Out) where
@@ -87,7 +88,7 @@ module _ {G Pass H In Out C W A : Type 0} (g : desk.Ghosts G Pass) (h : host.Gho
     pub given : k.tells → k.given clock ≡ []
     pub clock_faults : k.faults clock ≡ 0
     pub waited : w.tells → w.waited waiter ≡ new_waited workers
-    pub few : workers ≤ 32
+    pub few : workers ≤ most_workers
     pub fresh : IsFreshDuty h workers number duty
     pub unmarked : flags ≡ no_flags
 
@@ -103,4 +104,4 @@ module _ {G Pass H In Out C W A : Type 0} (g : desk.Ghosts G Pass) (h : host.Gho
     pub waits : w.tells → WaitedAt terms.workers number (length works) (w.waited waiter)
     pub placed : IsPlaced terms.workers number duty
     pub worked : ran ≡ true → terms.workers ≤ number → is_worked terms.workers number works ≡ true
-    pub ended : IsQuiet flags → AreEnded terms.plant w.tells (own_of g pass) works
+    pub ended : AreEnded terms.plant w.tells (own_of g pass) works

@@ -40,7 +40,7 @@ pub(crate) fn drive_devices<G: Desk, A: Actuators, C: Clock, W: Waiter>(
     ensures drove { Drove catalogue.now driver C.tells A.tells
         (record { own = entries_at (G.seen pass.old) (G.mine pass.old); given = C.given clock.old; whole = A.whole devices.old; calls = A.calls devices.old })
         (record { own = entries_at (G.seen pass.new) (G.mine pass.new); given = C.given clock.new; whole = A.whole devices.new; calls = A.calls devices.new })
-        W.tells (W.waited waiter.new).pauses }
+        W.tells (W.waited waiter.new).pauses result }
     ensures waited { W.tells → PausedFor drive_pause (W.waited waiter.old) (W.waited waiter.new) }
     ensures clock { ClockTrouble (C.faults clock.old) (C.faults clock.new) result }
     ensures disk { result ≡ Disk → is_broken (G.seen pass.new) ≡ true }

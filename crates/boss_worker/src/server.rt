@@ -7,6 +7,6 @@ pub struct Server<'a, G> {
     pub desk: G,
     /// The points, by which lines are read and answers told.
     pub catalogue: &'a Catalogue,
-    /// How many of them serve connections: 1 to 32.
+    /// How many of them serve connections: 1 to 1,024.
     pub workers: u32,
 }

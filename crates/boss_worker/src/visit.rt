@@ -1,4 +1,4 @@
-ghost use Rattle.std.specs.Prelude.{◌≡◌, ◌<◌, true, None};
+ghost use Rattle.std.specs.Prelude.{◌≡◌, ◌<◌, ℕ, List, true, None};
 ghost use Rattle.boss_model.specs.Catalogue.{actuators};
 ghost use Rattle.boss_model.specs.Limits.{watch_pause};
 ghost use Rattle.def_history.specs.History.{is_broken};
@@ -10,7 +10,7 @@ ghost use Rattle.boss_sessions.specs.Holding.{Holds, LeavesOthers};
 ghost use Rattle.boss_worker.specs.declared.trouble.Trouble.TheVariants.{Disk};
 ghost use Rattle.boss_worker.specs.Desks.{own_of};
 ghost use Rattle.boss_worker.specs.Saying.{IsVisit};
-ghost use Rattle.boss_worker.specs.Troubles.{cut_by, ClockTrouble};
+ghost use Rattle.boss_worker.specs.Troubles.{course_by, ClockTrouble};
 
 use crate::Trouble;
 use crate::trouble::{session_trouble, watch_trouble};
@@ -43,9 +43,9 @@ pub(crate) fn attend<G: Desk, S: Hears<K>, K: Sink, C: Clock, W: Waiter>(
     requires fresh { IsUntouched S.Source K.Sink input.old output.old }
     ensures own { G.owns desk.now pass.new }
     ensures parts { G.parts pass.new ≡ G.parts pass.old }
-    ensures added { Added (actuators catalogue.now) (of_session session)
-        (λ entries. S.tells → IsVisit catalogue.now (G.denies desk.now) K.tells (served_of S.Source K.Sink session input.new output.new) (cut_by result) entries)
-        C.tells (own_of G.Desk pass.old) (own_of G.Desk pass.new) (C.given clock.old) (C.given clock.new) }
+    ensures added { (moments : List ℕ) × Added (actuators catalogue.now) (of_session session)
+        (λ entries. S.tells → IsVisit catalogue.now (G.denies desk.now) K.tells (served_of S.Source K.Sink session input.new output.new) (course_by moments result) entries)
+        C.tells moments (own_of G.Desk pass.old) (own_of G.Desk pass.new) (C.given clock.old) (C.given clock.new) }
     ensures others { LeavesOthers (G.denies desk.now) session (G.held pass.old) (G.held pass.new) }
     ensures waited { W.tells → PausedFor watch_pause (W.waited waiter.old) (W.waited waiter.new) }
     ensures clocked { ClockTrouble (C.faults clock.old) (C.faults clock.new) result }

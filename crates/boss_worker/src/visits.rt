@@ -1,6 +1,6 @@
 ghost use Rattle.std.specs.Prelude.{◌≡◌, ◌<◌, ◌≤◌, [], List, true};
 ghost use Rattle.boss_model.specs.Catalogue.{actuators};
-ghost use Rattle.boss_model.specs.Limits.{watch_pause};
+ghost use Rattle.boss_model.specs.Limits.{most_workers, watch_pause};
 ghost use Rattle.def_history.specs.History.{deeds};
 ghost use Rattle.def_lanes.specs.Waits.{PausedFor};
 ghost use Rattle.def_lanes.specs.Works.{Work};
@@ -35,7 +35,7 @@ pub(crate) fn attend_all<G: Desk, H: Host, C: Clock, W: Waiter>(
     requires fresh { IsFreshHost H.Host host.old }
     requires quiet { C.faults clock.old ≡ 0 }
     requires number { number < server.now.workers }
-    requires few { server.now.workers ≤ 32 }
+    requires few { server.now.workers ≤ most_workers }
     ensures own { G.owns server.now.desk pass.new }
     ensures parts { G.parts pass.new ≡ G.parts pass.old }
     ensures share { H.share host.new ≡ H.share host.old }

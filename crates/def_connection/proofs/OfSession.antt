@@ -119,36 +119,34 @@ module _ (plant : List Actuator) (speech : Speech) (session : ℕ) (tells ticks 
 
   -- a talk adds to its session's lane, whatever is said of what it added
   pub talk-says : (heard : List (List ℕ)) (stop : Stop) (broken : Bool) (old new : Standing) → (talked : Talked speech session tells ticks heard stop broken old new) →
-      (says : List Entry → Type 0) → says talked.more → Added plant (of_session session) says ticks old.own new.own old.given new.given
+      (says : List Entry → Type 0) → says talked.more → Added plant (of_session session) says ticks talked.moments old.own new.own old.given new.given
   talk-says heard stop broken old new talked says said = record {
     more = talked.more;
     grew = talked.grew;
     of_lane = exchanged-lane heard stop broken old.taken new.taken old.faults new.faults talked.more talked.moments talked.exchanged;
     agrees = said;
-    gains = talked.moments;
     gave = talked.gave;
-    timed = λ told. exchanged-timed heard stop broken old.taken new.taken old.faults new.faults talked.more talked.moments talked.exchanged;
+    timed = exchanged-timed heard stop broken old.taken new.taken old.faults new.faults talked.more talked.moments talked.exchanged;
   }
 
   -- it says what an exchange says
-  pub talk-added : (heard : List (List ℕ)) (stop : Stop) (broken : Bool) (old new : Standing) → Talked speech session tells ticks heard stop broken old new →
-      Added plant (of_session session) (λ more. (moments : List ℕ) × Exchanged speech session tells heard stop broken old.taken new.taken old.faults new.faults more moments) ticks
+  pub talk-added : (heard : List (List ℕ)) (stop : Stop) (broken : Bool) (old new : Standing) → (talked : Talked speech session tells ticks heard stop broken old new) →
+      Added plant (of_session session) (λ more. Exchanged speech session tells heard stop broken old.taken new.taken old.faults new.faults more talked.moments) ticks talked.moments
       old.own new.own old.given new.given
   talk-added heard stop broken old new talked =
-      talk-says heard stop broken old new talked (λ more. (moments : List ℕ) × Exchanged speech session tells heard stop broken old.taken new.taken old.faults new.faults more moments)
-      (talked.moments, talked.exchanged)
+      talk-says heard stop broken old new talked (λ more. Exchanged speech session tells heard stop broken old.taken new.taken old.faults new.faults more talked.moments)
+      talked.exchanged
 
-  pub watch-added : (notes : Answer → List ℕ) (unanswered : Bool) (name : List ℕ) (from : ℕ) (old new : Standing) → Watched notes session name tells ticks unanswered from old new →
-      Added plant (of_session session) (λ more. (moments : List ℕ) × Noticed notes session name tells unanswered from old.taken new.taken old.faults new.faults more moments) ticks
+  pub watch-added : (notes : Answer → List ℕ) (unanswered : Bool) (name : List ℕ) (from : ℕ) (old new : Standing) → (watched : Watched notes session name tells ticks unanswered from old new) →
+      Added plant (of_session session) (λ more. Noticed notes session name tells unanswered from old.taken new.taken old.faults new.faults more watched.moments) ticks watched.moments
       old.own new.own old.given new.given
   watch-added notes unanswered name from old new watched = record {
     more = watched.more;
     grew = watched.grew;
     of_lane = subst (AllByRecursion (λ entry. lane_of plant entry ≡ of_session session)) (sym watched.noticed.all_entries) (watch-lane plant session name from watched.noticed.turns some);
-    agrees = (watched.moments, watched.noticed);
-    gains = watched.moments;
+    agrees = watched.noticed;
     gave = watched.gave;
-    timed = λ told. subst (λ given. AreTimed given watched.more) (sym watched.noticed.all_moments)
+    timed = subst (λ given. AreTimed given watched.more) (sym watched.noticed.all_moments)
         (timed-front (map (λ turn. turn.0) watched.noticed.turns) watched.noticed.unused watched.more
         (subst (AreTimed (map (λ turn. turn.0) watched.noticed.turns)) (sym watched.noticed.all_entries) (watch-timed session name from watched.noticed.turns)));
   }
@@ -157,14 +155,13 @@ module _ (plant : List Actuator) (speech : Speech) (session : ℕ) (tells ticks 
 pub talk-agrees : (plant : List Actuator) (speech : Speech) (tells ticks : Type 0) (served : Served) (taken_are : List (List ℕ)) (stop : Stop) (broken : Bool) (cut : Cut) (old new : Standing) →
     0 < served.session → (talked : Talked speech served.session tells ticks (spoken_of taken_are) stop broken old new) → old.taken ≡ [] → old.faults ≡ 0 → new.taken ≡ served.taken →
     new.faults ≡ served.write_faults → IsEnded served taken_are stop broken cut → (tells → AllRead (IsAnswered speech served.held 0 talked.exchanged.talk) served.reads) →
-    Added plant (of_session served.session) (IsTalkOf speech tells served cut) ticks old.own new.own old.given new.given
+    Added plant (of_session served.session) (IsTalkOf speech tells served (record { moments = talked.moments; cut = cut })) ticks talked.moments old.own new.own old.given new.given
 talk-agrees plant speech tells ticks served taken_are stop broken cut old new some talked empty quiet taken faults ended answered =
     let said = moved old.taken [] new.taken served.taken old.faults 0 new.faults served.write_faults empty taken quiet faults talked.more talked.moments talked.exchanged answered in
-    talk-says plant speech served.session tells ticks some (spoken_of taken_are) stop broken old new talked (IsTalkOf speech tells served cut) (record {
+    talk-says plant speech served.session tells ticks some (spoken_of taken_are) stop broken old new talked (IsTalkOf speech tells served (record { moments = talked.moments; cut = cut })) (record {
       taken = taken_are;
       stop = stop;
       broken = broken;
-      moments = talked.moments;
       ended = ended;
       exchanged = said.0;
       answered = said.1;
@@ -181,9 +178,9 @@ talk-agrees plant speech tells ticks served taken_are stop broken cut old new so
         (subst (λ x. (said : Exchanged speech served.session tells (spoken_of taken_are) stop broken x b f g entries moments) × (tells → AllRead (IsAnswered speech served.held 0 said.talk) served.reads)) p (is, holds))))
 
 pub watch-agrees : (plant : List Actuator) (speech : Speech) (notes : Answer → List ℕ) (tells ticks : Type 0) (served : Served) (taken_are : List (List ℕ)) (line : List ℕ) (name : List ℕ) (from : ℕ) (cut : Cut) (old new : Standing) →
-    0 < served.session → Watched notes served.session name tells ticks (is_unanswered cut) from old new → spoken_of taken_are ≡ line ∷ [] → speech.reading false line ≡ watches name from →
+    0 < served.session → (watched : Watched notes served.session name tells ticks (is_unanswered cut) from old new) → spoken_of taken_are ≡ line ∷ [] → speech.reading false line ≡ watches name from →
     old.taken ≡ [] → old.faults ≡ 0 → new.taken ≡ served.taken → new.faults ≡ served.write_faults → Lost served.held served.left taken_are (watching name from) →
-    (cut ≡ not_cut → ¬ (deeds new.own ≡ deeds old.own)) → Added plant (of_session served.session) (IsWatchOf speech notes tells served cut) ticks old.own new.own old.given new.given
+    (cut ≡ not_cut → ¬ (deeds new.own ≡ deeds old.own)) → Added plant (of_session served.session) (IsWatchOf speech notes tells served (record { moments = watched.moments; cut = cut })) ticks watched.moments old.own new.own old.given new.given
 watch-agrees plant speech notes tells ticks served taken_are line name from cut old new some watched heard asked empty quiet taken faults lost answered =
     let added = watch-added plant speech served.session tells ticks some notes (is_unanswered cut) name from old new watched in
     record {
@@ -199,10 +196,8 @@ watch-agrees plant speech notes tells ticks served taken_are line name from cut 
         lines = heard;
         asked = asked;
         some = λ whole none. answered whole (added.grew ∙ ap (λ more. deeds old.own ++ more) none ∙ append-nil (deeds old.own));
-        moments = added.agrees.0;
-        noticed = moved old.taken [] new.taken served.taken old.faults 0 new.faults served.write_faults empty taken quiet faults added.more added.agrees.0 added.agrees.1;
+        noticed = moved old.taken [] new.taken served.taken old.faults 0 new.faults served.write_faults empty taken quiet faults added.more watched.moments added.agrees;
       };
-      gains = added.gains;
       gave = added.gave;
       timed = added.timed;
     }
@@ -228,14 +223,16 @@ watch-line speech heard name from failed talk uncalled is =
 
 -- a talk whose first line asks to watch adds nothing, and says nothing
 pub talk-silent : (speech : Speech) (session : ℕ) (tells ticks : Type 0) (heard : List (List ℕ)) (name : List ℕ) (from : ℕ) (broken : Bool) (old new : Standing) →
-    Talked speech session tells ticks heard (watching name from) broken old new → (deeds new.own ≡ deeds old.own) × (tells → new.taken ≡ old.taken)
+    (talked : Talked speech session tells ticks heard (watching name from) broken old new) → (deeds new.own ≡ deeds old.own) × (tells → new.taken ≡ old.taken) × (talked.moments ≡ [])
 talk-silent speech session tells ticks heard name from broken old new talked =
     let is = talked.exchanged in
     let silent : is.talk ≡ [] = (first-alone false is.talk (first-alone (is_later false is.talk) is.leaves.held is.leaves.behind_is.3).1).0 in
     let alone : is.parting ≡ None = is.unattached (ap attached_in silent) in
-    let nothing : talked.more ≡ [] = is.all_entries ∙ ap (λ talk. deeds_in session talk ++ parting_of session (last_or 0 talked.moments) is.parting) silent ∙ ap (parting_of session (last_or 0 talked.moments)) alone in (
+    let nothing : talked.more ≡ [] = is.all_entries ∙ ap (λ talk. deeds_in session talk ++ parting_of session (last_or 0 talked.moments) is.parting) silent ∙ ap (parting_of session (last_or 0 talked.moments)) alone in
+    let unasked : talked.moments ≡ [] = is.all_moments ∙ ap (λ talk. moments_with talk is.uncalled) silent ∙ ap (λ calls. moments_with [] calls) is.leaves.kept in (
       talked.grew ∙ ap (λ more. deeds old.own ++ more) nothing ∙ append-nil (deeds old.own),
       λ told. same-taken old.taken new.taken old.faults new.faults (subst (Told old.taken new.taken old.faults new.faults) (ap (λ talk. text_in speech talk ++ []) silent) (is.told told)),
+      unasked,
     )
   where
     no-front : (front back : List ℕ) → [] ≡ front ++ back → front ≡ []

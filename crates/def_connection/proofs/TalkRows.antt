@@ -25,7 +25,7 @@ status = command.Status 1
 
 -- a line of one byte attaches, one of two asks for a status, and a longer one watches, if it is the first
 abbrev reading : Bool → List ℕ → Reading
-reading later [] = refuses refusal.Malformed
+reading later [] = refuses (refusal.Malformed None)
 reading later (byte ∷ []) = asks attach
 reading later (byte ∷ next ∷ []) = asks status
 reading false (byte ∷ next ∷ third ∷ bytes) = watches name 1

@@ -10,7 +10,7 @@ use Rattle.boss_outside.specs.Counts.{Rose}
 use Rattle.boss_outside.specs.Notes.{AllRead}
 use Rattle.boss_outside.specs.Streams.{TakesFront}
 use Rattle.boss_outside_server.specs.Hosts.{Served}
-use Rattle.def_lanes.specs.Works.{Cut, not_cut, by_disk, by_clock, by_memory}
+use Rattle.def_lanes.specs.Works.{Course, Cut, not_cut, by_disk, by_clock, by_memory}
 use Rattle.def_connection.specs.Answered.{IsAnswered}
 use Rattle.def_connection.specs.Judging.{AreJudged, name_in}
 use Rattle.def_connection.specs.Losing.{spoken_of, Lost}
@@ -134,11 +134,10 @@ pub record IsEnded (served : Served) (taken : List (List ℕ)) (stop : Stop) (br
 
 -- an ended connection agrees with these entries: they and the bytes that its output took are a whole talk over the lines that were taken
 -- of its input, and this was read only when all that had come whole was answered
-pub record IsTalkOf (speech : Speech) (tells : Type 0) (served : Served) (cut : Cut) (entries : List Entry) : Type 0 where
+pub record IsTalkOf (speech : Speech) (tells : Type 0) (served : Served) (course : Course) (entries : List Entry) : Type 0 where
   pub taken : List (List ℕ)
   pub stop : Stop
   pub broken : Bool
-  pub moments : List ℕ
-  pub ended : IsEnded served taken stop broken cut
-  pub exchanged : Exchanged speech served.session tells (spoken_of taken) stop broken [] served.taken 0 served.write_faults entries moments
+  pub ended : IsEnded served taken stop broken course.cut
+  pub exchanged : Exchanged speech served.session tells (spoken_of taken) stop broken [] served.taken 0 served.write_faults entries course.moments
   pub answered : tells → AllRead (IsAnswered speech served.held 0 exchanged.talk) served.reads

@@ -8,7 +8,7 @@ use Rattle.def_history.specs.declared.entry.Entry.{Entry}
 use Rattle.def_history.specs.declared.entry.Entry.TheVariants.{Did}
 use Rattle.def_history.specs.History.{deeds}
 use Rattle.boss_outside_server.specs.Hosts.{Served}
-use Rattle.def_lanes.specs.Works.{Cut, not_cut, by_disk, by_clock, by_memory}
+use Rattle.def_lanes.specs.Works.{Course, Cut, not_cut, by_disk, by_clock, by_memory}
 use Rattle.def_connection.specs.Losing.{spoken_of, Lost}
 use Rattle.def_connection.specs.Speech.{Speech, watches}
 use Rattle.def_connection.specs.Stopping.{watching}
@@ -75,7 +75,7 @@ is_unanswered by_memory = true
 
 -- an ended connection agrees with these entries: the first line of its input that is not passed over asks to watch, and is the last one
 -- that was taken; they are what was then watched, and its output took the notices. Where it was not cut off, there is an entry
-pub record IsWatchOf (speech : Speech) (notes : Answer → List ℕ) (tells : Type 0) (served : Served) (cut : Cut) (entries : List Entry) : Type 0 where
+pub record IsWatchOf (speech : Speech) (notes : Answer → List ℕ) (tells : Type 0) (served : Served) (course : Course) (entries : List Entry) : Type 0 where
   pub name : List ℕ
   pub from : ℕ
   pub taken : List (List ℕ)
@@ -83,6 +83,5 @@ pub record IsWatchOf (speech : Speech) (notes : Answer → List ℕ) (tells : Ty
   pub line : List ℕ
   pub lines : spoken_of taken ≡ line ∷ []
   pub asked : speech.reading false line ≡ watches name from
-  pub some : cut ≡ not_cut → ¬ (entries ≡ [])
-  pub moments : List ℕ
-  pub noticed : Noticed notes served.session name tells (is_unanswered cut) from [] served.taken 0 served.write_faults entries moments
+  pub some : course.cut ≡ not_cut → ¬ (entries ≡ [])
+  pub noticed : Noticed notes served.session name tells (is_unanswered course.cut) from [] served.taken 0 served.write_faults entries course.moments

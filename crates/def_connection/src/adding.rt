@@ -24,19 +24,21 @@ pub fn a_connection_adds_to_its_lane<K: Sink, C: Clock>()
         (old new : Standing) → 0 < served.session → (talked : Talked speech served.session K.tells C.tells (spoken_of taken) stop broken old new) → old.taken ≡ [] → old.faults ≡ 0 →
         new.taken ≡ served.taken → new.faults ≡ served.write_faults → IsEnded served taken stop broken cut →
         (K.tells → AllRead (IsAnswered speech served.held 0 talked.exchanged.talk) served.reads) →
-        Added plant (of_session served.session) (IsTalkOf speech K.tells served cut) C.tells old.own new.own old.given new.given }
+        Added plant (of_session served.session) (IsTalkOf speech K.tells served (record { moments = talked.moments; cut = cut })) C.tells talked.moments old.own new.own old.given new.given }
     ensures watch { (plant : List Actuator) (speech : Speech) (notes : Answer → List ℕ) (served : Served) (taken : List (List ℕ)) (line : List ℕ)
-        (name : List ℕ) (from : ℕ) (cut : Cut) (old new : Standing) → 0 < served.session → Watched notes served.session name K.tells C.tells (is_unanswered cut) from old new →
+        (name : List ℕ) (from : ℕ) (cut : Cut) (old new : Standing) → 0 < served.session → (watched : Watched notes served.session name K.tells C.tells (is_unanswered cut) from old new) →
         spoken_of taken ≡ line ∷ [] → speech.reading false line ≡ watches name from → old.taken ≡ [] → old.faults ≡ 0 → new.taken ≡ served.taken →
         new.faults ≡ served.write_faults → Lost served.held served.left taken (watching name from) →
         (cut ≡ not_cut → ¬ (deeds new.own ≡ deeds old.own)) →
-        Added plant (of_session served.session) (IsWatchOf speech notes K.tells served cut) C.tells old.own new.own old.given new.given }
+        Added plant (of_session served.session) (IsWatchOf speech notes K.tells served (record { moments = watched.moments; cut = cut })) C.tells watched.moments old.own new.own old.given new.given }
 {}
 
-/// A talk whose first line asks to watch adds nothing, and its output took nothing.
+/// A talk whose first line asks to watch adds nothing, its output took nothing, and no moment was asked for.
 pub fn a_talk_without_replies_adds_nothing<K: Sink, C: Clock>()
     ensures own { (speech : Speech) (session : ℕ) (heard : List (List ℕ)) (name : List ℕ) (from : ℕ) (broken : Bool) (old new : Standing) →
         Talked speech session K.tells C.tells heard (watching name from) broken old new → deeds new.own ≡ deeds old.own }
     ensures taken { (speech : Speech) (session : ℕ) (heard : List (List ℕ)) (name : List ℕ) (from : ℕ) (broken : Bool) (old new : Standing) →
         Talked speech session K.tells C.tells heard (watching name from) broken old new → K.tells → new.taken ≡ old.taken }
+    ensures moments { (speech : Speech) (session : ℕ) (heard : List (List ℕ)) (name : List ℕ) (from : ℕ) (broken : Bool) (old new : Standing) →
+        (talked : Talked speech session K.tells C.tells heard (watching name from) broken old new) → talked.moments ≡ [] }
 {}

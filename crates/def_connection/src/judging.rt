@@ -1,7 +1,7 @@
 ghost use Rattle.std.specs.Prelude.{ℕ, Bool, List, None};
 ghost use Rattle.boss_outside_server.specs.Hosts.{Served};
 ghost use Rattle.def_history.specs.declared.entry.Entry.{Entry};
-ghost use Rattle.def_lanes.specs.Works.{Cut};
+ghost use Rattle.def_lanes.specs.Works.{Course};
 ghost use Rattle.def_connection.specs.Judging.{AreAllowed};
 ghost use Rattle.def_connection.specs.Speech.{Speech};
 ghost use Rattle.def_connection.specs.Stopping.{Stop};
@@ -15,6 +15,6 @@ pub fn what_is_done_is_allowed<K: Sink>()
     ensures talk { (speech : Speech) (session : ℕ) (heard : List (List ℕ)) (stop : Stop) (broken : Bool) (old new : List ℕ) (before now : ℕ)
         (entries : List Entry) (moments : List ℕ) → Exchanged speech session K.tells heard stop broken old new before now entries moments →
         AreAllowed speech.denies None entries }
-    ensures served { (speech : Speech) (served : Served) (cut : Cut) (entries : List Entry) → IsTalkOf speech K.tells served cut entries →
+    ensures served { (speech : Speech) (served : Served) (course : Course) (entries : List Entry) → IsTalkOf speech K.tells served course entries →
         AreAllowed speech.denies None entries }
 {}

@@ -1,5 +1,5 @@
 -- Devices come back one after another, each with the calls of its own driver's work.
-use Rattle.std.proofs.Common.{◌≡◌, ◌⊎◌, inl, inr, ℕ, suc, ◌+◌, ◌<◌, ◌≤◌, ◌==◌, Bool, false, List, [], ◌∷◌, ◌++◌, length, refl, ap, sym, ◌∙◌, subst, arith, append_assoc}
+use Rattle.std.proofs.Common.{◌≡◌, ◌⊎◌, inl, inr, ℕ, suc, ◌+◌, ◌<◌, ◌≤◌, ◌==◌, List, [], ◌∷◌, ◌++◌, length, refl, ap, sym, ◌∙◌, subst, arith, append_assoc}
 use Rattle.std.proofs.lemmas.Bool.{cond-true, cond-false, false_from_ne_true}
 use Rattle.std.proofs.lemmas.Bool.Decides.{nat_tests}
 use Rattle.std.proofs.lemmas.List.{append-nil, map-append}
@@ -8,7 +8,7 @@ use Rattle.boss_outside_server.specs.declared.waited.Waited.{Waited}
 use Rattle.boss_outside_server.specs.Waits.{new_waited}
 use Rattle.def_lanes.specs.Devices.{AllTaken, DevicesBack}
 use Rattle.def_lanes.specs.Lanes.{Lane, of_driver}
-use Rattle.def_lanes.specs.Works.{Work, visit, beat, drive, lane_of_work, owner, AreOf, IsAbsent, AreApart, calls_by, calls_in}
+use Rattle.def_lanes.specs.Works.{Course, not_cut, Work, visit, beat, drive, lane_of_work, owner, AreOf, IsAbsent, AreApart, calls_by, calls_in}
 use Rattle.def_lanes.proofs.Lists.{each-map, each-parts}
 use Rattle.def_lanes.proofs.Owners.{same-owner}
 
@@ -17,9 +17,9 @@ calls_in-append driver [] ys = refl
 calls_in-append driver (x ∷ xs) ys = ap (λ rest. calls_by driver x ++ rest) (calls_in-append driver xs ys) ∙ sym (append_assoc (calls_by driver x) (calls_in driver xs) (calls_in driver ys))
 
 no-calls : (driver : ℕ) (work : Work) → ¬ (lane_of_work work ≡ of_driver driver) → calls_by driver work ≡ []
-no-calls driver (visit served cut) other = refl
-no-calls driver (beat waited) other = refl
-no-calls driver (drive next calls waited) other =
+no-calls driver (visit served course) other = refl
+no-calls driver (beat waited course) other = refl
+no-calls driver (drive next calls waited course) other =
     cond-false (next == driver) calls [] (false_from_ne_true (next == driver) (λ is. other (let same : next ≡ driver = grind (arith, nat_tests) in ap of_driver same)))
 
 calls-absent : (driver : ℕ) (works : List Work) → IsAbsent (of_driver driver) works → calls_in driver works ≡ []
@@ -30,7 +30,7 @@ calls-absent driver (work ∷ works) absent = ap (λ front. front ++ calls_in dr
 calls-others : (workers first end driver : ℕ) (works : List Work) → AreOf workers first end works → (workers + 1 + driver < first) ⊎ (end ≤ workers + 1 + driver) → calls_in driver works ≡ []
 calls-others workers first end driver works of_them outside = calls-absent driver works
     (each-map (λ work. (first ≤ owner workers work) × (owner workers work < end)) (λ work. ¬ (lane_of_work work ≡ of_driver driver))
-    (λ work within same. apart-from (owner workers work) (workers + 1 + driver) first end within outside (same-owner workers work (drive driver [] (new_waited 0)) same)) works of_them)
+    (λ work within same. apart-from (owner workers work) (workers + 1 + driver) first end within outside (same-owner workers work (drive driver [] (new_waited 0) (record { moments = []; cut = not_cut })) same)) works of_them)
   where
     apart-from : (mine other first end : ℕ) → (first ≤ mine) × (mine < end) → (other < first) ⊎ (end ≤ other) → mine ≡ other → ⊥
     apart-from mine other first end within (inl below) same = omega (arith, within.0)
@@ -79,12 +79,12 @@ around lane (first ∷ before) behind work apart is =
     let rest = around lane before behind work apart.1 is in
     (((λ same. (each-parts (λ other. ¬ (lane_of_work other ≡ lane_of_work first)) before (work ∷ behind) apart.0).1.0 (is ∙ sym same)), rest.0), rest.1)
 
-pub calls-one : (driver : ℕ) (calls : List DeviceCall) (waited : Waited) (before behind : List Work) → AreApart (before ++ drive driver calls waited ∷ behind) →
-    calls_in driver (before ++ drive driver calls waited ∷ behind) ≡ calls
-calls-one driver calls waited before behind apart =
-    let none = around (of_driver driver) before behind (drive driver calls waited) apart refl in
-    calls_in-append driver before (drive driver calls waited ∷ behind)
-    ∙ ap (λ front. front ++ (calls_by driver (drive driver calls waited) ++ calls_in driver behind)) (calls-absent driver before none.0)
-    ∙ ap (λ rest. calls_by driver (drive driver calls waited) ++ rest) (calls-absent driver behind none.1)
-    ∙ append-nil (calls_by driver (drive driver calls waited))
+pub calls-one : (driver : ℕ) (calls : List DeviceCall) (waited : Waited) (course : Course) (before behind : List Work) → AreApart (before ++ drive driver calls waited course ∷ behind) →
+    calls_in driver (before ++ drive driver calls waited course ∷ behind) ≡ calls
+calls-one driver calls waited course before behind apart =
+    let none = around (of_driver driver) before behind (drive driver calls waited course) apart refl in
+    calls_in-append driver before (drive driver calls waited course ∷ behind)
+    ∙ ap (λ front. front ++ (calls_by driver (drive driver calls waited course) ++ calls_in driver behind)) (calls-absent driver before none.0)
+    ∙ ap (λ rest. calls_by driver (drive driver calls waited course) ++ rest) (calls-absent driver behind none.1)
+    ∙ append-nil (calls_by driver (drive driver calls waited course))
     ∙ cond-true (driver == driver) calls [] (grind (arith, nat_tests))

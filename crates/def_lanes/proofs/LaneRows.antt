@@ -10,7 +10,7 @@ use Rattle.boss_outside_server.specs.Hosts.{Served}
 use Rattle.boss_outside_server.specs.Waits.{new_waited}
 use Rattle.def_lanes.specs.Lanes.{of_session, of_driver, of_time, of_nobody, only, done_in}
 use Rattle.def_lanes.specs.Parts.{is_untimed, AreTimed}
-use Rattle.def_lanes.specs.Works.{not_cut, by_clock, visit, beat, drive, owner}
+use Rattle.def_lanes.specs.Works.{Course, Cut, not_cut, by_clock, visit, beat, drive, owner}
 
 -- two points, each behind a driver of its own
 abbrev plant : List Actuator
@@ -68,14 +68,17 @@ untimed-row = refl
 abbrev ended : ℕ → Served
 ended session = record { session = session; held = []; left = []; taken = []; read_faults = 0; write_faults = 0; reads = None }
 
-owner-row : owner 2 (visit (ended 3) not_cut) ≡ 0
+abbrev course : Cut → Course
+course cut = record { moments = []; cut = cut }
+
+owner-row : owner 2 (visit (ended 3) (course not_cut)) ≡ 0
 owner-row = refl
 
-next-owner-row : owner 2 (visit (ended 4) by_clock) ≡ 1
+next-owner-row : owner 2 (visit (ended 4) (course by_clock)) ≡ 1
 next-owner-row = refl
 
-time-owner-row : owner 2 (beat (new_waited 2)) ≡ 2
+time-owner-row : owner 2 (beat (new_waited 2) (course not_cut)) ≡ 2
 time-owner-row = refl
 
-driver-owner-row : owner 2 (drive 1 [] (new_waited 2)) ≡ 4
+driver-owner-row : owner 2 (drive 1 [] (new_waited 2) (course not_cut)) ≡ 4
 driver-owner-row = refl

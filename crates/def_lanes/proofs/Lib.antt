@@ -2,6 +2,7 @@ pub mod Adding
 pub mod Agreements
 pub mod Choices
 pub mod DeviceLemmas
+pub mod InTurn
 mod LaneRows
 pub mod Lists
 pub mod Moments

@@ -4,7 +4,7 @@ use Rattle.std.proofs.lemmas.Bool.Decides.{nat_tests}
 use Rattle.std.proofs.lemmas.Nat.{mod-mul-add}
 use Rattle.boss_outside_server.specs.Hosts.{Served}
 use Rattle.def_lanes.specs.Lanes.{Lane, of_session, of_driver, of_time, of_nobody, is_lane}
-use Rattle.def_lanes.specs.Works.{Cut, Work, visit, beat, drive, lane_of_work, owner, AreOf, IsBefore, AreBefore, IsAbsent, AreApart, AreStrange, served_by, served_in}
+use Rattle.def_lanes.specs.Works.{Course, Work, visit, beat, drive, clock_cuts, course_of, lane_of_work, moments_in, owner, AreOf, IsBefore, AreBefore, IsAbsent, AreApart, AreStrange, served_by, served_in}
 use Rattle.def_lanes.proofs.Lists.{each-append, each-map, each-turned}
 
 -- ---- lanes are told apart
@@ -36,20 +36,20 @@ same-lane of_nobody of_nobody is = refl
 -- ---- owners
 
 pub same-owner : (workers : ℕ) (x y : Work) → lane_of_work x ≡ lane_of_work y → owner workers x ≡ owner workers y
-same-owner workers (visit served cut) (visit other ended) is = let same : served.session ≡ other.session = cc in ap (λ s. (s - 1) % workers) same
-same-owner workers (visit served cut) (beat waited) is = absurd cc
-same-owner workers (visit served cut) (drive driver calls waited) is = absurd cc
-same-owner workers (beat waited) (visit other ended) is = absurd cc
-same-owner workers (beat waited) (beat others) is = refl
-same-owner workers (beat waited) (drive driver calls others) is = absurd cc
-same-owner workers (drive driver calls waited) (visit other ended) is = absurd cc
-same-owner workers (drive driver calls waited) (beat others) is = absurd cc
-same-owner workers (drive driver calls waited) (drive next made others) is = let same : driver ≡ next = cc in ap (λ d. workers + 1 + d) same
+same-owner workers (visit served course) (visit other ended) is = let same : served.session ≡ other.session = cc in ap (λ s. (s - 1) % workers) same
+same-owner workers (visit served course) (beat waited ended) is = absurd cc
+same-owner workers (visit served course) (drive driver calls waited ended) is = absurd cc
+same-owner workers (beat waited course) (visit other ended) is = absurd cc
+same-owner workers (beat waited course) (beat others ended) is = refl
+same-owner workers (beat waited course) (drive driver calls others ended) is = absurd cc
+same-owner workers (drive driver calls waited course) (visit other ended) is = absurd cc
+same-owner workers (drive driver calls waited course) (beat others ended) is = absurd cc
+same-owner workers (drive driver calls waited course) (drive next made others ended) is = let same : driver ≡ next = cc in ap (λ d. workers + 1 + d) same
 
 -- the sessions of a worker for connections: the first one, and then each one behind as many others as there are such workers
-pub owner-session : (workers number turn : ℕ) (served : Served) (cut : Cut) → number < workers → served.session ≡ 1 + number + workers * turn →
-    owner workers (visit served cut) ≡ number
-owner-session workers number turn served cut less is =
+pub owner-session : (workers number turn : ℕ) (served : Served) (course : Course) → number < workers → served.session ≡ 1 + number + workers * turn →
+    owner workers (visit served course) ≡ number
+owner-session workers number turn served course less is =
     let place : served.session - 1 ≡ turn * workers + number = grind (arith) in
     ap (λ s. s % workers) place ∙ mod-mul-add turn workers number less
 
@@ -81,22 +81,30 @@ pub served_in-append : (xs ys : List Work) → served_in (xs ++ ys) ≡ served_i
 served_in-append [] ys = refl
 served_in-append (x ∷ xs) ys = ap (λ rest. served_by x ++ rest) (served_in-append xs ys) ∙ sym (append_assoc (served_by x) (served_in xs) (served_in ys))
 
+pub moments_in-append : (xs ys : List Work) → moments_in (xs ++ ys) ≡ moments_in xs ++ moments_in ys
+moments_in-append [] ys = refl
+moments_in-append (x ∷ xs) ys = ap (λ rest. (course_of x).moments ++ rest) (moments_in-append xs ys) ∙ sym (append_assoc (course_of x).moments (moments_in xs) (moments_in ys))
+
+pub clock_cuts-append : (xs ys : List Work) → clock_cuts (xs ++ ys) ≡ clock_cuts xs + clock_cuts ys
+clock_cuts-append [] ys = omega arith
+clock_cuts-append (x ∷ xs) ys = let rest = clock_cuts-append xs ys in omega arith
+
 -- ---- sessions that rise
 
 not-next : (next : ℕ) (work : Work) → IsBefore next work → ¬ (lane_of_work work ≡ of_session next)
-not-next next (visit served cut) before is = let same : served.session ≡ next = cc in omega arith
-not-next next (beat waited) before is = before
-not-next next (drive driver calls waited) before is = before
+not-next next (visit served course) before is = let same : served.session ≡ next = cc in omega arith
+not-next next (beat waited course) before is = before
+not-next next (drive driver calls waited course) before is = before
 
 pub before-absent : (next : ℕ) (works : List Work) → AreBefore next works → IsAbsent (of_session next) works
 before-absent next works before = each-map (IsBefore next) (λ work. ¬ (lane_of_work work ≡ of_session next)) (not-next next) works before
 
 before-later : (next later : ℕ) → next < later → (work : Work) → IsBefore next work → IsBefore later work
-before-later next later less (visit served cut) before = omega arith
-before-later next later less (beat waited) before = before
-before-later next later less (drive driver calls waited) before = before
+before-later next later less (visit served course) before = omega arith
+before-later next later less (beat waited course) before = before
+before-later next later less (drive driver calls waited course) before = before
 
-pub before-more : (next later : ℕ) (works : List Work) (served : Served) (cut : Cut) → AreBefore next works → served.session ≡ next → next < later →
-    AreBefore later (works ++ visit served cut ∷ [])
-before-more next later works served cut before is less =
-    each-append (IsBefore later) works (visit served cut ∷ []) (each-map (IsBefore next) (IsBefore later) (before-later next later less) works before) (omega arith, tt)
+pub before-more : (next later : ℕ) (works : List Work) (served : Served) (course : Course) → AreBefore next works → served.session ≡ next → next < later →
+    AreBefore later (works ++ visit served course ∷ [])
+before-more next later works served course before is less =
+    each-append (IsBefore later) works (visit served course ∷ []) (each-map (IsBefore next) (IsBefore later) (before-later next later less) works before) (omega arith, tt)

@@ -5,22 +5,23 @@ use Rattle.std.proofs.lemmas.List.{append-nil}
 use Rattle.def_history.specs.declared.entry.Entry.{Entry}
 use Rattle.def_history.specs.History.{deeds}
 use Rattle.boss_outside_server.specs.Hosts.{Served}
+use Rattle.def_lanes.specs.Lanes.{in_lane}
 use Rattle.def_lanes.specs.Parts.{is_untimed, AreTimed, Joined, Added, Terms, Part}
-use Rattle.def_lanes.specs.Works.{Work, lane_of_work, owner, IsAbsent, served_by, served_in}
-use Rattle.def_lanes.proofs.Agreements.{agreed-both, agreed-nothing, agreed-one}
+use Rattle.def_lanes.specs.Works.{Work, course_of, lane_of_work, moments_in, owner, IsAbsent, served_by, served_in}
+use Rattle.def_lanes.proofs.Agreements.{agreed-both, agreed-nothing, agreed-one, none-in}
 use Rattle.def_lanes.proofs.Choices.{all-deeds, joined-deeds}
+use Rattle.def_lanes.proofs.InTurn.{turn-more, turn-both}
 use Rattle.def_lanes.proofs.Moments.{timed-front, timed-behind}
-use Rattle.def_lanes.proofs.Owners.{strange-turned, strange-owners, of-wider, of-append, served_in-append}
+use Rattle.def_lanes.proofs.Owners.{strange-turned, strange-owners, of-wider, of-append, moments_in-append, served_in-append}
 
 pub part-nothing : (terms : Terms) (first end : ℕ) (own : List Entry) (served : List Served) (given : List ℕ) → deeds own ≡ [] →
     Part terms first end [] own served served given given
 part-nothing terms first end own served given none = record {
   agreed = agreed-nothing terms.plant terms.says own none;
   of_them = tt;
+  in_turn = tt;
   came_back = λ told. sym (append-nil served);
-  gains = [];
   gave = λ told. sym (append-nil given);
-  timed = λ told. ap (filter (is_untimed [])) none;
 }
 
 -- a join keeps moments
@@ -32,7 +33,7 @@ pub more_behind : {X : Type 0} (all old mid first then : List X) → mid ≡ old
 more_behind all old mid first then a b = b ∙ ap (λ front. front ++ then) a ∙ append_assoc old first then
 
 pub part-more : (terms : Terms) (first end : ℕ) (works : List Work) (work : Work) (own own' : List Entry) (served served' served'' : List Served) (given given' given'' : List ℕ) →
-    Part terms first end works own served served' given given' → Added terms.plant (lane_of_work work) (terms.says work) terms.clocking own own' given' given'' →
+    Part terms first end works own served served' given given' → Added terms.plant (lane_of_work work) (terms.says work) terms.clocking (course_of work).moments own own' given' given'' →
     first ≤ owner terms.workers work → owner terms.workers work < end → IsAbsent (lane_of_work work) works → (terms.hosting → served'' ≡ served' ++ served_by work) →
     Part terms first end (works ++ work ∷ []) own' served served'' given given''
 part-more terms first end works work own own' served served' served'' given given' given'' part added above below absent back =
@@ -42,11 +43,11 @@ part-more terms first end works work own own' served served' served'' given give
           (agreed-one terms.plant terms.says work added.more (all-deeds own added.more own' added.grew) added.of_lane added.agrees) join
           (strange-turned (work ∷ []) works (absent, tt));
       of_them = of-append terms.workers first end works (work ∷ []) part.of_them ((above, below), tt);
+      in_turn = turn-more terms.plant terms.workers own added.more own' added.grew join works work part.agreed.none (λ lane differ. ap (filter (in_lane terms.plant lane)) (all-deeds own added.more own' added.grew) ∙ none-in terms.plant (lane_of_work work) lane differ added.more added.of_lane) absent part.in_turn;
       came_back = λ told. more_behind served'' served served' (served_in works) (served_in (work ∷ [])) (part.came_back told) (back told ∙ ap (λ list. served' ++ list) (sym (append-nil (served_by work))))
           ∙ ap (λ list. served ++ list) (sym (served_in-append works (work ∷ [])));
-      gains = part.gains ++ added.gains;
-      gave = λ told. more_behind given'' given given' part.gains added.gains (part.gave told) (added.gave told);
-      timed = λ told. timed-joined part.gains added.gains own added.more own' join (part.timed told) (added.timed told);
+      gave = λ told. more_behind given'' given given' (moments_in works) (moments_in (work ∷ [])) (part.gave told) (added.gave told ∙ ap (λ list. given' ++ list) (sym (append-nil (course_of work).moments)))
+          ∙ ap (λ list. given ++ list) (sym (moments_in-append works (work ∷ [])));
     }
 
 -- the workers up to the middle, and then those up to the end
@@ -58,11 +59,12 @@ part-both terms first middle end xs ys old other new served served' back now giv
   agreed = agreed-both terms.plant terms.says old other new xs ys part.agreed next.agreed join (strange-owners terms.workers first middle end xs ys part.of_them next.of_them);
   of_them = of-append terms.workers first end xs ys (of-wider terms.workers first middle first end (omega arith) high xs part.of_them)
       (of-wider terms.workers middle end first end low (omega arith) ys next.of_them);
+  in_turn = turn-both terms.plant terms.workers first middle end old other new join xs ys part.of_them next.of_them part.agreed.none next.agreed.none
+      (strange-owners terms.workers first middle end xs ys part.of_them next.of_them) (strange-turned xs ys (strange-owners terms.workers first middle end xs ys part.of_them next.of_them)) part.in_turn next.in_turn;
   came_back = λ told. more_behind now served served' (served_in xs) (served_in ys) (part.came_back told) (hosts told ∙ ap (λ list. served' ++ list) (next.came_back told))
       ∙ ap (λ list. served ++ list) (sym (served_in-append xs ys));
-  gains = part.gains ++ next.gains;
-  gave = λ told. more_behind stands given given' part.gains next.gains (part.gave told) (clocks told ∙ ap (λ list. given' ++ list) (next.gave told));
-  timed = λ told. timed-joined part.gains next.gains old other new join (part.timed told) (next.timed told);
+  gave = λ told. more_behind stands given given' (moments_in xs) (moments_in ys) (part.gave told) (clocks told ∙ ap (λ list. given' ++ list) (next.gave told))
+      ∙ ap (λ list. given ++ list) (sym (moments_in-append xs ys));
 }
 
 -- the next worker

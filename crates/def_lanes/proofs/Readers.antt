@@ -15,9 +15,9 @@ use Rattle.def_lanes.proofs.Owners.{is_lane-self}
 
 pub nobody-absent : (works : List Work) → IsAbsent of_nobody works
 nobody-absent [] = tt
-nobody-absent (visit served cut ∷ works) = ((λ is. cc), nobody-absent works)
-nobody-absent (beat waited ∷ works) = ((λ is. cc), nobody-absent works)
-nobody-absent (drive driver calls waited ∷ works) = ((λ is. cc), nobody-absent works)
+nobody-absent (visit served course ∷ works) = ((λ is. cc), nobody-absent works)
+nobody-absent (beat waited course ∷ works) = ((λ is. cc), nobody-absent works)
+nobody-absent (drive driver calls waited course ∷ works) = ((λ is. cc), nobody-absent works)
 
 none-passes : {X : Type 0} (test : X → Bool) (xs : List X) → filter test xs ≡ [] → AllByRecursion (λ x. test x ≡ false) xs
 none-passes test [] none = tt
@@ -58,12 +58,12 @@ all-done plant says entries works agreed =
 
 others-sessions : (session : ℕ) (works : List Work) → IsAbsent (of_session session) works → AllByRecursion (λ other. ¬ (other.session ≡ session)) (served_in works)
 others-sessions session [] absent = tt
-others-sessions session (visit served cut ∷ works) absent = ((λ same. absent.0 (ap of_session same)), others-sessions session works absent.1)
-others-sessions session (beat waited ∷ works) absent = others-sessions session works absent.1
-others-sessions session (drive driver calls waited ∷ works) absent = others-sessions session works absent.1
+others-sessions session (visit served course ∷ works) absent = ((λ same. absent.0 (ap of_session same)), others-sessions session works absent.1)
+others-sessions session (beat waited course ∷ works) absent = others-sessions session works absent.1
+others-sessions session (drive driver calls waited course ∷ works) absent = others-sessions session works absent.1
 
 pub own-sessions : (works : List Work) → AreApart works → HaveOwnSessions (served_in works)
 own-sessions [] apart = tt
-own-sessions (visit served cut ∷ works) apart = (others-sessions served.session works apart.0, own-sessions works apart.1)
-own-sessions (beat waited ∷ works) apart = own-sessions works apart.1
-own-sessions (drive driver calls waited ∷ works) apart = own-sessions works apart.1
+own-sessions (visit served course ∷ works) apart = (others-sessions served.session works apart.0, own-sessions works apart.1)
+own-sessions (beat waited course ∷ works) apart = own-sessions works apart.1
+own-sessions (drive driver calls waited course ∷ works) apart = own-sessions works apart.1

@@ -7,8 +7,7 @@ use Rattle.boss_model.specs.Limits.{last_number}
 use Rattle.def_history.specs.declared.entry.Entry.{Entry}
 use Rattle.def_history.specs.declared.entry.Entry.TheVariants.{Did, Broke}
 use Rattle.def_history.specs.History.{deeds}
-use Rattle.boss_outside_server.specs.declared.waited.Lengths.{Lengths}
-use Rattle.boss_outside_server.specs.declared.waited.Lengths.TheVariants.{NoPause, Each, Various}
+use Rattle.boss_outside_server.specs.declared.waited.Lengths.TheVariants.{Each, Various}
 use Rattle.boss_outside_server.specs.declared.waited.Waited.{Waited}
 use Rattle.boss_outside_server.specs.declared.waiter.Woke.{Woke}
 use Rattle.boss_outside_server.specs.Waits.{after_pause, lengths_after, one_pause_more}
@@ -27,9 +26,9 @@ slice_get-last [] x = refl
 slice_get-last (y ∷ xs) x = slice_get-last xs x
 
 waited-front : (workers : ℕ) (notes more : List Waited) (work : Work) → IsWaited workers notes work → IsWaited workers (notes ++ more) work
-waited-front workers notes more (visit served cut) is = tt
-waited-front workers notes more (beat waited) is = slice_get-front notes more workers waited is
-waited-front workers notes more (drive driver calls waited) is = slice_get-front notes more (workers + 1 + driver) waited is
+waited-front workers notes more (visit served course) is = tt
+waited-front workers notes more (beat waited course) is = slice_get-front notes more workers waited is
+waited-front workers notes more (drive driver calls waited course) is = slice_get-front notes more (workers + 1 + driver) waited is
 
 at_last : (notes : List Waited) (note other : Waited) (place : ℕ) → note ≡ other → length notes ≤ place → place < suc (length notes) →
     slice_get (notes ++ note ∷ []) place ≡ Some other
@@ -39,9 +38,9 @@ at_last notes note other place is low high =
 
 waited-last : (workers : ℕ) (notes : List Waited) (note : Waited) (work : Work) → IsNoteOf note work →
     (length notes ≤ owner workers work) × (owner workers work < suc (length notes)) → IsWaited workers (notes ++ note ∷ []) work
-waited-last workers notes note (visit served cut) is within = tt
-waited-last workers notes note (beat waited) is within = at_last notes note waited workers is within.0 within.1
-waited-last workers notes note (drive driver calls waited) is within = at_last notes note waited (workers + 1 + driver) is within.0 within.1
+waited-last workers notes note (visit served course) is within = tt
+waited-last workers notes note (beat waited course) is within = at_last notes note waited workers is within.0 within.1
+waited-last workers notes note (drive driver calls waited course) is within = at_last notes note waited (workers + 1 + driver) is within.0 within.1
 
 pub waited-next : (workers : ℕ) (notes : List Waited) (note : Waited) (xs ys : List Work) → AreWaited workers notes xs →
     AreOf workers (length notes) (suc (length notes)) ys → AllByRecursion (IsNoteOf note) ys → AreWaited workers (notes ++ note ∷ []) (xs ++ ys)

@@ -1,6 +1,6 @@
 -- Source: own.
 -- Lanes: each entry of a history belongs to a session, to a driver or to time, and each of these to one worker of a server.
-use Rattle.std.specs.Prelude.{ℕ, zero, suc, ◌==◌, Bool, true, false, List, filter}
+use Rattle.std.specs.Prelude.{ℕ, zero, suc, ◌==◌, Bool, true, false, ◌||◌, List, filter}
 use Rattle.boss_model.specs.declared.command.Command.{Command}
 use Rattle.boss_model.specs.declared.command.Command.TheVariants as command
 use Rattle.boss_model.specs.declared.state.Actuator.{Actuator}
@@ -15,11 +15,12 @@ pub data Lane : Type 0 where
   of_time : Lane
   of_nobody : Lane
 
--- a command of session 0, which no connection has: a point's report and its reading are its driver's
+-- a command of session 0, which no connection has: a point's report, its doubt and its reading are its driver's
 abbrev pub lane_of_command : List Actuator → Command → Lane
 lane_of_command plant command.Tick = of_time
 lane_of_command plant (command.Next driver) = of_driver driver
 lane_of_command plant (command.Report point version ok) = of_driver (driver_of plant point)
+lane_of_command plant (command.Doubt point differs) = of_driver (driver_of plant point)
 lane_of_command plant (command.Read point) = of_driver (driver_of plant point)
 lane_of_command plant other = of_nobody
 
@@ -45,3 +46,7 @@ only test entries = filter test (deeds entries)
 -- what was done in a lane
 abbrev pub done_in : List Actuator → Lane → List Entry → List Entry
 done_in plant lane entries = only (in_lane plant lane) entries
+
+-- in one of two lanes
+abbrev pub in_either : List Actuator → Lane → Lane → Entry → Bool
+in_either plant lane other entry = in_lane plant lane entry || in_lane plant other entry

@@ -1,6 +1,6 @@
 -- Source: own.
 -- What a worker adds to the one history, what it left in the end, and how two such parts are joined.
-use Rattle.std.specs.Prelude.{◌≡◌, ℕ, Bool, false, not, List, [], ◌++◌}
+use Rattle.std.specs.Prelude.{◌≡◌, ℕ, Bool, false, not, List, [], ◌∷◌, ◌++◌}
 use Rattle.std.specs.List.{AllByRecursion}
 use Rattle.boss_model.specs.declared.state.Actuator.{Actuator}
 use Rattle.boss_model.specs.Lists.{member}
@@ -8,8 +8,8 @@ use Rattle.def_history.specs.declared.entry.Entry.{Entry}
 use Rattle.def_history.specs.declared.entry.Entry.TheVariants.{Did, Broke}
 use Rattle.def_history.specs.History.{deeds}
 use Rattle.boss_outside_server.specs.Hosts.{Served}
-use Rattle.def_lanes.specs.Lanes.{Lane, lane_of, only, done_in}
-use Rattle.def_lanes.specs.Works.{Work, lane_of_work, AreOf, IsAbsent, AreApart, served_in}
+use Rattle.def_lanes.specs.Lanes.{Lane, lane_of, only, in_either, done_in}
+use Rattle.def_lanes.specs.Works.{Work, lane_of_work, moments_in, owner, AreOf, IsAbsent, AreApart, served_in}
 
 -- ---- moments
 
@@ -35,18 +35,32 @@ pub record Agreed (plant : List Actuator) (says : Work → List Entry → Type 0
   pub none : (lane : Lane) → IsAbsent lane works → done_in plant lane entries ≡ []
   pub apart : AreApart works
 
+-- ---- turns of one worker
+
+-- all that was done in a lane stands before all that was done in another
+abbrev pub StandsBefore : List Actuator → List Entry → Lane → Lane → Type 0
+StandsBefore plant entries lane other = only (in_either plant lane other) entries ≡ done_in plant lane entries ++ done_in plant other entries
+
+-- where one worker does both, all of the one stands before all of the other
+abbrev pub ComesFirst : List Actuator → ℕ → List Entry → Work → Work → Type 0
+ComesFirst plant workers entries work other = owner workers work ≡ owner workers other → StandsBefore plant entries (lane_of_work work) (lane_of_work other)
+
+-- the works of each worker follow one another: each begins with all that was done in those before it
+abbrev pub AreInTurn : List Actuator → ℕ → List Entry → List Work → Type 0
+AreInTurn plant workers entries [] = Unit {0}
+AreInTurn plant workers entries (work ∷ works) = AllByRecursion (ComesFirst plant workers entries work) works × AreInTurn plant workers entries works
+
 -- ---- one work more
 
--- what a worker did in one lane: all that it added belongs there, is as it has to be, and was done at moments that its clock
--- gave, which are told where the clock tells them
-pub record Added (plant : List Actuator) (lane : Lane) (says : List Entry → Type 0) (clocking : Type 0) (old new : List Entry) (given given' : List ℕ) : Type 0 where
+-- what a worker did in one lane: all that it added belongs there, is as it has to be, and was done at these moments, which are all that
+-- its clock gave
+pub record Added (plant : List Actuator) (lane : Lane) (says : List Entry → Type 0) (clocking : Type 0) (moments : List ℕ) (old new : List Entry) (given given' : List ℕ) : Type 0 where
   pub more : List Entry
   pub grew : deeds new ≡ deeds old ++ more
   pub of_lane : AllByRecursion (λ entry. lane_of plant entry ≡ lane) more
   pub agrees : says more
-  pub gains : List ℕ
-  pub gave : clocking → given' ≡ given ++ gains
-  pub timed : clocking → AreTimed gains more
+  pub gave : clocking → given' ≡ given ++ moments
+  pub timed : AreTimed moments more
 
 -- ---- what workers left
 
@@ -60,11 +74,11 @@ pub record Terms : Type 1 where
   pub clocking : Type 0
 
 -- what one worker left, or those with the numbers from the first one up to the end, joined: their works agree with their own
--- entries, each connection was given back, and each of the entries was made at a moment that the clock gave
+-- entries, each connection was given back, and all moments that their clocks
+-- gave are those of their works, in order
 pub record Part (terms : Terms) (first end : ℕ) (works : List Work) (own : List Entry) (served served' : List Served) (given given' : List ℕ) : Type 0 where
   pub agreed : Agreed terms.plant terms.says own works
   pub of_them : AreOf terms.workers first end works
+  pub in_turn : AreInTurn terms.plant terms.workers own works
   pub came_back : terms.hosting → served' ≡ served ++ served_in works
-  pub gains : List ℕ
-  pub gave : terms.clocking → given' ≡ given ++ gains
-  pub timed : terms.clocking → AreTimed gains own
+  pub gave : terms.clocking → given' ≡ given ++ moments_in works

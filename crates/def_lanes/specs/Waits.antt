@@ -36,15 +36,15 @@ pub record PausedFor (milliseconds : ℕ) (old new : Waited) : Type 0 where
 
 -- what the waiter of a worker noted is what its work has; of a connection nothing is said
 abbrev pub IsNoteOf : Waited → Work → Type 0
-IsNoteOf note (visit served cut) = Unit {0}
-IsNoteOf note (beat waited) = note ≡ waited
-IsNoteOf note (drive driver calls waited) = note ≡ waited
+IsNoteOf note (visit served course) = Unit {0}
+IsNoteOf note (beat waited course) = note ≡ waited
+IsNoteOf note (drive driver calls waited course) = note ≡ waited
 
 -- it stands at the worker's place
 abbrev pub IsWaited : ℕ → List Waited → Work → Type 0
-IsWaited workers notes (visit served cut) = Unit {0}
-IsWaited workers notes (beat waited) = slice_get notes workers ≡ Some waited
-IsWaited workers notes (drive driver calls waited) = slice_get notes (workers + 1 + driver) ≡ Some waited
+IsWaited workers notes (visit served course) = Unit {0}
+IsWaited workers notes (beat waited course) = slice_get notes workers ≡ Some waited
+IsWaited workers notes (drive driver calls waited course) = slice_get notes (workers + 1 + driver) ≡ Some waited
 
 abbrev pub AreWaited : ℕ → List Waited → List Work → Type 0
 AreWaited workers notes works = AllByRecursion (IsWaited workers notes) works

@@ -14,24 +14,34 @@ pub data Cut : Type 0 where
   by_clock : Cut
   by_memory : Cut
 
--- a connection that ended, and whether it was cut off; or what the waiter of the worker that watches time noted; or that of a worker
--- that drives the devices of a driver, with the calls of its devices
+-- How a work went: the moments that its worker's clock gave for it, in order, and what cut it off
+pub record Course : Type 0 where
+  pub moments : List ℕ
+  pub cut : Cut
+
+-- a connection that ended; or what the waiter of the worker that watches time noted; or that of a worker that drives the devices of a
+-- driver, with the calls of its devices
 pub data Work : Type 0 where
-  visit : Served → Cut → Work
-  beat : Waited → Work
-  drive : ℕ → List DeviceCall → Waited → Work
+  visit : Served → Course → Work
+  beat : Waited → Course → Work
+  drive : ℕ → List DeviceCall → Waited → Course → Work
+
+abbrev pub course_of : Work → Course
+course_of (visit served course) = course
+course_of (beat waited course) = course
+course_of (drive driver calls waited course) = course
 
 abbrev pub lane_of_work : Work → Lane
-lane_of_work (visit served cut) = of_session served.session
-lane_of_work (beat waited) = of_time
-lane_of_work (drive driver calls waited) = of_driver driver
+lane_of_work (visit served course) = of_session served.session
+lane_of_work (beat waited course) = of_time
+lane_of_work (drive driver calls waited course) = of_driver driver
 
 -- the number of the worker that does it, where so many serve connections: these have the numbers from 0 on, and the sessions
 -- in turn; then comes the one that watches time, and then one for each driver
 abbrev pub owner : ℕ → Work → ℕ
-owner workers (visit served cut) = (served.session - 1) % workers
-owner workers (beat waited) = workers
-owner workers (drive driver calls waited) = workers + 1 + driver
+owner workers (visit served course) = (served.session - 1) % workers
+owner workers (beat waited course) = workers
+owner workers (drive driver calls waited course) = workers + 1 + driver
 
 -- each is done by a worker with a number from the first one up to, but not with, the end
 abbrev pub AreOf : ℕ → ℕ → ℕ → List Work → Type 0
@@ -44,9 +54,9 @@ count_of workers number (work ∷ works) = (if owner workers work == number then
 
 -- each is a connection with a session before this one
 abbrev pub IsBefore : ℕ → Work → Type 0
-IsBefore next (visit served cut) = served.session < next
-IsBefore next (beat waited) = ⊥
-IsBefore next (drive driver calls waited) = ⊥
+IsBefore next (visit served course) = served.session < next
+IsBefore next (beat waited course) = ⊥
+IsBefore next (drive driver calls waited course) = ⊥
 
 abbrev pub AreBefore : ℕ → List Work → Type 0
 AreBefore next works = AllByRecursion (IsBefore next) works
@@ -66,22 +76,36 @@ AreStrange works others = AllByRecursion (λ work. IsAbsent (lane_of_work work) 
 
 -- each has come to its end: no connection was cut off, and each other worker was told to end
 abbrev pub IsWhole : Work → Type 0
-IsWhole (visit served cut) = cut ≡ not_cut
-IsWhole (beat waited) = waited.closed ≡ true
-IsWhole (drive driver calls waited) = waited.closed ≡ true
+IsWhole (visit served course) = course.cut ≡ not_cut
+IsWhole (beat waited course) = waited.closed ≡ true
+IsWhole (drive driver calls waited course) = waited.closed ≡ true
 
 abbrev pub AreWhole : List Work → Type 0
 AreWhole works = AllByRecursion IsWhole works
 
 -- the connections, in order
 abbrev pub served_by : Work → List Served
-served_by (visit served cut) = served ∷ []
-served_by (beat waited) = []
-served_by (drive driver calls waited) = []
+served_by (visit served course) = served ∷ []
+served_by (beat waited course) = []
+served_by (drive driver calls waited course) = []
 
 abbrev pub served_in : List Work → List Served
 served_in [] = []
 served_in (work ∷ works) = served_by work ++ served_in works
+
+-- the moments that clocks gave for them, in order
+abbrev pub moments_in : List Work → List ℕ
+moments_in [] = []
+moments_in (work ∷ works) = (course_of work).moments ++ moments_in works
+
+-- how many of them the clock cut off
+abbrev pub is_clock : Cut → Bool
+is_clock by_clock = true
+is_clock other = false
+
+abbrev pub clock_cuts : List Work → ℕ
+clock_cuts [] = 0
+clock_cuts (work ∷ works) = (if is_clock (course_of work).cut then 1 else 0) + clock_cuts works
 
 -- each connection has a session of its own
 abbrev pub HaveOwnSessions : List Served → Type 0
@@ -95,9 +119,9 @@ is_done_by (work ∷ works) lane = is_lane lane (lane_of_work work) || is_done_b
 
 -- the calls of a driver's devices, in order
 abbrev pub calls_by : ℕ → Work → List DeviceCall
-calls_by driver (visit served cut) = []
-calls_by driver (beat waited) = []
-calls_by driver (drive other calls waited) = if other == driver then calls else []
+calls_by driver (visit served course) = []
+calls_by driver (beat waited course) = []
+calls_by driver (drive other calls waited course) = if other == driver then calls else []
 
 abbrev pub calls_in : ℕ → List Work → List DeviceCall
 calls_in driver [] = []

@@ -1,6 +1,6 @@
 ghost use Rattle.std.specs.Prelude.{◌≡◌, ℕ, suc, ◌+◌, List, [], ◌∷◌, ◌++◌, length};
 ghost use Rattle.def_lanes.specs.Devices.{AllTaken, DevicesBack};
-ghost use Rattle.def_lanes.specs.Works.{Work, drive, AreOf, AreApart, calls_in};
+ghost use Rattle.def_lanes.specs.Works.{Course, Work, drive, AreOf, AreApart, calls_in};
 ghost use Rattle.boss_model.specs.DeviceCall.{DeviceCall};
 ghost use Rattle.boss_outside_server.specs.declared.waited.Waited.{Waited};
 
@@ -21,7 +21,7 @@ pub fn devices_come_back<A: Actuators, O>()
 
 /// Where no two works are done in one lane, the calls of a driver's devices are those of its one work.
 pub fn one_work_has_all_calls()
-    ensures { (driver : ℕ) (calls : List DeviceCall) (waited : Waited) (before behind : List Work) →
-        AreApart (before ++ drive driver calls waited ∷ behind) →
-        calls_in driver (before ++ drive driver calls waited ∷ behind) ≡ calls }
+    ensures { (driver : ℕ) (calls : List DeviceCall) (waited : Waited) (course : Course) (before behind : List Work) →
+        AreApart (before ++ drive driver calls waited course ∷ behind) →
+        calls_in driver (before ++ drive driver calls waited course ∷ behind) ≡ calls }
 {}

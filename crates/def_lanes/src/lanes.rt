@@ -3,7 +3,7 @@ ghost use Rattle.def_history.specs.declared.entry.Entry.{Entry};
 ghost use Rattle.def_history.specs.declared.entry.Entry.TheVariants.{Did};
 ghost use Rattle.def_history.specs.History.{IsLegal};
 ghost use Rattle.def_lanes.specs.Lanes.{of_session, of_driver, lane_of};
-ghost use Rattle.def_lanes.specs.Works.{Cut, Work, visit, owner, AreOf, AreBefore, IsAbsent, AreStrange};
+ghost use Rattle.def_lanes.specs.Works.{Course, Work, visit, owner, AreOf, AreBefore, IsAbsent, AreStrange};
 ghost use Rattle.boss_model.specs.declared.answer.Answer.{Answer};
 ghost use Rattle.boss_model.specs.declared.answer.Answer.TheVariants.{Want};
 ghost use Rattle.boss_model.specs.declared.command.Command.TheVariants.{Next, Report};
@@ -28,13 +28,13 @@ pub fn a_report_is_in_the_lane_of_its_want()
 pub fn two_workers_share_no_lane()
     ensures strange { (workers first middle end : ℕ) (works others : List Work) → AreOf workers first middle works → AreOf workers middle end others →
         AreStrange works others }
-    ensures sessions { (workers number turn : ℕ) (served : Served) (cut : Cut) → number < workers → served.session ≡ 1 + number + workers * turn →
-        owner workers (visit served cut) ≡ number }
+    ensures sessions { (workers number turn : ℕ) (served : Served) (course : Course) → number < workers → served.session ≡ 1 + number + workers * turn →
+        owner workers (visit served course) ≡ number }
 {}
 
 /// A worker whose sessions rise serves no two connections in one lane.
 pub fn rising_sessions_are_apart()
     ensures absent { (next : ℕ) (works : List Work) → AreBefore next works → IsAbsent (of_session next) works }
-    ensures more { (next later : ℕ) (works : List Work) (served : Served) (cut : Cut) → AreBefore next works → served.session ≡ next → next < later →
-        AreBefore later (works ++ visit served cut ∷ []) }
+    ensures more { (next later : ℕ) (works : List Work) (served : Served) (course : Course) → AreBefore next works → served.session ≡ next → next < later →
+        AreBefore later (works ++ visit served course ∷ []) }
 {}

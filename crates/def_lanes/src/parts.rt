@@ -2,7 +2,7 @@ ghost use Rattle.std.specs.Prelude.{◌≡◌, ℕ, suc, ◌<◌, ◌≤◌, Lis
 ghost use Rattle.def_history.specs.declared.entry.Entry.{Entry};
 ghost use Rattle.def_history.specs.History.{deeds};
 ghost use Rattle.def_lanes.specs.Parts.{Joined, Added, Part};
-ghost use Rattle.def_lanes.specs.Works.{Work, lane_of_work, owner, IsAbsent, served_by};
+ghost use Rattle.def_lanes.specs.Works.{Work, course_of, lane_of_work, owner, IsAbsent, served_by};
 ghost use Rattle.boss_outside_server.specs.Hosts.{Served};
 
 use crate::Server;
@@ -14,7 +14,7 @@ pub fn parts_come_together<S: Server>()
         Part S.terms first end [] own served served given given }
     ensures more { (first end : ℕ) (works : List Work) (work : Work) (own own' : List Entry) (served served' served'' : List Served)
         (given given' given'' : List ℕ) → Part S.terms first end works own served served' given given' →
-        Added S.terms.plant (lane_of_work work) (S.terms.says work) S.terms.clocking own own' given' given'' →
+        Added S.terms.plant (lane_of_work work) (S.terms.says work) S.terms.clocking (course_of work).moments own own' given' given'' →
         first ≤ owner S.terms.workers work → owner S.terms.workers work < end → IsAbsent (lane_of_work work) works →
         (S.terms.hosting → served'' ≡ served' ++ served_by work) → Part S.terms first end (works ++ work ∷ []) own' served served'' given given'' }
     ensures both { (first middle end : ℕ) (works others : List Work) (old other new : List Entry) (served served' back served'' : List Served)

@@ -9,6 +9,7 @@ returns g c plant opening seen mine driver own given given' devices devices' pau
     let old : Stand = record { own = own; given = given; whole = g.A.Actuators.whole devices; calls = g.A.Actuators.calls devices } in
     let new : Stand = record { own = entries_at seen mine; given = given'; whole = g.A.Actuators.whole devices'; calls = g.A.Actuators.calls devices' } in (
       (made_by driver is.turns (left_by driver end is.last)).calls,
+      (made_by driver is.turns (left_by driver end is.last)).moments,
       driven-added plant opening seen mine driver g.C.Clock.tells g.A.Actuators.tells g.W.Waiter.tells old new pauses pauses' most end pass.legal refl is fresh,
       is.made.wrote,
     )

@@ -46,9 +46,7 @@ loop-ran-init g c =
       all_devices = ap (λ items. devices_in items (λ worker. was_at worker.duty)) same;
       room = let e : length (devices_in c.into_iter-ran-iterator.result.rest.items (λ worker. was_at worker.duty)) ≡ length (devices_in c.args.done.items (λ worker. was_at worker.duty)) =
           ap (λ items. length (devices_in items (λ worker. was_at worker.duty))) same in omega (arith, e, c.requires.room);
-      returned = subst (λ flags. Returned g.A.Actuators.calls (λ device. g.A.Actuators.tells × g.A.Actuators.whole device) (terms_of c.args.server.now.catalogue.now (g.G.Desk.denies c.args.server.now.desk) c.args.server.now.workers g.H.In.Source.tells g.H.Out.Sink.tells g.H.Host.tells g.C.Clock.tells g.W.Waiter.tells) g.W.Waiter.tells 0 [] (own_of g.G.Desk c.args.pass.now)
-          (g.W.Waiter.waits c.args.outside.now.waiter.now) (g.W.Waiter.waits c.args.outside.now.waiter.now) [] [] flags false) (sym c.none-flags.ensures)
-          (returned-first g.A.Actuators.calls (λ device. g.A.Actuators.tells × g.A.Actuators.whole device) (terms_of c.args.server.now.catalogue.now (g.G.Desk.denies c.args.server.now.desk) c.args.server.now.workers g.H.In.Source.tells g.H.Out.Sink.tells g.H.Host.tells g.C.Clock.tells g.W.Waiter.tells) g.W.Waiter.tells (own_of g.G.Desk c.args.pass.now) (g.W.Waiter.waits c.args.outside.now.waiter.now));
+      returned = returned-first g.A.Actuators.calls (λ device. g.A.Actuators.tells × g.A.Actuators.whole device) (terms_of c.args.server.now.catalogue.now (g.G.Desk.denies c.args.server.now.desk) c.args.server.now.workers g.H.In.Source.tells g.H.Out.Sink.tells g.H.Host.tells g.C.Clock.tells g.W.Waiter.tells) g.W.Waiter.tells (own_of g.G.Desk c.args.pass.now) (g.W.Waiter.waits c.args.outside.now.waiter.now);
       unrun = ap is_any_unrun same;
     }
 
@@ -126,7 +124,7 @@ loop-ran-preserved g c =
           (hosted_at g.H.Host c.args.outside.now.host.now) (hosted_at g.H.Host c.loop-ran.outside.host.now) (hosted_at g.H.Host c.join_one.new.outside.host.now)
           (g.C.Clock.faults c.args.outside.now.clock.now) (g.C.Clock.faults c.loop-ran.outside.clock.now) (g.C.Clock.faults c.join_one.new.outside.clock.now)
           (handed_at g.H.Host c.worker_of-worker.result.0.duty) (faults_at g.H.Host c.worker_of-worker.result.0.duty) (g.C.Clock.faults c.worker_of-worker.result.0.clock) c.loop-ran.flags c.worker_of-worker.result.0.flags c.loop-ran.unrun c.worker_of-worker.result.1
-          inv.together facts.0.2.left c.join_one.ensures.joined c.join_one.ensures.seen c.join_one.ensures.served c.join_one.ensures.given c.join_one.ensures.hosted c.join_one.ensures.handed c.join_one.ensures.ticked));
+          inv.together facts.0.2.left c.join_one.ensures.joined c.join_one.ensures.seen c.join_one.ensures.served c.join_one.ensures.given c.join_one.ensures.hosted c.join_one.ensures.handed c.join_one.ensures.ticked c.join_one.ensures.ticks));
       was = inv.was ++ was_at c.worker_of-worker.result.0.duty;
       back = inv.back ++ devices_at c.worker_of-worker.result.0.duty;
       devices = c.join_one.ensures.devices ∙ put-next g.A.Actuators c.args.server.now.workers (length c.loop-ran.yielded) c.worker_of-worker.result.0.duty inv.back c.args.outside.now.devices.now.items c.loop-ran.outside.devices.now.items
@@ -143,15 +141,12 @@ loop-ran-preserved g c =
         c.join_one.ensures.room,
       );
       returned = subst (λ n. Returned g.A.Actuators.calls (λ device. g.A.Actuators.tells × g.A.Actuators.whole device) (terms_of c.args.server.now.catalogue.now (g.G.Desk.denies c.args.server.now.desk) c.args.server.now.workers g.H.In.Source.tells g.H.Out.Sink.tells g.H.Host.tells g.C.Clock.tells g.W.Waiter.tells) g.W.Waiter.tells n (inv.works ++ facts.0.2.works) (own_of g.G.Desk c.join_one.new.pass)
-          (g.W.Waiter.waits c.args.outside.now.waiter.now) (g.W.Waiter.waits c.join_one.new.outside.waiter.now) (inv.was ++ was_at c.worker_of-worker.result.0.duty) (inv.back ++ devices_at c.worker_of-worker.result.0.duty) c.with-flags.result (c.loop-ran.unrun || not c.worker_of-worker.result.1)) more
-          (subst (λ (flags : Flags). Returned g.A.Actuators.calls (λ device. g.A.Actuators.tells × g.A.Actuators.whole device) (terms_of c.args.server.now.catalogue.now (g.G.Desk.denies c.args.server.now.desk) c.args.server.now.workers g.H.In.Source.tells g.H.Out.Sink.tells g.H.Host.tells g.C.Clock.tells g.W.Waiter.tells) g.W.Waiter.tells (suc (length c.loop-ran.yielded)) (inv.works ++ facts.0.2.works) (own_of g.G.Desk c.join_one.new.pass)
-          (g.W.Waiter.waits c.args.outside.now.waiter.now) (g.W.Waiter.waits c.join_one.new.outside.waiter.now) (inv.was ++ was_at c.worker_of-worker.result.0.duty) (inv.back ++ devices_at c.worker_of-worker.result.0.duty) flags (c.loop-ran.unrun || not c.worker_of-worker.result.1))
-          (sym (c.with-flags.ensures ∙ ap (both_flags c.loop-ran.flags) c.join_one.ensures.flags))
+          (g.W.Waiter.waits c.args.outside.now.waiter.now) (g.W.Waiter.waits c.join_one.new.outside.waiter.now) (inv.was ++ was_at c.worker_of-worker.result.0.duty) (inv.back ++ devices_at c.worker_of-worker.result.0.duty) (c.loop-ran.unrun || not c.worker_of-worker.result.1)) more
           (returned-next g.A.Actuators (terms_of c.args.server.now.catalogue.now (g.G.Desk.denies c.args.server.now.desk) c.args.server.now.workers g.H.In.Source.tells g.H.Out.Sink.tells g.H.Host.tells g.C.Clock.tells g.W.Waiter.tells) g.W.Waiter.tells (length c.loop-ran.yielded) c.worker_of-worker.result.0.duty inv.works facts.0.2.works
           (own_of g.G.Desk c.loop-ran.pass) (own_of g.G.Desk c.worker_of-worker.result.0.pass) (own_of g.G.Desk c.join_one.new.pass)
-          (g.W.Waiter.waits c.args.outside.now.waiter.now) (g.W.Waiter.waits c.loop-ran.outside.waiter.now) (g.W.Waiter.waits c.join_one.new.outside.waiter.now) inv.was inv.back note c.loop-ran.flags c.worker_of-worker.result.0.flags c.loop-ran.unrun c.worker_of-worker.result.1
+          (g.W.Waiter.waits c.args.outside.now.waiter.now) (g.W.Waiter.waits c.loop-ran.outside.waiter.now) (g.W.Waiter.waits c.join_one.new.outside.waiter.now) inv.was inv.back note c.loop-ran.unrun c.worker_of-worker.result.1
           inv.returned inv.together.part.agreed facts.0.2.left.part.agreed inv.together.part.of_them facts.0.2.left.part.of_them c.join_one.ensures.joined
-          facts.0.2.placed facts.0.2.called facts.0.2.noted facts.0.2.waits facts.0.2.worked facts.0.2.ended c.join_one.ensures.waited));
+          facts.0.2.placed facts.0.2.called facts.0.2.noted facts.0.2.waits facts.0.2.worked facts.0.2.ended c.join_one.ensures.waited);
       unrun = unrun-first c.in-Some.ran c.next.new.self.rest.items c.worker_of-worker.result.0 c.worker_of-worker.result.1 c.worker_of-worker.ensures c.loop-ran.unrun
           ∙ ap (λ items. c.loop-ran.unrun || is_any_unrun items) (sym step) ∙ inv.unrun;
     }
@@ -189,7 +184,7 @@ returns-clause-account g c =
       back = inv.back;
       devices_are = inv.devices;
       returned = subst (λ n. Returned g.A.Actuators.calls (λ device. g.A.Actuators.tells × g.A.Actuators.whole device) (terms_of c.args.server.now.catalogue.now (g.G.Desk.denies c.args.server.now.desk) c.args.server.now.workers g.H.In.Source.tells g.H.Out.Sink.tells g.H.Host.tells g.C.Clock.tells g.W.Waiter.tells) g.W.Waiter.tells n inv.works (own_of g.G.Desk c.loop-ran.pass)
-          (g.W.Waiter.waits c.args.outside.now.waiter.now) (g.W.Waiter.waits c.loop-ran.outside.waiter.now) (devices_in c.args.done.items (λ worker. was_at worker.duty)) inv.back c.loop-ran.flags c.loop-ran.unrun) all
+          (g.W.Waiter.waits c.args.outside.now.waiter.now) (g.W.Waiter.waits c.loop-ran.outside.waiter.now) (devices_in c.args.done.items (λ worker. was_at worker.duty)) inv.back c.loop-ran.unrun) all
           (subst (λ was. Returned g.A.Actuators.calls (λ device. g.A.Actuators.tells × g.A.Actuators.whole device) (terms_of c.args.server.now.catalogue.now (g.G.Desk.denies c.args.server.now.desk) c.args.server.now.workers g.H.In.Source.tells g.H.Out.Sink.tells g.H.Host.tells g.C.Clock.tells g.W.Waiter.tells) g.W.Waiter.tells (length c.loop-ran.yielded) inv.works (own_of g.G.Desk c.loop-ran.pass)
-          (g.W.Waiter.waits c.args.outside.now.waiter.now) (g.W.Waiter.waits c.loop-ran.outside.waiter.now) was inv.back c.loop-ran.flags c.loop-ran.unrun) handed inv.returned);
+          (g.W.Waiter.waits c.args.outside.now.waiter.now) (g.W.Waiter.waits c.loop-ran.outside.waiter.now) was inv.back c.loop-ran.unrun) handed inv.returned);
     }

@@ -37,6 +37,6 @@ invariant-loop-ran g l = record {
   room : vec_len l.outside.devices.now + length (devices_in l.ran-iterator.rest.items (λ worker. was_at worker.duty)) ≤ vec_capacity l.outside.devices.now;
   returned : Returned g.A.Actuators.calls (λ device. g.A.Actuators.tells × g.A.Actuators.whole device)
       (terms_of l.server.catalogue.now (g.G.Desk.denies l.server.desk) l.server.workers g.H.In.Source.tells g.H.Out.Sink.tells g.H.Host.tells g.C.Clock.tells g.W.Waiter.tells) g.W.Waiter.tells
-      (length l.yielded) works (own_of g.G.Desk l.pass) (g.W.Waiter.waits l.fn.outside.waiter.now) (g.W.Waiter.waits l.outside.waiter.now) was back l.flags l.unrun;
+      (length l.yielded) works (own_of g.G.Desk l.pass) (g.W.Waiter.waits l.fn.outside.waiter.now) (g.W.Waiter.waits l.outside.waiter.now) was back l.unrun;
   unrun : (l.unrun || is_any_unrun l.ran-iterator.rest.items) ≡ is_any_unrun l.fn.done.items;
 }

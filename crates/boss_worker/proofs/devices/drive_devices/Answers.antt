@@ -3,7 +3,7 @@ use Rattle.boss_lock.specs.Places.{entries_at}
 use Rattle.boss_shared.specs.Passes.{IsPassOf}
 use Rattle.def_guards.specs.Guards.{guards_of}
 use Rattle.boss_drive.specs.Driving.{Stand}
-use Rattle.boss_worker.specs.Drove.{WasTold}
+use Rattle.boss_worker.specs.Drove.{Drove, WasTold}
 use Rattle.boss_worker.specs.Troubles.{ClockTrouble}
 use Rattle.boss_worker.proofs.CauseLemmas.{broken-worked, clock-worked}
 use Rattle.boss_worker.proofs.DroveLemmas.{drove-plain, drove-guarded, clock-guarded, broken-guarded, told-plain, told-guarded}
@@ -15,8 +15,9 @@ returns-then-is_guarded-clause-drove g c =
     let new : Stand = record { own = entries_at (g.G.Desk.seen c.guarded_drive.new.pass) (g.G.Desk.mine c.guarded_drive.new.pass); given = g.C.Clock.given c.guarded_drive.new.clock; whole = g.A.Actuators.whole c.guarded_drive.new.devices; calls = g.A.Actuators.calls c.guarded_drive.new.devices } in
     let pass = subst (λ plant. IsPassOf plant (g.G.Desk.opening c.args.desk.now) (g.G.Desk.seen c.guarded_drive.new.pass) (g.G.Desk.mine c.guarded_drive.new.pass)) (sym c.requires.plant)
     (g.met.G.Desk.owned c.args.desk.now c.guarded_drive.new.pass c.guarded_drive.ensures.own) in
-    drove-guarded c.args.catalogue.now (g.G.Desk.opening c.args.desk.now) (g.G.Desk.seen c.guarded_drive.new.pass) (g.G.Desk.mine c.guarded_drive.new.pass) c.args.driver g.C.Clock.tells g.A.Actuators.tells old new
-    g.W.Waiter.tells (g.W.Waiter.waited c.args.waiter.now).pauses (g.W.Waiter.waited c.guarded_drive.new.waiter).pauses c.args.turns pass refl c.requires.paused c.guarded_drive.result (sym c.if-is_guarded.ensures) c.guarded_drive.ensures.guarded
+    subst (Drove c.args.catalogue.now c.args.driver g.C.Clock.tells g.A.Actuators.tells old new g.W.Waiter.tells (g.W.Waiter.waited c.guarded_drive.new.waiter).pauses) (sym c.guard_trouble.ensures)
+    (drove-guarded c.args.catalogue.now (g.G.Desk.opening c.args.desk.now) (g.G.Desk.seen c.guarded_drive.new.pass) (g.G.Desk.mine c.guarded_drive.new.pass) c.args.driver g.C.Clock.tells g.A.Actuators.tells old new
+    g.W.Waiter.tells (g.W.Waiter.waited c.args.waiter.now).pauses (g.W.Waiter.waited c.guarded_drive.new.waiter).pauses c.args.turns pass refl c.requires.paused c.guarded_drive.result (sym c.if-is_guarded.ensures) c.guarded_drive.ensures.guarded)
 
 pub returns-then-is_guarded-clause-clock : goal.returns-then-is_guarded-clause-clock
 returns-then-is_guarded-clause-clock g c = subst (ClockTrouble (g.C.Clock.faults c.args.clock.now) (g.C.Clock.faults c.guarded_drive.new.clock)) (sym c.guard_trouble.ensures)
@@ -40,8 +41,9 @@ returns-else-is_guarded-clause-drove g c =
     let new : Stand = record { own = entries_at (g.G.Desk.seen c.drive.new.pass) (g.G.Desk.mine c.drive.new.pass); given = g.C.Clock.given c.drive.new.clock; whole = g.A.Actuators.whole c.drive.new.devices; calls = g.A.Actuators.calls c.drive.new.devices } in
     let pass = subst (λ plant. IsPassOf plant (g.G.Desk.opening c.args.desk.now) (g.G.Desk.seen c.drive.new.pass) (g.G.Desk.mine c.drive.new.pass)) (sym c.requires.plant)
     (g.met.G.Desk.owned c.args.desk.now c.drive.new.pass c.drive.ensures.own) in
-    drove-plain c.args.catalogue.now (g.G.Desk.opening c.args.desk.now) (g.G.Desk.seen c.drive.new.pass) (g.G.Desk.mine c.drive.new.pass) c.args.driver g.C.Clock.tells g.A.Actuators.tells old new
-    g.W.Waiter.tells (g.W.Waiter.waited c.args.waiter.now).pauses (g.W.Waiter.waited c.drive.new.waiter).pauses c.args.turns pass refl c.requires.paused c.drive.result (sym c.if-is_guarded.ensures) c.drive.ensures.driven
+    subst (Drove c.args.catalogue.now c.args.driver g.C.Clock.tells g.A.Actuators.tells old new g.W.Waiter.tells (g.W.Waiter.waited c.drive.new.waiter).pauses) (sym c.work_trouble.ensures)
+    (drove-plain c.args.catalogue.now (g.G.Desk.opening c.args.desk.now) (g.G.Desk.seen c.drive.new.pass) (g.G.Desk.mine c.drive.new.pass) c.args.driver g.C.Clock.tells g.A.Actuators.tells old new
+    g.W.Waiter.tells (g.W.Waiter.waited c.args.waiter.now).pauses (g.W.Waiter.waited c.drive.new.waiter).pauses c.args.turns pass refl c.requires.paused c.drive.result (sym c.if-is_guarded.ensures) c.drive.ensures.driven)
 
 pub returns-else-is_guarded-clause-clock : goal.returns-else-is_guarded-clause-clock
 returns-else-is_guarded-clause-clock g c = subst (ClockTrouble (g.C.Clock.faults c.args.clock.now) (g.C.Clock.faults c.drive.new.clock)) (sym c.work_trouble.ensures)

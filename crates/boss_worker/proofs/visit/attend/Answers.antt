@@ -1,4 +1,4 @@
-use Rattle.std.proofs.Common.{sym, ◌∙◌, subst, None, lit<}
+use Rattle.std.proofs.Common.{ℕ, List, sym, ◌∙◌, subst, None, lit<}
 use Rattle.def_lanes.specs.Lanes.{of_session}
 use Rattle.boss_model.specs.Limits.{watch_pause}
 use Rattle.def_lanes.specs.Parts.{Added}
@@ -9,7 +9,7 @@ use Rattle.boss_outside_server.specs.Hosts.{served_of}
 use Rattle.boss_sessions.specs.Holding.{Holds}
 use Rattle.boss_worker.specs.Desks.{own_of}
 use Rattle.boss_worker.specs.Saying.{IsVisit}
-use Rattle.boss_worker.specs.Troubles.{cut_by, ClockTrouble}
+use Rattle.boss_worker.specs.Troubles.{course_by, ClockTrouble}
 use Rattle.boss_worker.proofs.CauseLemmas.{broken-served, broken-watched, clock-served, clock-watched, not-watch}
 use Rattle.boss_worker.proofs.VisitLemmas.{talk-visit, watch-visit}
 use Rattle.boss_worker.proofs.visit.attend.Goals as goal
@@ -17,16 +17,18 @@ use Rattle.boss_worker.proofs.visit.attend.Goals as goal
 pub returns-in-Watch-clause-added : goal.returns-in-Watch-clause-added
 returns-in-Watch-clause-added g c =
     let served = served_of g.S.Source g.K.Sink c.args.session c.serve_connection.new.source c.watch_connection.new.sink in
-    subst (λ trouble. Added (actuators c.args.catalogue.now) (of_session c.args.session) (λ entries. g.S.Source.tells → IsVisit c.args.catalogue.now (g.G.Desk.denies c.args.desk.now) g.K.Sink.tells served (cut_by trouble) entries)
-    g.C.Clock.tells (own_of g.G.Desk c.args.pass.now) (own_of g.G.Desk c.watch_connection.new.pass) (g.C.Clock.given c.args.clock.now) (g.C.Clock.given c.watch_connection.new.clock))
-    (sym c.watch_trouble.ensures)
-    (watch-visit c.args.catalogue.now (g.G.Desk.denies c.args.desk.now) g.S.Source.tells g.K.Sink.tells g.C.Clock.tells served c.requires.some (g.S.Source.left c.args.input.now)
-    (λ told. c.serve_connection.ensures.held told ∙ sym c.requires.fresh.whole)
-    (own_of g.G.Desk c.args.pass.now) (own_of g.G.Desk c.watch_connection.new.pass) (g.K.Sink.taken c.args.output.now) (g.K.Sink.faults c.args.output.now)
-    c.requires.fresh.empty c.requires.fresh.no_write_failed (g.C.Clock.given c.args.clock.now) (g.C.Clock.given c.watch_connection.new.clock)
-    (g.S.Source.reads c.args.input.now) (g.S.Source.reads c.serve_connection.new.source)
-    (own_of g.G.Desk c.serve_connection.new.pass) (g.K.Sink.taken c.serve_connection.new.sink) (g.K.Sink.faults c.serve_connection.new.sink) (g.C.Clock.given c.serve_connection.new.clock)
-    c.in-Watch.name c.in-Watch.from 600 c.watch_connection.result c.in-Watch.ensures.connected c.in-Watch.ensures.written c.watch_connection.ensures.watched (lit< tt) c.watch_connection.ensures.called)
+    subst (λ trouble. (moments : List ℕ) × Added (actuators c.args.catalogue.now) (of_session c.args.session) (λ entries. g.S.Source.tells → IsVisit c.args.catalogue.now (g.G.Desk.denies c.args.desk.now) g.K.Sink.tells served (course_by moments trouble) entries)
+    g.C.Clock.tells moments (own_of g.G.Desk c.args.pass.now) (own_of g.G.Desk c.watch_connection.new.pass) (g.C.Clock.given c.args.clock.now) (g.C.Clock.given c.watch_connection.new.clock))
+    (sym c.watch_trouble.ensures) (
+      c.watch_connection.ensures.watched.moments,
+      watch-visit c.args.catalogue.now (g.G.Desk.denies c.args.desk.now) g.S.Source.tells g.K.Sink.tells g.C.Clock.tells served c.requires.some (g.S.Source.left c.args.input.now)
+          (λ told. c.serve_connection.ensures.held told ∙ sym c.requires.fresh.whole)
+          (own_of g.G.Desk c.args.pass.now) (own_of g.G.Desk c.watch_connection.new.pass) (g.K.Sink.taken c.args.output.now) (g.K.Sink.faults c.args.output.now)
+          c.requires.fresh.empty c.requires.fresh.no_write_failed (g.C.Clock.given c.args.clock.now) (g.C.Clock.given c.watch_connection.new.clock)
+          (g.S.Source.reads c.args.input.now) (g.S.Source.reads c.serve_connection.new.source)
+          (own_of g.G.Desk c.serve_connection.new.pass) (g.K.Sink.taken c.serve_connection.new.sink) (g.K.Sink.faults c.serve_connection.new.sink) (g.C.Clock.given c.serve_connection.new.clock)
+          c.in-Watch.name c.in-Watch.from 600 c.watch_connection.result c.in-Watch.ensures.connected c.in-Watch.ensures.written c.watch_connection.ensures.watched (lit< tt) c.watch_connection.ensures.called,
+    )
 
 pub returns-in-Watch-clause-clocked : goal.returns-in-Watch-clause-clocked
 returns-in-Watch-clause-clocked g c =
@@ -39,15 +41,17 @@ returns-in-Watch-clause-broken g c = λ is. broken-watched c.watch_connection.re
 pub returns-in_default-clause-added : goal.returns-in_default-clause-added
 returns-in_default-clause-added g c =
     let served = served_of g.S.Source g.K.Sink c.args.session c.serve_connection.new.source c.serve_connection.new.sink in
-    subst (λ trouble. Added (actuators c.args.catalogue.now) (of_session c.args.session) (λ entries. g.S.Source.tells → IsVisit c.args.catalogue.now (g.G.Desk.denies c.args.desk.now) g.K.Sink.tells served (cut_by trouble) entries)
-    g.C.Clock.tells (own_of g.G.Desk c.args.pass.now) (own_of g.G.Desk c.serve_connection.new.pass) (g.C.Clock.given c.args.clock.now) (g.C.Clock.given c.serve_connection.new.clock))
-    (sym c.session_trouble.ensures)
-    (talk-visit c.args.catalogue.now (g.G.Desk.denies c.args.desk.now) g.S.Source.tells g.K.Sink.tells g.C.Clock.tells served c.requires.some (g.S.Source.left c.args.input.now)
-    (λ told. c.serve_connection.ensures.held told ∙ sym c.requires.fresh.whole)
-    (own_of g.G.Desk c.args.pass.now) (own_of g.G.Desk c.serve_connection.new.pass) (g.K.Sink.taken c.args.output.now) (g.K.Sink.faults c.args.output.now)
-    c.requires.fresh.empty c.requires.fresh.no_write_failed (g.C.Clock.given c.args.clock.now) (g.C.Clock.given c.serve_connection.new.clock)
-    (g.S.Source.reads c.args.input.now) (g.S.Source.faults c.args.input.now) c.serve_connection.result c.requires.fresh.unread c.serve_connection.ensures.connected c.requires.fresh.no_read_failed c.serve_connection.ensures.read c.serve_connection.ensures.written
-    (not-watch c.serve_connection.result c.in_default.not-Watch))
+    subst (λ trouble. (moments : List ℕ) × Added (actuators c.args.catalogue.now) (of_session c.args.session) (λ entries. g.S.Source.tells → IsVisit c.args.catalogue.now (g.G.Desk.denies c.args.desk.now) g.K.Sink.tells served (course_by moments trouble) entries)
+    g.C.Clock.tells moments (own_of g.G.Desk c.args.pass.now) (own_of g.G.Desk c.serve_connection.new.pass) (g.C.Clock.given c.args.clock.now) (g.C.Clock.given c.serve_connection.new.clock))
+    (sym c.session_trouble.ensures) (
+      c.serve_connection.ensures.connected.talked.moments,
+      talk-visit c.args.catalogue.now (g.G.Desk.denies c.args.desk.now) g.S.Source.tells g.K.Sink.tells g.C.Clock.tells served c.requires.some (g.S.Source.left c.args.input.now)
+          (λ told. c.serve_connection.ensures.held told ∙ sym c.requires.fresh.whole)
+          (own_of g.G.Desk c.args.pass.now) (own_of g.G.Desk c.serve_connection.new.pass) (g.K.Sink.taken c.args.output.now) (g.K.Sink.faults c.args.output.now)
+          c.requires.fresh.empty c.requires.fresh.no_write_failed (g.C.Clock.given c.args.clock.now) (g.C.Clock.given c.serve_connection.new.clock)
+          (g.S.Source.reads c.args.input.now) (g.S.Source.faults c.args.input.now) c.serve_connection.result c.requires.fresh.unread c.serve_connection.ensures.connected c.requires.fresh.no_read_failed c.serve_connection.ensures.read c.serve_connection.ensures.written
+          (not-watch c.serve_connection.result c.in_default.not-Watch),
+    )
 
 pub returns-in_default-clause-clocked : goal.returns-in_default-clause-clocked
 returns-in_default-clause-clocked g c =

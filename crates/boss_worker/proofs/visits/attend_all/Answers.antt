@@ -6,10 +6,11 @@ use Rattle.boss_outside_server.specs.Hosts.{served_of}
 use Rattle.boss_worker.specs.declared.flags.Flags.{Flags}
 use Rattle.boss_worker.specs.Desks.{own_of}
 use Rattle.boss_worker.specs.Saying.{terms_of}
-use Rattle.boss_worker.specs.Troubles.{cut_by, flags_after, Counts}
+use Rattle.boss_worker.specs.Troubles.{course_by, flags_after, Counts}
 use Rattle.boss_worker.specs.Visits.{Left, SoFar}
-use Rattle.boss_worker.proofs.FlagLemmas.{clock-after, disk-after, host-after}
+use Rattle.boss_worker.proofs.FlagLemmas.{clock-after, cuts-more, disk-after, host-after}
 use Rattle.boss_worker.proofs.HeldLemmas.{earlier-other, free-holds}
+use Rattle.boss_worker.proofs.VisitLemmas.{visit-timed}
 use Rattle.boss_worker.proofs.LeftLemmas.{left-broken, left-failed, so-far-first, so-far-more, so-far-same}
 use Rattle.boss_worker.proofs.visits.attend_all.Goals as goal
 
@@ -32,6 +33,7 @@ connections-init g c = record {
   no_host = ap (λ (f : Flags). f.host) c.none-flags.ensures;
   no_disk = ap (λ (f : Flags). f.disk) c.none-flags.ensures;
   ticked = subst (λ (f : Flags). Counts f.clock (g.C.Clock.faults c.args.clock.now)) (sym c.none-flags.ensures) c.requires.quiet;
+  cuts = omega arith;
 }
 
 pub connections-preserved : goal.connections-preserved
@@ -47,14 +49,16 @@ connections-preserved g c =
       back = omega (arith, c.give_back.ensures.counts.2, c.in-Conn.ensures.count.2);
       share = c.give_back.ensures.counts.1 ∙ c.accept.ensures.share ∙ inv.share;
       within = omega (arith, c.give_back.ensures.counts.0, c.in-Conn.ensures.count.0, c.in-Conn.ensures.count.1, inv.share);
-      works = inv.works ++ visit one (cut_by c.attend-trouble.result) ∷ [];
-      so_far = subst (λ f. SoFar (terms_of c.args.server.now.catalogue.now (g.G.Desk.denies c.args.server.now.desk) c.args.server.now.workers g.H.In.Source.tells g.H.Out.Sink.tells g.H.Host.tells g.C.Clock.tells g.W.Waiter.tells) c.args.number (inv.works ++ visit one (cut_by c.attend-trouble.result) ∷ [])
+      works = inv.works ++ visit one (course_by c.attend-trouble.ensures.added.0 c.attend-trouble.result) ∷ [];
+      so_far = subst (λ f. SoFar (terms_of c.args.server.now.catalogue.now (g.G.Desk.denies c.args.server.now.desk) c.args.server.now.workers g.H.In.Source.tells g.H.Out.Sink.tells g.H.Host.tells g.C.Clock.tells g.W.Waiter.tells) c.args.number (inv.works ++ visit one (course_by c.attend-trouble.ensures.added.0 c.attend-trouble.result) ∷ [])
           (own_of g.G.Desk c.attend-trouble.new.pass) (g.H.Host.served c.args.host.now) (g.H.Host.served c.give_back.new.self) (g.C.Clock.given c.args.clock.now) (g.C.Clock.given c.attend-trouble.new.clock)
           (g.H.Host.handed c.give_back.new.self) (c.connections.next + c.from-next-in-Conn.result) f) (sym c.after-flags.ensures)
           (so-far-more (terms_of c.args.server.now.catalogue.now (g.G.Desk.denies c.args.server.now.desk) c.args.server.now.workers g.H.In.Source.tells g.H.Out.Sink.tells g.H.Host.tells g.C.Clock.tells g.W.Waiter.tells) c.args.number inv.works
           (own_of g.G.Desk c.connections.pass) (own_of g.G.Desk c.attend-trouble.new.pass) (g.H.Host.served c.args.host.now) (g.H.Host.served c.connections.host) (g.H.Host.served c.give_back.new.self)
           (g.C.Clock.given c.args.clock.now) (g.C.Clock.given c.connections.clock) (g.C.Clock.given c.attend-trouble.new.clock) (g.H.Host.handed c.connections.host) (g.H.Host.handed c.give_back.new.self)
-          c.connections.next (c.connections.next + c.from-next-in-Conn.result) c.connections.flags c.attend-trouble.result one inv.so_far c.attend-trouble.ensures.added
+          c.connections.next (c.connections.next + c.from-next-in-Conn.result) c.connections.flags c.attend-trouble.result one c.attend-trouble.ensures.added.0 inv.so_far
+          (visit-timed c.args.server.now.catalogue.now (g.G.Desk.denies c.args.server.now.desk) g.H.In.Source.tells g.H.Out.Sink.tells g.C.Clock.tells one c.attend-trouble.result c.attend-trouble.ensures.added.0
+          (own_of g.G.Desk c.connections.pass) (own_of g.G.Desk c.attend-trouble.new.pass) (g.C.Clock.given c.connections.clock) (g.C.Clock.given c.attend-trouble.new.clock) c.attend-trouble.ensures.added.1)
           (λ told. c.give_back.ensures.connections told ∙ ap (λ list. list ++ one ∷ []) (c.accept.ensures.connections told)) refl c.requires.number
           (c.give_back.ensures.counts.0 ∙ c.in-Conn.ensures.count.1) (ap (λ n. c.connections.next + n) c.from-next-in-Conn.ensures));
       small = omega (arith, inv.small, c.requires.few, c.give_back.ensures.counts.0, c.in-Conn.ensures.count.1, c.from-next-in-Conn.ensures);
@@ -66,6 +70,8 @@ connections-preserved g c =
       ticked = subst (λ (f : Flags). Counts f.clock (g.C.Clock.faults c.attend-trouble.new.clock)) (sym c.after-flags.ensures)
           (clock-after c.attend-trouble.result c.connections.flags (g.C.Clock.faults c.connections.clock) (g.C.Clock.faults c.attend-trouble.new.clock) (λ is. c.in_default.not-Disk is)
           c.attend-trouble.ensures.clocked inv.ticked);
+      cuts = cuts-more c.attend-trouble.result (visit one (course_by c.attend-trouble.ensures.added.0 c.attend-trouble.result)) inv.works (g.C.Clock.faults c.connections.clock) (g.C.Clock.faults c.attend-trouble.new.clock)
+          refl (λ is. c.in_default.not-Disk is) c.attend-trouble.ensures.clocked inv.cuts;
     }
 
 pub returns-in-Disk-clause-count : goal.returns-in-Disk-clause-count
@@ -79,18 +85,20 @@ pub returns-in-Disk-clause-left : goal.returns-in-Disk-clause-left
 returns-in-Disk-clause-left g c =
     let inv = c.connections.invariant in
     let one = served_of g.H.In.Source g.H.Out.Sink c.connections.next c.attend-trouble.new.input c.attend-trouble.new.output in (
-      inv.works ++ visit one (cut_by c.attend-trouble.result) ∷ [],
-      left-broken (terms_of c.args.server.now.catalogue.now (g.G.Desk.denies c.args.server.now.desk) c.args.server.now.workers g.H.In.Source.tells g.H.Out.Sink.tells g.H.Host.tells g.C.Clock.tells g.W.Waiter.tells) c.args.number (g.H.Host.share c.args.host.now) (inv.works ++ visit one (cut_by c.attend-trouble.result) ∷ [])
+      inv.works ++ visit one (course_by c.attend-trouble.ensures.added.0 c.attend-trouble.result) ∷ [],
+      left-broken (terms_of c.args.server.now.catalogue.now (g.G.Desk.denies c.args.server.now.desk) c.args.server.now.workers g.H.In.Source.tells g.H.Out.Sink.tells g.H.Host.tells g.C.Clock.tells g.W.Waiter.tells) c.args.number (g.H.Host.share c.args.host.now) (inv.works ++ visit one (course_by c.attend-trouble.ensures.added.0 c.attend-trouble.result) ∷ [])
           (own_of g.G.Desk c.attend-trouble.new.pass) (g.G.Desk.seen c.attend-trouble.new.pass) (g.H.Host.served c.args.host.now) (g.H.Host.served c.give_back.new.self)
           (g.C.Clock.given c.args.clock.now) (g.C.Clock.given c.attend-trouble.new.clock) (g.H.Host.handed c.give_back.new.self) (c.connections.next + c.args.server.now.workers)
           (g.H.Host.faults c.give_back.new.self) (g.C.Clock.faults c.attend-trouble.new.clock) c.after-flags.result
-          (subst (λ f. SoFar (terms_of c.args.server.now.catalogue.now (g.G.Desk.denies c.args.server.now.desk) c.args.server.now.workers g.H.In.Source.tells g.H.Out.Sink.tells g.H.Host.tells g.C.Clock.tells g.W.Waiter.tells) c.args.number (inv.works ++ visit one (cut_by c.attend-trouble.result) ∷ [])
+          (subst (λ f. SoFar (terms_of c.args.server.now.catalogue.now (g.G.Desk.denies c.args.server.now.desk) c.args.server.now.workers g.H.In.Source.tells g.H.Out.Sink.tells g.H.Host.tells g.C.Clock.tells g.W.Waiter.tells) c.args.number (inv.works ++ visit one (course_by c.attend-trouble.ensures.added.0 c.attend-trouble.result) ∷ [])
           (own_of g.G.Desk c.attend-trouble.new.pass) (g.H.Host.served c.args.host.now) (g.H.Host.served c.give_back.new.self) (g.C.Clock.given c.args.clock.now) (g.C.Clock.given c.attend-trouble.new.clock)
           (g.H.Host.handed c.give_back.new.self) (c.connections.next + c.args.server.now.workers) f) (sym c.after-flags.ensures)
           (so-far-more (terms_of c.args.server.now.catalogue.now (g.G.Desk.denies c.args.server.now.desk) c.args.server.now.workers g.H.In.Source.tells g.H.Out.Sink.tells g.H.Host.tells g.C.Clock.tells g.W.Waiter.tells) c.args.number inv.works
           (own_of g.G.Desk c.connections.pass) (own_of g.G.Desk c.attend-trouble.new.pass) (g.H.Host.served c.args.host.now) (g.H.Host.served c.connections.host) (g.H.Host.served c.give_back.new.self)
           (g.C.Clock.given c.args.clock.now) (g.C.Clock.given c.connections.clock) (g.C.Clock.given c.attend-trouble.new.clock) (g.H.Host.handed c.connections.host) (g.H.Host.handed c.give_back.new.self)
-          c.connections.next (c.connections.next + c.args.server.now.workers) c.connections.flags c.attend-trouble.result one inv.so_far c.attend-trouble.ensures.added
+          c.connections.next (c.connections.next + c.args.server.now.workers) c.connections.flags c.attend-trouble.result one c.attend-trouble.ensures.added.0 inv.so_far
+          (visit-timed c.args.server.now.catalogue.now (g.G.Desk.denies c.args.server.now.desk) g.H.In.Source.tells g.H.Out.Sink.tells g.C.Clock.tells one c.attend-trouble.result c.attend-trouble.ensures.added.0
+          (own_of g.G.Desk c.connections.pass) (own_of g.G.Desk c.attend-trouble.new.pass) (g.C.Clock.given c.connections.clock) (g.C.Clock.given c.attend-trouble.new.clock) c.attend-trouble.ensures.added.1)
           (λ told. c.give_back.ensures.connections told ∙ ap (λ list. list ++ one ∷ []) (c.accept.ensures.connections told)) refl c.requires.number
           (c.give_back.ensures.counts.0 ∙ c.in-Conn.ensures.count.1) refl))
           (ap (λ (f : Flags). f.host) c.after-flags.ensures ∙ host-after c.attend-trouble.result c.connections.flags ∙ inv.no_host)
@@ -114,7 +122,7 @@ returns-in-Failed-clause-left g c =
           (so-far-same (terms_of c.args.server.now.catalogue.now (g.G.Desk.denies c.args.server.now.desk) c.args.server.now.workers g.H.In.Source.tells g.H.Out.Sink.tells g.H.Host.tells g.C.Clock.tells g.W.Waiter.tells) c.args.number inv.works (own_of g.G.Desk c.connections.pass)
           (g.H.Host.served c.args.host.now) (g.H.Host.served c.connections.host) (g.H.Host.served c.accept.new.self) (g.C.Clock.given c.args.clock.now) (g.C.Clock.given c.connections.clock)
           (g.H.Host.handed c.connections.host) (g.H.Host.handed c.accept.new.self) c.connections.next c.connections.flags inv.so_far c.accept.ensures.connections c.in-Failed.ensures.count.1)
-          inv.no_disk (omega (arith, c.in-Failed.ensures.cause)) inv.ticked),
+          inv.no_disk (omega (arith, c.in-Failed.ensures.cause)) inv.ticked inv.cuts),
     )
 
 pub attend-trouble-requires-clause-unheld : goal.attend-trouble-requires-clause-unheld

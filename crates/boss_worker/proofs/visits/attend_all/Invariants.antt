@@ -1,7 +1,7 @@
-use Rattle.std.proofs.Common.{◌≡◌, ℕ, ◌+◌, ◌*◌, ◌-◌, ◌≤◌, false, List, None}
-use Rattle.boss_model.specs.Limits.{watch_pause}
+use Rattle.std.proofs.Common.{◌≡◌, ℕ, ◌+◌, ◌*◌, ◌-◌, ◌^◌, ◌≤◌, min, false, List, None}
+use Rattle.boss_model.specs.Limits.{most_workers, watch_pause}
 use Rattle.def_lanes.specs.Waits.{PausedFor}
-use Rattle.def_lanes.specs.Works.{Work}
+use Rattle.def_lanes.specs.Works.{Work, clock_cuts}
 use Rattle.boss_sessions.specs.Holding.{Holds}
 use Rattle.boss_worker.specs.Desks.{own_of}
 use Rattle.boss_worker.specs.Saying.{terms_of}
@@ -23,13 +23,14 @@ invariant-connections g l = record {
   so_far : SoFar (terms_of l.server.catalogue.now (g.G.Desk.denies l.server.desk) l.server.workers g.H.In.Source.tells g.H.Out.Sink.tells g.H.Host.tells g.C.Clock.tells g.W.Waiter.tells) l.number works
       (own_of g.G.Desk l.pass) (g.H.Host.served l.fn.host) (g.H.Host.served l.host) (g.C.Clock.given l.fn.clock) (g.C.Clock.given l.clock)
       (g.H.Host.handed l.host) l.next l.flags;
-  small : l.next ≤ 32 + 32 * g.H.Host.handed l.host;
+  small : l.next ≤ most_workers + most_workers * g.H.Host.handed l.host;
   counted : l.count ≡ g.H.Host.handed l.host;
   waited : g.W.Waiter.tells → PausedFor watch_pause (g.W.Waiter.waited l.fn.waiter) (g.W.Waiter.waited l.waiter);
   hosted : g.H.Host.faults l.host ≡ 0;
   no_host : l.flags.host ≡ false;
   no_disk : l.flags.disk ≡ false;
   ticked : Counts l.flags.clock (g.C.Clock.faults l.clock);
+  cuts : min (clock_cuts works) (2 ^ 64 - 1) ≤ g.C.Clock.faults l.clock;
 }
 
 abbrev pub decreases-connections : goal.decreases-connections

@@ -6,3 +6,6 @@ returns-clause-own g c speech session heard name from broken old new talked = (t
 
 pub returns-clause-taken : goal.returns-clause-taken
 returns-clause-taken g c speech session heard name from broken old new talked told = (talk-silent speech session g.K.Sink.tells g.C.Clock.tells heard name from broken old new talked).1 told
+
+pub returns-clause-moments : goal.returns-clause-moments
+returns-clause-moments g c speech session heard name from broken old new talked = (talk-silent speech session g.K.Sink.tells g.C.Clock.tells heard name from broken old new talked).2

@@ -6,4 +6,4 @@ pub returns-clause-talk : goal.returns-clause-talk
 returns-clause-talk g c speech session heard stop broken old new before now entries moments is = exchanged-allowed speech session g.K.Sink.tells heard stop broken old new before now entries moments is
 
 pub returns-clause-served : goal.returns-clause-served
-returns-clause-served g c speech served cut entries is = exchanged-allowed speech served.session g.K.Sink.tells _ is.stop is.broken [] served.taken 0 served.write_faults entries is.moments is.exchanged
+returns-clause-served g c speech served course entries is = exchanged-allowed speech served.session g.K.Sink.tells _ is.stop is.broken [] served.taken 0 served.write_faults entries course.moments is.exchanged

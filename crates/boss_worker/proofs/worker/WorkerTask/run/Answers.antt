@@ -44,7 +44,7 @@ returns-in-Connections g c =
             c.attend_all-connections.result.1 (g.W.Waiter.waited c.leave.new.self) fresh.0 (c.attend_all-connections.ensures.waited told) (c.leave.ensures.leaves told).0);
         placed = fresh.0;
         worked = λ ran low. absurd (omega (arith, fresh.0, low));
-        ended = λ quiet. visits-ended (actuators c.args.self.now.server.now.catalogue.now) g.W.Waiter.tells (own_of g.G.Desk c.attend_all-connections.new.pass) c.args.self.now.server.now.workers c.args.self.now.number fresh.0 works left.part.of_them;
+        ended = visits-ended (actuators c.args.self.now.server.now.catalogue.now) g.W.Waiter.tells (own_of g.G.Desk c.attend_all-connections.new.pass) c.args.self.now.server.now.workers c.args.self.now.number fresh.0 works left.part.of_them;
       },
     )
 
