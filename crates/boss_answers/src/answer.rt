@@ -2,9 +2,10 @@ ghost use Rattle.std.specs.Prelude.{◌≡◌, ◌+◌, ◌≤◌, ◌<◌, ◌+
 ghost use Rattle.std.specs.Fmt.{signed_decimal};
 ghost use Rattle.boss_model.specs.Catalogue.{actuators, default_of};
 ghost use Rattle.boss_model.specs.Tellable.{AreTellable, IsTellable};
-ghost use Rattle.def_wire.specs.Texts.{answer_text, basis_text, listed, mark_text, notice_text, point_text, quoted, slot_text, stage_text};
+ghost use Rattle.def_wire.specs.Texts.{answer_text, basis_text, differed_text, listed, mark_text, notice_text, point_text, quoted, slot_text, stage_text};
 ghost use Rattle.boss_answers.specs.Room.{HasRoom, PutsAtMost};
 
+use crate::entries::{put_points, put_version};
 use crate::notice::write_notices;
 use crate::parts::{
     mark_name, stage_name, write_basis, write_last, write_number, write_point, write_quoted,
@@ -45,7 +46,8 @@ pub fn write_answer(into: &mut Buffer, catalogue: &Catalogue, answer: &Answer)
             value,
             basis,
             mark,
-        } => put_reading(into, catalogue, *point, *value, *basis, *mark),
+            differed,
+        } => put_reading(into, catalogue, *point, *value, *basis, *mark, *differed),
         Answer::Array { point, slots } => put_array(into, catalogue, *point, slots),
         Answer::Status {
             txn,
@@ -57,6 +59,8 @@ pub fn write_answer(into: &mut Buffer, catalogue: &Catalogue, answer: &Answer)
         Answer::Notices { first, next, list } => {
             put_notices(into, catalogue, *first, *next, list.slice())
         }
+        Answer::Points { from, max } => put_points(into, catalogue, *from, *max),
+        Answer::Version => put_version(into, catalogue),
         Answer::Refused(refusal) => write_refusal(into, refusal),
     }
 }
@@ -117,12 +121,13 @@ fn put_reading(
     value: i64,
     basis: Basis,
     mark: Mark,
+    differed: u64,
 )
     requires room { HasRoom 256 into.old }
     requires known { point < length catalogue.now.points }
     ensures { PutsAtMost 256 into.old into.new
         (codes "{\"ok\":\"read\",\"point\":" ++ point_text catalogue.now point ++ codes ",\"value\":" ++ signed_decimal value
-        ++ codes ",\"from\":" ++ basis_text basis ++ codes ",\"mark\":" ++ mark_text mark ++ codes "}") }
+        ++ codes ",\"from\":" ++ basis_text basis ++ codes ",\"mark\":" ++ mark_text mark ++ differed_text differed ++ codes "}") }
 {
     write_point(into, b"{\"ok\":\"read\",\"point\":", catalogue, point);
     write_signed(into, b",\"value\":", value);
@@ -130,7 +135,18 @@ fn put_reading(
     write_basis(into, basis);
     into.extend(b",\"mark\":");
     into.extend(mark_name(mark));
+    put_differed(into, differed);
     into.push(b'}');
+}
+
+/// How often a point's device was found with another value, where it was.
+fn put_differed(into: &mut Buffer, count: u64)
+    requires { HasRoom 32 into.old }
+    ensures { PutsAtMost 32 into.old into.new (differed_text count) }
+{
+    if count != 0 {
+        write_number(into, b",\"differed\":", count);
+    }
 }
 
 /// The default and the slots of a point.

@@ -5,11 +5,13 @@
 mod answer;
 mod catalogue;
 mod device;
+mod entries;
 mod lines;
 mod notice;
 mod parts;
 mod refusal;
 mod slots;
+mod spot;
 mod telling;
 
 pub use answer::write_answer;

@@ -1,9 +1,11 @@
 ghost use Rattle.std.specs.Prelude.{◌+◌, ◌≤◌, ◌++◌, length, codes, decimal};
+ghost use Rattle.def_wire.specs.Spots.{spot_text};
 ghost use Rattle.def_wire.specs.Texts.{cause_text, denied_text, placed, quoted, refusal_text};
 ghost use Rattle.boss_answers.specs.Room.{HasRoom, PutsAtMost};
 
 use crate::parts::{write_cause, write_last, write_number, write_quoted};
-use boss_model::{Buffer, Cause, Name, Refusal};
+use crate::spot::write_spot;
+use boss_model::{Buffer, Cause, Name, Refusal, Spot};
 
 /// A refusal as a JSON object.
 pub(crate) fn write_refusal(into: &mut Buffer, refusal: &Refusal)
@@ -11,7 +13,8 @@ pub(crate) fn write_refusal(into: &mut Buffer, refusal: &Refusal)
     ensures { PutsAtMost 160 into.old into.new (refusal_text refusal.now) }
 {
     match refusal {
-        Refusal::Malformed => into.extend(b"{\"error\":\"malformed\"}"),
+        Refusal::Malformed { at: None } => into.extend(b"{\"error\":\"malformed\"}"),
+        Refusal::Malformed { at: Some(spot) } => put_malformed(into, *spot),
         Refusal::UnknownOp => into.extend(b"{\"error\":\"unknown-op\"}"),
         Refusal::UnknownPoint { index } => put_placed(into, b"unknown-point", *index),
         Refusal::NotAttached => into.extend(b"{\"error\":\"not-attached\"}"),
@@ -33,6 +36,17 @@ pub(crate) fn write_refusal(into: &mut Buffer, refusal: &Refusal)
         Refusal::TooManyProcesses => into.extend(b"{\"error\":\"too-many-processes\"}"),
         Refusal::Spent => into.extend(b"{\"error\":\"spent\"}"),
     }
+}
+
+/// A line that is at fault, and where.
+fn put_malformed(into: &mut Buffer, spot: Spot)
+    requires { HasRoom 160 into.old }
+    ensures { PutsAtMost 160 into.old into.new (codes "{\"error\":\"malformed\",\"key\":" ++ quoted (spot_text spot) ++ codes "}") }
+{
+    into.extend(b"{\"error\":\"malformed\",\"key\":\"");
+    write_spot(into, spot);
+    into.push(b'"');
+    into.push(b'}');
 }
 
 /// A write of a submit that is denied, from 0, and the rule, from 1, or 0 where no rule is for it.

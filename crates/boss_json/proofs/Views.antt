@@ -4,20 +4,11 @@ use Rattle.std.specs.Option.{option_and_then}
 use Rattle.json.specs.Json as json
 use Rattle.json.specs.Find as tree
 use Rattle.json.specs.Value.{items_of}
-use Rattle.serde_json.specs.Data.{Num, Data}
+use Rattle.serde_json.specs.Data.{Num}
 use Rattle.serde_json.specs.Find.{as_i64, as_str}
 use Rattle.serde_json.specs.Read.{number_of}
-use Rattle.serde_json.specs.View as plain
-use Rattle.serde_json.specs.declared.value.Value.{Value}
 use Rattle.def_wire.specs.Keys.{list_of, whole}
 use Rattle.boss_json.specs.Trees.{number_data, data_of, items_data}
-
-list_of-items_of : (ds : List Data) → list_of (plain.items_of ds) ≡ ds
-list_of-items_of [] = refl
-list_of-items_of (d ∷ ds) = ap (λ more. d ∷ more) (list_of-items_of ds)
-
-pub list_of_views : (values : List Value) → list_of (plain.items_view values) ≡ map plain.view values
-list_of_views values = list_of-items_of (map plain.view values)
 
 -- of any type whose values are seen as trees
 pub list_of_trees : {V : Type 0} (seen : V → json.Json) (values : List V) → list_of (items_data (items_of (map seen values))) ≡ map (λ value. data_of (seen value)) values

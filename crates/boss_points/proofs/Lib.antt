@@ -8,4 +8,4 @@ pub mod Fed
 pub mod Found
 pub mod PointKinds
 pub mod Texts
-pub mod LineRows
+pub mod Pages

@@ -8,9 +8,10 @@ use Rattle.boss_model.specs.Catalogue.{fits}
 use Rattle.boss_model.specs.Limits.{most_drivers, most_points}
 use Rattle.boss_model.specs.Plants.{IsKind}
 use Rattle.boss_model.specs.Sound.{DistinctNames}
+use Rattle.def_catalogue.specs.Canonical.{digest_of}
 use Rattle.boss_points.specs.declared.point.Point.{Point}
 use Rattle.boss_points.specs.Keys.{is_minimum}
-use Rattle.boss_points.specs.Seen.{texts}
+use Rattle.boss_points.specs.Seen.{all_seen, texts}
 
 -- the minimum times of a point lie within bounds, and only a binary point has any
 pub record AreTimes (kind : Kind) (on off : ℤ) : Type 0 where
@@ -25,10 +26,11 @@ pub record IsWhole (drivers : ℕ) (point : Point) : Type 0 where
   pub known : point.driver < drivers
   pub times : AreTimes point.kind point.min_on point.min_off
 
--- the names are those of the points, in their order, and all different
-pub record IsKept (drivers : List (List ℕ)) (points : List Point) (names : List (Vec ℕ Global)) : Type 0 where
+-- the names are those of the points, in their order, and all different; the digest is that of the catalogue
+pub record IsKept (drivers : List (List ℕ)) (points : List Point) (names : List (Vec ℕ Global)) (digest : List ℕ) : Type 0 where
   pub few_drivers : length drivers ≤ most_drivers
   pub few_points : length points ≤ most_points
   pub named : texts names ≡ map (λ point. point.name) points
   pub apart : DistinctNames (map (λ point. point.name) points)
   pub whole : All (IsWhole (length drivers)) points
+  pub digested : digest ≡ digest_of (record { drivers = drivers; points = all_seen points })

@@ -2,6 +2,5 @@ pub mod Keys
 pub mod Seen
 pub mod Reading
 pub mod Given
-pub mod Canonical
 pub mod Fed
 pub mod Kept

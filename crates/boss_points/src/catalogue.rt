@@ -1,15 +1,15 @@
-ghost use Rattle.std.specs.Prelude.{◌≡◌, ◌<◌, ◌≤◌, length, map, true, slice_get, Some};
-ghost use Rattle.sha2.specs.Sha256.{sha256};
+ghost use Rattle.std.specs.Prelude.{◌≡◌, ◌<◌, ◌≤◌, length, map, take, drop, true, slice_get, Some};
+ghost use Rattle.std.specs.List.{AllByRecursion};
 ghost use Rattle.toml.specs.View.{view};
 ghost use Rattle.boss_model.specs.Catalogue.{actuators, place_of, fits};
-ghost use Rattle.boss_model.specs.Limits.{most_points};
+ghost use Rattle.boss_model.specs.Limits.{most_drivers, most_points};
 ghost use Rattle.boss_model.specs.Plants.{IsPlant};
 ghost use Rattle.boss_model.specs.Sound.{DistinctNames};
-ghost use Rattle.boss_points.specs.Canonical.{canonical};
+ghost use Rattle.def_catalogue.specs.Canonical.{digest_of};
 ghost use Rattle.boss_points.specs.Given.{Gives};
 ghost use Rattle.boss_points.specs.Kept.{AreTimes};
 ghost use Rattle.boss_points.specs.Reading.{catalogue_of, catalogue_in};
-ghost use Rattle.boss_points.specs.Seen.{seen};
+ghost use Rattle.boss_points.specs.Seen.{all_seen, seen};
 
 use crate::digest::digest_of;
 use crate::file::{array_at, at_most, table_of};
@@ -28,6 +28,7 @@ pub struct Catalogue {
     drivers: Vec<Name>,
     points: Vec<Point>,
     names: IndexSet<Vec<u8>>,
+    digest: [u8; 32],
 }
 
 impl Model for Catalogue {
@@ -39,7 +40,7 @@ impl Model for Catalogue {
 
     ghost view = { λ c. record { drivers = c.drivers.items; points = all_seen c.points.items } };
 
-    ghost invariant = { λ c. IsKept c.drivers.items c.points.items c.names.keys };
+    ghost invariant = { λ c. IsKept c.drivers.items c.points.items c.names.keys c.digest };
 }
 
 impl Catalogue {
@@ -68,10 +69,12 @@ impl Catalogue {
         at_most(MOST_POINTS, points)?;
         let drivers = drivers_of(alloc, drivers)?;
         let (names, points) = points_of(alloc, &drivers, points)?;
+        let digest = digest_of(&drivers, &points);
         Ok(Catalogue {
             drivers,
             points,
             names,
+            digest,
         })
     }
 
@@ -94,6 +97,15 @@ impl Catalogue {
         &self.points[id.0 as usize]
     }
 
+    /// The points from this place on, at most so many.
+    pub fn page(&self, from: u64, most: u64) -> &[Point]
+        ensures points { all_seen result.now ≡ take most (drop from self.now.points) }
+        ensures few { length result.now ≤ most }
+        ensures known { AllByRecursion (λ point. point.driver < length self.now.drivers) result.now }
+    {
+        front(behind(&self.points, from), most)
+    }
+
     /// How many points there are: at most 4,096. Their names are all different.
     pub fn count(&self) -> u32
         ensures count { result ≡ length self.now.points }
@@ -104,12 +116,20 @@ impl Catalogue {
         self.points.len() as u32
     }
 
-    /// How many drivers there are: at most 16.
+    /// How many drivers there are: at most 256.
     pub fn drivers(&self) -> u16
         ensures count { result ≡ length self.now.drivers }
-        ensures few { result ≤ 16 }
+        ensures few { result ≤ most_drivers }
     {
         self.drivers.len() as u16
+    }
+
+    /// The names of the drivers, by their places.
+    pub fn driver_names(&self) -> &[Name]
+        ensures names { result.now ≡ self.now.drivers }
+        ensures few { length result.now ≤ most_drivers }
+    {
+        &self.drivers
     }
 
     /// The name of the driver at this place.
@@ -122,8 +142,31 @@ impl Catalogue {
 
     /// SHA-256 of the canonical text, which is the same for all files that spell this catalogue.
     pub fn digest(&self) -> [u8; 32]
-        ensures { result ≡ sha256 (canonical self.now) }
+        ensures { result ≡ digest_of self.now }
     {
-        digest_of(&self.drivers, &self.points)
+        self.digest
+    }
+}
+
+/// The points from this place on.
+fn behind(points: &[Point], from: u64) -> &[Point]
+    ensures { result.now ≡ drop from points.now }
+{
+    if from < points.len() as u64 {
+        &points[from as usize..]
+    } else {
+        &[]
+    }
+}
+
+/// The first points, at most so many.
+fn front(points: &[Point], most: u64) -> &[Point]
+    ensures points { result.now ≡ take most points.now }
+    ensures few { length result.now ≤ most }
+{
+    if most < points.len() as u64 {
+        &points[..most as usize]
+    } else {
+        points
     }
 }

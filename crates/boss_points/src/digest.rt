@@ -1,8 +1,7 @@
 ghost use Rattle.std.specs.Prelude.{◌≡◌, ◌<◌, [], ◌++◌, length, slice_index_or, codes, All};
 ghost use Rattle.std.specs.Fmt.{signed_decimal};
 ghost use Rattle.std.specs.List.{flat_map};
-ghost use Rattle.sha2.specs.Sha256.{sha256};
-ghost use Rattle.boss_points.specs.Canonical.{canonical, driver_line, point_line, kind_text, times_text};
+ghost use Rattle.def_catalogue.specs.Canonical.{digest_of, driver_line, point_line, kind_text, times_text};
 ghost use Rattle.boss_points.specs.Fed.{Takes};
 ghost use Rattle.boss_points.specs.Kept.{IsWhole};
 ghost use Rattle.boss_points.specs.Seen.{seen, all_seen};
@@ -15,7 +14,7 @@ use sha2::{Digest, Sha256};
 /// SHA-256 of the canonical text: a line for each driver, and then a line for each point.
 pub(crate) fn digest_of(drivers: &[Name], points: &[Point]) -> [u8; 32]
     requires { All (IsWhole (length drivers.now)) points.now }
-    ensures { result ≡ sha256 (canonical (record { drivers = drivers.now; points = all_seen points.now })) }
+    ensures { result ≡ digest_of (record { drivers = drivers.now; points = all_seen points.now }) }
 {
     let mut hasher = Sha256::new();
     feed_drivers(&mut hasher, drivers);

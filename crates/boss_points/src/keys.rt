@@ -1,6 +1,7 @@
 ghost use Rattle.std.specs.Prelude.{◌≡◌, ◌≤◌, ◌<◌, length, option_copied, position, IfSome};
 ghost use Rattle.std.specs.Str.{bytes_eq};
 ghost use Rattle.toml.specs.View.{view};
+ghost use Rattle.boss_model.specs.Limits.{most_drivers};
 ghost use Rattle.boss_points.specs.Keys.{name_spelled, name_of, kind_of, analog, analog_of, multi_of, default_of, driver_of, minimum, time_at, times_of, whole_at, text_at};
 
 use boss_model::{DriverId, Kind, LONGEST_MINIMUM, Name};
@@ -79,7 +80,7 @@ pub(crate) fn default_of(point: &Value) -> Option<i64>
 
 /// The driver of a point, by its place among the drivers.
 pub(crate) fn driver_of(drivers: &[Name], point: &Value) -> Option<DriverId>
-    requires { length drivers.now ≤ 16 }
+    requires { length drivers.now ≤ most_drivers }
     ensures { result ≡ driver_of drivers.now (view point.now) }
 {
     let name = text_at(point, "driver")?;

@@ -22,7 +22,7 @@ pub enum CatalogueRefusal {
         /// The key.
         key: Key,
     },
-    /// There are more than 16 drivers, or else more than 4,096 points.
+    /// There are more than 256 drivers, or else more than 4,096 points.
     TooMany {
         /// How many there are.
         count: u64,

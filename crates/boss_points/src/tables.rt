@@ -2,6 +2,7 @@ ghost use Rattle.std.specs.Prelude.{◌≡◌, ◌≤◌, [], ◌∷◌, ◌++�
 ghost use Rattle.std.specs.List.{AllByRecursion, list_any, filter_map};
 ghost use Rattle.std.specs.Str.{bytes_eq};
 ghost use Rattle.toml.specs.View.{view};
+ghost use Rattle.boss_model.specs.Limits.{most_drivers};
 ghost use Rattle.boss_model.specs.Sound.{DistinctNames};
 ghost use Rattle.boss_points.specs.declared.refusal.CatalogueRefusal.TheVariants.{BadDriver, SameName, NoMemory};
 ghost use Rattle.boss_points.specs.Given.{Gives};
@@ -96,7 +97,7 @@ fn first_without_default(points: &[Value]) -> Option<usize>
 
 /// The first point without one of these drivers.
 fn first_without_driver(drivers: &[Name], points: &[Value]) -> Option<usize>
-    requires { length drivers.now ≤ 16 }
+    requires { length drivers.now ≤ most_drivers }
     ensures { result ≡ position (λ point. is_none (driver_of drivers.now (view point))) points.now }
 {
     points
@@ -113,7 +114,7 @@ fn first_without_times(points: &[Value]) -> Option<usize>
 
 /// The point that a table spells.
 fn point_of(drivers: &[Name], point: &Value) -> Option<Point>
-    requires { length drivers.now ≤ 16 }
+    requires { length drivers.now ≤ most_drivers }
     ensures { result ≡ point_of drivers.now (view point.now) }
 {
     let name = name_of(point)?;
@@ -137,7 +138,7 @@ fn all_points(
     drivers: &[Name],
     tables: &[Value],
 ) -> Result<Vec<Point>, CatalogueRefusal>
-    requires few { length drivers.now ≤ 16 }
+    requires few { length drivers.now ≤ most_drivers }
     requires passed { AllByRecursion (λ table. is_none (point_of drivers.now table) ≡ false) (views tables.now) }
     ensures points { IfOk result (λ points. points.items ≡ filter_map (point_of drivers.now) (views tables.now)) }
     ensures few { IfOk result (λ points. length points.items ≤ length tables.now) }
@@ -160,7 +161,7 @@ pub(crate) fn points_of(
     drivers: &[Name],
     tables: &[Value],
 ) -> Result<(IndexSet<Vec<u8>>, Vec<Point>), CatalogueRefusal>
-    requires { length drivers.now ≤ 16 }
+    requires { length drivers.now ≤ most_drivers }
     ensures points { Gives (λ found. found.1.items) result (points_of drivers.now (views tables.now)) }
     ensures names { IfOk result (λ found. texts found.0.keys ≡ map (λ point. point.name) found.1.items) }
     ensures apart { IfOk result (λ found. DistinctNames (map (λ point. point.name) found.1.items)) }

@@ -1,91 +1,79 @@
 -- Each item of a list, read one after another.
-use Rattle.std.proofs.Common.{◌≡◌, ℕ, ◌+◌, true, false, List, [], ◌∷◌, ◌++◌, map, Option, Some, None, is_some, option_map, inl, inr, refl, sym, ap, ◌∙◌, subst}
-use Rattle.std.proofs.lemmas.Bool.{cases_Bool}
-use Rattle.std.specs.List.{list_all}
-use Rattle.boss_model.specs.declared.answer.Refusal.TheVariants.{Malformed}
-use Rattle.def_wire.specs.Keys.{all_of}
-use Rattle.def_wire.specs.Requests.{Parsed, asks, wrong, formed, each_from, ◌>>=◌}
+use Rattle.std.proofs.Common.{◌≡◌, ℕ, ◌+◌, List, [], ◌∷◌, ◌++◌, Option, Some, None, refl, sym, ap, ◌∙◌, subst}
+use Rattle.boss_model.specs.declared.answer.Refusal.{Refusal}
+use Rattle.def_wire.specs.Requests.{Parsed, asks, wrong, each_from, ◌>>=◌}
 use Rattle.boss_requests.specs.declared.refusal.ReadRefusal.{ReadRefusal}
 use Rattle.boss_requests.specs.declared.refusal.ReadRefusal.TheVariants.{Refused}
-use Rattle.boss_requests.specs.Given.{IsTold}
+use Rattle.boss_requests.specs.Given.{IsTold, fault_of, told_or}
 
 -- what was read before, and then the rest
 abbrev pub onto : {B : Type 0} → List B → Parsed (List B) → Parsed (List B)
 onto ys (asks zs) = asks (ys ++ zs)
 onto ys (wrong why) = wrong why
 
--- ---- all of the items
-
--- what was read before, and then the rest
-abbrev pub behind : {B : Type 0} → List B → Option (List B) → Option (List B)
-behind ys rest = option_map (λ zs. ys ++ zs) rest
-
-module _ {A D B : Type 0} (see : A → D) (read : D → Option B) where
-  -- each is read exactly where all are
-  pub all_read : (xs : List A) → list_all (λ x. is_some (read (see x))) xs ≡ is_some (all_of read (map see xs))
-  all_read [] = refl
-  all_read (x ∷ xs) = from (read (see x)) refl (all_of read (map see xs)) refl (all_read xs)
-    where
-      from : (one : Option B) → read (see x) ≡ one → (others : Option (List B)) → all_of read (map see xs) ≡ others → list_all (λ y. is_some (read (see y))) xs ≡ is_some (all_of read (map see xs))
-          → list_all (λ y. is_some (read (see y))) (x ∷ xs) ≡ is_some (all_of read (map see (x ∷ xs)))
-      from None e others r more = rw e
-      from (Some y) e None r more = rw (e, more, r)
-      from (Some y) e (Some ys) r more = rw (e, more, r)
-
 -- ---- items that are read, and then taken on one by one
 
-module _ {D B C : Type 0} (read : D → Option B) (take_on : ℕ → B → Parsed C) where
+module _ {D B C : Type 0} (read : ℕ → D → Parsed B) (take_on : ℕ → B → Parsed C) where
   abbrev both : ℕ → D → Parsed C
-  both place d = formed (read d) >>= take_on place
+  both place d = read place d >>= take_on place
 
   -- where each can be read
-  pub both-passes : (place : ℕ) (ds : List D) → is_some (all_of read ds) ≡ true → each_from both place ds ≡ (formed (all_of read ds) >>= each_from take_on place)
-  both-passes place [] passes = refl
-  both-passes place (d ∷ ds) passes = from (read d) refl (all_of read ds) refl passes (both-passes (place + 1) ds)
+  both-passes : (place : ℕ) (ds : List D) (bs : List B) → each_from read place ds ≡ asks bs → each_from both place ds ≡ each_from take_on place bs
+  both-passes place [] bs is = let none : bs ≡ [] = cc in rw none refl
+  both-passes place (d ∷ ds) bs is = one (read place d) refl (each_from read (place + 1) ds) refl (both-passes (place + 1) ds)
     where
-      from : (one : Option B) → read d ≡ one → (others : Option (List B)) → all_of read ds ≡ others → is_some (all_of read (d ∷ ds)) ≡ true
-          → (is_some (all_of read ds) ≡ true → each_from both (place + 1) ds ≡ (formed (all_of read ds) >>= each_from take_on (place + 1)))
-          → each_from both place (d ∷ ds) ≡ (formed (all_of read (d ∷ ds)) >>= each_from take_on place)
-      from None e others r passes more = let none : is_some (all_of read (d ∷ ds)) ≡ false = rw e refl in absurd (cc)
-      from (Some y) e None r passes more = let none : is_some (all_of read (d ∷ ds)) ≡ false = rw (e, r) refl in absurd (cc)
-      from (Some y) e (Some ys) r passes more = rw (e, more (ap is_some r), r) refl
+      Later : Type 0
+      Later = (bs : List B) → each_from read (place + 1) ds ≡ asks bs → each_from both (place + 1) ds ≡ each_from take_on (place + 1) bs
 
-  pub both-fails : (place : ℕ) (ds : List D) → is_some (all_of read ds) ≡ false → (formed (all_of read ds) >>= each_from take_on place) ≡ wrong Malformed
-  both-fails place ds fails = from (all_of read ds) refl
-    where
-      from : (found : Option (List B)) → all_of read ds ≡ found → (formed (all_of read ds) >>= each_from take_on place) ≡ wrong Malformed
-      from None e = rw e refl
-      from (Some ys) e = absurd (let some : is_some (all_of read ds) ≡ true = ap is_some e in cc)
+      one : (first : Parsed B) → read place d ≡ first → (others : Parsed (List B)) → each_from read (place + 1) ds ≡ others → Later → each_from both place (d ∷ ds) ≡ each_from take_on place bs
+      one (wrong why) e others r later = let none : each_from read place (d ∷ ds) ≡ wrong why = rw e refl in absurd (cc)
+      one (asks b) e (wrong why) r later = let none : each_from read place (d ∷ ds) ≡ wrong why = rw (e, r) refl in absurd (cc)
+      one (asks b) e (asks others) r later =
+          let all : each_from read place (d ∷ ds) ≡ asks (b ∷ others) = rw (e, r) refl in
+          let same : bs ≡ b ∷ others = cc in
+          rw (same, e, later others r) refl
 
   -- what was taken on of each, which can be read then
-  read_each : (place : ℕ) (ds : List D) (cs : List C) → each_from both place ds ≡ asks cs → is_some (all_of read ds) ≡ true
-  read_each place [] cs is = refl
-  read_each place (d ∷ ds) cs is = from (read d) refl (read_each (place + 1) ds)
+  read-each : (place : ℕ) (ds : List D) (cs : List C) → each_from both place ds ≡ asks cs → fault_of (each_from read place ds) ≡ None
+  read-each place [] cs is = refl
+  read-each place (d ∷ ds) cs is = from (read place d) refl (read-each (place + 1) ds)
     where
-      last : (y : B) → read d ≡ Some y → (found : Option (List B)) → all_of read ds ≡ found → is_some (all_of read ds) ≡ true → is_some (all_of read (d ∷ ds)) ≡ true
-      last y e None f some = let none : is_some (all_of read ds) ≡ false = ap is_some f in absurd (cc)
-      last y e (Some ys) f some = rw (e, f) refl
+      taken : (b : B) → read place d ≡ asks b → (one : Parsed C) → take_on place b ≡ one → (others : Parsed (List C)) → each_from both (place + 1) ds ≡ others
+          → (rest : Parsed (List B)) → each_from read (place + 1) ds ≡ rest → ((cs : List C) → each_from both (place + 1) ds ≡ asks cs → fault_of (each_from read (place + 1) ds) ≡ None)
+          → fault_of (each_from read place (d ∷ ds)) ≡ None
+      taken b e (wrong why) t others o rest r more = let none : each_from both place (d ∷ ds) ≡ wrong why = rw (e, t) refl in absurd (cc)
+      taken b e (asks c) t (wrong why) o rest r more = let none : each_from both place (d ∷ ds) ≡ wrong why = rw (e, t, o) refl in absurd (cc)
+      taken b e (asks c) t (asks others) o (asks rest) r more = rw (e, r) refl
+      taken b e (asks c) t (asks others) o (wrong why) r more = let some : fault_of (each_from read (place + 1) ds) ≡ Some why = ap fault_of r in let none = more others o in absurd (cc)
 
-      taken : (y : B) → read d ≡ Some y → (one : Parsed C) → take_on place y ≡ one → (others : Parsed (List C)) → each_from both (place + 1) ds ≡ others
-          → ((cs : List C) → each_from both (place + 1) ds ≡ asks cs → is_some (all_of read ds) ≡ true) → is_some (all_of read (d ∷ ds)) ≡ true
-      taken y e (wrong why) t others r more = let none : each_from both place (d ∷ ds) ≡ wrong why = rw (e, t) refl in absurd (cc)
-      taken y e (asks c) t (wrong why) r more = let none : each_from both place (d ∷ ds) ≡ wrong why = rw (e, t, r) refl in absurd (cc)
-      taken y e (asks c) t (asks others) r more = last y e (all_of read ds) refl (more others r)
+      from : (one : Parsed B) → read place d ≡ one → ((cs : List C) → each_from both (place + 1) ds ≡ asks cs → fault_of (each_from read (place + 1) ds) ≡ None)
+          → fault_of (each_from read place (d ∷ ds)) ≡ None
+      from (wrong why) e more = let none : each_from both place (d ∷ ds) ≡ wrong why = rw e refl in absurd (cc)
+      from (asks b) e more = taken b e (take_on place b) refl (each_from both (place + 1) ds) refl (each_from read (place + 1) ds) refl more
 
-      from : (one : Option B) → read d ≡ one → ((cs : List C) → each_from both (place + 1) ds ≡ asks cs → is_some (all_of read ds) ≡ true) → is_some (all_of read (d ∷ ds)) ≡ true
-      from None e more = let none : each_from both place (d ∷ ds) ≡ wrong Malformed = rw e refl in absurd (cc)
-      from (Some y) e more = taken y e (take_on place y) refl (each_from both (place + 1) ds) refl more
+  -- reading all, and then taking on all, asks what doing both one by one asks
+  pub both-asks : (place : ℕ) (ds : List D) (cs : List C) → each_from both place ds ≡ asks cs → (each_from read place ds >>= each_from take_on place) ≡ asks cs
+  both-asks place ds cs is = from (each_from read place ds) refl
+    where
+      from : (all : Parsed (List B)) → each_from read place ds ≡ all → (each_from read place ds >>= each_from take_on place) ≡ asks cs
+      from (asks bs) e = rw e (sym (both-passes place ds bs e) ∙ is)
+      from (wrong why) e = let some : fault_of (each_from read place ds) ≡ Some why = ap fault_of e in let none = read-each place ds cs is in absurd (cc)
 
-  pub both-asks : (place : ℕ) (ds : List D) (cs : List C) → each_from both place ds ≡ asks cs → (formed (all_of read ds) >>= each_from take_on place) ≡ asks cs
-  both-asks place ds cs is = sym (both-passes place ds (read_each place ds cs is)) ∙ is
+  -- and tells the first that can't be read, or else what was found first
+  pub both-told : (place : ℕ) (ds : List D) (first : ReadRefusal) → IsTold first (each_from both place ds)
+      → IsTold (told_or (fault_of (each_from read place ds)) first) (each_from read place ds >>= each_from take_on place)
+  both-told place ds first told = from (each_from read place ds) refl
+    where
+      from : (all : Parsed (List B)) → each_from read place ds ≡ all → IsTold (told_or (fault_of (each_from read place ds)) first) (each_from read place ds >>= each_from take_on place)
+      from (asks bs) e = rw e (subst (IsTold first) (both-passes place ds bs e) told)
+      from (wrong why) e = rw e refl
 
-  -- what was found wrong first is told where each can be read, and else that one can't
-  pub both-told : (place : ℕ) (ds : List D) (first why : ReadRefusal) → IsTold first (each_from both place ds)
-      → (is_some (all_of read ds) ≡ false → why ≡ Refused Malformed) → (is_some (all_of read ds) ≡ true → why ≡ first)
-      → IsTold why (formed (all_of read ds) >>= each_from take_on place)
-  both-told place ds first why told malformed same =
-      elim (cases_Bool (is_some (all_of read ds))) [
-        | inl passes ↦ subst (λ refusal. IsTold refusal (formed (all_of read ds) >>= each_from take_on place)) (sym (same passes))
-            (subst (IsTold first) (both-passes place ds passes) told)
-        | inr fails ↦ subst (λ refusal. IsTold refusal (formed (all_of read ds) >>= each_from take_on place)) (sym (malformed fails)) (both-fails place ds fails)
-      ]
+-- ---- the first that can't be read
+
+module _ {D B : Type 0} (read : ℕ → D → Parsed B) where
+  pub each-failed : (place : ℕ) (d : D) (ds : List D) (why : Refusal) → fault_of (read place d) ≡ Some why → fault_of (each_from read place (d ∷ ds)) ≡ Some why
+  each-failed place d ds why some = from (read place d) refl some
+    where
+      from : (one : Parsed B) → read place d ≡ one → fault_of (read place d) ≡ Some why → fault_of (each_from read place (d ∷ ds)) ≡ Some why
+      from (asks b) e some = let none : fault_of (read place d) ≡ None = ap fault_of e in absurd (cc)
+      from (wrong other) e some = rw e (sym (ap fault_of e) ∙ some)

@@ -1,4 +1,3 @@
 pub mod Each
-pub mod Formed
 pub mod Forms
 pub mod Values

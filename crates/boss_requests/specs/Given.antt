@@ -1,6 +1,8 @@
 -- Source: own.
-use Rattle.std.specs.Prelude.{◌≡◌, ◌≤◌, ℕ, true, List, Result, Ok, Err}
+use Rattle.std.specs.Prelude.{◌≡◌, ◌≤◌, ℕ, true, List, Option, Some, None, Result, Ok, Err}
+use Rattle.boss_model.specs.declared.answer.Refusal.{Refusal}
 use Rattle.boss_model.specs.declared.answer.Refusal.TheVariants as refusal
+use Rattle.boss_model.specs.declared.spot.Spot.{Spot}
 use Rattle.boss_model.specs.declared.state.Actuator.{Actuator}
 use Rattle.boss_model.specs.Limits.{last_session}
 use Rattle.boss_model.specs.Names.{is_name}
@@ -19,7 +21,7 @@ use Rattle.boss_requests.specs.declared.refusal.ReadRefusal.TheVariants.{Refused
 
 -- a line that is no value asks for nothing
 abbrev pub refusal_of : Unread → ReadRefusal
-refusal_of unread.Malformed = Refused refusal.Malformed
+refusal_of unread.Malformed = Refused (refusal.Malformed None)
 refusal_of unread.NoMemory = NoMemory
 
 -- the refusal is the one that reading gives. Want of memory says nothing.
@@ -31,6 +33,25 @@ IsTold NoMemory read = Unit {0}
 abbrev pub Gives : {A B : Type 0} → (A → B) → Result A ReadRefusal → Parsed B → Type 0
 Gives view (Ok x) read = read ≡ asks (view x)
 Gives view (Err refusal) read = IsTold refusal read
+
+-- a line that is at fault here
+abbrev pub fault : Spot → Refusal
+fault spot = refusal.Malformed (Some spot)
+
+-- what a value spells, or where it is at fault, is what reading gives
+abbrev pub Spells : {A : Type 0} → Result A Spot → Parsed A → Type 0
+Spells (Ok x) read = read ≡ asks x
+Spells (Err spot) read = read ≡ wrong (fault spot)
+
+-- what is wrong, if anything is
+abbrev pub fault_of : {A : Type 0} → Parsed A → Option Refusal
+fault_of (asks x) = None
+fault_of (wrong why) = Some why
+
+-- this fault, or else the refusal that was found first
+abbrev pub told_or : Option Refusal → ReadRefusal → ReadRefusal
+told_or None first = first
+told_or (Some why) first = Refused why
 
 -- what is asked can be done on this plant
 abbrev pub MayAsk : List Actuator → Ask → Type 0

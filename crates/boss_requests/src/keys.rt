@@ -1,12 +1,12 @@
 ghost use Rattle.std.specs.Prelude.{◌≡◌, ◌≤◌, ◌<◌, [], codes, map, pos, Some, None, length, option_copied, option_map, IfSome};
 ghost use Rattle.serde_json.specs.Find.{as_str};
-ghost use Rattle.def_wire.specs.Keys.{at_least, name, number_from, number_within, policy, seq, short_list, step, under, under_or, whole, within};
+ghost use Rattle.def_wire.specs.Keys.{at_least, name, number_from, number_within, policy, seq, short_list, under, under_or, whole, within};
 ghost use Rattle.boss_model.specs.declared.Policy.TheVariants.{Abort as AbortPolicy};
 ghost use Rattle.boss_model.specs.Limits.{last_number, most_writes};
 ghost use Rattle.boss_model.specs.Sound.{IsName};
 
 use boss_json::JsonValue;
-use boss_model::{LAST_NUMBER, MOST_WRITES, Name, Policy, Step};
+use boss_model::{LAST_NUMBER, MOST_WRITES, Name, Policy};
 
 /// The priority of a write that names none: the lowest (ASHRAE 135, clause 19.2).
 const DEFAULT_PRIORITY: i64 = 16;
@@ -98,7 +98,7 @@ pub(crate) fn first_notice<V: JsonValue>(value: &V) -> Option<u64>
 
 /// The number that a process gives a request: from 1 up to 2^62 - 1, or 0 where the line has none.
 pub(crate) fn seq_of<V: JsonValue>(value: &V) -> Option<u64>
-    ensures number { result ≡ seq (V.meaning value.now) }
+    ensures number { result ≡ under_or (codes "seq") seq 0 (V.meaning value.now) }
     ensures within { IfSome result (λ number. number < last_number) }
 {
     match value.under("seq") {
@@ -183,18 +183,5 @@ pub(crate) fn points_of<V: JsonValue>(value: &V) -> Option<&[V]>
     match value.under("points") {
         Some(found) => short_list_in(found),
         None => Some(&[]),
-    }
-}
-
-/// The step that a value spells: a value and a hold.
-pub(crate) fn step_in<V: JsonValue>(value: &V) -> Option<Step>
-    ensures { result ≡ step (V.meaning value.now) }
-{
-    match value.list()? {
-        [value, hold] => Some(Step {
-            value: value.whole()?,
-            hold: hold.whole()?,
-        }),
-        _ => None,
     }
 }

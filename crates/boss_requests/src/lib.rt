@@ -15,4 +15,3 @@ pub use blank::is_blank;
 pub use def_wire::{Ask, Form, Request};
 pub use reader::{RequestReader, read_by};
 pub use refusal::ReadRefusal;
-pub use request::read_request;

@@ -1,18 +1,14 @@
-ghost use Rattle.std.specs.Prelude.{◌≡◌, ◌≤◌, ◌<◌, true, false, is_some, length, map, All, IfOk};
-ghost use Rattle.std.specs.List.{list_all};
-ghost use Rattle.serde_json.specs.Find.{as_str};
-ghost use Rattle.boss_model.specs.declared.answer.Refusal.TheVariants.{Malformed};
+ghost use Rattle.std.specs.Prelude.{◌≡◌, ◌≤◌, ◌<◌, length, map, option_map, All, IfOk};
 ghost use Rattle.boss_model.specs.Catalogue.{place_of};
 ghost use Rattle.boss_model.specs.Limits.{most_writes};
-ghost use Rattle.def_wire.specs.Requests.{each_from, point_at, points_of};
-ghost use Rattle.boss_requests.specs.declared.refusal.ReadRefusal.TheVariants.{Refused};
-ghost use Rattle.boss_requests.specs.Given.{Gives};
+ghost use Rattle.def_wire.specs.Requests.{each_from, point_at, points_of, text_at};
+ghost use Rattle.boss_requests.specs.Given.{Gives, fault, fault_of, told_or};
 ghost use Rattle.boss_requests.specs.Seen.{point_in};
 
 use crate::ReadRefusal;
-use crate::refusal::MALFORMED;
+use crate::refusal::malformed;
 use boss_json::JsonValue;
-use boss_model::{Items, PointId, Refusal};
+use boss_model::{Items, PointId, Refusal, Spot};
 use boss_points::Catalogue;
 use std::alloc::Global;
 
@@ -60,10 +56,27 @@ pub(crate) fn points_named<V: JsonValue>(
 
 /// What is wrong with values that name no known points: that one of them is no text, or else what was found first.
 fn why_no_points<V: JsonValue>(values: &[V], first: ReadRefusal) -> ReadRefusal
-    ensures malformed { list_all (λ value. is_some (as_str (V.meaning value))) values.now ≡ false → result ≡ Refused Malformed }
-    ensures first { list_all (λ value. is_some (as_str (V.meaning value))) values.now ≡ true → result ≡ first }
+    requires { length values.now ≤ most_writes }
+    ensures { result ≡ told_or (fault_of (each_from text_at 0 (map V.meaning values.now))) first }
 {
-    if are_texts(values) { first } else { MALFORMED }
+    match first_fault(values) {
+        Some(spot) => malformed(spot),
+        None => first,
+    }
+}
+
+/// Where the first of the values stands that is no text.
+fn first_fault<V: JsonValue>(values: &[V]) -> Option<Spot>
+    requires { length values.now ≤ most_writes }
+    ensures { option_map fault result ≡ fault_of (each_from text_at 0 (map V.meaning values.now)) }
+{
+    for (at, value) in values.iter().enumerate() {
+        if value.text().is_none() {
+            let place = at as u32;
+            return Some(Spot::Named { place });
+        }
+    }
+    None
 }
 
 /// The points that values name, or what is wrong with the first of them that is no text or names none.
@@ -94,13 +107,6 @@ fn point_in<V: JsonValue>(
     ensures point { Gives (λ point. point) result (point_in catalogue.now index (V.meaning value.now)) }
     ensures known { IfOk result (λ point. point < length catalogue.now.points) }
 {
-    let name = value.text().ok_or(MALFORMED)?;
+    let name = value.text().ok_or(malformed(Spot::Named { place: index }))?;
     point_at(catalogue, index, name)
-}
-
-/// Whether each of the values is a text.
-fn are_texts<V: JsonValue>(values: &[V]) -> bool
-    ensures { result ≡ list_all (λ value. is_some (as_str (V.meaning value))) values.now }
-{
-    values.iter().all(|value| value.text().is_some())
 }

@@ -26,12 +26,12 @@ impl RequestReader {
     }
 }
 
-/// What a line asks, as `read_request` says. What the reader read before does not matter. It is compiled apart, so that what it
-/// tells is moved once.
+/// What a line asks, as a line of this form, or why it is refused. Only the first line of a connection may ask to watch. What the
+/// reader read before does not matter. It is compiled apart, so that what it tells is moved once.
 ///
 /// # Errors
 ///
-/// Those of `read_request`.
+/// `Refused` with `Malformed`, `UnknownOp` or `UnknownPoint`, which is the answer to the line, or `NoMemory`.
 #[inline(never)]
 #[tactic(auto, using(crate::proofs::Values::told), unfolding(def_wire::specs::Requests::parsed))]
 pub fn read_by(

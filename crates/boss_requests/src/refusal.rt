@@ -1,9 +1,11 @@
-ghost use Rattle.std.specs.Prelude.{◌≡◌};
-ghost use Rattle.boss_requests.specs.declared.refusal.ReadRefusal.TheVariants.{NoMemory as Memory};
+ghost use Rattle.std.specs.Prelude.{◌≡◌, Some};
+ghost use Rattle.boss_model.specs.declared.answer.Refusal.TheVariants.{Malformed};
+ghost use Rattle.boss_model.specs.declared.spot.Spot.TheVariants.{Line, Write};
+ghost use Rattle.boss_requests.specs.declared.refusal.ReadRefusal.TheVariants.{NoMemory as Memory, Refused};
 ghost use Rattle.boss_requests.specs.Given.{refusal_of};
 
 use boss_json::Unread;
-use boss_model::{NoMemory, Refusal};
+use boss_model::{Key, NoMemory, Refusal, Spot};
 use std::alloc::{AllocError, AllocFailed};
 use std::error::Error;
 use std::fmt;
@@ -17,8 +19,29 @@ pub enum ReadRefusal {
     NoMemory,
 }
 
-/// The line spells no request.
-pub(crate) const MALFORMED: ReadRefusal = ReadRefusal::Refused(Refusal::Malformed);
+/// The line spells no request, and this is where.
+#[inline(always)]
+pub(crate) fn malformed(at: Spot) -> ReadRefusal
+    ensures { result ≡ Refused (Malformed (Some at)) }
+{
+    ReadRefusal::Refused(Refusal::Malformed { at: Some(at) })
+}
+
+/// The same, under a key of the line itself.
+#[inline(always)]
+pub(crate) fn in_line(key: Key) -> ReadRefusal
+    ensures { result ≡ Refused (Malformed (Some (Line key))) }
+{
+    malformed(Spot::Line { key })
+}
+
+/// The same, under a key of the write at this place.
+#[inline(always)]
+pub(crate) fn in_write(place: u32, key: Key) -> ReadRefusal
+    ensures { result ≡ Refused (Malformed (Some (Write place key))) }
+{
+    malformed(Spot::Write { place, key })
+}
 
 impl fmt::Display for ReadRefusal {
     fn fmt<W: fmt::Write>(&self, f: &mut fmt::Formatter<W>) -> fmt::Result {
@@ -36,7 +59,7 @@ impl From<Unread> for ReadRefusal {
 
     fn from(why: Unread) -> Self {
         match why {
-            Unread::Malformed => MALFORMED,
+            Unread::Malformed => ReadRefusal::Refused(Refusal::Malformed { at: None }),
             Unread::NoMemory => ReadRefusal::NoMemory,
         }
     }

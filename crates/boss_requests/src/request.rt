@@ -1,41 +1,18 @@
 ghost use Rattle.std.specs.Prelude.{◌≡◌, ◌≤◌, IfOk, IfSome};
 ghost use Rattle.boss_model.specs.Catalogue.{actuators};
 ghost use Rattle.boss_model.specs.Limits.{last_moment};
-ghost use Rattle.def_wire.specs.Requests.{moment_of, parsed, request_of, session_of};
+ghost use Rattle.def_wire.specs.Requests.{moment_of, request_of, session_of};
 ghost use Rattle.boss_requests.specs.Given.{Gives, IsOfForm, IsSession, MayAsk};
 
 use crate::ReadRefusal;
 use crate::commands::{ask_in, op_named};
 use crate::keys::{number_within, text_under};
-use crate::refusal::MALFORMED;
-use boss_json::{JsonValue, read_value};
-use boss_model::{LAST_MOMENT, LAST_SESSION, Refusal, SessionId};
+use crate::refusal::in_line;
+use boss_json::JsonValue;
+use boss_model::{Key, LAST_MOMENT, LAST_SESSION, Refusal, SessionId};
 use boss_points::Catalogue;
 use def_wire::{Form, Request};
 use std::alloc::Global;
-
-/// What a line asks, as a line of this form, or why it is refused. Only the first line of a connection may ask to watch. The line
-/// is read by serde_json; `read_by` says the same, and is faster where there are many lines.
-///
-/// # Errors
-///
-/// `Refused` with `Malformed`, `UnknownOp` or `UnknownPoint`, which is the answer to the line, or `NoMemory`.
-#[tactic(auto, using(crate::proofs::Values::told), unfolding(def_wire::specs::Requests::parsed))]
-pub fn read_request(
-    alloc: Global,
-    catalogue: &Catalogue,
-    line: &[u8],
-    form: Form,
-) -> Result<Request, ReadRefusal>
-    ensures request { Gives (λ request. request) result (parsed catalogue.now form line.now) }
-    ensures on { IfOk result (λ request. IsSession form request.on) }
-    ensures at { IfOk result (λ request. request.at ≤ last_moment) }
-    ensures allowed { IfOk result (λ request. MayAsk (actuators catalogue.now) request.ask) }
-    ensures watch { IfOk result (λ request. IsOfForm form request.ask) }
-{
-    let value = read_value(alloc, line)?;
-    request_in(alloc, catalogue, form, &value)
-}
 
 /// What a value asks.
 pub(crate) fn request_in<V: JsonValue>(
@@ -50,10 +27,10 @@ pub(crate) fn request_in<V: JsonValue>(
     ensures allowed { IfOk result (λ request. MayAsk (actuators catalogue.now) request.ask) }
     ensures watch { IfOk result (λ request. IsOfForm form request.ask) }
 {
-    let text = text_under(value, "op").ok_or(MALFORMED)?;
+    let text = text_under(value, "op").ok_or(in_line(Key::Op))?;
     let op = op_named(form, text).ok_or(ReadRefusal::Refused(Refusal::UnknownOp))?;
-    let on = session_of(form, value).ok_or(MALFORMED)?;
-    let at = moment_of(form, value).ok_or(MALFORMED)?;
+    let on = session_of(form, value).ok_or(in_line(Key::On))?;
+    let at = moment_of(form, value).ok_or(in_line(Key::At))?;
     let ask = ask_in(alloc, catalogue, op, value)?;
     Ok(Request { on, at, ask })
 }

@@ -1,8 +1,9 @@
 -- Lines and what they ask, computed from the definitions alone.
-use Rattle.std.proofs.Common.{◌≡◌, [], ◌∷◌, pos, None, refl}
+use Rattle.std.proofs.Common.{◌≡◌, [], ◌∷◌, pos, Some, None, refl}
 use Rattle.std.specs.Prelude.{codes, replicate}
 use Rattle.std.specs.Str.{is_utf8, chars}
 use Rattle.serde_json.proofs.OnLiterals.{serde_json_on_literals}
+use Rattle.boss_model.specs.declared.answer.Refusal.{Refusal}
 use Rattle.boss_model.specs.declared.answer.Refusal.TheVariants.{Malformed, UnknownOp, UnknownPoint}
 use Rattle.boss_model.specs.declared.command.Command.TheVariants as command
 use Rattle.boss_model.specs.declared.command.Policy.TheVariants.{Abort, Keep}
@@ -10,7 +11,14 @@ use Rattle.def_wire.specs.declared.form.Form.TheVariants.{Script, FirstLine, Lat
 use Rattle.def_wire.specs.declared.request.Ask.TheVariants as ask
 use Rattle.boss_model.specs.declared.point.Kind.TheVariants.{Analog, Binary}
 use Rattle.boss_model.specs.Catalogue.{Catalogue}
+use Rattle.boss_model.specs.declared.spot.Key.TheVariants as key
+use Rattle.boss_model.specs.declared.spot.Spot.{Spot}
+use Rattle.boss_model.specs.declared.spot.Spot.TheVariants.{Line, Named, Write, Step, Half}
 use Rattle.def_wire.specs.Requests.{asks, wrong, parsed}
+
+-- what is at fault
+abbrev at : Spot → Refusal
+at spot = Malformed (Some spot)
 
 -- a damper and a lamp on one driver
 abbrev site : Catalogue
@@ -58,7 +66,7 @@ unfolding parsed serde_json_on_literals is_utf8 chars
 nowhere = refl
 
 -- a write that is none is told before a point that is not known
-malformed : parsed site Script (codes "{\"op\":\"submit\",\"writes\":[{\"point\":\"door\",\"value\":1,\"lease\":1},{\"point\":\"lamp\",\"value\":1}]}") ≡ wrong Malformed
+malformed : parsed site Script (codes "{\"op\":\"submit\",\"writes\":[{\"point\":\"door\",\"value\":1,\"lease\":1},{\"point\":\"lamp\",\"value\":1}]}") ≡ wrong (at (Write 1 key.Lease))
 unfolding parsed serde_json_on_literals is_utf8 chars
 malformed = refl
 
@@ -74,15 +82,15 @@ greatest : parsed site Script (codes "{\"on\":65535,\"at\":1152921504606846976,\
 unfolding parsed serde_json_on_literals is_utf8 chars
 greatest = refl
 
-no_such_session : parsed site Script (codes "{\"on\":65536,\"op\":\"tick\"}") ≡ wrong Malformed
+no_such_session : parsed site Script (codes "{\"on\":65536,\"op\":\"tick\"}") ≡ wrong (at (Line key.On))
 unfolding parsed serde_json_on_literals is_utf8 chars
 no_such_session = refl
 
-no_such_moment : parsed site Script (codes "{\"at\":1152921504606846977,\"op\":\"tick\"}") ≡ wrong Malformed
+no_such_moment : parsed site Script (codes "{\"at\":1152921504606846977,\"op\":\"tick\"}") ≡ wrong (at (Line key.At))
 unfolding parsed serde_json_on_literals is_utf8 chars
 no_such_moment = refl
 
-too_many_notices : parsed site Script (codes "{\"op\":\"notices\",\"max\":65}") ≡ wrong Malformed
+too_many_notices : parsed site Script (codes "{\"op\":\"notices\",\"max\":65}") ≡ wrong (at (Line key.Max))
 unfolding parsed serde_json_on_literals is_utf8 chars
 too_many_notices = refl
 
@@ -92,7 +100,7 @@ most_points_named : parsed site Script (codes "{\"op\":\"renew\",\"txn\":7,\"len
 unfolding parsed serde_json_on_literals is_utf8 chars
 most_points_named = refl
 
-too_many_points_named : parsed site Script (codes "{\"op\":\"renew\",\"txn\":7,\"length\":1,\"points\":[\"lamp\",\"lamp\",\"lamp\",\"lamp\",\"lamp\",\"lamp\",\"lamp\",\"lamp\",\"lamp\",\"lamp\",\"lamp\",\"lamp\",\"lamp\",\"lamp\",\"lamp\",\"lamp\",\"lamp\",\"lamp\",\"lamp\",\"lamp\",\"lamp\",\"lamp\",\"lamp\",\"lamp\",\"lamp\",\"lamp\",\"lamp\",\"lamp\",\"lamp\",\"lamp\",\"lamp\",\"lamp\",\"lamp\"]}") ≡ wrong Malformed
+too_many_points_named : parsed site Script (codes "{\"op\":\"renew\",\"txn\":7,\"length\":1,\"points\":[\"lamp\",\"lamp\",\"lamp\",\"lamp\",\"lamp\",\"lamp\",\"lamp\",\"lamp\",\"lamp\",\"lamp\",\"lamp\",\"lamp\",\"lamp\",\"lamp\",\"lamp\",\"lamp\",\"lamp\",\"lamp\",\"lamp\",\"lamp\",\"lamp\",\"lamp\",\"lamp\",\"lamp\",\"lamp\",\"lamp\",\"lamp\",\"lamp\",\"lamp\",\"lamp\",\"lamp\",\"lamp\",\"lamp\"]}") ≡ wrong (at (Line key.Points))
 unfolding parsed serde_json_on_literals is_utf8 chars
 too_many_points_named = refl
 
@@ -121,33 +129,33 @@ cancel_without_number = refl
 
 -- any other number, and what is none
 number_0 : parsed site Script (codes "{\"op\":\"cancel\",\"txn\":7,\"seq\":0}")
-    ≡ wrong Malformed
+    ≡ wrong (at (Line key.Seq))
 unfolding parsed serde_json_on_literals is_utf8 chars
 number_0 = refl
 
 number_too_great : parsed site Script (codes "{\"op\":\"cancel\",\"txn\":7,\"seq\":4611686018427387904}")
-    ≡ wrong Malformed
+    ≡ wrong (at (Line key.Seq))
 unfolding parsed serde_json_on_literals is_utf8 chars
 number_too_great = refl
 
 number_below_0 : parsed site Script (codes "{\"op\":\"renew\",\"txn\":7,\"length\":60000,\"seq\":-1}")
-    ≡ wrong Malformed
+    ≡ wrong (at (Line key.Seq))
 unfolding parsed serde_json_on_literals is_utf8 chars
 number_below_0 = refl
 
 number_with_a_fraction : parsed site Script (codes "{\"op\":\"cancel\",\"txn\":7,\"seq\":5.0}")
-    ≡ wrong Malformed
+    ≡ wrong (at (Line key.Seq))
 unfolding parsed serde_json_on_literals is_utf8 chars
 number_with_a_fraction = refl
 
 number_as_text : parsed site Script (codes "{\"op\":\"cancel\",\"txn\":7,\"seq\":\"5\"}")
-    ≡ wrong Malformed
+    ≡ wrong (at (Line key.Seq))
 unfolding parsed serde_json_on_literals is_utf8 chars
 number_as_text = refl
 
 -- a number that is none is told before a point that is not known
 malformed_number_first : parsed site Script (codes "{\"op\":\"submit\",\"seq\":0,\"writes\":[{\"point\":\"door\",\"value\":1,\"lease\":60000}]}")
-    ≡ wrong Malformed
+    ≡ wrong (at (Line key.Seq))
 unfolding parsed serde_json_on_literals is_utf8 chars
 malformed_number_first = refl
 
@@ -169,15 +177,15 @@ watched_from_the_first : parsed site FirstLine (codes "{\"process\":\"a\",\"op\"
 unfolding parsed serde_json_on_literals is_utf8 chars
 watched_from_the_first = refl
 
-nobody_watched : parsed site FirstLine (codes "{\"op\":\"watch\",\"from\":9}") ≡ wrong Malformed
+nobody_watched : parsed site FirstLine (codes "{\"op\":\"watch\",\"from\":9}") ≡ wrong (at (Line key.Process))
 unfolding parsed serde_json_on_literals is_utf8 chars
 nobody_watched = refl
 
-no_name_watched : parsed site FirstLine (codes "{\"op\":\"watch\",\"process\":\"Night\"}") ≡ wrong Malformed
+no_name_watched : parsed site FirstLine (codes "{\"op\":\"watch\",\"process\":\"Night\"}") ≡ wrong (at (Line key.Process))
 unfolding parsed serde_json_on_literals is_utf8 chars
 no_name_watched = refl
 
-watched_from_0 : parsed site FirstLine (codes "{\"op\":\"watch\",\"process\":\"a\",\"from\":0}") ≡ wrong Malformed
+watched_from_0 : parsed site FirstLine (codes "{\"op\":\"watch\",\"process\":\"a\",\"from\":0}") ≡ wrong (at (Line key.From))
 unfolding parsed serde_json_on_literals is_utf8 chars
 watched_from_0 = refl
 
@@ -205,3 +213,95 @@ passed_over_in_a_later : parsed site LaterLine (codes "{\"on\":3,\"at\":1000,\"o
     ≡ asks (record { on = 0; at = 0; ask = ask.Command (command.Status 7) })
 unfolding parsed serde_json_on_literals is_utf8 chars
 passed_over_in_a_later = refl
+
+-- ---- the key at fault
+
+-- no JSON at all: no key
+no_json : parsed site Script (codes "not json") ≡ wrong (Malformed None)
+unfolding parsed serde_json_on_literals is_utf8 chars
+no_json = refl
+
+-- JSON that is no object has no op
+no_object : parsed site Script (codes "7") ≡ wrong (at (Line key.Op))
+unfolding parsed serde_json_on_literals is_utf8 chars
+no_object = refl
+
+-- nor has this
+no_op : parsed site Script (codes "{\"point\":\"lamp\"}") ≡ wrong (at (Line key.Op))
+unfolding parsed serde_json_on_literals is_utf8 chars
+no_op = refl
+
+-- an op that is no text; one that is no word of the table is unknown-op
+op_no_text : parsed site Script (codes "{\"op\":1}") ≡ wrong (at (Line key.Op))
+unfolding parsed serde_json_on_literals is_utf8 chars
+op_no_text = refl
+
+-- a value with a fraction
+a_fraction : parsed site Script (codes "{\"op\":\"submit\",\"writes\":[{\"point\":\"damper\",\"value\":55.5,\"lease\":1}]}") ≡ wrong (at (Write 0 key.Value))
+unfolding parsed serde_json_on_literals is_utf8 chars
+a_fraction = refl
+
+-- of two faults in one write that of the first of point, value, priority, lease, revert
+two_faults : parsed site Script (codes "{\"op\":\"submit\",\"writes\":[{\"lease\":\"long\",\"value\":true,\"point\":\"lamp\"}]}") ≡ wrong (at (Write 0 key.Value))
+unfolding parsed serde_json_on_literals is_utf8 chars
+two_faults = refl
+
+-- a key of the line before any in its writes
+line_first : parsed site Script (codes "{\"op\":\"submit\",\"policy\":null,\"writes\":[{\"point\":7}]}") ≡ wrong (at (Line key.Policy))
+unfolding parsed serde_json_on_literals is_utf8 chars
+line_first = refl
+
+-- a reversion that is no list of pairs
+no_pairs : parsed site Script (codes "{\"op\":\"submit\",\"writes\":[{\"point\":\"lamp\",\"value\":1,\"lease\":1,\"revert\":[30000,5000]}]}") ≡ wrong (at (Step 0 0))
+unfolding parsed serde_json_on_literals is_utf8 chars
+no_pairs = refl
+
+-- half a pair that is none
+half_a_pair : parsed site Script (codes "{\"op\":\"submit\",\"writes\":[{\"point\":\"lamp\",\"value\":1,\"lease\":1},{\"point\":\"lamp\",\"value\":1,\"lease\":1,\"revert\":[[0,5000],[0,\"5 s\"]]}]}") ≡ wrong (at (Half 1 1 1))
+unfolding parsed serde_json_on_literals is_utf8 chars
+half_a_pair = refl
+
+-- an object in place of a list of one
+no_list : parsed site Script (codes "{\"op\":\"submit\",\"writes\":{\"point\":\"lamp\"}}") ≡ wrong (at (Line key.Writes))
+unfolding parsed serde_json_on_literals is_utf8 chars
+no_list = refl
+
+-- a write that is no object has no point
+write_no_object : parsed site Script (codes "{\"op\":\"submit\",\"writes\":[7]}") ≡ wrong (at (Write 0 key.Point))
+unfolding parsed serde_json_on_literals is_utf8 chars
+write_no_object = refl
+
+-- one of the points is no text; that comes before one that no point has
+point_no_text : parsed site Script (codes "{\"op\":\"renew\",\"txn\":7,\"length\":1,\"points\":[\"door\",7]}") ≡ wrong (at (Named 1))
+unfolding parsed serde_json_on_literals is_utf8 chars
+point_no_text = refl
+
+-- ---- the catalogue
+
+-- the first page, and all that follow in pages of 64
+first_page : parsed site FirstLine (codes "{\"op\":\"points\"}") ≡ asks (record { on = 0; at = 0; ask = ask.Command (command.Points 0 64) })
+unfolding parsed serde_json_on_literals is_utf8 chars
+first_page = refl
+
+-- the last place that may be asked from, and one point alone
+last_page : parsed site LaterLine (codes "{\"op\":\"points\",\"max\":1,\"from\":4611686018427387904}")
+    ≡ asks (record { on = 0; at = 0; ask = ask.Command (command.Points 4611686018427387904 1) })
+unfolding parsed serde_json_on_literals is_utf8 chars
+last_page = refl
+
+-- one place more
+past_the_last : parsed site Script (codes "{\"op\":\"points\",\"from\":4611686018427387905,\"max\":0}") ≡ wrong (at (Line key.From))
+unfolding parsed serde_json_on_literals is_utf8 chars
+past_the_last = refl
+
+no_points_asked : parsed site Script (codes "{\"op\":\"points\",\"max\":0}") ≡ wrong (at (Line key.Max))
+unfolding parsed serde_json_on_literals is_utf8 chars
+no_points_asked = refl
+
+too_many_points_asked : parsed site Script (codes "{\"op\":\"points\",\"max\":65}") ≡ wrong (at (Line key.Max))
+unfolding parsed serde_json_on_literals is_utf8 chars
+too_many_points_asked = refl
+
+version_asked : parsed site FirstLine (codes "{\"op\":\"version\",\"from\":0}") ≡ asks (record { on = 0; at = 0; ask = ask.Command command.Version })
+unfolding parsed serde_json_on_literals is_utf8 chars
+version_asked = refl

@@ -20,14 +20,6 @@ found >>= rest = option_and_then rest found
 abbrev pub if_true : {A : Type 0} → (A → Bool) → A → Option A
 if_true test x = if test x then Some x else None
 
--- each of the items, if each can be read
-abbrev pub all_of : {A B : Type 0} → (A → Option B) → List A → Option (List B)
-all_of read [] = Some []
-all_of read (x ∷ xs) = do
-  y ← read x
-  ys ← all_of read xs
-  Some (y ∷ ys)
-
 -- ---- kinds
 
 -- a whole number is one that fits 64 bits with a sign; a fraction, an exponent and -0 are none
@@ -77,9 +69,9 @@ under_or key read default d = option_map_or read (get key d) (Some default)
 
 -- ---- numbered requests
 
--- the number that a process gives a request: at least 1 and below `last_number`, or 0 where there is none
+-- the number that a process gives a request: at least 1 and below `last_number`
 abbrev pub seq : Data → Option ℕ
-seq d = under_or (codes "seq") (number_within 1 (last_number - 1)) 0 d
+seq d = number_within 1 (last_number - 1) d
 
 -- ---- parts of a submit
 
@@ -89,20 +81,6 @@ policy_named text = if bytes_eq text (codes "abort") then Some Abort else (if by
 abbrev pub policy : Data → Option Policy
 policy d = as_str d >>= policy_named
 
--- an array of a value and a hold
-abbrev pub step_in : List Data → Option Step
-step_in (value ∷ hold ∷ []) = do
-  value ← whole value
-  hold ← whole hold
-  Some (record { value = value; hold = hold })
-step_in other = None
-
-abbrev pub step : Data → Option Step
-step d = list d >>= step_in
-
-abbrev pub steps : Data → Option (List Step)
-steps d = list d >>= all_of step
-
 -- a write as it is spelled: its point is a text
 pub record Write : Type 0 where
   pub point : List ℕ
@@ -110,12 +88,3 @@ pub record Write : Type 0 where
   pub priority : ℤ
   pub lease : ℤ
   pub revert : List Step
-
-abbrev pub write : Data → Option Write
-write d = do
-  point ← under (codes "point") as_str d
-  value ← under (codes "value") whole d
-  priority ← under_or (codes "priority") whole (pos 16) d
-  lease ← under (codes "lease") whole d
-  revert ← under_or (codes "revert") steps [] d
-  Some (record { point = point; value = value; priority = priority; lease = lease; revert = revert })

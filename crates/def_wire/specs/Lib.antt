@@ -1,3 +1,4 @@
+pub mod Spots
 pub mod Keys
 pub mod Requests
 pub mod Texts

@@ -1,9 +1,11 @@
 -- Source: RFC 8259 (JSON); keys and words own.
 -- What is written: answers and notices as JSON objects without spaces, and what a script tells of the writes to devices.
-use Rattle.std.specs.Prelude.{ℕ, ℤ, List, [], ◌∷◌, ◌++◌, map, Bool, if◌then◌else◌, codes, decimal, slice_get, slice_index_or}
+use Rattle.std.specs.Prelude.{ℕ, ◌+◌, ◌/◌, ◌==◌, ℤ, pos, List, [], ◌∷◌, ◌++◌, map, length, take, drop, Bool, ◌&&◌, nat_lt, if◌then◌else◌, Option, Some, None, codes, decimal, slice_get, slice_index_or}
 use Rattle.std.specs.Fmt.{signed_decimal}
 use Rattle.std.specs.List.{join_with_byte}
 use Rattle.std.specs.Option.{option_map_or}
+use Rattle.std.specs.Ordering.{int_eq}
+use Rattle.hex.specs.Hex.{encode_lower}
 use Rattle.boss_model.specs.declared.answer.Answer.{Answer}
 use Rattle.boss_model.specs.declared.answer.Answer.TheVariants as answer
 use Rattle.boss_model.specs.declared.answer.Basis.{Basis}
@@ -21,7 +23,13 @@ use Rattle.boss_model.specs.declared.notice.Stage.{Stage}
 use Rattle.boss_model.specs.declared.notice.Stage.TheVariants as stage
 use Rattle.boss_model.specs.declared.notice.What.{What}
 use Rattle.boss_model.specs.declared.notice.What.TheVariants as what
-use Rattle.boss_model.specs.Catalogue.{Catalogue, actuators, default_of, driver_of}
+use Rattle.boss_model.specs.declared.point.Kind.{Kind}
+use Rattle.boss_model.specs.declared.point.Kind.TheVariants.{Analog, Binary, Multi}
+use Rattle.boss_model.specs.declared.spot.Spot.{Spot}
+use Rattle.boss_model.specs.Catalogue.{Catalogue, Point, actuators, default_of, driver_of}
+use Rattle.boss_model.specs.Limits.{most_told, newest_version, program_version}
+use Rattle.def_catalogue.specs.Canonical.{digest_of}
+use Rattle.def_wire.specs.Spots.{spot_text}
 
 -- ---- names. A number is written in decimal: `decimal`, or `signed_decimal` where it may be negative.
 
@@ -98,8 +106,13 @@ notice_text catalogue notice =
 abbrev pub placed : List ℕ → ℕ → List ℕ
 placed error index = codes "{\"error\":\"" ++ error ++ codes "\",\"index\":" ++ decimal index ++ codes "}"
 
+-- a line that is no JSON has no key at fault
+abbrev pub malformed_text : Option Spot → List ℕ
+malformed_text None = codes "{\"error\":\"malformed\"}"
+malformed_text (Some spot) = codes "{\"error\":\"malformed\",\"key\":" ++ quoted (spot_text spot) ++ codes "}"
+
 abbrev pub refusal_text : Refusal → List ℕ
-refusal_text refusal.Malformed = codes "{\"error\":\"malformed\"}"
+refusal_text (refusal.Malformed at) = malformed_text at
 refusal_text refusal.UnknownOp = codes "{\"error\":\"unknown-op\"}"
 refusal_text (refusal.UnknownPoint index) = placed (codes "unknown-point") index
 refusal_text refusal.NotAttached = codes "{\"error\":\"not-attached\"}"
@@ -120,7 +133,62 @@ refusal_text (refusal.Taken session) = codes "{\"error\":\"taken\",\"session\":"
 refusal_text refusal.TooManyProcesses = codes "{\"error\":\"too-many-processes\"}"
 refusal_text refusal.Spent = codes "{\"error\":\"spent\"}"
 
+-- ---- the catalogue
+
+abbrev pub kind_text : Kind → List ℕ
+kind_text (Analog min max) = codes "\"analog\",\"min\":" ++ signed_decimal min ++ codes ",\"max\":" ++ signed_decimal max
+kind_text Binary = codes "\"binary\""
+kind_text (Multi states) = codes "\"multi\",\"states\":" ++ signed_decimal states
+
+-- the minimum times, where a point has any
+abbrev pub times_text : ℤ → ℤ → List ℕ
+times_text on off =
+    if int_eq on (pos 0) && int_eq off (pos 0) then [] else codes ",\"min_on\":" ++ signed_decimal on ++ codes ",\"min_off\":" ++ signed_decimal off
+
+-- a point as the catalogue has it, with the name of its driver
+abbrev pub entry_text : Catalogue → Point → List ℕ
+entry_text catalogue point =
+    codes "{\"point\":" ++ quoted point.name ++ codes ",\"kind\":" ++ kind_text point.actuator.kind
+    ++ codes ",\"default\":" ++ signed_decimal point.actuator.default
+    ++ codes ",\"driver\":" ++ quoted (slice_index_or catalogue.drivers point.actuator.driver []) ++ times_text point.min_on point.min_off ++ codes "}"
+
+-- how many points are told at once: with the first of them the drivers are told, which leave room for half as many
+abbrev pub page_size : ℕ → ℕ → ℕ
+page_size from most = if from == 0 && nat_lt (most_told / 2) most then most_told / 2 else most
+
+-- the points from this place on, at most so many
+abbrev pub page : ℕ → ℕ → Catalogue → List Point
+page from most catalogue = take (page_size from most) (drop from catalogue.points)
+
+abbrev pub drivers_text : ℕ → List (List ℕ) → List ℕ
+drivers_text from drivers = if from == 0 then codes ",\"drivers\":[" ++ listed (map quoted drivers) ++ codes "]" else []
+
+-- the digest, in 64 hexadecimal digits
+abbrev pub digest_text : Catalogue → List ℕ
+digest_text catalogue = quoted (encode_lower (digest_of catalogue))
+
+-- how many points there are, the place to ask from next, and these points
+abbrev pub list_text : ℕ → Catalogue → List Point → List ℕ
+list_text from catalogue points =
+    codes ",\"count\":" ++ decimal (length catalogue.points) ++ codes ",\"next\":" ++ decimal (from + length points)
+    ++ codes ",\"list\":[" ++ listed (map (entry_text catalogue) points) ++ codes "]}"
+
+-- points, behind the text of the digest
+abbrev pub points_text : List ℕ → ℕ → ℕ → Catalogue → List ℕ
+points_text digest from most catalogue =
+    codes "{\"ok\":\"points\",\"digest\":" ++ digest ++ drivers_text from catalogue.drivers ++ list_text from catalogue (page from most catalogue)
+
+abbrev pub version_text : List ℕ → Catalogue → List ℕ
+version_text digest catalogue =
+    codes "{\"ok\":\"version\",\"program\":" ++ quoted program_version ++ codes ",\"journal\":" ++ decimal newest_version
+    ++ codes ",\"digest\":" ++ digest ++ codes ",\"points\":" ++ decimal (length catalogue.points)
+    ++ codes ",\"drivers\":" ++ decimal (length catalogue.drivers) ++ codes "}"
+
 -- ---- answers
+
+-- how often a point's device was found with another value, where it was
+abbrev pub differed_text : ℕ → List ℕ
+differed_text count = if count == 0 then [] else codes ",\"differed\":" ++ decimal count
 
 abbrev pub answer_text : Catalogue → Answer → List ℕ
 answer_text catalogue (answer.Attached name next) =
@@ -138,9 +206,9 @@ answer_text catalogue (answer.Want point version value) =
     ++ codes ",\"value\":" ++ signed_decimal value ++ codes "}"
 answer_text catalogue answer.Nothing = codes "{\"ok\":\"nothing\"}"
 answer_text catalogue (answer.Noted current) = codes "{\"ok\":\"noted\"}"
-answer_text catalogue (answer.Reading point value basis mark) =
+answer_text catalogue (answer.Reading point value basis mark differed) =
     codes "{\"ok\":\"read\",\"point\":" ++ point_text catalogue point ++ codes ",\"value\":" ++ signed_decimal value
-    ++ codes ",\"from\":" ++ basis_text basis ++ codes ",\"mark\":" ++ mark_text mark ++ codes "}"
+    ++ codes ",\"from\":" ++ basis_text basis ++ codes ",\"mark\":" ++ mark_text mark ++ differed_text differed ++ codes "}"
 answer_text catalogue (answer.Array point slots) =
     codes "{\"ok\":\"array\",\"point\":" ++ point_text catalogue point ++ codes ",\"default\":" ++ signed_decimal (default_of (actuators catalogue) point)
     ++ codes ",\"slots\":[" ++ listed (map slot_text slots.at) ++ codes "]}"
@@ -150,6 +218,8 @@ answer_text catalogue (answer.Status txn owner stage live pending) =
 answer_text catalogue (answer.Notices first next list) =
     codes "{\"ok\":\"notices\",\"first\":" ++ decimal first ++ codes ",\"next\":" ++ decimal next
     ++ codes ",\"list\":[" ++ listed (map (notice_text catalogue) list) ++ codes "]}"
+answer_text catalogue (answer.Points from most) = points_text (digest_text catalogue) from most catalogue
+answer_text catalogue answer.Version = version_text (digest_text catalogue) catalogue
 answer_text catalogue (answer.Refused refusal) = refusal_text refusal
 
 -- ---- replies that are no answers of the machine

@@ -29,6 +29,10 @@ pub enum Op {
     Status,
     /// `notices`: ask for notices.
     Notices,
+    /// `points`: ask which points the catalogue has.
+    Points,
+    /// `version`: ask which program serves.
+    Version,
     /// `gone`: the session's process is lost.
     Gone,
     /// `tick`: let time pass.

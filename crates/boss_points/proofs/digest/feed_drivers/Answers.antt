@@ -1,6 +1,6 @@
 use Rattle.std.proofs.Common.{take}
 use Rattle.std.specs.List.{flat_map}
-use Rattle.boss_points.specs.Canonical.{driver_line}
+use Rattle.def_catalogue.specs.Canonical.{driver_line}
 use Rattle.boss_points.proofs.Fed.{takes_both, takes_nothing, flat_map-take_more}
 use Rattle.boss_points.proofs.digest.feed_drivers.Goals as goal
 

@@ -1,6 +1,6 @@
 use Rattle.std.proofs.Common.{take}
 use Rattle.std.specs.List.{flat_map}
-use Rattle.boss_points.specs.Canonical.{driver_line}
+use Rattle.def_catalogue.specs.Canonical.{driver_line}
 use Rattle.boss_points.specs.Fed.{Takes}
 use Rattle.boss_points.proofs.digest.feed_drivers.Given as goal
 

@@ -1,6 +1,6 @@
 use Rattle.std.proofs.Common.{ℕ, List, [], ◌++◌, codes, slice_index_or, rules}
 use Rattle.std.specs.Fmt.{signed_decimal}
-use Rattle.boss_points.specs.Canonical.{kind_text, times_text}
+use Rattle.def_catalogue.specs.Canonical.{kind_text, times_text}
 use Rattle.boss_points.specs.Fed.{Takes}
 use Rattle.boss_points.proofs.Fed.{takes_both}
 use Rattle.boss_points.proofs.digest.feed_point.Goals as goal

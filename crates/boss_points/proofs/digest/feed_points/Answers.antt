@@ -1,6 +1,6 @@
 use Rattle.std.proofs.Common.{take}
 use Rattle.std.specs.List.{flat_map}
-use Rattle.boss_points.specs.Canonical.{point_line}
+use Rattle.def_catalogue.specs.Canonical.{point_line}
 use Rattle.boss_points.specs.Seen.{seen, all_seen}
 use Rattle.boss_points.proofs.Fed.{takes_both, all_seen-take_more}
 use Rattle.boss_points.proofs.digest.feed_points.Goals as goal

@@ -1,6 +1,6 @@
 use Rattle.std.proofs.Common.{take}
 use Rattle.std.specs.List.{flat_map}
-use Rattle.boss_points.specs.Canonical.{point_line}
+use Rattle.def_catalogue.specs.Canonical.{point_line}
 use Rattle.boss_points.specs.Fed.{Takes}
 use Rattle.boss_points.specs.Seen.{all_seen}
 use Rattle.boss_points.proofs.digest.feed_points.Given as goal

@@ -27,3 +27,13 @@ pub returns-in-notices-clause-op : goal.returns-in-notices-clause-op
 returns-in-notices-clause-op c =
     let same : c.args.text.now ≡ codes "notices" = text_from_reads _ (codes "notices") (omega (arith, c.in-notices.len_at_least, c.in-notices.len_below)) (search rules) in
     sym (ap common_op same)
+
+pub returns-in-points-clause-op : goal.returns-in-points-clause-op
+returns-in-points-clause-op c =
+    let same : c.args.text.now ≡ codes "points" = text_from_reads _ (codes "points") (omega (arith, c.in-points.len_at_least, c.in-points.len_below)) (search rules) in
+    sym (ap common_op same)
+
+pub returns-in-version-clause-op : goal.returns-in-version-clause-op
+returns-in-version-clause-op c =
+    let same : c.args.text.now ≡ codes "version" = text_from_reads _ (codes "version") (omega (arith, c.in-version.len_at_least, c.in-version.len_below)) (search rules) in
+    sym (ap common_op same)

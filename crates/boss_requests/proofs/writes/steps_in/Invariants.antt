@@ -1,8 +1,8 @@
 use Rattle.std.proofs.Common.{◌≡◌, drop, map}
-use Rattle.def_wire.specs.Keys.{all_of, step}
-use Rattle.boss_requests.proofs.Each.{behind}
+use Rattle.def_wire.specs.Requests.{each_from, step_at}
+use Rattle.boss_requests.proofs.Each.{onto}
 use Rattle.boss_requests.proofs.writes.steps_in.Given as goal
 
 -- the steps so far and those to come are all
-abbrev pub invariant-loop-value : goal.invariant-loop-value
-invariant-loop-value g l = behind l.steps (all_of step (map g.V.JsonValue.meaning (drop l.value-index l.values))) ≡ all_of step (map g.V.JsonValue.meaning l.values)
+abbrev pub invariant-loop-at : goal.invariant-loop-at
+invariant-loop-at g l = onto l.steps (each_from (step_at l.write) l.at (map g.V.JsonValue.meaning (drop l.at l.values))) ≡ each_from (step_at l.write) 0 (map g.V.JsonValue.meaning l.values)

@@ -8,4 +8,5 @@ invariant_of-result c = record {
   named = c.in_ok-names.ensures.names;
   apart = c.in_ok-names.ensures.apart;
   whole = rw c.deref.ensures.value at c.in_ok-names.ensures.whole;
+  digested = rw (c.deref-2.ensures.value, c.deref-3.ensures.value) at c.digest_of-digest.ensures;
 }

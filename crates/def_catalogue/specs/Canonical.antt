@@ -1,9 +1,10 @@
--- Source: own; it is what the digest (SHA-256, FIPS 180-4) is of.
--- The canonical text of a catalogue, which its digest is of: two files that spell one catalogue have one digest.
+-- Source: own; the digest: FIPS 180-4 (SHA-256).
+-- The canonical text of a catalogue, and its digest: two files that spell one catalogue have one digest.
 use Rattle.std.specs.Prelude.{ℕ, ℤ, pos, ◌&&◌, if◌then◌else◌, List, [], ◌∷◌, ◌++◌, codes, slice_index_or}
 use Rattle.std.specs.Fmt.{signed_decimal}
 use Rattle.std.specs.List.{flat_map}
 use Rattle.std.specs.Ordering.{int_eq}
+use Rattle.sha2.specs.Sha256.{sha256}
 use Rattle.boss_model.specs.declared.point.Kind.{Kind}
 use Rattle.boss_model.specs.declared.point.Kind.TheVariants.{Analog, Binary, Multi}
 use Rattle.boss_model.specs.Catalogue.{Catalogue, Point}
@@ -35,3 +36,7 @@ point_line drivers point =
 -- the drivers, and then the points, a line each
 abbrev pub canonical : Catalogue → List ℕ
 canonical catalogue = flat_map driver_line catalogue.drivers ++ flat_map (point_line catalogue.drivers) catalogue.points
+
+-- what a journal is kept under, and what a server tells of its catalogue: 32 bytes
+abbrev pub digest_of : Catalogue → List ℕ
+digest_of catalogue = sha256 (canonical catalogue)

@@ -3,7 +3,7 @@ use Rattle.std.proofs.Common.{◌≡◌, ℕ, ℤ, pos, List, [], ◌∷◌, cod
 use Rattle.std.specs.Fmt.{digits}
 use Rattle.boss_model.specs.declared.point.Kind.TheVariants.{Binary}
 use Rattle.boss_model.specs.Catalogue.{Point}
-use Rattle.boss_points.specs.Canonical.{point_line}
+use Rattle.def_catalogue.specs.Canonical.{point_line}
 
 abbrev pump : ℤ → ℤ → Point
 pump on off = record { name = codes "pump"; actuator = record { kind = Binary; default = pos 0; driver = 0 }; min_on = on; min_off = off }
