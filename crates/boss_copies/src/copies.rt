@@ -58,6 +58,10 @@ fn copy_command(alloc: Global, command: &Command) -> Result<Command, NoMemory>
             version: *version,
             ok: *ok,
         },
+        Command::Doubt { point, differs } => Command::Doubt {
+            point: *point,
+            differs: *differs,
+        },
         Command::Read { point } => Command::Read { point: *point },
         Command::Array { point } => Command::Array { point: *point },
         Command::Status { txn } => Command::Status { txn: *txn },
@@ -66,6 +70,11 @@ fn copy_command(alloc: Global, command: &Command) -> Result<Command, NoMemory>
             from: *from,
             max: *max,
         },
+        Command::Points { from, max } => Command::Points {
+            from: *from,
+            max: *max,
+        },
+        Command::Version => Command::Version,
     })
 }
 

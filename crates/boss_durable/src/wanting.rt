@@ -20,9 +20,12 @@ pub fn may_want(engine: &Engine, command: &Command) -> bool
         | Command::Tick
         | Command::Next { .. }
         | Command::Report { .. }
+        | Command::Doubt { .. }
         | Command::Read { .. }
         | Command::Array { .. }
-        | Command::Status { .. } => false,
+        | Command::Status { .. }
+        | Command::Points { .. }
+        | Command::Version => false,
     }
 }
 

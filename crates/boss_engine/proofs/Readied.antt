@@ -55,10 +55,13 @@ readied plant session command.Gone n given s was = was
 readied plant session command.Tick n given s was = was
 readied plant session (command.Next driver) n given s was = was
 readied plant session (command.Report point version ok) n given s was = was
+readied plant session (command.Doubt point differs) n given s was = was
 readied plant session (command.Read point) n given s was = was
 readied plant session (command.Array point) n given s was = was
 readied plant session (command.Status txn) n given s was = was
 readied plant session (command.Notices name from most) n given s was = was
+readied plant session (command.Points from most) n given s was = was
+readied plant session command.Version n given s was = was
 
 -- what was made ready for a name is ready to attach a session that is not refused
 pub entrant-attach : (session : ℕ) (name : List ℕ) (s : State) (given : Ready) → attach_refused session name s.attached s.persistent ≡ None →

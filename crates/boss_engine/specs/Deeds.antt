@@ -35,15 +35,19 @@ takes_memory other = false
 abbrev pub is_a_drivers : Command → Bool
 is_a_drivers (command.Next driver) = true
 is_a_drivers (command.Report point version ok) = true
+is_a_drivers (command.Doubt point differs) = true
 is_a_drivers other = false
 
 -- those of drivers, and those whose answer is looked up
 abbrev pub is_answered_apart : Command → Bool
 is_answered_apart (command.Next driver) = true
 is_answered_apart (command.Report point version ok) = true
+is_answered_apart (command.Doubt point differs) = true
 is_answered_apart (command.Array point) = true
 is_answered_apart (command.Status txn) = true
 is_answered_apart (command.Notices name from most) = true
+is_answered_apart (command.Points from most) = true
+is_answered_apart command.Version = true
 is_answered_apart other = false
 
 -- time passed from a state up to moment n, and a command acted

@@ -19,10 +19,12 @@ told d (reply.Ticked now) = answer.Ticked now
 told d (reply.Want want) = answer.Want want.point want.version want.value
 told d reply.Nothing = answer.Nothing
 told d (reply.Noted current) = answer.Noted current
-told d (reply.Read reading) = answer.Reading reading.point reading.value reading.basis reading.mark
+told d (reply.Read reading) = answer.Reading reading.point reading.value reading.basis reading.mark reading.differed
 told d (reply.Array point) = array point d
 told d (reply.Status txn) = status txn d
 told d (reply.Notices process from most list) = notices process from most d
+told d (reply.Points from most) = answer.Points from most
+told d reply.Version = answer.Version
 told d (reply.Refused why) = answer.Refused why
 
 -- a driver's replies, and those whose answer is looked up
@@ -33,6 +35,8 @@ is_told_apart (reply.Noted current) = true
 is_told_apart (reply.Array point) = true
 is_told_apart (reply.Status txn) = true
 is_told_apart (reply.Notices process from most list) = true
+is_told_apart (reply.Points from most) = true
+is_told_apart reply.Version = true
 is_told_apart other = false
 
 -- what it tells of is there, and there is room for a list

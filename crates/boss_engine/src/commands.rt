@@ -396,6 +396,19 @@ impl Machine {
         }
     }
 
+    /// Has a settled device written again.
+    pub fn doubt(&mut self, point: PointId, differs: bool) -> Reply
+        requires { (plant : List Actuator) × HasPlaces plant self.old × (point < length plant) }
+        ensures tellable { (plant : List Actuator) → IsTellable plant (persistent_of self.new.lasting) result }
+        ensures answer { (plant : List Actuator) (session n : ℕ) → told (persistent_of self.new.lasting) result ≡ (act plant session n (command.Doubt point differs) (state_of self.old)).answer }
+        ensures state { (plant : List Actuator) (session n : ℕ) → state_of self.new ≡ (act plant session n (command.Doubt point differs) (state_of self.old)).state }
+        ensures places { (plant : List Actuator) → HasPlaces plant self.old → HasPlaces plant self.new }
+        ensures untouched { ShowsAsBefore self.old.lasting.holdings self.new.lasting.holdings }
+    {
+        let current = self.marks.doubt(point, differs);
+        Reply::Noted { current }
+    }
+
     /// What follows for the lease in force on a point, whose device has failed to take its value, for the first time or again.
     /// The answer is the lease's owner, where that changed something.
     #[inline(always)]
@@ -485,6 +498,7 @@ impl Machine {
             value: target_of(plant, holdings, point),
             basis: basis_of(holdings, point),
             mark: self.marks.mark(point),
+            differed: self.marks.differed(point),
         })
     }
 

@@ -234,12 +234,14 @@ impl Engine {
         ensures plant { self.new.plant ≡ self.old.plant }
     {
         match command {
-            Command::Next { .. } | Command::Report { .. } => {
+            Command::Next { .. } | Command::Report { .. } | Command::Doubt { .. } => {
                 self.serve(session, command, moment, effect)
             }
-            Command::Array { .. } | Command::Status { .. } | Command::Notices { .. } => {
-                self.tell(session, command, moment, effect)
-            }
+            Command::Array { .. }
+            | Command::Status { .. }
+            | Command::Notices { .. }
+            | Command::Points { .. }
+            | Command::Version => self.tell(session, command, moment, effect),
             Command::Attach { .. }
             | Command::Submit { .. }
             | Command::Renew { .. }
@@ -292,6 +294,7 @@ impl Engine {
             Command::Report { point, version, ok } => {
                 self.report(session, *point, *version, *ok, moment)
             }
+            Command::Doubt { point, differs } => self.doubt(session, *point, *differs, moment),
             Command::Attach { .. }
             | Command::Submit { .. }
             | Command::Renew { .. }
@@ -301,7 +304,9 @@ impl Engine {
             | Command::Read { .. }
             | Command::Array { .. }
             | Command::Status { .. }
-            | Command::Notices { .. } => unreachable!(),
+            | Command::Notices { .. }
+            | Command::Points { .. }
+            | Command::Version => unreachable!(),
         }
     }
 
@@ -392,9 +397,12 @@ impl Engine {
             | Command::Tick
             | Command::Next { .. }
             | Command::Report { .. }
+            | Command::Doubt { .. }
             | Command::Read { .. }
             | Command::Array { .. }
-            | Command::Status { .. } => Ok(self.advance(session, command, moment)),
+            | Command::Status { .. }
+            | Command::Points { .. }
+            | Command::Version => Ok(self.advance(session, command, moment)),
         }
     }
 
@@ -437,6 +445,24 @@ impl Engine {
         ensures plant { self.new.plant ≡ self.old.plant }
     {
         self.advance(session, &Command::Report { point, version, ok }, moment)
+    }
+
+    /// A driver says that a settled device is to be written again.
+    #[inline(never)]
+    fn doubt(
+        &mut self,
+        session: SessionId,
+        point: PointId,
+        differs: bool,
+        moment: u64,
+    ) -> (Reply, Effect)
+        requires moment { moment ≤ last_moment }
+        requires point { point < length self.old.plant }
+        ensures did { IsStep self.old.plant session (command.Doubt point differs) moment self.old.state self.new.state result.0 result.1 }
+        ensures sound { IsSound self.new.plant self.new.state }
+        ensures plant { self.new.plant ≡ self.old.plant }
+    {
+        self.advance(session, &Command::Doubt { point, differs }, moment)
     }
 
     /// The same, which is compiled for each command that it is called with.
@@ -624,7 +650,7 @@ fn gone(ended: u64) -> Outcome
 /// What comes of it where a point was read.
 #[inline(always)]
 fn read(reading: Reading) -> Outcome
-    ensures { result ≡ outcome.Done (answer.Reading reading.point reading.value reading.basis reading.mark) }
+    ensures { result ≡ outcome.Done (answer.Reading reading.point reading.value reading.basis reading.mark reading.differed) }
 {
     Outcome::Done {
         answer: answer_of_reading(reading),
@@ -661,7 +687,7 @@ fn nothing() -> Outcome
     }
 }
 
-/// What comes of a report that was heard.
+/// What comes of a report or a doubt that was heard.
 #[inline(always)]
 fn noted(current: bool) -> Outcome
     ensures { result ≡ outcome.Done (answer.Noted current) }

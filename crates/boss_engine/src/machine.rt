@@ -225,9 +225,12 @@ impl Machine {
             | Command::Tick
             | Command::Next { .. }
             | Command::Report { .. }
+            | Command::Doubt { .. }
             | Command::Read { .. }
             | Command::Array { .. }
-            | Command::Status { .. } => unreachable!(),
+            | Command::Status { .. }
+            | Command::Points { .. }
+            | Command::Version => unreachable!(),
         }
     }
 
@@ -268,6 +271,10 @@ impl Machine {
                 concerned: None,
             },
             Command::Report { point, version, ok } => self.report(*point, *version, *ok, n),
+            Command::Doubt { point, differs } => Done {
+                reply: self.doubt(*point, *differs),
+                concerned: None,
+            },
             Command::Read { point } => Done {
                 reply: self.read(plant, *point),
                 concerned: None,
@@ -278,6 +285,17 @@ impl Machine {
             },
             Command::Status { txn } => Done {
                 reply: Reply::Status { txn: *txn },
+                concerned: None,
+            },
+            Command::Points { from, max } => Done {
+                reply: Reply::Points {
+                    from: *from,
+                    max: *max,
+                },
+                concerned: None,
+            },
+            Command::Version => Done {
+                reply: Reply::Version,
                 concerned: None,
             },
             Command::Attach { .. } | Command::Submit { .. } | Command::Notices { .. } =>

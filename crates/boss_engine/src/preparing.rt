@@ -57,9 +57,12 @@ impl Machine {
             | Command::Tick
             | Command::Next { .. }
             | Command::Report { .. }
+            | Command::Doubt { .. }
             | Command::Read { .. }
             | Command::Array { .. }
-            | Command::Status { .. } => Ok(Ready::Nothing),
+            | Command::Status { .. }
+            | Command::Points { .. }
+            | Command::Version => Ok(Ready::Nothing),
         }
     }
 

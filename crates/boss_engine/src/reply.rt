@@ -12,13 +12,14 @@ use boss_marks::Want;
 use boss_model::{Answer, Basis, Mark, Name, Notice, PointId, ProcId, Refusal, Txn};
 use boss_persistent::{Decision, notices, slots_of, status};
 
-/// The value that a point is to have, what it rests on, and how far the device has come.
+/// The value that a point is to have, what it rests on, how far the device has come, and how often it was found with another value.
 #[derive(Clone, Copy)]
 pub struct Reading {
     pub point: PointId,
     pub value: i64,
     pub basis: Basis,
     pub mark: Mark,
+    pub differed: u64,
 }
 
 /// What a command came to, before it is an answer. An answer has room for sixteen slots, and is dear to move: it is made once, in
@@ -44,11 +45,11 @@ pub enum Reply {
     Want(Want),
     /// The driver has no want.
     Nothing,
-    /// The report was heard, and was of the version that counts, or was not.
+    /// A report or a doubt was heard, and counts, or does not.
     Noted {
         current: bool,
     },
-    /// The value that the point is to have, what it rests on, and how far the device has come.
+    /// The value that the point is to have, what it rests on, and where the device stands.
     Read(Reading),
     /// The slots of the point.
     Array {
@@ -65,6 +66,13 @@ pub enum Reply {
         max: u64,
         list: Vec<Notice>,
     },
+    /// The points of the catalogue from this place on, at most so many, are told.
+    Points {
+        from: u64,
+        max: u64,
+    },
+    /// The program, its journals and the catalogue are told.
+    Version,
     /// The command was refused.
     Refused(Refusal),
 }
@@ -96,6 +104,8 @@ impl Machine {
                 max,
                 list,
             } => notices(&self.lasting, process, from, max, list),
+            Reply::Points { from, max } => Answer::Points { from, max },
+            Reply::Version => Answer::Version,
             Reply::Refused(why) => Answer::Refused(why),
         }
     }
@@ -114,12 +124,13 @@ pub fn answer_of_want(want: Want) -> Answer
 
 /// What is answered where a point is read.
 pub fn answer_of_reading(reading: Reading) -> Answer
-    ensures { result ≡ answer.Reading reading.point reading.value reading.basis reading.mark }
+    ensures { result ≡ answer.Reading reading.point reading.value reading.basis reading.mark reading.differed }
 {
     Answer::Reading {
         point: reading.point,
         value: reading.value,
         basis: reading.basis,
         mark: reading.mark,
+        differed: reading.differed,
     }
 }

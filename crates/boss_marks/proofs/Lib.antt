@@ -1,3 +1,4 @@
+pub mod Doubts
 pub mod Early
 pub mod Firsts
 pub mod Least

@@ -1,5 +1,5 @@
 -- Rounds over all points, one by one: the wants at the start, and the devices that pass a test and are changed.
-use Rattle.std.proofs.Common.{◌≡◌, ℕ, zero, suc, ◌+◌, ◌<◌, ◌≤◌, pos, Bool, false, not, cond, List, [], ◌∷◌, ◌++◌, length, map, take, drop, set, get_or, refl, sym, ◌∙◌, ap, ⊎_elim, arith}
+use Rattle.std.proofs.Common.{◌≡◌, ℕ, zero, suc, ◌+◌, ◌-◌, ◌<◌, ◌≤◌, pos, Bool, false, not, cond, List, [], ◌∷◌, ◌++◌, length, map, take, drop, set, get_or, refl, sym, ◌∙◌, ap, ⊎_elim, arith}
 use Rattle.std.specs.Prelude.{filter}
 use Rattle.std.specs.List.{enumerate_from, range_with_len}
 use Rattle.std.proofs.lemmas.Bool.{cases_Bool}
@@ -203,3 +203,16 @@ module _ (test : ℕ × Proxy → Bool) (change : ℕ × Proxy → Proxy) where
       ∙ ap (λ count. turned_below count marks) (sym all)
       ∙ turned_below-skips 0 (length marks.proxies) marks (omega arith) (λ k low high. fails k (omega arith))
       ∙ turned_below-none marks
+
+  -- where one point alone may pass, its turn is all
+  pub turned-one : (point : ℕ) (marks : Marks) → point < length marks.proxies →
+      ((k : ℕ) → k < length marks.proxies → (k ≡ point → ⊥) → test (k, proxy_of marks.proxies k) ≡ false) →
+      turned point marks ≡ record marks { proxies = changed_if test change marks.proxies; wants = wanted_anew (places test marks.proxies) marks.wants }
+  turned-one point marks within fails =
+      let behind = length marks.proxies - (point + 1) in
+      let first : 0 + point ≡ point = omega arith in
+      let all : point + 1 + behind ≡ length marks.proxies = omega arith in
+      let ahead = turned_below-skips 0 point marks (omega arith) (λ k low high. fails k (omega arith) (λ same. absurd (omega arith))) in
+      let further = turned_below-skips (point + 1) behind marks (omega arith) (λ k low high. fails k (omega arith) (λ same. absurd (omega arith))) in
+      ap (turned point) (sym (rw first at ahead ∙ turned_below-none marks))
+      ∙ (turned_below-more point marks within ∙ (sym (rw all at further) ∙ turned_below-all marks))

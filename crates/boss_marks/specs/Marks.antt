@@ -3,7 +3,7 @@ use Rattle.std.specs.Prelude.{◌≡◌, ℕ, ◌==◌, ◌≤◌, ◌^◌, ℤ,
 use Rattle.std.specs.List.{range_with_len, AllByRecursion}
 use Rattle.std.specs.Option.{option_map_or}
 use Rattle.std.specs.Ordering.{int_eq}
-use Rattle.boss_model.specs.Devices.{proxy_of}
+use Rattle.boss_model.specs.Devices.{proxy_of, is_doubted, doubted}
 use Rattle.boss_model.specs.Lists.{member, without}
 use Rattle.boss_model.specs.Settle.{fresh, wanted_anew, places, changed_if, is_failed, is_retried, retried}
 use Rattle.boss_model.specs.declared.state.Proxy.{Proxy}
@@ -70,6 +70,13 @@ abbrev pub after_reporting : ℕ → ℕ → Bool → ℕ → Marks → Marks
 after_reporting point version ok n marks = if is_current point version marks
     then with_proxy point (after_report ok n (proxy_of marks.proxies point)) marks
     else marks
+
+-- the point's device is to be written again where it is settled
+abbrev pub doubted_at : ℕ → Bool → Marks → Marks
+doubted_at point differs marks = record marks {
+  proxies = changed_if (is_doubted point) (doubted differs) marks.proxies;
+  wants = wanted_anew (places (is_doubted point) marks.proxies) marks.wants;
+}
 
 -- the point's device is written again where its failed write is to be tried again at moment n
 abbrev pub retried_at : ℕ → ℕ → Marks → Marks

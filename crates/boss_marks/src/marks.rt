@@ -1,13 +1,13 @@
 ghost use Rattle.std.specs.Prelude.{◌≡◌, ◌<◌, ◌≤◌, ◌^◌, length, IfOk};
 ghost use Rattle.std.specs.List.{AllByRecursion};
 ghost use Rattle.std.specs.Option.{option_map};
-ghost use Rattle.boss_model.specs.Devices.{proxy_of};
+ghost use Rattle.boss_model.specs.Devices.{is_settled, proxy_of};
 ghost use Rattle.boss_model.specs.Limits.{last_moment};
 ghost use Rattle.boss_model.specs.Sound.{Distinct};
 ghost use Rattle.boss_marks.specs.Wants.{least_wanting};
-ghost use Rattle.boss_marks.specs.Marks.{IsEarly, opened, started, settled, want_of, first_want, handed_out, answer_to, after_reporting, retried_at, retried_all};
+ghost use Rattle.boss_marks.specs.Marks.{IsEarly, opened, started, settled, want_of, first_want, handed_out, answer_to, after_reporting, doubted_at, retried_at, retried_all};
 
-use crate::proxy::{Reported, fresh, is_due, recommand, report};
+use crate::proxy::{Reported, doubt, fresh, is_due, recommand, report};
 use crate::wants::Wants;
 use boss_model::{DriverId, Items, Mark, NoMemory, PointId, Proxy};
 use std::alloc::Global;
@@ -143,6 +143,23 @@ impl Marks {
         reported
     }
 
+    /// The point's device is to be written again, with the version and the value that it took, if it is settled: whether it
+    /// is, is told. Where `differs`, it was found with another value, which is counted. A point that is not settled stays
+    /// as it is. It takes no memory.
+    pub fn doubt(&mut self, point: PointId, differs: bool) -> bool
+        requires { point < length self.old.drivers }
+        ensures answer { result ≡ is_settled (proxy_of self.old.proxies point).mark }
+        ensures after { self.new ≡ doubted_at point differs self.old }
+        ensures drivers { self.new.drivers ≡ self.old.drivers }
+    {
+        if self.mark(point) != Mark::Settled {
+            return false;
+        }
+        doubt(&mut self.proxies[point.0 as usize], differs);
+        self.wants.put_last(point);
+        true
+    }
+
     /// The points whose failed write is due at moment `n` want their devices to be written again, by rising point. It
     /// takes no memory.
     #[inline(always)]
@@ -168,6 +185,14 @@ impl Marks {
             self.proxies[place].mark = Mark::Pending;
             self.wants.put_last(point);
         }
+    }
+
+    /// How often the point's device was found with another value than it took, modulo 2^64.
+    pub fn differed(&self, point: PointId) -> u64
+        requires { point < length self.now.drivers }
+        ensures { result ≡ (proxy_of self.now.proxies point).differed }
+    {
+        self.proxies[point.0 as usize].differed
     }
 
     /// How far the point's device has come.

@@ -1,5 +1,6 @@
 ghost use Rattle.std.specs.Prelude.{◌≡◌, ◌≤◌};
 ghost use Rattle.boss_model.specs.Limits.{last_moment};
+ghost use Rattle.boss_model.specs.Devices.{doubted};
 ghost use Rattle.boss_model.specs.Settle.{fresh};
 ghost use Rattle.boss_marks.specs.Proxy.{recommand, report_of, after_report, is_due};
 
@@ -28,6 +29,7 @@ pub fn fresh(target: i64) -> Proxy
         mark: Mark::Pending,
         failed: false,
         retry_at: 0,
+        differed: 0,
     }
 }
 
@@ -66,4 +68,16 @@ pub fn is_due(proxy: &Proxy, n: u64) -> bool
     ensures { result ≡ is_due n proxy.now }
 {
     proxy.mark == Mark::Failed && proxy.retry_at <= n
+}
+
+/// The device is to be written again, with the same version and value: that it fails to take it then concerns no process. Where it was
+/// found with another value, that is counted, modulo 2^64.
+pub fn doubt(proxy: &mut Proxy, differs: bool)
+    ensures { proxy.new ≡ doubted differs (0, proxy.old) }
+{
+    proxy.mark = Mark::Pending;
+    proxy.failed = true;
+    if differs {
+        proxy.differed = proxy.differed.wrapping_add(1);
+    }
 }

@@ -1,7 +1,7 @@
 -- What the devices were last told, before and after a command, and what the points are to have.
-use Rattle.std.proofs.Common.{◌≡◌, ℕ, zero, suc, ◌<◌, ◌==◌, nat_lt, ℤ, List, [], ◌∷◌, length, map, set, Bool, true, false, cond, Option, Some, None, refl, ap, ◌∙◌, zero-add, arith}
+use Rattle.std.proofs.Common.{◌≡◌, ℕ, zero, suc, ◌+◌, ◌<◌, ◌==◌, nat_lt, ℤ, List, [], ◌∷◌, length, map, set, Bool, true, false, cond, Option, Some, None, refl, ap, ◌∙◌, zero-add, arith}
 use Rattle.std.specs.Prelude.{find}
-use Rattle.std.specs.List.{filter}
+use Rattle.std.specs.List.{enumerate_from, filter}
 use Rattle.std.specs.Option.{option_map}
 use Rattle.std.proofs.lemmas.Bool.{cond_both}
 use Rattle.boss_model.specs.declared.command.Command.{Command}
@@ -11,7 +11,7 @@ use Rattle.boss_model.specs.declared.state.Lease.{Lease}
 use Rattle.boss_model.specs.declared.state.Pending.{Pending}
 use Rattle.boss_model.specs.declared.state.Proxy.{Proxy}
 use Rattle.boss_model.specs.Catalogue.{driver_of}
-use Rattle.boss_model.specs.Devices.{Reply, hand_out, is_current, not_taken, proxy_of, report, taken}
+use Rattle.boss_model.specs.Devices.{Reply, doubt, doubted, hand_out, is_current, is_doubted, not_taken, proxy_of, report, taken}
 use Rattle.boss_model.specs.Ends.{gone}
 use Rattle.boss_model.specs.Machine.{act, after, if_attached, joined, notices_asked, parted}
 use Rattle.boss_model.specs.Order.{least, lesser}
@@ -49,6 +49,12 @@ commanded-set (p ∷ ps) zero q (suc k) is = refl
 commanded-set (p ∷ ps) (suc point) q zero is = refl
 commanded-set (p ∷ ps) (suc point) q (suc k) is = commanded-set ps point q k is
 
+commanded-changed : (test : ℕ × Proxy → Bool) (change : ℕ × Proxy → Proxy) → ((place : ℕ × Proxy) → (change place).commanded ≡ place.1.commanded) → (from : ℕ) (ps : List Proxy) (k : ℕ) →
+    (proxy_of (map (λ place. cond (test place) (change place) place.1) (enumerate_from from ps)) k).commanded ≡ (proxy_of ps k).commanded
+commanded-changed test change same from [] k = refl
+commanded-changed test change same from (p ∷ ps) zero = cond_both (test (from, p)) (change (from, p)) p (λ q. q.commanded ≡ p.commanded) (λ _. same (from, p)) (λ _. refl)
+commanded-changed test change same from (p ∷ ps) (suc k) = commanded-changed test change same (from + 1) ps k
+
 module _ (s : State) where
   abbrev TellsTheSame : Reply → Type 0
   TellsTheSame reply = (k : ℕ) → (proxy_of reply.state.proxies k).commanded ≡ (proxy_of s.proxies k).commanded
@@ -79,6 +85,9 @@ module _ (s : State) where
   by-report n point version false k = cond_both {A = Reply} (is_current point version s) _ _ (λ reply. (proxy_of reply.state.proxies k).commanded ≡ (proxy_of s.proxies k).commanded)
       (λ _. commanded-set s.proxies point (not_taken n (proxy_of s.proxies point)) k refl) (λ _. refl)
 
+  by-doubt : (point : ℕ) (differs : Bool) → TellsTheSame (doubt point differs s)
+  by-doubt point differs k = commanded-changed (is_doubted point) (doubted differs) (λ place. refl) 0 s.proxies k
+
   by-notices : (name : Option (List ℕ)) (session from most : ℕ) → TellsTheSame (notices_asked name session from most s)
   by-notices (Some name) session from most k = refl
   by-notices None session from most k = by-held (process_of s.attached session) _ (λ p k. refl) k
@@ -92,10 +101,13 @@ module _ (s : State) where
   commanded-acted plant session n command.Tick k = refl
   commanded-acted plant session n (command.Next driver) k = by-want (find (λ point. driver_of plant point == driver) s.wants) k
   commanded-acted plant session n (command.Report point version ok) k = by-report n point version ok k
+  commanded-acted plant session n (command.Doubt point differs) k = by-doubt point differs k
   commanded-acted plant session n (command.Read point) k = refl
   commanded-acted plant session n (command.Array point) k = refl
   commanded-acted plant session n (command.Status txn) k = refl
   commanded-acted plant session n (command.Notices name from most) k = by-notices name session from most k
+  commanded-acted plant session n (command.Points from most) k = refl
+  commanded-acted plant session n command.Version k = refl
 
 -- ---- a longer lease has the same value
 

@@ -6,10 +6,12 @@ ghost use Rattle.def_bytes.specs.Events.{is_number, kind_at, numbered, owned, po
 ghost use Rattle.def_bytes.specs.Parts.{moment, name};
 ghost use Rattle.boss_records.specs.Given.{Finds, Gives};
 
-use crate::{
-    NoSpelling, Spelled, Unread, read_i64, read_items, read_name, read_natural8, read_natural32,
-    read_policy, read_steps, read_u8, read_u16, read_u32, read_u64, read_within,
+use crate::numbers::{
+    read_i64, read_natural8, read_natural32, read_u8, read_u16, read_u32, read_u64, read_within,
 };
+use crate::parts::{read_name, read_policy, read_steps};
+use crate::spelled::{Spelled, read_items};
+use crate::unread::{NoSpelling, Unread};
 use boss_model::{
     Act, Items, LAST_MOMENT, LAST_NUMBER, MOST_WRITES, PointId, ProcId, Setting, Txn,
 };

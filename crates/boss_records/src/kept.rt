@@ -5,10 +5,10 @@ ghost use Rattle.def_bytes.specs.Events.{kind_at};
 ghost use Rattle.def_bytes.specs.States.{causes, end, ended, reply, whats};
 ghost use Rattle.boss_records.specs.Given.{Finds};
 
-use crate::{
-    NoSpelling, Spelled, Unread, read_i64, read_items, read_policy, read_steps, read_u8, read_u16,
-    read_u32, read_u64,
-};
+use crate::numbers::{read_i64, read_u8, read_u16, read_u32, read_u64};
+use crate::parts::{read_policy, read_steps};
+use crate::spelled::{Spelled, read_items};
+use crate::unread::{NoSpelling, Unread};
 use boss_model::{
     Acceptance, Cause, Items, KeptPart, KeptReply, KeptTxn, Lease, Notice, Pending, PointId,
     Priority, ProcId, Txn, What,

@@ -3,7 +3,10 @@ ghost use Rattle.std.specs.Option.{option_map};
 ghost use Rattle.def_bytes.specs.Fields.{tagged};
 ghost use Rattle.def_bytes.specs.States.{causes, ends, replies, whats};
 
-use crate::{Room, Written, put_i64, put_policy, put_steps, put_u8, put_u16, put_u32, put_u64};
+use crate::putting::{put_i64, put_u8, put_u16, put_u32, put_u64};
+use crate::room::Room;
+use crate::written::Written;
+use crate::written_parts::{put_policy, put_steps};
 use boss_model::{Acceptance, Cause, KeptPart, KeptReply, Lease, Notice, Pending, Txn, What};
 
 impl Written for Txn {

@@ -4,7 +4,7 @@ ghost use Rattle.def_bytes.specs.Fields.{number, byte};
 ghost use Rattle.def_bytes.specs.Parts.{within, signed64, natural};
 ghost use Rattle.boss_records.specs.Given.{Finds};
 
-use crate::NoSpelling;
+use crate::unread::NoSpelling;
 
 /// One byte.
 pub fn read_u8(bytes: &[u8]) -> Result<(u8, &[u8]), NoSpelling>

@@ -3,9 +3,9 @@ ghost use Rattle.def_bytes.specs.Fields.{byte, items_at};
 ghost use Rattle.def_bytes.specs.Parts.{name, policy, steps};
 ghost use Rattle.boss_records.specs.Given.{Finds, Gives};
 
-use crate::{
-    NoSpelling, Spelled, Unread, read_i64, read_items, read_natural32, read_u8, read_within,
-};
+use crate::numbers::{read_i64, read_natural32, read_u8, read_within};
+use crate::spelled::{Spelled, read_items};
+use crate::unread::{NoSpelling, Unread};
 use boss_model::{LONGEST_NAME, MOST_STEPS, Name, Policy, Step};
 use std::alloc::Global;
 

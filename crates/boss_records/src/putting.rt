@@ -3,7 +3,7 @@ ghost use Rattle.std.specs.Int.{w16, w32, w64};
 ghost use Rattle.def_bytes.specs.Fields.{byte, number};
 ghost use Rattle.def_bytes.specs.Parts.{natural, signed64};
 
-use crate::Room;
+use crate::room::Room;
 
 /// One byte.
 pub fn put_u8<R: Room>(into: &mut R, number: u8)

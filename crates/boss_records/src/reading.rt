@@ -4,10 +4,12 @@ ghost use Rattle.def_bytes.specs.Events.{act_at, event};
 ghost use Rattle.boss_records.specs.Given.{Gives};
 
 use crate::acts::{
-    read_cancel, read_enrol, read_fault, read_gone, read_numbered_cancel, read_numbered_renew,
-    read_numbered_submit, read_renew, read_submit,
+    read_cancel, read_enrol, read_fault, read_gone, read_moment, read_numbered_cancel,
+    read_numbered_renew, read_numbered_submit, read_renew, read_submit,
 };
-use crate::{Unread, read_moment, read_u8, tag};
+use crate::numbers::read_u8;
+use crate::tag;
+use crate::unread::Unread;
 use boss_model::{Act, Event, NoMemory};
 use std::alloc::Global;
 

@@ -2,7 +2,7 @@ ghost use Rattle.std.specs.Prelude.{◌≡◌, ◌-◌, ℕ, map};
 ghost use Rattle.def_bytes.specs.Fields.{Field, items_at};
 ghost use Rattle.boss_records.specs.Given.{Gives};
 
-use crate::Unread;
+use crate::unread::Unread;
 use std::alloc::Global;
 
 /// What can be read as an item of a list: a type with its field.

@@ -1,31 +1,31 @@
 //! The tags that the bytes of events begin with, as `specs/Tags` of def_bytes has them.
 
 /// A process was taken on.
-pub(crate) const ENROL: u8 = 1;
+pub const ENROL: u8 = 1;
 
 /// A process submitted a transaction, without a number for the request.
-pub(crate) const SUBMIT: u8 = 2;
+pub const SUBMIT: u8 = 2;
 
 /// A process renewed leases, without a number.
-pub(crate) const RENEW: u8 = 3;
+pub const RENEW: u8 = 3;
 
 /// A process cancelled a transaction, without a number.
-pub(crate) const CANCEL: u8 = 4;
+pub const CANCEL: u8 = 4;
 
 /// A process was lost.
-pub(crate) const GONE: u8 = 5;
+pub const GONE: u8 = 5;
 
 /// Time passed.
-pub(crate) const TICK: u8 = 6;
+pub const TICK: u8 = 6;
 
 /// A device did not take a value.
-pub(crate) const FAULT: u8 = 7;
+pub const FAULT: u8 = 7;
 
 /// A process submitted a transaction, under a number.
-pub(crate) const NUMBERED_SUBMIT: u8 = 8;
+pub const NUMBERED_SUBMIT: u8 = 8;
 
 /// A process renewed leases, under a number.
-pub(crate) const NUMBERED_RENEW: u8 = 9;
+pub const NUMBERED_RENEW: u8 = 9;
 
 /// A process cancelled a transaction, under a number.
-pub(crate) const NUMBERED_CANCEL: u8 = 10;
+pub const NUMBERED_CANCEL: u8 = 10;

@@ -3,7 +3,7 @@ ghost use Rattle.std.specs.List.{list_all};
 ghost use Rattle.def_bytes.specs.Exact.{IsShort};
 ghost use Rattle.def_bytes.specs.Fields.{Field};
 
-use crate::Room;
+use crate::room::Room;
 
 /// What can be written as an item of a list: a type with its field.
 pub trait Written {

@@ -1,7 +1,9 @@
 ghost use Rattle.std.specs.Prelude.{◌≡◌, ℕ, ◌+◌, ◌≤◌, true, ◌++◌, length};
 ghost use Rattle.def_bytes.specs.Parts.{moment, name, policy, steps};
 
-use crate::{Room, Written, put_i64, put_natural8, put_natural32, put_u8, put_u32, write_items};
+use crate::putting::{put_i64, put_natural8, put_natural32, put_u8, put_u32};
+use crate::room::Room;
+use crate::written::{Written, write_items};
 use boss_model::{Name, PointId, Policy, Setting, Step};
 
 /// A name: its length in a byte, and its bytes.

@@ -2,7 +2,6 @@
 #![tactic(auto)]
 
 mod acts;
-mod tag;
 mod writing;
 
 pub use acts::put_event;

@@ -6,10 +6,9 @@ ghost use Rattle.boss_model.specs.Effects.{act_of, event_of};
 ghost use Rattle.def_bytes.specs.Events.{act_fits, event, numbered, owned, points, renewal, submission, writes};
 ghost use Rattle.def_bytes.specs.Parts.{moment};
 
-use crate::tag;
 use boss_model::{Buffer, Command, Effect, Name, PointId, Policy, ProcId, Setting, Txn};
 use boss_records::{
-    Room, put_name, put_natural32, put_policy, put_u8, put_u16, put_u32, put_u64, write_items,
+    Room, put_name, put_natural32, put_policy, put_u8, put_u16, put_u32, put_u64, tag, write_items,
 };
 
 /// A tag, and a moment.
@@ -218,10 +217,13 @@ fn write_whole<R: Room>(into: &mut R, at: u64, command: &Command, owner: ProcId)
         Command::Report { point, .. } => write_fault(into, at, *point),
         Command::Tick
         | Command::Next { .. }
+        | Command::Doubt { .. }
         | Command::Read { .. }
         | Command::Array { .. }
         | Command::Status { .. }
-        | Command::Notices { .. } => write_tick(into, at),
+        | Command::Notices { .. }
+        | Command::Points { .. }
+        | Command::Version => write_tick(into, at),
     }
 }
 

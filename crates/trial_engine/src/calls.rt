@@ -6,13 +6,23 @@ ghost use Rattle.boss_model.specs.Limits.{last_moment};
 ghost use Rattle.boss_model.specs.Sound.{IsAllowed};
 
 use boss_engine::Engine;
-use boss_model::LAST_MOMENT;
+use boss_model::{Command, LAST_MOMENT, SessionId};
 use boss_points::Catalogue;
-use boss_requests::{ReadRefusal, read_request};
-use boss_runs::Call;
+use boss_requests::{ReadRefusal, RequestReader, read_by};
 use def_wire::{Ask, Form, Request};
 use std::alloc::Global;
 use std::process::Abort;
+
+/// What a session asks at a moment.
+#[derive(Debug, Drop)]
+pub struct Call {
+    /// Who asks.
+    pub session: SessionId,
+    /// What is asked.
+    pub command: Command,
+    /// When, in milliseconds: 0 to 2^60.
+    pub moment: u64,
+}
 
 /// An engine in its first state.
 pub fn first_engine(rt: &impl Abort, alloc: Global, catalogue: &Catalogue) -> Engine
@@ -33,7 +43,8 @@ pub fn call_of(
     ensures moment { IfSome result (λ call. call.moment ≤ last_moment) }
     ensures allowed { IfSome result (λ call. IsAllowed (actuators catalogue.now) call.command) }
 {
-    match read_request(alloc, catalogue, line.as_bytes(), Form::Script) {
+    let mut reader = RequestReader::new(alloc);
+    match read_by(alloc, catalogue, line.as_bytes(), Form::Script, &mut reader) {
         Ok(request) => {
             let Request { on, at, ask } = request;
             match ask {

@@ -6,12 +6,11 @@ ghost use Rattle.boss_model.specs.Plants.{IsPlant};
 ghost use Rattle.boss_model.specs.Sound.{IsAllowed, IsSound};
 ghost use Rattle.law_spelling.specs.Ranges.{IsSpelled};
 
-use crate::calls::{answer, call_of, expect_alike, first_engine};
+use crate::calls::{Call, answer, call_of, expect_alike, first_engine};
 use crate::plants::plant;
 use boss_engine::Engine;
 use boss_model::{Act, Command, DriverId, Effect, Event, ProcId, SessionId};
 use boss_points::Catalogue;
-use boss_runs::Call;
 use std::alloc::Global;
 use std::process::Abort;
 use trial_parts::THREE_POINTS;

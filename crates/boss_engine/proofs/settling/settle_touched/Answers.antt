@@ -1,4 +1,4 @@
-use Rattle.std.proofs.Common.{◌≡◌, ◌≢◌, ℕ, ◌≤◌, ◌<◌, ◌+◌, FitsSigned, w64, rules, true, false, length, set, refl, ap, sym, ◌∙◌, inl, inr, arith}
+use Rattle.std.proofs.Common.{◌≡◌, ◌≢◌, ℕ, ◌≤◌, ◌<◌, ◌+◌, FitsSigned, w64, rules, false, length, set, refl, ap, sym, ◌∙◌, inl, inr, arith}
 use Rattle.std.proofs.lemmas.Bool.{cases_lt, true≢false}
 use Rattle.std.proofs.lemmas.Int.{to_z-of_z}
 use Rattle.std.proofs.lemmas.List.{get_or-set_other}
@@ -7,7 +7,7 @@ use Rattle.boss_model.specs.Settle.{is_moved, recommanded}
 use Rattle.boss_model.specs.Target.{target}
 use Rattle.boss_holdings.specs.Held.{Held, is_touched, shown}
 use Rattle.boss_marks.specs.Marks.{settled}
-use Rattle.boss_marks.proofs.Rounds.{turned_below, turned_below-none}
+use Rattle.boss_marks.proofs.Rounds.{turned_below-none}
 use Rattle.boss_persistent.specs.declared.lasting.Lasting.{Lasting}
 use Rattle.boss_slots.proofs.Cleared.{cleared-below}
 use Rattle.boss_persistent.specs.Lasting.{persistent_of}

@@ -36,6 +36,12 @@ returns-in-Report-clause-answer c = rw c.in-Report.is (c.report.ensures.answer c
 pub returns-in-Report-clause-state : goal.returns-in-Report-clause-state
 returns-in-Report-clause-state c = rw c.in-Report.is (c.report.ensures.state c.args.plant.now c.args.session c.requires.can_run.places)
 
+pub returns-in-Doubt-clause-answer : goal.returns-in-Doubt-clause-answer
+returns-in-Doubt-clause-answer c = rw c.in-Doubt.is (c.doubt.ensures.answer c.args.plant.now c.args.session c.args.n)
+
+pub returns-in-Doubt-clause-state : goal.returns-in-Doubt-clause-state
+returns-in-Doubt-clause-state c = rw c.in-Doubt.is (c.doubt.ensures.state c.args.plant.now c.args.session c.args.n)
+
 pub returns-in-Read-clause-answer : goal.returns-in-Read-clause-answer
 returns-in-Read-clause-answer c = rw c.in-Read.is (c.read.ensures.answer c.args.session c.args.n)
 
@@ -70,6 +76,9 @@ returns-in-Next-clause-tellable c = c.next.ensures.tellable c.args.plant.now
 
 pub returns-in-Report-clause-tellable : goal.returns-in-Report-clause-tellable
 returns-in-Report-clause-tellable c = c.report.ensures.tellable c.args.plant.now
+
+pub returns-in-Doubt-clause-tellable : goal.returns-in-Doubt-clause-tellable
+returns-in-Doubt-clause-tellable c = c.doubt.ensures.tellable c.args.plant.now
 
 pub returns-in-Read-clause-tellable : goal.returns-in-Read-clause-tellable
 returns-in-Read-clause-tellable c = c.read.ensures.tellable c.args.plant.now
