@@ -12,6 +12,9 @@ use std::io::Eprint;
 use std::net::{Net, TcpListener, TcpStream};
 use std::time::Clock;
 
+/// How long a host is waited for before a plan says how long, in milliseconds. Nothing is sent before that.
+const FIRST_WAIT: u64 = 5_000;
+
 /// The devices of one driver. They are simulated, and take every command, until they are assigned a part; from then on
 /// they are those of a Modbus TCP host.
 ///
@@ -39,7 +42,7 @@ impl<R: Net<Listener = TcpListener, Stream = TcpStream> + Clock + Eprint + Copy>
     {
         FieldDevices {
             rt,
-            modbus: ModbusDevice::new(RealLink::new(rt)),
+            modbus: ModbusDevice::new(RealLink::new(rt, FIRST_WAIT)),
             troubles: Vec::new(alloc),
         }
     }
@@ -51,7 +54,7 @@ impl<R: Net<Listener = TcpListener, Stream = TcpStream> + Clock + Eprint + Copy>
                 return trouble.fate;
             }
         }
-        Fate::Echo
+        Fate::Taken
     }
 
     /// Keeps what came of a write. Without memory it is forgotten, and the next try is reported anew.
@@ -59,7 +62,7 @@ impl<R: Net<Listener = TcpListener, Stream = TcpStream> + Clock + Eprint + Copy>
         ensures { self.new.modbus ≡ self.old.modbus }
     {
         self.troubles.retain(|trouble| trouble.point != point);
-        if fate != Fate::Echo {
+        if fate != Fate::Taken {
             let _ = self.troubles.push(Trouble { point, fate });
         }
     }
@@ -110,6 +113,7 @@ impl<R: Net<Listener = TcpListener, Stream = TcpStream> + Clock + Eprint + Copy>
 
     fn assign(&mut self, part: DriverPlan) {
         self.troubles.clear();
+        self.modbus.use_link(RealLink::new(self.rt, part.wait));
         self.modbus.assign(part);
     }
 }

@@ -20,7 +20,7 @@ impl fmt::Display for FateLine<'_> {
             None => write!(f, "{host} point {}", self.point.0)?,
         }
         f.write_str(": ")?;
-        write_fate(f, self.fate)
+        write_fate(f, self.fate, self.part.wait)
     }
 }
 
@@ -36,20 +36,23 @@ fn place_of(part: &DriverPlan, point: PointId) -> Option<Place> {
 fn write_place<W: fmt::Write>(f: &mut fmt::Formatter<W>, host: &str, place: Place) -> fmt::Result {
     let unit = place.unit;
     match place.at {
-        Where::Coil { address } => write!(f, "{host} unit {unit} coil {address}"),
+        Where::Coil { address, .. } => write!(f, "{host} unit {unit} coil {address}"),
         Where::Register { address, .. } => write!(f, "{host} unit {unit} register {address}"),
     }
 }
 
-fn write_fate<W: fmt::Write>(f: &mut fmt::Formatter<W>, fate: Fate) -> fmt::Result {
+fn write_fate<W: fmt::Write>(f: &mut fmt::Formatter<W>, fate: Fate, wait: u64) -> fmt::Result {
     match fate {
         Fate::None => f.write_str("not written yet"),
-        Fate::Echo => f.write_str("taken again"),
+        Fate::Taken => f.write_str("taken again"),
         Fate::Exception { code } => write!(f, "refused with code {code}{}", meaning(code)),
         Fate::Wrong => f.write_str("what came back is no response to the write"),
         Fate::Ended => f.write_str("the host ended the connection before a whole response"),
         Fate::LinkFault => {
-            f.write_str("the host could not be reached, or did not answer within five seconds")
+            write!(
+                f,
+                "the host could not be reached, or did not answer within {wait} ms"
+            )
         }
         Fate::NoPlace => f.write_str("the value has no form there, so nothing was sent"),
     }

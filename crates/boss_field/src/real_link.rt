@@ -7,10 +7,6 @@ use std::io::{self, ErrorKind, Read, Write};
 use std::net::{Net, SocketAddr, TcpListener, TcpStream, ToSocketAddrs};
 use std::time::{Clock, Duration, Instant};
 
-/// How long a host may take to accept a connection, to take bytes, or to send the next one, in milliseconds: as long as
-/// the pause between two tries of a point.
-const LONGEST_SILENCE: u64 = 5_000;
-
 /// How long a host that could not be reached is left alone, in milliseconds. It is less than the pause between two
 /// tries of a point, so that each such try asks again.
 const LEFT_ALONE: u64 = RETRY_AFTER - 1_000;
@@ -21,7 +17,8 @@ const MOST_ADDRESSES: usize = 4;
 /// How often a read is tried that a signal came between.
 const TRIES: u32 = 1_000;
 
-/// A TCP connection to one host at a time. A call that the host leaves without an answer for five seconds fails.
+/// A TCP connection to one host at a time. An exchange begins with a connection, or over one that there is with what is sent, and has one
+/// time in all: once it is over each call fails, however often the host sent a byte meanwhile. Looking up a name is not cut short by it.
 ///
 /// A connection that went stale is made anew before anything is sent over it: many devices end one that is idle for a
 /// minute, and no write is to fail for that. After a host could not be reached, connecting fails at once for four
@@ -29,7 +26,13 @@ const TRIES: u32 = 1_000;
 #[derive(Drop)]
 pub struct RealLink<R> {
     rt: R,
+    /// How long an exchange may take, in milliseconds.
+    wait: u64,
     connection: Option<Connection>,
+    /// When the exchange began that goes on.
+    begun: Option<Instant>,
+    /// Whether nothing was sent yet over a connection that was asked for: the exchange began with it.
+    is_new: bool,
     /// When a host could not be reached, unless one was reached since.
     missed: Option<Instant>,
     faults: u64,
@@ -42,13 +45,16 @@ struct Connection {
 }
 
 impl<R: Net<Listener = TcpListener, Stream = TcpStream> + Clock + Copy> RealLink<R> {
-    /// A link that is not connected. `rt` is what connects it.
-    pub fn new(rt: R) -> RealLink<R>
+    /// A link that is not connected, whose exchanges may take so many milliseconds. `rt` is what connects it.
+    pub fn new(rt: R, wait: u64) -> RealLink<R>
         ensures { result.faults ≡ 0 }
     {
         RealLink {
             rt,
+            wait,
             connection: None,
+            begun: None,
+            is_new: false,
             missed: None,
             faults: 0,
         }
@@ -60,6 +66,25 @@ impl<R: Net<Listener = TcpListener, Stream = TcpStream> + Clock + Copy> RealLink
     {
         self.faults = self.faults.saturating_add(1);
         Failed
+    }
+
+    /// Begins an exchange.
+    fn begin(&mut self)
+        ensures { self.new.faults ≡ self.old.faults }
+    {
+        self.begun = Instant::now(&self.rt).ok();
+    }
+
+    /// How much of the exchange's time is left, a millisecond at least; none once it is over.
+    fn left(&self) -> io::Result<Duration> {
+        let Some(begun) = self.begun else {
+            return Err(ErrorKind::TimedOut.into());
+        };
+        let passed = begun.elapsed(&self.rt)?.as_millis();
+        if passed >= u128::from(self.wait) {
+            return Err(ErrorKind::TimedOut.into());
+        }
+        Ok(Duration::from_millis(self.wait - passed as u64))
     }
 
     /// Whether no host is to be tried for now.
@@ -88,10 +113,7 @@ impl<R: Net<Listener = TcpListener, Stream = TcpStream> + Clock + Copy> RealLink
 
     /// Connects to this address.
     fn connect_to(&self, address: SocketAddr) -> io::Result<Connection> {
-        let patience = Duration::from_millis(LONGEST_SILENCE);
-        let stream = TcpStream::connect_timeout(&self.rt, &address, patience)?;
-        stream.set_read_timeout(Some(patience))?;
-        stream.set_write_timeout(Some(patience))?;
+        let stream = TcpStream::connect_timeout(&self.rt, &address, self.left()?)?;
         stream.set_nodelay(true)?;
         Ok(Connection { stream, address })
     }
@@ -138,7 +160,27 @@ impl<R: Net<Listener = TcpListener, Stream = TcpStream> + Clock + Copy> RealLink
             return Err(ErrorKind::NotConnected.into());
         };
         let mut stream: &TcpStream = &connection.stream;
+        stream.set_write_timeout(Some(self.left()?))?;
         stream.write_all(bytes)
+    }
+
+    /// Reads, and tries again where a signal came between.
+    fn read_some(&self, into: &mut [u8]) -> io::Result<usize>
+        ensures { IfOk result (λ count. count ≤ length into.new) }
+    {
+        let Some(connection) = &self.connection else {
+            return Err(ErrorKind::NotConnected.into());
+        };
+        let mut stream: &TcpStream = &connection.stream;
+        for _ in 0..TRIES {
+            stream.set_read_timeout(Some(self.left()?))?;
+            match stream.read(into) {
+                Ok(count) => return Ok(count),
+                Err(reason) if reason.kind() == ErrorKind::Interrupted => {}
+                Err(reason) => return Err(reason),
+            }
+        }
+        Err(ErrorKind::Interrupted.into())
     }
 }
 
@@ -153,21 +195,6 @@ fn is_fresh(stream: &TcpStream) -> bool {
         Err(reason) => reason.kind() == ErrorKind::WouldBlock,
     };
     stream.set_nonblocking(false).is_ok() && is_quiet
-}
-
-/// Reads, and tries again where a signal came between.
-fn read_past_signals(stream: &TcpStream, into: &mut [u8]) -> io::Result<usize>
-    ensures { IfOk result (λ count. count ≤ length into.new) }
-{
-    let mut stream = stream;
-    for _ in 0..TRIES {
-        match stream.read(into) {
-            Ok(count) => return Ok(count),
-            Err(reason) if reason.kind() == ErrorKind::Interrupted => {}
-            Err(reason) => return Err(reason),
-        }
-    }
-    Err(ErrorKind::Interrupted.into())
 }
 
 impl<R: Net<Listener = TcpListener, Stream = TcpStream> + Clock + Copy> Link for RealLink<R> {
@@ -190,6 +217,8 @@ impl<R: Net<Listener = TcpListener, Stream = TcpStream> + Clock + Copy> Link for
         if self.is_left_alone() {
             return Err(self.fault());
         }
+        self.begin();
+        self.is_new = true;
         let reached = self.reach(host);
         if self.keep(reached).is_ok() {
             return Ok(());
@@ -198,6 +227,10 @@ impl<R: Net<Listener = TcpListener, Stream = TcpStream> + Clock + Copy> Link for
     }
 
     fn send(&mut self, bytes: &[u8]) -> Result<(), Failed> {
+        if !self.is_new {
+            self.begin();
+        }
+        self.is_new = false;
         if self.send_all(bytes).is_ok() {
             return Ok(());
         }
@@ -205,11 +238,7 @@ impl<R: Net<Listener = TcpListener, Stream = TcpStream> + Clock + Copy> Link for
     }
 
     fn receive(&mut self, into: &mut [u8]) -> Got {
-        let Some(connection) = &self.connection else {
-            self.fault();
-            return Got::Failed;
-        };
-        match read_past_signals(&connection.stream, into) {
+        match self.read_some(into) {
             Ok(0) => Got::Finish,
             Ok(count) => Got::Bytes(count),
             Err(_) => {

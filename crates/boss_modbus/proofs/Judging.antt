@@ -3,12 +3,12 @@ use Rattle.std.specs.Str.{bytes_eq}
 use Rattle.std.specs.Prelude.{slice_get, unwrap_or}
 use Rattle.std.proofs.lemmas.Bool.{false≢true}
 use Rattle.std.proofs.lemmas.Slice.Eq.{bytes_eq-Decides}
-use Rattle.boss_modbus.specs.declared.asked.Asked.{Asked}
-use Rattle.boss_modbus.specs.declared.fate.Fate.TheVariants.{Echo, Exception, Wrong, LinkFault}
+use Rattle.boss_modbus.specs.declared.request.Asked.{Asked}
+use Rattle.boss_modbus.specs.declared.fate.Fate.TheVariants.{Taken, Exception, Wrong, LinkFault}
 use Rattle.boss_modbus.specs.declared.response.Filled.{Filled}
 use Rattle.boss_modbus.specs.declared.response.Filled.TheVariants.{Whole, Finished, Failed}
 use Rattle.boss_modbus.specs.Fates.{Fared, Came, Fills, FillCause, refused, judged}
-use Rattle.boss_modbus.specs.Frames.{header, frame, exception, response_length}
+use Rattle.boss_modbus.specs.Frames.{header, answer, exception, response_length}
 
 -- a response has six bytes at least
 pub six-at-least : (number : ℕ) (first : List ℕ) → 6 ≤ response_length number first
@@ -44,10 +44,10 @@ differ xs ys e same = false≢true (sym e ∙ (bytes_eq-Decides xs ys).1 same)
 code-is : (number : ℕ) (asked : Asked) (response : List ℕ) (code : ℕ) → response ≡ exception number asked code → unwrap_or (slice_get response 8) 0 ≡ code
 code-is number asked response code e = ap (λ xs. unwrap_or (slice_get xs 8) 0) e
 
--- how a whole response fares that is no echo
+-- how a whole response fares that is not that answer
 refused-fares : (number : ℕ) (asked : Asked) (response left : List ℕ) (b : Bool)
     → bytes_eq response (exception number asked (unwrap_or (slice_get response 8) 0)) ≡ b
-    → length response ≡ response_length number (take 6 response) → (response ≡ frame number asked → ⊥)
+    → length response ≡ response_length number (take 6 response) → (response ≡ answer number asked → ⊥)
     → Fared number asked response left (cond b (Exception (unwrap_or (slice_get response 8) 0)) Wrong)
 refused-fares number asked response left true e whole other = (bytes_eq-Decides response _).0 e
 refused-fares number asked response left false e whole other = (
@@ -57,12 +57,12 @@ refused-fares number asked response left false e whole other = (
       (is ∙ ap (exception number asked) (sym (code-is number asked response code is))),
 )
 
-judged-fares-by : (number : ℕ) (asked : Asked) (response left : List ℕ) (b : Bool) → bytes_eq response (frame number asked) ≡ b
+judged-fares-by : (number : ℕ) (asked : Asked) (response left : List ℕ) (b : Bool) → bytes_eq response (answer number asked) ≡ b
     → length response ≡ response_length number (take 6 response)
-    → Fared number asked response left (cond b Echo (refused number asked response (unwrap_or (slice_get response 8) 0)))
+    → Fared number asked response left (cond b Taken (refused number asked response (unwrap_or (slice_get response 8) 0)))
 judged-fares-by number asked response left true e whole = (bytes_eq-Decides response _).0 e
 judged-fares-by number asked response left false e whole =
-    refused-fares number asked response left _ refl whole (differ response (frame number asked) e)
+    refused-fares number asked response left _ refl whole (differ response (answer number asked) e)
 
 -- a whole response fares as it is judged
 pub judged-fares : (number : ℕ) (asked : Asked) (response left : List ℕ) → length response ≡ response_length number (take 6 response)
@@ -71,9 +71,9 @@ judged-fares number asked response left whole = judged-fares-by number asked res
 
 pub judged-no-fault : (number : ℕ) (asked : Asked) (response : List ℕ) → judged number asked response ≡ LinkFault → ⊥
 judged-no-fault number asked response =
-    go (bytes_eq response (frame number asked)) (bytes_eq response (exception number asked (unwrap_or (slice_get response 8) 0)))
+    go (bytes_eq response (answer number asked)) (bytes_eq response (exception number asked (unwrap_or (slice_get response 8) 0)))
   where
-    go : (a b : Bool) → cond a Echo (cond b (Exception (unwrap_or (slice_get response 8) 0)) Wrong) ≡ LinkFault → ⊥
+    go : (a b : Bool) → cond a Taken (cond b (Exception (unwrap_or (slice_get response 8) 0)) Wrong) ≡ LinkFault → ⊥
     go true b e = cc
     go false true e = cc
     go false false e = cc

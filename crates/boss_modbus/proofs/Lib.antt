@@ -1,5 +1,3 @@
 pub mod Fronts
 pub mod Judging
-pub mod Words
-pub mod Carrying
 mod Rows

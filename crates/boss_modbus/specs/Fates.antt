@@ -1,24 +1,24 @@
--- Source: MODBUS Application Protocol 1.1b3, sections 6.5, 6.6 (the echo) and 7 (the exception); how ends are told
+-- Source: MODBUS Application Protocol 1.1b3, sections 6.5, 6.6, 6.11, 6.12 (the answer) and 7 (the exception); how ends are told
 -- apart own.
 -- How a write fares, by the bytes that were received in it.
 use Rattle.std.specs.Prelude.{◌≡◌, ◌≢◌, ℕ, ◌+◌, ◌<◌, ◌≤◌, Bool, true, false, if◌then◌else◌, List, [], length, take, bytes_eq, slice_get, unwrap_or, Result, Ok, Err}
 use Rattle.boss_outside.specs.Counts.{Rose}
 use Rattle.boss_outside.specs.declared.source.Got.{Got}
 use Rattle.boss_outside.specs.declared.source.Got.TheVariants as got
-use Rattle.boss_modbus.specs.declared.asked.Asked.{Asked}
+use Rattle.boss_modbus.specs.declared.request.Asked.{Asked}
 use Rattle.boss_modbus.specs.declared.fate.Fate.{Fate}
-use Rattle.boss_modbus.specs.declared.fate.Fate.TheVariants.{None, Echo, Exception, Wrong, Ended, LinkFault, NoPlace}
+use Rattle.boss_modbus.specs.declared.fate.Fate.TheVariants.{None, Taken, Exception, Wrong, Ended, LinkFault, NoPlace}
 use Rattle.boss_modbus.specs.declared.response.Filled.{Filled}
 use Rattle.boss_modbus.specs.declared.response.Filled.TheVariants.{Whole, Finished, Failed}
-use Rattle.boss_modbus.specs.Frames.{frame, exception, response_length}
+use Rattle.boss_modbus.specs.Frames.{answer, exception, response_length}
 
 -- what each end says of the bytes that were received, and of those that are left. No two ends fit the same bytes, but for Ended and LinkFault, which the count of the link parts.
 abbrev pub Fared : ℕ → Asked → List ℕ → List ℕ → Fate → Type 0
-Fared number asked response left Echo = response ≡ frame number asked
+Fared number asked response left Taken = response ≡ answer number asked
 Fared number asked response left (Exception code) = response ≡ exception number asked code
 Fared number asked response left Wrong =
     (length response ≡ response_length number (take 6 response))
-    × (response ≢ frame number asked)
+    × (response ≢ answer number asked)
     × ((code : ℕ) → response ≢ exception number asked code)
 Fared number asked response left Ended = (length response < response_length number (take 6 response)) × (left ≡ [])
 Fared number asked response left LinkFault = length response < response_length number (take 6 response)
@@ -32,7 +32,7 @@ refused number asked response code = if bytes_eq response (exception number aske
 -- a response that came whole
 abbrev pub judged : ℕ → Asked → List ℕ → Fate
 judged number asked response =
-    if bytes_eq response (frame number asked) then Echo else refused number asked response (unwrap_or (slice_get response 8) 0)
+    if bytes_eq response (answer number asked) then Taken else refused number asked response (unwrap_or (slice_get response 8) 0)
 
 -- how far a response came: whole, or its source came to an end or failed before
 abbrev pub Came : ℕ → List ℕ → Filled → Type 0
@@ -65,7 +65,7 @@ pub record FateCause (before now : ℕ) (end : Fate) : Type 0 where
 
 -- whether the connection is kept for the next write
 abbrev pub goes_on : Fate → Bool
-goes_on Echo = true
+goes_on Taken = true
 goes_on (Exception _) = true
 goes_on Wrong = false
 goes_on Ended = false
@@ -73,7 +73,7 @@ goes_on LinkFault = false
 goes_on None = false
 goes_on NoPlace = false
 
--- a write is answered Ok exactly where its echo came
+-- a write is answered Ok exactly where the device answered that it was written
 abbrev pub Answers : {T E : Type 0} → Fate → Result T E → Type 0
-Answers end (Ok _) = end ≡ Echo
-Answers end (Err _) = end ≢ Echo
+Answers end (Ok _) = end ≡ Taken
+Answers end (Err _) = end ≢ Taken

@@ -1,38 +1,53 @@
--- Source: MODBUS Application Protocol 1.1b3, sections 6.5 (a coil is FF00 or 0000) and 6.6; scaling by `per` own.
+-- Source: MODBUS Application Protocol 1.1b3, sections 6.5 (a coil is FF00 or 0000), 6.6, 6.11 and 6.12; scale and forms own.
 -- What is asked of a device for a point and a value.
-use Rattle.std.specs.Prelude.{ℕ, ◌/◌, nat_eq, nat_le, ℤ, pos, negsuc, ◌&&◌, if◌then◌else◌, List, find, Option, Some, None}
-use Rattle.std.specs.Option.{option_and_then}
+use Rattle.std.specs.Prelude.{◌≡◌, ℕ, nat_eq, ℤ, pos, negsuc, Bool, true, false, if◌then◌else◌, List, find, Option, Some, None}
+use Rattle.std.specs.Option.{option_map}
 use Rattle.boss_model.specs.declared.places.DriverPlan.{DriverPlan}
+use Rattle.boss_model.specs.declared.places.Function.{Function}
+use Rattle.boss_model.specs.declared.places.Function.TheVariants.{WriteSingle, WriteMultiple}
 use Rattle.boss_model.specs.declared.places.Place.{Place}
 use Rattle.boss_model.specs.declared.places.Where.{Where}
 use Rattle.boss_model.specs.declared.places.Where.TheVariants.{Coil, Register}
-use Rattle.boss_modbus.specs.declared.asked.Asked.{Asked}
-use Rattle.boss_modbus.specs.declared.asked.Function.TheVariants.{WriteCoil, WriteRegister}
+use Rattle.boss_numbers.specs.declared.registers.Words.{Words}
+use Rattle.boss_numbers.specs.declared.registers.Words.TheVariants.{One, Two}
+use Rattle.boss_numbers.specs.Scales.{Stands}
+use Rattle.boss_modbus.specs.declared.request.Asked.{Asked}
+use Rattle.boss_modbus.specs.declared.request.Request.{Request}
+use Rattle.boss_modbus.specs.declared.request.Request.TheVariants.{WriteCoil, WriteRegister, WriteCoils, WriteRegisters}
 
 -- a coil is off at 0 and on at 1
-abbrev pub coil_word : ℤ → Option ℕ
-coil_word (pos value) = if nat_eq value 0 then Some 0 else (if nat_eq value 1 then Some 65280 else None)
-coil_word (negsuc _) = None
+abbrev pub coil_state : ℤ → Option Bool
+coil_state (pos value) = if nat_eq value 0 then Some false else (if nat_eq value 1 then Some true else None)
+coil_state (negsuc _) = None
 
--- a register has the value by what one of it stands for, rounded down, where sixteen bits hold that
-abbrev pub register_word : ℤ → ℤ → Option ℕ
-register_word (pos per) (pos value) = if nat_le 1 per && nat_le (value / per) 65535 then Some (value / per) else None
-register_word (pos per) (negsuc _) = None
-register_word (negsuc _) (pos value) = None
-register_word (negsuc _) (negsuc _) = None
+abbrev pub coil : Function → ℕ → Bool → Request
+coil WriteSingle address on = WriteCoil address on
+coil WriteMultiple address on = WriteCoils address on
 
--- what is asked for a value at this place of this unit
-abbrev pub asked_at : ℕ → Where → ℤ → Option Asked
-asked_at unit (Coil address) value =
-    option_and_then (λ word. Some (record { unit = unit; function = WriteCoil; address = address; word = word })) (coil_word value)
-asked_at unit (Register address per) value =
-    option_and_then (λ word. Some (record { unit = unit; function = WriteRegister; address = address; word = word })) (register_word per value)
+-- two registers are always written by the function that writes several
+abbrev pub registers : Function → ℕ → Words → Request
+registers WriteSingle address (One word) = WriteRegister address word
+registers WriteSingle address (Two first second) = WriteRegisters address (Two first second)
+registers WriteMultiple address words = WriteRegisters address words
+
+abbrev pub asked_of_unit : ℕ → Request → Asked
+asked_of_unit unit request = record { unit = unit; request = request }
+
+-- what is asked for a value at this place of this unit: a coil's state, or the registers in which the value stands
+abbrev pub AsksAt : ℕ → Where → ℤ → Option Asked → Type 0
+AsksAt unit (Coil address function) value asked = asked ≡ option_map (λ on. asked_of_unit unit (coil function address on)) (coil_state value)
+AsksAt unit (Register address form scale function) value asked =
+    (words : Option Words) × Stands form scale value words × (asked ≡ option_map (λ words. asked_of_unit unit (registers function address words)) words)
 
 -- the place of a point
 abbrev pub place_of : List Place → ℕ → Option Place
 place_of places point = find (λ place. nat_eq place.point point) places
 
--- what is asked, where a part was assigned, the point has a place in it and the value a word there
-abbrev pub asked_of : Option DriverPlan → ℕ → ℤ → Option Asked
-asked_of part point value =
-    option_and_then (λ part. option_and_then (λ place. asked_at place.unit place.at value) (place_of part.places point)) part
+abbrev pub AsksAtPlace : Option Place → ℤ → Option Asked → Type 0
+AsksAtPlace None value asked = asked ≡ None
+AsksAtPlace (Some place) value asked = AsksAt place.unit place.at value asked
+
+-- what is asked, where a part was assigned, the point has a place in it and the value a form there
+abbrev pub AsksFor : Option DriverPlan → ℕ → ℤ → Option Asked → Type 0
+AsksFor None point value asked = asked ≡ None
+AsksFor (Some part) point value asked = AsksAtPlace (place_of part.places point) value asked

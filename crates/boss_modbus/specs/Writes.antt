@@ -4,13 +4,13 @@ use Rattle.std.specs.Prelude.{◌≡◌, ◌≢◌, ◌⊎◌, ℕ, ◌+◌, ◌
 use Rattle.boss_outside.specs.Streams.{TakesFront}
 use Rattle.boss_outside.specs.declared.link.Link as link
 use Rattle.boss_model.specs.declared.places.DriverPlan.{DriverPlan}
-use Rattle.boss_modbus.specs.declared.asked.Asked.{Asked}
+use Rattle.boss_modbus.specs.declared.request.Asked.{Asked}
 use Rattle.boss_modbus.specs.declared.device.ModbusDevice.{ModbusDevice}
 use Rattle.boss_modbus.specs.declared.fate.Fate.{Fate}
 use Rattle.boss_modbus.specs.declared.fate.Fate.TheVariants.{LinkFault, NoPlace}
 use Rattle.boss_modbus.specs.Fates.{Fared, FateCause, goes_on}
 use Rattle.boss_modbus.specs.Frames.{frame}
-use Rattle.boss_modbus.specs.Places.{asked_of}
+use Rattle.boss_modbus.specs.Places.{AsksFor}
 
 -- the hosts that were reached in a write: none anew where there was a connection, and else the one, at most once
 pub record Reaches (was_connected : Bool) (host : List ℕ) (old new : List (List ℕ)) : Type 0 where
@@ -35,7 +35,7 @@ module _ {L : Type 0} (l : link.Ghosts L) where
     pub same_connection : is_connected ≡ was_connected
     pub no_response : response ≡ []
 
-  -- a frame was sent to this host, and after each end but an echo or an exception the link is shut
+  -- a frame was sent to this host, and after each end but an answer to the write the link is shut
   pub record Asks (number : ℕ) (host : List ℕ) (asked : Asked) (was_connected is_connected : Bool) (old new : L) (response : List ℕ) (end : Fate) : Type 0 where
     pub exchanged : Exchanged was_connected host number asked response old new end
     pub goes : is_connected ≡ goes_on end
@@ -52,4 +52,6 @@ module _ {L : Type 0} (l : link.Ghosts L) where
   pub record Wrote (point : ℕ) (value : ℤ) (old new : ModbusDevice L) : Type 0 where
     pub number : new.writes ≡ (old.writes + 1) % 2 ^ 16
     pub same_part : new.part ≡ old.part
-    pub carried : Carried new.writes (asked_of old.part point value) old.part old.is_connected new.is_connected old.link new.link new.response.items new.fate
+    pub asked : Option Asked
+    pub asks : AsksFor old.part point value asked
+    pub carried : Carried new.writes asked old.part old.is_connected new.is_connected old.link new.link new.response.items new.fate

@@ -1,7 +1,8 @@
-ghost use Rattle.std.specs.Prelude.{◌≡◌, ◌≢◌, [], false};
+ghost use Rattle.std.specs.Prelude.{◌≡◌, ◌≢◌, [], false, Option};
 ghost use Rattle.boss_outside.specs.Counts.{HasCause};
 ghost use Rattle.boss_modbus.specs.Fates.{Answers};
-ghost use Rattle.boss_modbus.specs.Places.{asked_of};
+ghost use Rattle.boss_modbus.specs.Places.{AsksFor};
+ghost use Rattle.boss_modbus.specs.declared.request.Asked.{Asked};
 ghost use Rattle.boss_modbus.specs.Writes.{Carried, Wrote};
 
 use crate::Fate;
@@ -75,8 +76,8 @@ impl<L: Link> ModbusDevice<L> {
 
     /// Asks the device for a value of a point, under the number that this write has.
     fn carry_out(&mut self, point: PointId, value: i64) -> Fate
-        ensures carried { Carried L.Link self.new.writes (asked_of self.old.part point value) self.old.part self.old.is_connected
-            self.new.is_connected self.old.link self.new.link self.new.response.items result }
+        ensures carried { (asked : Option Asked) × AsksFor self.old.part point value asked × Carried L.Link self.new.writes asked
+            self.old.part self.old.is_connected self.new.is_connected self.old.link self.new.link self.new.response.items result }
         ensures part { self.new.part ≡ self.old.part }
         ensures writes { self.new.writes ≡ self.old.writes }
         ensures faults { self.new.faults ≡ self.old.faults }
@@ -96,6 +97,16 @@ impl<L: Link> ModbusDevice<L> {
             &asked,
             &mut self.response,
         )
+    }
+}
+
+impl<L: Link + Drop> ModbusDevice<L> {
+    /// Goes on over another link, which is not connected. What the old one had of its connection is let go.
+    pub fn use_link(&mut self, link: L)
+        ensures { self.new ≡ record self.old { link = link; is_connected = false } }
+    {
+        self.link = link;
+        self.is_connected = false;
     }
 }
 
@@ -121,7 +132,7 @@ impl<L: Link> Actuators for ModbusDevice<L> {
     {
         self.writes = self.writes.wrapping_add(1);
         self.fate = self.carry_out(point, value);
-        if self.fate == Fate::Echo {
+        if self.fate == Fate::Taken {
             return Ok(());
         }
         self.faults = self.faults.saturating_add(1);

@@ -6,12 +6,13 @@ ghost use Rattle.boss_modbus.specs.Frames.{frame};
 ghost use Rattle.boss_modbus.specs.Writes.{Reaches, Exchanged};
 
 use crate::Fate;
-use crate::asked::Asked;
 use crate::fate::goes_on;
+use crate::frames::frame;
+use crate::request::Asked;
 use crate::response::{Filled, Response, hear, judge};
 use boss_outside::{Failed, Link};
 
-/// Sends one frame and hears its response. The connection is kept after an echo and an exception alone.
+/// Sends one frame and hears its response. The connection is kept after the device's answer and its exception alone.
 pub fn exchange<L: Link>(
     link: &mut L,
     is_connected: &mut bool,
@@ -56,7 +57,7 @@ fn ask<L: Link>(
     let Ok(()) = reach(link, is_connected, host) else {
         return Fate::LinkFault;
     };
-    let Ok(()) = link.send(&asked.frame(number)) else {
+    let Ok(()) = link.send(frame(number, asked).as_slice()) else {
         return Fate::LinkFault;
     };
     match hear(link, response, number) {

@@ -6,8 +6,8 @@ ghost use Rattle.boss_modbus.specs.Fates.{goes_on};
 pub enum Fate {
     /// There was no write yet.
     None,
-    /// The device answered with the frame itself: it took the value.
-    Echo,
+    /// The device answered that it wrote the value.
+    Taken,
     /// The device refused, with this code (MODBUS Application Protocol 1.1b3, section 7).
     Exception { code: u8 },
     /// What was received is no response to this write.
@@ -16,7 +16,7 @@ pub enum Fate {
     Ended,
     /// The host could not be reached, or the link failed before a whole response.
     LinkFault,
-    /// The point has no place in the device, or the value no word there. Nothing was sent.
+    /// The point has no place in the device, or the value no form there. Nothing was sent.
     NoPlace,
 }
 
@@ -25,7 +25,7 @@ pub(crate) fn goes_on(fate: Fate) -> bool
     ensures { result ≡ goes_on fate }
 {
     match fate {
-        Fate::Echo | Fate::Exception { .. } => true,
+        Fate::Taken | Fate::Exception { .. } => true,
         Fate::None | Fate::Wrong | Fate::Ended | Fate::LinkFault | Fate::NoPlace => false,
     }
 }

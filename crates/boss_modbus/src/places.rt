@@ -1,15 +1,13 @@
 ghost use Rattle.std.specs.Prelude.{◌≡◌};
-ghost use Rattle.boss_modbus.specs.Places.{coil_word, register_word, asked_at, asked_of, place_of};
+ghost use Rattle.boss_modbus.specs.Places.{AsksAt, AsksFor, coil, coil_state, place_of, registers};
 
-use crate::asked::{Asked, Function};
-use boss_model::{DriverPlan, Place, PointId, Where};
+use crate::request::{Asked, Request};
+use boss_model::{DriverPlan, Function, Place, PointId, Where};
+use boss_numbers::{Words, words_of};
 
-/// The word of a coil that is on.
-const ON: u16 = 0xff00;
-
-/// What is asked for a value of a point, where the point has a place and the value a word there.
+/// What is asked for a value of a point, where the point has a place and the value a form there.
 pub fn asked_of(part: &Option<DriverPlan>, point: PointId, value: i64) -> Option<Asked>
-    ensures { result ≡ asked_of part.now point value }
+    ensures { AsksFor part.now point value result }
 {
     let Some(part) = part else {
         return None;
@@ -27,53 +25,50 @@ fn place_of(places: &[Place], point: PointId) -> Option<Place>
 
 /// What is asked for a value at this place of this unit.
 fn asked_at(unit: u8, at: Where, value: i64) -> Option<Asked>
-    ensures { result ≡ asked_at unit at value }
+    ensures { AsksAt unit at value result }
 {
-    match at {
-        Where::Coil { address } => {
-            let word = coil_word(value)?;
-            let function = Function::WriteCoil;
-            Some(Asked {
-                unit,
-                function,
-                address,
-                word,
-            })
-        }
-        Where::Register { address, per } => {
-            let word = register_word(per, value)?;
-            let function = Function::WriteRegister;
-            Some(Asked {
-                unit,
-                function,
-                address,
-                word,
-            })
-        }
-    }
+    let request = match at {
+        Where::Coil { address, function } => coil(function, address, coil_state(value)?),
+        Where::Register {
+            address,
+            form,
+            scale,
+            function,
+        } => registers(function, address, words_of(form, scale, value)?),
+    };
+    Some(Asked { unit, request })
 }
 
-/// A coil is off at 0 and on at 1.
-fn coil_word(value: i64) -> Option<u16>
-    ensures { result ≡ coil_word value }
+/// Whether a coil is on: it is off at 0 and on at 1.
+fn coil_state(value: i64) -> Option<bool>
+    ensures { result ≡ coil_state value }
 {
     match value {
-        0 => Some(0),
-        1 => Some(ON),
+        0 => Some(false),
+        1 => Some(true),
         _ => None,
     }
 }
 
-/// A register has the value by what one of it stands for, rounded down, where sixteen bits hold that.
-fn register_word(per: i64, value: i64) -> Option<u16>
-    ensures { result ≡ register_word per value }
+/// What writes a coil.
+fn coil(function: Function, address: u16, on: bool) -> Request
+    ensures { result ≡ coil function address on }
 {
-    if per < 1 || value < 0 {
-        return None;
+    match function {
+        Function::WriteSingle => Request::WriteCoil { address, on },
+        Function::WriteMultiple => Request::WriteCoils { address, on },
     }
-    let word = value as u64 / per as u64;
-    if word > 0xffff {
-        return None;
+}
+
+/// What writes one register, or two.
+fn registers(function: Function, address: u16, words: Words) -> Request
+    ensures { result ≡ registers function address words }
+{
+    match (function, words) {
+        (Function::WriteSingle, Words::One { word }) => Request::WriteRegister { address, word },
+        (Function::WriteMultiple, Words::One { .. })
+        | (Function::WriteSingle | Function::WriteMultiple, Words::Two { .. }) => {
+            Request::WriteRegisters { address, words }
+        }
     }
-    Some(word as u16)
 }

@@ -4,7 +4,8 @@ ghost use Rattle.boss_modbus.specs.Fates.{Came, Fills, FillCause, Grows, Fared, 
 ghost use Rattle.boss_modbus.specs.Frames.{response_length};
 
 use crate::Fate;
-use crate::asked::{Asked, header};
+use crate::frames::{answer, exception, header};
+use crate::request::Asked;
 use arrayvec::ArrayVec;
 use boss_outside::{Got, Link};
 
@@ -148,11 +149,11 @@ pub fn judge(number: u16, asked: &Asked, response: &[u8]) -> Fate
 fn judged(number: u16, asked: &Asked, response: &[u8]) -> Fate
     ensures { result ≡ judged number asked.now response.now }
 {
-    if are_same(response, &asked.frame(number)) {
-        return Fate::Echo;
+    if are_same(response, &answer(number, asked)) {
+        return Fate::Taken;
     }
     let code = response.get(8).copied().unwrap_or(0);
-    if are_same(response, &asked.exception(number, code)) {
+    if are_same(response, &exception(number, asked, code)) {
         return Fate::Exception { code };
     }
     Fate::Wrong

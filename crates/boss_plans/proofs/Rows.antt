@@ -1,8 +1,15 @@
 -- Worked rows, computed from the definitions: a plan for three points of one driver, and others that are refused.
 use Rattle.std.proofs.Common.{◌≡◌, ℕ, ℤ, pos, negsuc, List, [], ◌∷◌, true, false, codes, Some, None, Result, Ok, Err, refl}
 use Rattle.std.specs.Fmt.{digits}
-use Rattle.toml.specs.Data.{Data, string, integer, array, table, Items, no_items, item, no_members, member}
+use Rattle.toml.specs.Data.{Data, string, integer, array, table, Items, no_items, item, Members, no_members, member}
 use Rattle.boss_model.specs.Catalogue.{Catalogue, Point}
+use Rattle.boss_model.specs.declared.places.Form.{Form}
+use Rattle.boss_model.specs.declared.places.Form.TheVariants.{Unsigned16, Signed16, Unsigned32, Signed32, Single}
+use Rattle.boss_model.specs.declared.places.Function.TheVariants.{WriteSingle, WriteMultiple}
+use Rattle.boss_model.specs.declared.places.Half.TheVariants.{High, Low}
+use Rattle.boss_model.specs.declared.places.Round.TheVariants.{Down, Nearest}
+use Rattle.boss_model.specs.declared.places.Scale.{Scale}
+use Rattle.boss_model.specs.declared.places.Where.{Where}
 use Rattle.boss_model.specs.declared.places.Where.TheVariants.{Coil, Register}
 use Rattle.boss_model.specs.declared.point.Kind.{Kind}
 use Rattle.boss_model.specs.declared.point.Kind.TheVariants.{Analog, Binary, Multi}
@@ -10,7 +17,8 @@ use Rattle.boss_plans.specs.declared.plan.Part.{Part}
 use Rattle.boss_plans.specs.declared.refusal.PlanRefusal.{PlanRefusal}
 use Rattle.boss_plans.specs.declared.refusal.PlanRefusal.TheVariants.{TooLong, Missing, BadDriver, BadPlace, NoPlace}
 use Rattle.boss_plans.specs.declared.refusal.PlanKey.TheVariants.{Driver, Place}
-use Rattle.boss_plans.specs.Keys.{natural_up_to, suits, where_spelled}
+use Rattle.boss_plans.specs.Keys.{natural_up_to, wait_of}
+use Rattle.boss_plans.specs.Wheres.{suits, where_of}
 use Rattle.boss_plans.specs.Lines.{refusal_line}
 use Rattle.boss_plans.specs.Plans.{plan_in}
 
@@ -31,6 +39,13 @@ three_points = record {
 
 abbrev host_of_field : Data
 host_of_field = table (member (codes "host") (string (codes "127.0.0.1:1502")) (member (codes "name") (string (codes "field")) no_members))
+
+-- so many thousandths are one of a register, which is written alone
+abbrev by : ℕ → Scale
+by per = record { times = 1; per = pos per; offset = pos 0; round = Down }
+
+abbrev plain : ℕ → ℕ → Where
+plain address per = Register address Unsigned16 (by per) WriteSingle
 
 abbrev at_register : List ℕ → ℤ → Data
 at_register point register =
@@ -59,10 +74,11 @@ pub all-placed : for_field (item damper (item lamp (item fan no_items))) ≡ Ok 
   driver = 0;
   plan = record {
     host = codes "127.0.0.1:1502";
+    wait = 5000;
     places =
-        record { point = 0; unit = 1; at = Register 2 (pos 1000) }
-        ∷ record { point = 1; unit = 1; at = Coil 19 }
-        ∷ record { point = 2; unit = 1; at = Register 3 (pos 1) }
+        record { point = 0; unit = 1; at = plain 2 1000 }
+        ∷ record { point = 1; unit = 1; at = Coil 19 WriteSingle }
+        ∷ record { point = 2; unit = 1; at = plain 3 1 }
         ∷ [];
   };
 } ∷ [])
@@ -82,8 +98,10 @@ without-all = refl
 pub placed-twice : for_field (item damper (item lamp (item damper (item fan no_items)))) ≡ Err (BadPlace 2)
 placed-twice = refl
 
-pub lamp-at_register : for_field (item damper (item (at_register (codes "lamp") (pos 19)) no_items)) ≡ Err (BadPlace 1)
-lamp-at_register = refl
+-- a fan has more than two states
+pub fan-at_coil : for_field (item damper (item lamp (item (table (member (codes "coil") (integer (pos 3))
+    (member (codes "point") (string (codes "fan")) (member (codes "unit") (integer (pos 1)) no_members)))) no_items))) ≡ Err (BadPlace 2)
+fan-at_coil = refl
 
 pub unknown-point : for_field (item (at_register (codes "fans") (pos 3)) no_items) ≡ Err (BadPlace 0)
 unknown-point = refl
@@ -110,24 +128,28 @@ missing-place = refl
 
 -- ---- keys
 
-pub damper-suits : suits (Analog (pos 0) (pos 100000)) (Register 2 (pos 1000)) ≡ true
+pub damper-suits : suits (Analog (pos 0) (pos 100000)) (plain 2 1000) ≡ true
 damper-suits = refl
 
-pub greatest-suits : suits (Analog (pos 0) (pos 65535)) (Register 2 (pos 1)) ≡ true
+pub greatest-suits : suits (Analog (pos 0) (pos 65535)) (plain 2 1) ≡ true
 greatest-suits = refl
 
-pub greatest-past : suits (Analog (pos 0) (pos 65536)) (Register 2 (pos 1)) ≡ false
+pub greatest-past : suits (Analog (pos 0) (pos 65536)) (plain 2 1) ≡ false
 greatest-past = refl
 
 -- rounded down, 131,071 halves to 65,535
-pub greatest-halved : suits (Analog (pos 0) (pos 131071)) (Register 2 (pos 2)) ≡ true
+pub greatest-halved : suits (Analog (pos 0) (pos 131071)) (plain 2 2) ≡ true
 greatest-halved = refl
 
-pub below-nothing : suits (Analog (negsuc 0) (pos 100)) (Register 2 (pos 1)) ≡ false
+pub below-nothing : suits (Analog (negsuc 0) (pos 100)) (plain 2 1) ≡ false
 below-nothing = refl
 
-pub fan-coil : suits (Multi (pos 3)) (Coil 3) ≡ false
+pub fan-coil : suits (Multi (pos 3)) (Coil 3 WriteSingle) ≡ false
 fan-coil = refl
+
+-- a lamp may be 0 and 1 in a register
+pub lamp-register : suits Binary (plain 19 1) ≡ true
+lamp-register = refl
 
 pub unit-last : natural_up_to 255 (pos 255) ≡ Some 255
 unit-last = refl
@@ -135,8 +157,99 @@ unit-last = refl
 pub unit-past : natural_up_to 255 (pos 256) ≡ None
 unit-past = refl
 
-pub coil-and_register : where_spelled (pos 1) (Some (integer (pos 1))) (Some (integer (pos 1))) ≡ None
+pub waits-left_out : wait_of (table no_members) ≡ Some 5000
+waits-left_out = refl
+
+pub waits-half_a_second : wait_of (table (member (codes "wait") (integer (pos 500)) no_members)) ≡ Some 500
+waits-half_a_second = refl
+
+pub waits-too_short : wait_of (table (member (codes "wait") (integer (pos 49)) no_members)) ≡ None
+waits-too_short = refl
+
+-- ---- forms
+
+-- a register with one more key, or two, which stand before it in the order of the alphabet
+abbrev spelled : (Members → Members) → ℤ → (Members → Members) → Data
+spelled before address after = table (before (member (codes "register") (integer address) (after no_members)))
+
+abbrev typed : List ℕ → Members → Members
+typed name = member (codes "type") (string name)
+
+abbrev key_of : List ℕ → Data → Members → Members
+key_of key value = member key value
+
+abbrev nothing : Members → Members
+nothing members = members
+
+-- -20 to 90 degrees, in tenths
+pub tenths : where_of (spelled (key_of (codes "per") (integer (pos 100))) (pos 100) (λ m. member (codes "round") (string (codes "nearest")) (typed (codes "i16") m)))
+    ≡ Some (Register 100 Signed16 (record { times = 1; per = pos 100; offset = pos 0; round = Nearest }) WriteSingle)
+tenths = refl
+
+pub tenths-suit : suits (Analog (negsuc 19999) (pos 90000)) (Register 100 Signed16 (record { times = 1; per = pos 100; offset = pos 0; round = Nearest }) WriteSingle) ≡ true
+tenths-suit = refl
+
+pub float : where_of (spelled (λ m. member (codes "first") (string (codes "low")) (member (codes "per") (integer (pos 1000)) m)) (pos 10) (typed (codes "f32")))
+    ≡ Some (Register 10 (Single Low) (by 1000) WriteMultiple)
+float = refl
+
+-- -100 to 100 of anything stand in it
+pub float-suits : suits (Analog (negsuc 99999) (pos 100000)) (Register 10 (Single Low) (by 1000) WriteMultiple) ≡ true
+float-suits = refl
+
+-- the second of two registers needs an address
+pub float-last : where_of (spelled nothing (pos 65535) (typed (codes "f32"))) ≡ None
+float-last = refl
+
+pub float-rounded : where_of (spelled nothing (pos 10) (λ m. member (codes "round") (string (codes "down")) (typed (codes "f32") m))) ≡ None
+float-rounded = refl
+
+pub half-of_one : where_of (spelled (key_of (codes "first") (string (codes "high"))) (pos 10) nothing) ≡ None
+half-of_one = refl
+
+pub type-of_no_kind : where_of (spelled nothing (pos 10) (typed (codes "f64"))) ≡ None
+type-of_no_kind = refl
+
+-- ---- functions
+
+pub by-several : where_of (spelled (key_of (codes "function") (integer (pos 16))) (pos 10) nothing) ≡ Some (Register 10 Unsigned16 (by 1) WriteMultiple)
+by-several = refl
+
+pub two-by_one : where_of (spelled (key_of (codes "function") (integer (pos 6))) (pos 10) (typed (codes "u32"))) ≡ None
+two-by_one = refl
+
+pub coil-by_several : where_of (table (member (codes "coil") (integer (pos 19)) (member (codes "function") (integer (pos 15)) no_members)))
+    ≡ Some (Coil 19 WriteMultiple)
+coil-by_several = refl
+
+pub coil-by_another : where_of (table (member (codes "coil") (integer (pos 19)) (member (codes "function") (integer (pos 6)) no_members))) ≡ None
+coil-by_another = refl
+
+-- `per` means nothing at a coil; what else belongs to a register is refused there
+pub coil-per : where_of (table (member (codes "coil") (integer (pos 19)) (member (codes "per") (integer (pos 1000)) no_members)))
+    ≡ Some (Coil 19 WriteSingle)
+coil-per = refl
+
+pub coil-typed : where_of (table (member (codes "coil") (integer (pos 19)) (typed (codes "u16") no_members))) ≡ None
+coil-typed = refl
+
+pub coil-and_register : where_of (table (member (codes "coil") (integer (pos 1)) (member (codes "register") (integer (pos 1)) no_members))) ≡ None
 coil-and_register = refl
+
+-- ---- scales
+
+-- degrees Fahrenheit of thousandths of a degree Celsius
+pub fahrenheit : where_of (table (member (codes "offset") (integer (pos 32)) (member (codes "per") (integer (pos 5000))
+    (member (codes "register") (integer (pos 4)) (member (codes "times") (integer (pos 9)) no_members)))))
+    ≡ Some (Register 4 Unsigned16 (record { times = 9; per = pos 5000; offset = pos 32; round = Down }) WriteSingle)
+fahrenheit = refl
+
+pub times-nothing : where_of (spelled nothing (pos 10) (key_of (codes "times") (integer (pos 0)))) ≡ None
+times-nothing = refl
+
+-- 10^9 times 10^10 thousandths are too much
+pub shifted-past : where_of (spelled (λ m. member (codes "offset") (integer (pos 1000000000)) (member (codes "per") (integer (pos 10000000000)) m)) (pos 10) nothing) ≡ None
+shifted-past = refl
 
 -- ---- lines
 

@@ -1,4 +1,5 @@
 pub mod Keys
+pub mod Wheres
 pub mod Places
 pub mod Plans
 pub mod Lines

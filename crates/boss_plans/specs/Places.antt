@@ -10,7 +10,8 @@ use Rattle.boss_model.specs.declared.places.Place.{Place}
 use Rattle.boss_model.specs.declared.places.Where.{Where}
 use Rattle.boss_plans.specs.declared.hosts.Host.{Host}
 use Rattle.boss_points.specs.Keys.{◌>>=◌, text_at}
-use Rattle.boss_plans.specs.Keys.{host_of, unit_of, where_of, suits}
+use Rattle.boss_plans.specs.Keys.{host_of, wait_of}
+use Rattle.boss_plans.specs.Wheres.{unit_of, where_of, suits}
 
 -- the driver has a host among these
 abbrev pub is_planned : List Host → ℕ → Bool
@@ -31,12 +32,13 @@ planned_in catalogue earlier d = do
   driver ← position_from (λ other. bytes_eq other name) 0 catalogue.drivers
   if is_planned earlier driver then None else Some driver
 
--- that driver and its host
+-- that driver, its host, and how long that is waited for
 abbrev pub host_in : Catalogue → List Host → Data → Option Host
 host_in catalogue earlier d = do
   driver ← planned_in catalogue earlier d
   host ← host_of d
-  Some (record { driver = driver; host = host })
+  wait ← wait_of d
+  Some (record { driver = driver; host = host; wait = wait })
 
 -- a place is of a point of this driver
 abbrev pub is_of_driver : Catalogue → ℕ → Place → Bool

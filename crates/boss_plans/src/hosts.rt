@@ -7,17 +7,18 @@ ghost use Rattle.boss_plans.specs.Places.{is_named, planned_in, is_planned};
 ghost use Rattle.boss_plans.specs.Plans.{Gives, IsKnown, hosts_from};
 
 use crate::PlanRefusal;
-use crate::keys::{host_of, text_at};
+use crate::keys::{host_of, text_at, wait_of};
 use boss_model::{DriverId, Items};
 use boss_points::Catalogue;
 use std::alloc::Global;
 use toml::Value;
 
-/// A driver of the plan, and the host that it is reached at.
+/// A driver of the plan, the host that it is reached at, and how long that is waited for, in milliseconds.
 #[derive(Debug, Drop)]
 pub struct Host {
     pub driver: DriverId,
     pub host: Items<u8>,
+    pub wait: u64,
 }
 
 /// The drivers of these tables, which are all different.
@@ -35,8 +36,9 @@ pub(crate) fn hosts_of(
         let refusal = PlanRefusal::BadDriver { place };
         let driver = planned_in(catalogue, &hosts, table).ok_or(refusal)?;
         let host = host_of(table).ok_or(refusal)?;
+        let wait = wait_of(table).ok_or(refusal)?;
         let host = Items::from_vec(host.as_bytes().to_vec(alloc)?);
-        hosts.push(Host { driver, host })?;
+        hosts.push(Host { driver, host, wait })?;
     }
     Ok(hosts)
 }

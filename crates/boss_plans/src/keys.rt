@@ -1,7 +1,7 @@
 //! What the keys of a plan's file spell. `table_of`, `array_at` and `text_at` look up what those of boss_points do, which
 //! gives them to no other crate; their definitions are its own.
 
-ghost use Rattle.std.specs.Prelude.{◌≡◌, option_map, option_copied, IfErr};
+ghost use Rattle.std.specs.Prelude.{◌≡◌, ◌*ℤ◌, option_map, option_copied, IfErr};
 ghost use Rattle.std.specs.Option.{ok_or};
 ghost use Rattle.toml.specs.View.{view};
 ghost use Rattle.boss_plans.specs.declared.refusal.PlanRefusal.TheVariants.{NotToml};
@@ -9,11 +9,10 @@ ghost use Rattle.boss_model.specs.Catalogue.{Catalogue};
 ghost use Rattle.boss_points.specs.Keys.{array_at, text_at};
 ghost use Rattle.boss_points.specs.Reading.{table_of};
 ghost use Rattle.boss_points.specs.Seen.{views};
-ghost use Rattle.boss_plans.specs.Keys.{natural_up_to, natural_in, host_of, unit_of, per_in, per_of, where_spelled, where_of, fits_per, suits};
+ghost use Rattle.boss_plans.specs.Keys.{host_of, is_shift, natural_between, natural_in, natural_up_to, offset_in, offset_of, per_in, per_of, times_of, wait_of};
 ghost use Rattle.boss_plans.specs.Plans.{Gives, IsKnown};
 
 use crate::PlanRefusal;
-use boss_model::{Kind, Where};
 use std::alloc::Global;
 use toml::Value;
 
@@ -23,11 +22,18 @@ const LONGEST_HOST: usize = 255;
 /// The most that one of a register may stand for, in thousandths of a point's unit.
 const GREATEST_PER: i64 = 1_000_000_000_000_000;
 
-/// The greatest address of a coil or of a register, and the greatest value of a register.
-const GREATEST_WORD: u16 = 0xffff;
+/// How long a host is waited for at least and at most, in milliseconds.
+const LEAST_WAIT: u16 = 50;
 
-/// The greatest unit identifier.
-const GREATEST_UNIT: u16 = 0xff;
+const LONGEST_WAIT: u16 = 5_000;
+
+/// The most that a value is multiplied by.
+const MOST_TIMES: u16 = 1_000;
+
+/// How far a register may have another number for 0 than 0, in its own units, and in thousandths.
+const GREATEST_OFFSET: i64 = 1_000_000_000;
+
+const GREATEST_SHIFT: i128 = 1_000_000_000_000_000_000;
 
 /// The table that a file writes.
 pub(crate) fn table_of(alloc: Global, bytes: &[u8]) -> Result<Value, PlanRefusal>
@@ -72,10 +78,18 @@ fn natural_up_to(most: u16, number: i64) -> Option<u16>
 }
 
 /// The whole number from 0 up to this that a value spells.
-fn natural_in(most: u16, value: &Value) -> Option<u16>
+pub(crate) fn natural_in(most: u16, value: &Value) -> Option<u16>
     ensures { result ≡ natural_in most (view value.now) }
 {
     natural_up_to(most, value.as_integer()?)
+}
+
+/// The whole number between these that a value spells.
+fn natural_between(least: u16, most: u16, value: &Value) -> Option<u16>
+    ensures { result ≡ natural_between least most (view value.now) }
+{
+    let number = natural_in(most, value)?;
+    if least <= number { Some(number) } else { None }
 }
 
 /// The host of a driver.
@@ -90,12 +104,24 @@ pub(crate) fn host_of(driver: &Value) -> Option<&str>
     }
 }
 
-/// The unit of a place.
-pub(crate) fn unit_of(place: &Value) -> Option<u8>
-    ensures { result ≡ unit_of (view place.now) }
+/// How long a driver's host is waited for, in milliseconds: five seconds where the key is missing.
+pub(crate) fn wait_of(driver: &Value) -> Option<u64>
+    ensures { result ≡ wait_of (view driver.now) }
 {
-    let unit = natural_in(GREATEST_UNIT, place.get("unit")?)?;
-    Some(unit as u8)
+    match driver.get("wait") {
+        Some(value) => Some(u64::from(natural_between(LEAST_WAIT, LONGEST_WAIT, value)?)),
+        None => Some(u64::from(LONGEST_WAIT)),
+    }
+}
+
+/// By how much a value is multiplied: 1 where the key is missing.
+pub(crate) fn times_of(place: &Value) -> Option<u16>
+    ensures { result ≡ times_of (view place.now) }
+{
+    match place.get("times") {
+        Some(value) => natural_between(1, MOST_TIMES, value),
+        None => Some(1),
+    }
 }
 
 /// What one of a register stands for, as a value spells it.
@@ -111,7 +137,7 @@ fn per_in(value: &Value) -> Option<i64>
 }
 
 /// What one of a place's register stands for: 1 where the key is missing.
-fn per_of(place: &Value) -> Option<i64>
+pub(crate) fn per_of(place: &Value) -> Option<i64>
     ensures { result ≡ per_of (view place.now) }
 {
     match place.get("per") {
@@ -120,50 +146,32 @@ fn per_of(place: &Value) -> Option<i64>
     }
 }
 
-/// A coil or a register: one of the two has to be there, and not both.
-fn where_spelled(per: i64, coil: Option<&Value>, register: Option<&Value>) -> Option<Where>
-    ensures { result ≡ where_spelled per (option_map (λ value. view value.now) coil.entry) (option_map (λ value. view value.now) register.entry) }
+/// What a register has for 0, as a value spells it.
+fn offset_in(value: &Value) -> Option<i64>
+    ensures { result ≡ offset_in (view value.now) }
 {
-    match (coil, register) {
-        (Some(coil), None) => {
-            let address = natural_in(GREATEST_WORD, coil)?;
-            Some(Where::Coil { address })
-        }
-        (None, Some(register)) => {
-            let address = natural_in(GREATEST_WORD, register)?;
-            Some(Where::Register { address, per })
-        }
-        (Some(_), Some(_)) | (None, None) => None,
+    let offset = value.as_integer()?;
+    if -GREATEST_OFFSET <= offset && offset <= GREATEST_OFFSET {
+        Some(offset)
+    } else {
+        None
     }
 }
 
-/// Where a place is.
-pub(crate) fn where_of(place: &Value) -> Option<Where>
-    ensures { result ≡ where_of (view place.now) }
+/// What a place's register has for 0: 0 where the key is missing.
+pub(crate) fn offset_of(place: &Value) -> Option<i64>
+    ensures { result ≡ offset_of (view place.now) }
 {
-    let per = per_of(place)?;
-    where_spelled(per, place.get("coil"), place.get("register"))
+    match place.get("offset") {
+        Some(value) => offset_in(value),
+        None => Some(0),
+    }
 }
 
-/// Whether sixteen bits hold each of the values, divided.
-fn fits_per(per: i64, least: i64, most: i64) -> bool
-    ensures { result ≡ fits_per per least most }
+/// Whether what an offset comes to in thousandths is within bounds.
+pub(crate) fn is_shift(offset: i64, per: i64) -> bool
+    ensures { result ≡ is_shift (offset *ℤ per) }
 {
-    if per < 1 || least < 0 || most < 0 {
-        return false;
-    }
-    most as u64 / per as u64 <= u64::from(GREATEST_WORD)
-}
-
-/// Whether a place suits the values of a point: a binary one has a coil, and every other a register.
-pub(crate) fn suits(kind: Kind, at: Where) -> bool
-    ensures { result ≡ suits kind at }
-{
-    match (kind, at) {
-        (Kind::Binary, Where::Coil { .. }) => true,
-        (Kind::Analog { min, max }, Where::Register { per, .. }) => fits_per(per, min, max),
-        (Kind::Multi { states }, Where::Register { per, .. }) => fits_per(per, 1, states),
-        (Kind::Binary, Where::Register { .. }) => false,
-        (Kind::Analog { .. } | Kind::Multi { .. }, Where::Coil { .. }) => false,
-    }
+    let shift = i128::from(offset) * i128::from(per);
+    -GREATEST_SHIFT <= shift && shift <= GREATEST_SHIFT
 }

@@ -8,6 +8,7 @@ mod line;
 mod places;
 mod plan;
 mod refusal;
+mod wheres;
 
 pub use line::refusal_line;
 pub use plan::{Part, Plan};

@@ -7,7 +7,8 @@ ghost use Rattle.boss_plans.specs.Plans.{Gives, IsKnown, places_from, lacks_plac
 
 use crate::PlanRefusal;
 use crate::hosts::{Host, is_planned};
-use crate::keys::{suits, text_at, unit_of, where_of};
+use crate::keys::text_at;
+use crate::wheres::{suits, unit_of, where_of};
 use boss_model::{Place, PointId, Where};
 use boss_points::{Catalogue, Point};
 use std::alloc::Global;

@@ -93,9 +93,9 @@ fn parts_of(
 {
     let mut parts = Vec::with_capacity(alloc, hosts.len())?;
     for host in hosts {
-        let Host { driver, host } = host;
+        let Host { driver, host, wait } = host;
         let places = Items::from_vec(places_of_driver(alloc, catalogue, driver, places)?);
-        let plan = DriverPlan { host, places };
+        let plan = DriverPlan { host, wait, places };
         parts.push(Part { driver, plan })?;
     }
     Ok(parts)

@@ -11,7 +11,9 @@ ghost use Rattle.def_lanes.specs.Waits.{PausedFor};
 use boss_drive::drive;
 use boss_expiry::WorkEnd;
 use boss_modbus::ModbusDevice;
-use boss_model::{DriverId, DriverPlan, Items, Place, PointId, Where};
+use boss_model::{
+    DriverId, DriverPlan, Form, Function, Items, Place, PointId, Round, Scale, Where,
+};
 use boss_outside::{Actuators, DeviceCall, Link, ListLink, Noted};
 use boss_outside_server::{Clock, ListClock, TurnWaiter, Waiter};
 use boss_points::Catalogue;
@@ -35,18 +37,38 @@ const PLACES: [Place; 3] = [
         unit: 1,
         at: Where::Register {
             address: 2,
-            per: 1_000,
+            form: Form::Unsigned16,
+            scale: Scale {
+                times: 1,
+                per: 1_000,
+                offset: 0,
+                round: Round::Down,
+            },
+            function: Function::WriteSingle,
         },
     },
     Place {
         point: LAMP,
         unit: 1,
-        at: Where::Coil { address: 19 },
+        at: Where::Coil {
+            address: 19,
+            function: Function::WriteSingle,
+        },
     },
     Place {
         point: FAN,
         unit: 1,
-        at: Where::Register { address: 3, per: 1 },
+        at: Where::Register {
+            address: 3,
+            form: Form::Unsigned16,
+            scale: Scale {
+                times: 1,
+                per: 1,
+                offset: 0,
+                round: Round::Down,
+            },
+            function: Function::WriteSingle,
+        },
     },
 ];
 
@@ -151,6 +173,7 @@ fn part(rt: &impl Abort, alloc: Global) -> DriverPlan {
     let places = PLACES.to_vec(alloc).expect(rt, "memory");
     DriverPlan {
         host: Items::from_vec(host),
+        wait: 5_000,
         places: Items::from_vec(places),
     }
 }

@@ -1,7 +1,7 @@
 //! Devices over a link in memory. The frames were worked out by hand from MODBUS Messaging on TCP/IP 1.0b, section
-//! 3.1.3, and MODBUS Application Protocol 1.1b3, sections 6.5, 6.6 and 7.
+//! 3.1.3, and MODBUS Application Protocol 1.1b3, sections 6.5, 6.6, 6.12 and 7. The bits of floats are those of Python's struct.
 
-use crate::plant::{DAMPER, FAN, LAMP, part};
+use crate::plant::{DAMPER, FAN, FLOW, LAMP, part};
 use boss_modbus::{Fate, ModbusDevice};
 use boss_model::{Items, NoMemory};
 use boss_outside::{Actuators, DeviceCall, ListLink, Noted};
@@ -42,7 +42,7 @@ fn device(
 }
 
 /// What comes of turning the lamp on where the host answers with these bytes, so many at a time, and then ends the
-/// connection. The call has to answer Ok where it is the echo, and nowhere else.
+/// connection. The call has to answer Ok where it says that the value was written, and nowhere else.
 fn check_fate(
     rt: &impl Abort,
     alloc: Global,
@@ -53,7 +53,7 @@ fn check_fate(
     let mut device = device(alloc, &[bytes], most, &[])?;
     let answer = device.write(LAMP, 1);
     assert_eq!(rt; device.fate(), expected, "{:?} by {}", bytes, most);
-    assert_eq!(rt; answer.is_ok(), expected == Fate::Echo);
+    assert_eq!(rt; answer.is_ok(), expected == Fate::Taken);
     assert_eq!(rt; device.link().sent(), LAMP_ON.as_slice());
     Ok(())
 }
@@ -64,7 +64,7 @@ fn each_response_has_its_fate(rt: HostRuntime) -> Result<(), Fail> {
     let other_word = [0, 1, 0, 0, 0, 6, 1, 5, 0, 19, 0, 0];
     let other_function = [0, 1, 0, 0, 0, 3, 1, 0x84, 2];
     let responses: [(&[u8], Fate); 11] = [
-        (&LAMP_ON, Fate::Echo),
+        (&LAMP_ON, Fate::Taken),
         (&LAMP_REFUSED, Fate::Exception { code: 2 }),
         (&LAMP_ON_AGAIN, Fate::Wrong),
         (&other_unit, Fate::Wrong),
@@ -98,7 +98,7 @@ fn the_second_write_has_the_second_number(rt: HostRuntime) -> Result<(), Fail> {
 }
 
 #[test]
-fn the_echo_of_another_write_is_wrong(rt: HostRuntime) -> Result<(), Fail> {
+fn the_answer_to_another_write_is_wrong(rt: HostRuntime) -> Result<(), Fail> {
     let alloc = rt.alloc();
     let with_the_first_number = [0, 1, 0, 0, 0, 6, 1, 6, 0, 2, 0, 45];
     let both = [LAMP_ON, with_the_first_number].concat(alloc)?;
@@ -137,6 +137,35 @@ fn word_of(alloc: Global, value: i64) -> Result<[u8; 2], NoMemory> {
 fn a_register_has_whole_units(rt: HostRuntime) -> Result<(), Fail> {
     assert_eq!(rt; word_of(rt.alloc(), 46_500)?, [0, 46]);
     assert_eq!(rt; word_of(rt.alloc(), 65_535_999)?, [0xff, 0xff]);
+    Ok(())
+}
+
+/// Transaction 1 writes two registers from 10 on: function 16, two of them, four bytes.
+const FLOW_ASKED: [u8; 13] = [0, 1, 0, 0, 0, 11, 1, 16, 0, 10, 0, 2, 4];
+
+/// Two registers from 10 on were written.
+const FLOW_TAKEN: [u8; 12] = [0, 1, 0, 0, 0, 6, 1, 16, 0, 10, 0, 2];
+
+#[test]
+fn a_float_has_two_registers(rt: HostRuntime) -> Result<(), Fail> {
+    let alloc = rt.alloc();
+    let floats: [(i64, u32); 8] = [
+        (0, 0),
+        (1, 0x3a83_126f),
+        (100, 0x3dcc_cccd),
+        (21_550, 0x41ac_6666),
+        (-21_500, 0xc1ac_0000),
+        (1_000_000_000_000_000, 0x5368_d4a5),
+        // Half way between two: the one whose bits end in 0.
+        (16_777_217_000, 0x4b80_0000),
+        (16_777_219_000, 0x4b80_0002),
+    ];
+    for (value, bits) in floats {
+        let mut device = device(alloc, &[&FLOW_TAKEN], 12, &[])?;
+        assert!(&rt; device.write(FLOW, value).is_ok(), "{}", value);
+        let expected = [FLOW_ASKED.as_slice(), &bits.to_be_bytes()].concat(alloc)?;
+        assert_eq!(rt; device.link().sent(), expected.as_slice());
+    }
     Ok(())
 }
 

@@ -24,11 +24,11 @@ fn a_line_has_the_place_and_what_came_of_the_write(rt: HostRuntime) -> Result<()
         (
             DAMPER,
             Fate::LinkFault,
-            "10.0.0.5:502 unit 1 register 2: the host could not be reached, or did not answer within five seconds",
+            "10.0.0.5:502 unit 1 register 2: the host could not be reached, or did not answer within 5000 ms",
         ),
         (
             DAMPER,
-            Fate::Echo,
+            Fate::Taken,
             "10.0.0.5:502 unit 1 register 2: taken again",
         ),
         (

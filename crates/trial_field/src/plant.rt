@@ -1,6 +1,8 @@
-//! A driver with two points, and the host that they are wired to.
+//! A driver with three points, and the host that they are wired to.
 
-use boss_model::{DriverPlan, Items, NoMemory, Place, PointId, Where};
+use boss_model::{
+    DriverPlan, Form, Function, Half, Items, NoMemory, Place, PointId, Round, Scale, Where,
+};
 use std::alloc::Global;
 
 /// An analog point, in register 2 of unit 1, which counts units and not thousandths of them.
@@ -12,19 +14,47 @@ pub const LAMP: PointId = PointId(1);
 /// A point that the driver's host has no place for.
 pub const FAN: PointId = PointId(2);
 
-const PLACES: [Place; 2] = [
+/// An analog point, as a binary32 in the registers 10 and 11 of unit 1, in units.
+pub const FLOW: PointId = PointId(3);
+
+const PLACES: [Place; 3] = [
     Place {
         point: DAMPER,
         unit: 1,
         at: Where::Register {
             address: 2,
-            per: 1_000,
+            form: Form::Unsigned16,
+            scale: Scale {
+                times: 1,
+                per: 1_000,
+                offset: 0,
+                round: Round::Down,
+            },
+            function: Function::WriteSingle,
         },
     },
     Place {
         point: LAMP,
         unit: 1,
-        at: Where::Coil { address: 19 },
+        at: Where::Coil {
+            address: 19,
+            function: Function::WriteSingle,
+        },
+    },
+    Place {
+        point: FLOW,
+        unit: 1,
+        at: Where::Register {
+            address: 10,
+            form: Form::Single { first: Half::High },
+            scale: Scale {
+                times: 1,
+                per: 1_000,
+                offset: 0,
+                round: Round::Down,
+            },
+            function: Function::WriteMultiple,
+        },
     },
 ];
 
@@ -32,6 +62,7 @@ const PLACES: [Place; 2] = [
 pub fn part(alloc: Global, host: &[u8]) -> Result<DriverPlan, NoMemory> {
     Ok(DriverPlan {
         host: Items::from_vec(host.to_vec(alloc)?),
+        wait: 5_000,
         places: Items::from_vec(PLACES.to_vec(alloc)?),
     })
 }

@@ -42,13 +42,13 @@ fn assign_to<A: Actuators>(
 #[test]
 fn a_device_on_a_socket_takes_writes(rt: HostRuntime) -> Result<(), Fail> {
     let listener = TcpListener::bind(&rt, "127.0.0.1:0")?;
-    let mut device = ModbusDevice::new(RealLink::new(&rt));
+    let mut device = ModbusDevice::new(RealLink::new(&rt, 5_000));
     assign_to(rt.alloc(), &listener, &mut device)?;
     assert!(&rt; turn_on(&rt, &listener, &mut device));
-    assert_eq!(rt; device.fate(), Fate::Echo);
+    assert_eq!(rt; device.fate(), Fate::Taken);
     // The stub has ended that connection by now. The second write is made by a new one.
     assert!(&rt; turn_on(&rt, &listener, &mut device));
-    assert_eq!(rt; device.fate(), Fate::Echo);
+    assert_eq!(rt; device.fate(), Fate::Taken);
     Ok(())
 }
 

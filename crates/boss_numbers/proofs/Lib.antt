@@ -1,0 +1,6 @@
+pub mod Units
+pub mod Scaling
+pub mod Rounding
+pub mod Held
+pub mod Between
+mod Rows
