@@ -8,12 +8,16 @@ mod aside;
 mod connection;
 mod console;
 mod holder;
+mod patience;
+mod peers;
+mod readings;
 mod real_clock;
 mod real_disk;
 mod real_files;
 mod real_host;
 mod real_spawner;
 mod real_waiter;
+mod running;
 mod signals;
 
 pub use aside::say_aside;
@@ -26,6 +30,3 @@ pub use real_host::RealHost;
 pub use real_spawner::RealSpawner;
 pub use real_waiter::RealWaiter;
 pub use signals::read_past_signals;
-
-/// The program's version, as a server says it where it begins.
-pub const VERSION: &str = "0.3.0";

@@ -13,7 +13,7 @@ use boss_outside::Failed;
 use std::alloc::Global;
 use std::fs::{self, File, OpenOptions, TryLockError};
 use std::io::{self, ErrorKind};
-use std::os::unix::fs::FileExt;
+use std::os::unix::fs::{FileExt, OpenOptionsExt};
 use std::path::Path;
 
 /// What could not be done where a call failed.
@@ -22,7 +22,8 @@ const READ: &str = "read";
 /// The same of a call that writes, cuts or syncs.
 const WRITTEN: &str = "written, so nothing is kept from here on";
 
-/// A file of this machine. Where there is none under its name, the first write makes it, and no other call does. One that is there is
+/// A file of this machine. Where there is none under its name, the first write makes it, and no other call does: for its owner and its
+/// group alone, and never through a symbolic link that leads nowhere. One that is there is
 /// opened to be read, and to be written only at the first write, cut or sync: who looks at a file needs no leave to change it, and who
 /// means to change it finds out at the sync with which it begins.
 ///
@@ -244,6 +245,10 @@ fn no_file() -> io::Error {
     io::Error::new(ErrorKind::InvalidInput, "it is not a plain file")
 }
 
+/// What a file that is made allows, before the system takes off what the process is not to give: all to its owner but to run it, its
+/// group to read it, and others nothing.
+const NEW_FILE: u32 = 0o640;
+
 /// What a file is opened for, besides reading.
 enum Purpose {
     Read,
@@ -251,7 +256,8 @@ enum Purpose {
     Make,
 }
 
-/// The file under a name. It is made only for that purpose, where there is none, and locked where it may be written.
+/// The file under a name. It is made only for that purpose, where nothing stands there, not even a link, and locked where it may be
+/// written.
 fn open_file(rt: &HostRuntime, name: &str, purpose: Purpose) -> io::Result<File> {
     let (may_write, may_make) = match purpose {
         Purpose::Read => (false, false),
@@ -259,7 +265,10 @@ fn open_file(rt: &HostRuntime, name: &str, purpose: Purpose) -> io::Result<File>
         Purpose::Make => (true, true),
     };
     let mut how = OpenOptions::new();
-    how.read(true).write(may_write).create(may_make);
+    how.read(true)
+        .write(may_write)
+        .create_new(may_make)
+        .mode(NEW_FILE);
     let file = how.open(rt, name)?;
     if !file.metadata()?.is_file() {
         return Err(no_file());

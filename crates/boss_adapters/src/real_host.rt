@@ -2,21 +2,34 @@ ghost use Rattle.std.specs.Prelude.{◌≡◌, [], IfOk};
 ghost use Rattle.boss_outside.specs.Counts.{one_more};
 
 use crate::aside::say_aside;
-use crate::{RealSink, RealSource, VERSION};
-use boss_model::{NoMemory, SessionId};
+use crate::peers::keep_alive;
+use crate::{RealSink, RealSource};
+use boss_model::{NoMemory, PROGRAM_VERSION, SessionId};
 use boss_outside::Failed;
 use boss_outside_server::{Accepted, Announcement, Host};
 use std::alloc::Global;
 use std::io::{self, Eprint, ErrorKind};
 use std::net::{Net, SocketAddr, TcpListener, TcpStream};
 use std::sync::Arc;
+use std::thread;
+use std::time::{Clock, Duration};
 
 /// How often an accept is tried that a signal came between, or whose client had gone.
 const TRIES: u32 = 1_000;
 
+/// How long an accept that failed is left before it is tried again, in milliseconds.
+const ACCEPT_PAUSE: u64 = 1_000;
+
+/// How often in a row it is left: for an hour.
+const MOST_PAUSES: u32 = 3_600;
+
 /// A TCP listener. All its parts wait at the same one, and the system hands each connection to one of them. A part that has
 /// handed out its share says so without asking the system. On the standard error it says where it listens and what is served there, or why
 /// it can't listen, and why a connection could not be accepted.
+///
+/// Where the system is short of something, as of descriptors, an accept fails that could succeed later. So it is tried again, each second
+/// for an hour, unless the listener itself is wrong. Peers that are gone without a word are found out by the system (`keep_alive`),
+/// one that reads nothing by its sink, and one that says nothing by its source (`RealSink`, `RealSource`).
 #[derive(Drop)]
 pub struct RealHost<R> {
     alloc: Global,
@@ -28,7 +41,7 @@ pub struct RealHost<R> {
     faults: u64,
 }
 
-impl<R: Net<Listener = TcpListener, Stream = TcpStream> + Eprint + Copy> RealHost<R> {
+impl<R: Net<Listener = TcpListener, Stream = TcpStream> + Eprint + Clock + Copy> RealHost<R> {
     /// A host that listens nowhere yet. `rt` is what makes the listener.
     pub fn new(alloc: Global, rt: R) -> RealHost<R>
         ensures handed { ⟦<RealHost<R> as Host>⟧.handed result ≡ 0 }
@@ -60,24 +73,68 @@ impl<R: Net<Listener = TcpListener, Stream = TcpStream> + Eprint + Copy> RealHos
         Failed
     }
 
-    /// A listener at this address.
+    /// A listener at this address, whose connections are kept alive.
     fn listen(&self, address: &str) -> io::Result<Arc<TcpListener, Global>> {
-        Ok(Arc::new(self.alloc, TcpListener::bind(&self.rt, address)?)?)
+        let listener = TcpListener::bind(&self.rt, address)?;
+        keep_alive(&listener);
+        Ok(Arc::new(self.alloc, listener)?)
     }
 
-    /// The two ends of the next connection.
+    /// The two ends of the next connection, which is asked for again after a pause where the accept failed and may succeed later.
     fn connect(&self) -> io::Result<(RealSource, RealSink)>
         ensures { IfOk result (λ ends. (ends.0.faults ≡ 0) × (ends.1.faults ≡ 0)) }
     {
         let Some(listener) = &self.listener else {
             return Err(ErrorKind::NotConnected.into());
         };
+        let mut has_failed = false;
+        for _ in 0..MOST_PAUSES {
+            match self.connect_once(listener) {
+                Ok(ends) => {
+                    if has_failed {
+                        say_aside(&self.rt, "connections are accepted again");
+                    }
+                    return Ok(ends);
+                }
+                Err(reason) if is_for_good(&reason) => return Err(reason),
+                Err(reason) => {
+                    if !has_failed {
+                        self.say_not_accepted(reason);
+                    }
+                    has_failed = true;
+                    thread::sleep(&self.rt, Duration::from_millis(ACCEPT_PAUSE));
+                }
+            }
+        }
+        Err(ErrorKind::TimedOut.into())
+    }
+
+    /// The two ends of the next connection.
+    fn connect_once(&self, listener: &TcpListener) -> io::Result<(RealSource, RealSink)>
+        ensures { IfOk result (λ ends. (ends.0.faults ≡ 0) × (ends.1.faults ≡ 0)) }
+    {
         let stream = accept_past_signals(listener)?;
         // Else a reply waits until the client has confirmed the one before. Where it can't be had, replies are late and whole.
         let _ = stream.set_nodelay(true);
         let stream = Arc::new(self.alloc, stream)?;
         let other = Arc::try_clone(&stream)?;
         Ok((RealSource::new(stream), RealSink::new(other)))
+    }
+
+    /// Says why a connection could not be accepted.
+    fn say_not_accepted(&self, reason: io::Error) {
+        say_aside(
+            &self.rt,
+            format_args!("a connection could not be accepted: {reason}"),
+        );
+    }
+}
+
+/// Whether an accept that failed for this reason fails ever after: the listener is none, or listens no more.
+fn is_for_good(reason: &io::Error) -> bool {
+    match reason.raw_os_error() {
+        Some(code) => code == libc::EBADF || code == libc::EINVAL,
+        None => false,
     }
 }
 
@@ -94,7 +151,8 @@ fn accept_past_signals(listener: &TcpListener) -> io::Result<TcpStream> {
     Err(ErrorKind::Interrupted.into())
 }
 
-impl<R: Net<Listener = TcpListener, Stream = TcpStream> + Eprint + Copy> Host for RealHost<R> {
+impl<R: Net<Listener = TcpListener, Stream = TcpStream> + Eprint + Clock + Copy> Host
+    for RealHost<R> {
     type In = RealSource;
 
     type Out = RealSink;
@@ -131,18 +189,20 @@ impl<R: Net<Listener = TcpListener, Stream = TcpStream> + Eprint + Copy> Host fo
         }
     }
 
-    /// Says where it listens; with port 0 the system has chosen one. Then what is served there, and by which version of the program.
+    /// Says where it listens; with port 0 the system has chosen one. Then what is served there, by which version of the program, and from
+    /// which moment on.
     fn announce(&mut self, announcement: Announcement) {
         let Announcement {
             points,
             drivers,
             events,
+            now,
         } = announcement;
         if let Some(found) = self.local_addr() {
             say_aside(
                 &self.rt,
                 format_args!(
-                    "listening at {found}: points {points}, drivers {drivers}, events {events}, version {VERSION}"
+                    "listening at {found}: points {points}, drivers {drivers}, events {events}, version {PROGRAM_VERSION}, now {now}"
                 ),
             );
         }
@@ -175,10 +235,7 @@ impl<R: Net<Listener = TcpListener, Stream = TcpStream> + Eprint + Copy> Host fo
                 Accepted::Conn(input, output)
             }
             Err(reason) => {
-                say_aside(
-                    &self.rt,
-                    format_args!("a connection could not be accepted: {reason}"),
-                );
+                self.say_not_accepted(reason);
                 self.fault();
                 Accepted::Failed
             }

@@ -34,28 +34,28 @@ steps-some step first (number ∷ numbers) go some = (omega (arith, go.0, some),
 some-all : (workers : ℕ) (works : List Work) → ((number : ℕ) → AllByRecursion (λ session. 0 < session) (sessions_in (works_of workers number works))) →
     AllByRecursion (λ (connection : Connection). 0 < connection.session) (served_in works)
 some-all workers [] some = tt
-some-all workers (visit served cut ∷ works) some = (
-  (subst (λ list. AllByRecursion (λ session. 0 < session) (sessions_in list)) own (some (owner workers (visit served cut)))).0,
-  some-all workers works (λ number. rest (owner workers (visit served cut) == number) (works_of workers number works) (some number)),
+some-all workers (visit served course ∷ works) some = (
+  (subst (λ list. AllByRecursion (λ session. 0 < session) (sessions_in list)) own (some (owner workers (visit served course)))).0,
+  some-all workers works (λ number. rest (owner workers (visit served course) == number) (works_of workers number works) (some number)),
 )
   where
-    own : works_of workers (owner workers (visit served cut)) (visit served cut ∷ works) ≡ visit served cut ∷ works_of workers (owner workers (visit served cut)) works
+    own : works_of workers (owner workers (visit served course)) (visit served course ∷ works) ≡ visit served course ∷ works_of workers (owner workers (visit served course)) works
     own =
-        let same : (owner workers (visit served cut) == owner workers (visit served cut)) ≡ true = grind (arith, nat_tests) in
-        cond-true (owner workers (visit served cut) == owner workers (visit served cut)) (visit served cut ∷ works_of workers (owner workers (visit served cut)) works)
-        (works_of workers (owner workers (visit served cut)) works) same
+        let same : (owner workers (visit served course) == owner workers (visit served course)) ≡ true = grind (arith, nat_tests) in
+        cond-true (owner workers (visit served course) == owner workers (visit served course)) (visit served course ∷ works_of workers (owner workers (visit served course)) works)
+        (works_of workers (owner workers (visit served course)) works) same
 
-    rest : (b : Bool) (list : List Work) → AllByRecursion (λ session. 0 < session) (sessions_in (cond b (visit served cut ∷ list) list)) → AllByRecursion (λ session. 0 < session) (sessions_in list)
+    rest : (b : Bool) (list : List Work) → AllByRecursion (λ session. 0 < session) (sessions_in (cond b (visit served course ∷ list) list)) → AllByRecursion (λ session. 0 < session) (sessions_in list)
     rest true list all = all.1
     rest false list all = all
-some-all workers (beat waited ∷ works) some = some-all workers works (λ number. rest (workers == number) (works_of workers number works) (some number))
+some-all workers (beat waited course ∷ works) some = some-all workers works (λ number. rest (workers == number) (works_of workers number works) (some number))
   where
-    rest : (b : Bool) (list : List Work) → AllByRecursion (λ session. 0 < session) (sessions_in (cond b (beat waited ∷ list) list)) → AllByRecursion (λ session. 0 < session) (sessions_in list)
+    rest : (b : Bool) (list : List Work) → AllByRecursion (λ session. 0 < session) (sessions_in (cond b (beat waited course ∷ list) list)) → AllByRecursion (λ session. 0 < session) (sessions_in list)
     rest true list all = all
     rest false list all = all
-some-all workers (drive driver calls waited ∷ works) some = some-all workers works (λ number. rest ((workers + 1 + driver) == number) (works_of workers number works) (some number))
+some-all workers (drive driver calls waited course ∷ works) some = some-all workers works (λ number. rest ((workers + 1 + driver) == number) (works_of workers number works) (some number))
   where
-    rest : (b : Bool) (list : List Work) → AllByRecursion (λ session. 0 < session) (sessions_in (cond b (drive driver calls waited ∷ list) list)) → AllByRecursion (λ session. 0 < session) (sessions_in list)
+    rest : (b : Bool) (list : List Work) → AllByRecursion (λ session. 0 < session) (sessions_in (cond b (drive driver calls waited course ∷ list) list)) → AllByRecursion (λ session. 0 < session) (sessions_in list)
     rest true list all = all
     rest false list all = all
 

@@ -1,4 +1,5 @@
 pub mod BackLemmas
+pub mod BeginLemmas
 pub mod ListenLemmas
 pub mod PreparingLemmas
 pub mod RulingLemmas

@@ -1,4 +1,5 @@
 ghost use Rattle.std.specs.Prelude.{◌≡◌, ◌≢◌, ℕ, ◌≤◌, List, [], ◌∷◌, vec_len};
+ghost use Rattle.boss_model.specs.Limits.{most_workers};
 ghost use Rattle.boss_files.specs.Names.{second_name};
 ghost use Rattle.boss_jobs.specs.Journals.{AsksFront, in_files};
 ghost use Rattle.boss_server.specs.Sites.{gates_of};
@@ -42,7 +43,7 @@ where
     H::Out: Send,
     requires sound { H.sound world.host.now }
     requires some { 1 ≤ service.workers }
-    requires few { service.workers ≤ 32 }
+    requires few { service.workers ≤ most_workers }
     ensures sound { H.sound (all_at_end world.exit).host }
     ensures serves { DoesServe F.Files S.Source K.Sink A.Actuators H.Host H.In.Source H.Out.Sink
         C.Clock W.Waiter P.Spawner name.now journal.now service.entry.address.now service.entry.rules.now service.entry.plan.now (vec_len world.entry.devices.now) service.entry.workers service.entry.connections
@@ -111,7 +112,7 @@ where
     H::Out: Send,
     requires sound { H.sound surroundings.host.now }
     requires some { 1 ≤ service.workers }
-    requires few { service.workers ≤ 32 }
+    requires few { service.workers ≤ most_workers }
     ensures sound { H.sound (at_end surroundings.exit).host }
     ensures serves { ServesOver K.Sink A.Actuators H.Host H.In.Source H.Out.Sink C.Clock W.Waiter P.Spawner site.entry.catalogue.now
         (in_files F.Files journal.now files.old) (in_files F.Files journal.now files.new) (gates_of site.entry.catalogue.now site.entry.rules) service.entry.workers service.entry.connections
@@ -167,7 +168,7 @@ where
     H::Out: Send,
     requires sound { H.sound world.host.now }
     requires some { 1 ≤ service.workers }
-    requires few { service.workers ≤ 32 }
+    requires few { service.workers ≤ most_workers }
     ensures sound { H.sound (all_at_end world.exit).host }
     ensures serves { ServesInMemory F.Files S.Source K.Sink A.Actuators H.Host H.In.Source H.Out.Sink
         C.Clock W.Waiter P.Spawner name.now service.entry.address.now service.entry.rules.now service.entry.plan.now (vec_len world.entry.devices.now) service.entry.workers service.entry.connections

@@ -1,4 +1,5 @@
 ghost use Rattle.std.specs.Prelude.{◌≡◌, ◌≤◌, false, [], List, vec_capacity};
+ghost use Rattle.boss_model.specs.Limits.{most_workers};
 ghost use Rattle.boss_model.specs.Catalogue.{actuators};
 ghost use Rattle.boss_model.specs.declared.event.Event.{Event};
 ghost use Rattle.boss_model.specs.Sound.{IsSound};
@@ -72,7 +73,7 @@ where
     H::Out: Send,
     requires sound { H.sound surroundings.host.now }
     requires some { 1 ≤ service.workers }
-    requires few { service.workers ≤ 32 }
+    requires few { service.workers ≤ most_workers }
     ensures sound { H.sound (at_end surroundings.exit).host }
     ensures listens { H.tells → Listened H.Host service.entry.address.now (at_start surroundings.entry).host (at_end surroundings.exit).host result.1.0 }
     ensures serves { ServesOver K.Sink A.Actuators H.Host H.In.Source H.Out.Sink C.Clock W.Waiter P.Spawner site.entry.catalogue.now
@@ -124,7 +125,7 @@ where
     H::Out: Send,
     requires sound { H.sound surroundings.host.now }
     requires some { 1 ≤ service.workers }
-    requires few { service.workers ≤ 32 }
+    requires few { service.workers ≤ most_workers }
     ensures sound { H.sound (at_end surroundings.exit).host }
     ensures listens { H.tells → Listened H.Host service.entry.address.now (at_start surroundings.entry).host (at_end surroundings.exit).host result.0 }
     ensures serves { ServesMemory K.Sink A.Actuators H.Host H.In.Source H.Out.Sink C.Clock W.Waiter P.Spawner site.entry.catalogue.now
@@ -174,7 +175,7 @@ where
     requires room { longest_summary ≤ vec_capacity line.old }
     requires sound { H.sound surroundings.host.now }
     requires some { 1 ≤ service.workers }
-    requires few { service.workers ≤ 32 }
+    requires few { service.workers ≤ most_workers }
     ensures sound { H.sound (at_end surroundings.exit).host }
     ensures listens { H.tells → Listened H.Host service.entry.address.now (at_start surroundings.entry).host (at_end surroundings.exit).host result.1.0 }
     ensures under { V.under result.0 ≡ V.under keeper }
@@ -196,8 +197,9 @@ where
     (keeper, status)
 }
 
-/// Lets the host listen at an address, and runs the workers over a keeper whose disk never failed. The keeper comes back: it then
-/// stands for one history from the keeper as it was handed over, which is all that the workers did.
+/// Lets the host listen at an address, has the clock begin no earlier than the keeper stands, and runs the workers over the keeper,
+/// whose disk never failed. The keeper comes back: it then stands for one history from the keeper as it was handed over, which is all
+/// that the workers did.
 fn run_workers<
     R: Wait + Sync + Drop,
     V: Tally + Send,
@@ -224,7 +226,7 @@ where
     requires plant { actuators site.catalogue.now ≡ V.plant keeper }
     requires sound { H.sound outside.old.host.now }
     requires some { 1 ≤ service.workers }
-    requires few { service.workers ≤ 32 }
+    requires few { service.workers ≤ most_workers }
     ensures references { KeepsReferences outside.old outside.new }
     ensures sound { H.sound outside.new.host.now }
     ensures listens { H.tells → ListensBy H.Host service.entry.address.now outside.old.host.now outside.new.host.now result.1 }
@@ -234,9 +236,11 @@ where
 {
     match outside.host.bind(service.address) {
         Ok(()) => {
+            let standing = keeper.standing();
+            outside.clock.begin(standing.now);
             outside
                 .host
-                .announce(announcement(site.catalogue, keeper.standing()));
+                .announce(announcement(site.catalogue, standing));
             let (keeper, ended) = serve_keeper(
                 rt,
                 alloc,
@@ -261,6 +265,7 @@ fn announcement(catalogue: &Catalogue, standing: Standing) -> Announcement {
         points: catalogue.count(),
         drivers: catalogue.drivers(),
         events: standing.events,
+        now: standing.now,
     }
 }
 

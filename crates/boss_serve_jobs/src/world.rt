@@ -5,7 +5,7 @@ use boss_words::Word;
 pub struct Service<'a> {
     /// The address that the host listens at.
     pub address: &'a str,
-    /// How many workers serve connections: 1 to 32.
+    /// How many workers serve connections: 1 to 1,024.
     pub workers: u32,
     /// How many connections are served. Then the server ends.
     pub connections: u32,

@@ -106,7 +106,7 @@ fn of_this_run(status: Status) -> &'static str {
         return "not all workers could be started; free some memory, or serve by fewer";
     }
     if status == Status::CLOCK_FAULT {
-        return "the clock could not be read, or stands before 1970; set it and start again";
+        return "the clock that counts from the boot could not be read; start again";
     }
     if status == Status::LINE_TOO_LONG {
         return "a line of the standard input has more than 65,535 bytes; shorten it and go on from there";

@@ -44,7 +44,7 @@ where
     let mut source = StdSource::new(rt.stdin());
     let mut sink = StdSink::new(rt.stdout());
     let mut files = RealFiles::new(rt);
-    let mut clock = RealClock::new(&rt);
+    let mut clock = RealClock::new(rt.alloc(), server)?;
     let mut host = RealHost::new(rt.alloc(), server);
     let mut spawner = RealSpawner::new(server);
     let status = boss(

@@ -16,6 +16,7 @@ use std::io::Eprint;
 use std::net::{Net, SocketAddr, TcpListener, TcpStream};
 use std::test::Fail;
 use std::thread::Threads;
+use std::time;
 
 // What a trial sees is written down as a number of decimal digits, so that one comparison tells of all of it.
 
@@ -179,12 +180,26 @@ fn a_real_waiter_closes_at_the_last_leave(rt: HostRuntime) -> Result<(), Fail> {
 
 #[test]
 fn the_real_clock_is_past_the_year_2020(rt: HostRuntime) -> Result<(), Fail> {
-    let mut clock = RealClock::new(&rt);
+    let mut clock = RealClock::new(rt.alloc(), &rt)?;
     let mut part = clock.split(rt.alloc())?;
     let now = part.now().unwrap_or(0);
     clock.join(part);
     // The first of January 2020, and of 2120.
     assert!(rt; 1_577_836_800_000 < now && now < 4_733_510_400_000);
+    Ok(())
+}
+
+#[test]
+fn the_real_clock_begins_where_it_is_told_to_in_one_standing(rt: HostRuntime) -> Result<(), Fail> {
+    let mut clock = RealClock::new(rt.alloc(), &rt)?;
+    // In 2262, so that no wall clock has come up to it.
+    let least: u64 = 9_214_646_400_000;
+    clock.begin(least);
+    let mut part = clock.split(rt.alloc())?;
+    let first = clock.now().unwrap_or(0);
+    let second = part.now().unwrap_or(0);
+    clock.join(part);
+    assert!(rt; least <= first && first <= second && second < least + 60_000);
     Ok(())
 }
 
@@ -355,7 +370,9 @@ fn a_task_that_is_not_started_is_abandoned(rt: HostRuntime) -> Result<(), Fail> 
 }
 
 /// Two tasks that serve five connections of a host, and the clients that make them.
-fn tasks_over<R: Net<Listener = TcpListener, Stream = TcpStream> + Eprint + Copy + Drop>(
+fn tasks_over<
+    R: Net<Listener = TcpListener, Stream = TcpStream> + Eprint + time::Clock + Copy + Drop,
+>(
     rt: R,
     alloc: Global,
     host: &mut RealHost<R>,
@@ -378,7 +395,7 @@ fn tasks_over<R: Net<Listener = TcpListener, Stream = TcpStream> + Eprint + Copy
 
 /// Ten for a task that served, whose part the host takes back; for the clients how many of them were answered; and for a
 /// task that was not started a thousand.
-fn points<R: Net<Listener = TcpListener, Stream = TcpStream> + Eprint + Copy + Drop>(
+fn points<R: Net<Listener = TcpListener, Stream = TcpStream> + Eprint + time::Clock + Copy + Drop>(
     host: &mut RealHost<R>,
     ran: Ran<OneOf<Serving<RealHost<R>>, Clients<R>>>,
 ) -> u32 {
@@ -394,7 +411,13 @@ fn points<R: Net<Listener = TcpListener, Stream = TcpStream> + Eprint + Copy + D
 
 /// The points of the tasks over a host that listens at this address.
 fn points_at<
-    R: Net<Listener = TcpListener, Stream = TcpStream> + Threads + Eprint + Copy + Drop + Send,
+    R: Net<Listener = TcpListener, Stream = TcpStream>
+        + Threads
+        + Eprint
+        + time::Clock
+        + Copy
+        + Drop
+        + Send,
 >(rt: R, alloc: Global, host: &mut RealHost<R>, address: SocketAddr) -> Result<u32, NoMemory> {
     let tasks = tasks_over(rt, alloc, host, address)?;
     let Ok(done) = RealSpawner::new(rt).run_all(alloc, tasks) else {
@@ -408,7 +431,7 @@ fn points_at<
 }
 
 /// A free port of this machine, at which the host listens from now on.
-fn listen<R: Net<Listener = TcpListener, Stream = TcpStream> + Eprint + Copy + Drop>(
+fn listen<R: Net<Listener = TcpListener, Stream = TcpStream> + Eprint + time::Clock + Copy + Drop>(
     host: &mut RealHost<R>,
 ) -> Option<SocketAddr> {
     host.bind("127.0.0.1:0").ok()?;
@@ -427,11 +450,9 @@ fn five_clients_are_served_by_two_parts_of_a_listener(rt: HostRuntime) -> Result
 }
 
 /// Whether a host can't listen at this address.
-fn is_refused<R: Net<Listener = TcpListener, Stream = TcpStream> + Eprint + Copy + Drop>(
-    rt: R,
-    alloc: Global,
-    address: SocketAddr,
-) -> Result<bool, NoMemory> {
+fn is_refused<
+    R: Net<Listener = TcpListener, Stream = TcpStream> + Eprint + time::Clock + Copy + Drop,
+>(rt: R, alloc: Global, address: SocketAddr) -> Result<bool, NoMemory> {
     let taken = format!(in alloc; "{address}")?;
     let mut other = RealHost::new(alloc, rt);
     Ok(other.bind(&taken).is_err())
@@ -449,10 +470,9 @@ fn a_taken_address_is_a_fault(rt: HostRuntime) -> Result<(), Fail> {
 }
 
 /// Whether an accept of a part of this host fails.
-fn fails_to_accept<R: Net<Listener = TcpListener, Stream = TcpStream> + Eprint + Copy + Drop>(
-    alloc: Global,
-    host: &mut RealHost<R>,
-) -> Result<bool, NoMemory> {
+fn fails_to_accept<
+    R: Net<Listener = TcpListener, Stream = TcpStream> + Eprint + time::Clock + Copy + Drop,
+>(alloc: Global, host: &mut RealHost<R>) -> Result<bool, NoMemory> {
     let mut part = host.split(alloc, 1)?;
     Ok(matches!(part.accept(), Accepted::Failed))
 }

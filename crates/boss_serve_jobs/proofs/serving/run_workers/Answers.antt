@@ -1,6 +1,7 @@
 use Rattle.std.proofs.Common.{◌≡◌, sym, subst, ◌∙◌}
 use Rattle.boss_server.specs.Hosted.{RoseBy}
 use Rattle.boss_server.proofs.TogetherLemmas.{rose-none}
+use Rattle.boss_serve_jobs.proofs.BeginLemmas.{from-before}
 use Rattle.boss_serve_jobs.proofs.serving.run_workers.Goals as goal
 
 -- the workers ran, over the host as it listens
@@ -21,7 +22,7 @@ returns-in-Ok-ended-clause-ran g c =
           faults = c.announce.ensures.counts.3 ∙ c.in-Ok.ensures.cause.fine;
           handed = subst (RoseBy 0 (h.handed was)) (sym handed) (rose-none (h.handed was));
         };
-        account = ran.account;
+        account = from-before _ _ _ _ _ _ _ _ _ _ _ _ _ _ _ _ _ _ _ _ _ _ _ _ _ c.begin.ensures.moments c.begin.ensures.faults ran.account;
         started = rw c.in-Ok-ended.is at c.serve_keeper-keeper.ensures.started;
         disk = ran.disk;
       };

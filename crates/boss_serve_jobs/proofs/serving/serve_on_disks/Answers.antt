@@ -97,7 +97,7 @@ returns-in-Err-clause-serves g c =
     let around = at_start c.args.surroundings in
     let it = told-so g.K.Sink c.args.site.catalogue.now (on_disks d (c.args.first, c.args.second)) (on_disks d c.in-Err.disks) around.sink c.say_journal-status.new.sink c.say_journal-status.result.0
     (counts (d.faults c.args.first) (d.faults c.args.second)) (counts (d.faults c.in-Err.disks.0) (d.faults c.in-Err.disks.1)) refl refl c.in-Err.refusal
-    c.in-Err.ensures.refuses c.in-Err.ensures.unchanged c.say_journal-status.ensures c.in-Err.ensures.cause in
+    c.in-Err.ensures.refuses c.in-Err.ensures.unchanged c.in-Err.ensures.looked c.say_journal-status.ensures c.in-Err.ensures.cause in
     elim it [
       | inl none ↦ inl (
         record { why = none.why; untouched = ap (λ k. outside k around.devices around.clock around.host around.waiter around.spawner) none.untouched },
@@ -118,7 +118,7 @@ returns-in-Err-clause-listens g c told =
     let around = at_start c.args.surroundings in
     let it = told-so g.K.Sink c.args.site.catalogue.now (on_disks d (c.args.first, c.args.second)) (on_disks d c.in-Err.disks) around.sink c.say_journal-status.new.sink c.say_journal-status.result.0
     (counts (d.faults c.args.first) (d.faults c.args.second)) (counts (d.faults c.in-Err.disks.0) (d.faults c.in-Err.disks.1)) refl refl c.in-Err.refusal
-    c.in-Err.ensures.refuses c.in-Err.ensures.unchanged c.say_journal-status.ensures c.in-Err.ensures.cause in
+    c.in-Err.ensures.refuses c.in-Err.ensures.unchanged c.in-Err.ensures.looked c.say_journal-status.ensures c.in-Err.ensures.cause in
     let unheard : has_listened c.say_journal-status.result.0 ≡ false =
     elim it [
       | inl none ↦ five-eight-unheard c.say_journal-status.result.0 none.why
