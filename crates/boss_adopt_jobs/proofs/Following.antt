@@ -9,7 +9,7 @@ use Rattle.boss_disk_pair.specs.Images.{OpensEither, OpensTo}
 use Rattle.boss_pair_find.specs.Holds.{IsNewPair}
 use Rattle.boss_opening.specs.Opens.{digest_of, OpenedAt}
 use Rattle.boss_jobs.specs.Journals.{Pair}
-use Rattle.boss_jobs.proofs.Lifting.{Follows, holds-so, moved-carried, none-so, refused-so, same-two, stands-so}
+use Rattle.boss_jobs.proofs.Lifting.{Follows, holds-so, looked-so, moved-carried, none-so, refused-so, same-two, stands-so}
 use Rattle.boss_adopt_jobs.specs.Adoptions.{AdoptsOver, ComesTo, OpensToEither, taken_over}
 use Rattle.boss_adopt_jobs.specs.Openings.{OpensToAdopt}
 
@@ -75,6 +75,7 @@ module _ (was now was' now' : Pair) {K : Type 0} (k : sink.Ghosts K) (old new : 
         tells = fresh.tells;
         holds = holds-so was now was' now' so fresh.holds;
         faults = so.stood fresh.faults;
+        images = looked-so was now was' now' so fresh.images;
       })))
       | inr (inr (inr found)) ↦ inr (inr (inr (record {
         state = found.state;

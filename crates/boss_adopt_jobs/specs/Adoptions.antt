@@ -9,7 +9,7 @@ use Rattle.boss_outside.specs.declared.sink.Sink as sink
 use Rattle.def_disk_pair.specs.Pairs.{OpensCleanly}
 use Rattle.boss_disk_pair.specs.Images.{OpensEither, OpensTo}
 use Rattle.boss_pair_find.specs.Holds.{IsNewPair}
-use Rattle.boss_opening.specs.Opens.{digest_of, OpenedAt}
+use Rattle.boss_opening.specs.Opens.{digest_of, OpenedAt, WhileLooked}
 use Rattle.law_adoption.specs.Adopted.{adopted}
 use Rattle.law_adoption.specs.Renumber.{renumbered}
 use Rattle.boss_adopting.specs.Adopts.{Adopts}
@@ -85,6 +85,8 @@ module _ {K : Type 0} (k : sink.Ghosts K) (old new : Catalogue) (was now : Pair)
     pub tells : TellsLine k new_line 0 before after status
     pub holds : was.tells → HoldSame was now
     pub faults : now.faults ≡ was.faults
+    -- what a crash may leave meanwhile
+    pub images : was.tells → now.whole → WhileLooked was.stories now.stories
 
   -- The pair, which is not new, was opened with the old catalogue at the state that its bytes stand for.
   pub record OpenedToAdopt : Type 0 where

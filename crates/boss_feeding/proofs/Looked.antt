@@ -1,5 +1,5 @@
 -- What a check told, by its answer.
-use Rattle.std.proofs.Common.{◌≡◌, List, ℕ, subst}
+use Rattle.std.proofs.Common.{◌≡◌, ◌⊎◌, inr, List, ℕ, subst}
 use Rattle.std.specs.Prelude.{Result, Ok, Err, IfOk, IfErr}
 use Rattle.boss_disk_pair.specs.Causes.{Counts}
 use Rattle.boss_model.specs.declared.state.Actuator.{Actuator}
@@ -34,3 +34,8 @@ module _ (before now : Counts) (result : Result Checked DurableRefusal) (cause :
 pub whatever : {T E : Type 0} (P : Type 0) (result : Result T E) → P → IfOk result (λ x. P)
 whatever P (Ok x) is = is
 whatever P (Err why) is = tt
+
+-- where it ended before, too
+pub at_any_rate : {T E : Type 0} (P Q : Type 0) (result : Result T E) → P → IfErr result (λ x. Q ⊎ P)
+at_any_rate P Q (Ok x) is = tt
+at_any_rate P Q (Err why) is = inr is

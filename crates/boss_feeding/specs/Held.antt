@@ -1,11 +1,18 @@
 -- Source: own.
--- What the disk in force holds, as it is told.
+-- What a pair stands for, and what the disk in force holds of it, as it is told.
 use Rattle.std.specs.Prelude.{◌≡◌, ℕ, ◌+◌, List, length, map, take, drop}
 use Rattle.std.specs.List.{AllByRecursion}
 use Rattle.boss_model.specs.declared.event.Event.{Event}
+use Rattle.boss_model.specs.declared.state.Actuator.{Actuator}
+use Rattle.boss_model.specs.State.{Persistent}
 use Rattle.def_bytes.specs.Batches.{batch_text, IsBatch}
 use Rattle.def_disk_pair.specs.Contents.{joined}
+use Rattle.def_disk_pair.specs.Pairs.{StandsFor}
 use Rattle.def_log.specs.Log.{IsLog}
+
+-- the pair stands for events behind a state
+abbrev pub Stands : List Actuator → List ℕ → List ℕ → List ℕ → Type 0
+Stands plant digest first second = (base : Persistent) × (before : ℕ) × (events : List Event) × StandsFor plant digest base before events first second
 
 -- From place 65 up to the first gate stands this text.
 pub record HasText (gate : ℕ) (text bytes : List ℕ) : Type 0 where

@@ -1,7 +1,7 @@
-ghost use Rattle.std.specs.Prelude.{◌≡◌, ◌+◌, ◌≤◌, ◌<◌, ℕ, true, List, length, IfErr, IfOk};
+ghost use Rattle.std.specs.Prelude.{◌≡◌, ◌⊎◌, ◌+◌, ◌≤◌, ◌<◌, ℕ, true, List, length, IfErr, IfOk};
 ghost use Rattle.boss_disk_pair.specs.Forces.{TellsForce};
 ghost use Rattle.boss_feeding.specs.Faults.{ActiveCause, DisksCause, IsLate, SinkCause};
-ghost use Rattle.boss_feeding.specs.Held.{HasLog};
+ghost use Rattle.boss_feeding.specs.Held.{HasLog, Stands};
 ghost use Rattle.boss_feeding.specs.Lines.{lines_text};
 ghost use Rattle.boss_feeding.specs.Refusals.{DiskRefuses, FeedRefuses, IsOfPair};
 ghost use Rattle.boss_model.specs.Catalogue.{actuators};
@@ -55,8 +55,10 @@ pub fn feed<D: Disk, K: Sink>(
     ensures told { D.tells → K.tells → (base : Persistent) (before : ℕ) (events : List Event)
         → StandsFor (actuators catalogue.now) (digest_of catalogue.now) base before events (D.reads first) (D.reads second)
         → Writes (K.taken sink.old) (K.taken sink.new) (feed_text from base before events) result.1 }
-    ensures stands { D.tells → IfOk result.1 (λ _. (base : Persistent) × (before : ℕ) × (events : List Event)
-        × StandsFor (actuators catalogue.now) (digest_of catalogue.now) base before events (D.reads first) (D.reads second)) }
+    ensures stands { D.tells → IfOk result.1 (λ _. Stands (actuators catalogue.now) (digest_of catalogue.now) (D.reads first) (D.reads second)) }
+    // Nothing is told of a pair that stands for nothing.
+    ensures broke { D.tells → IfErr result.1 (λ _. (K.tells → K.taken sink.new ≡ K.taken sink.old)
+        ⊎ Stands (actuators catalogue.now) (digest_of catalogue.now) (D.reads first) (D.reads second)) }
     ensures refuses { D.tells → IfErr result.1 (FeedRefuses (actuators catalogue.now) (digest_of catalogue.now) (D.reads first) (D.reads second)) }
     // Of a pair that is refused for what it holds nothing is told.
     ensures silent { K.tells → IfErr result.1 (λ fault. IsOfPair fault → K.taken sink.new ≡ K.taken sink.old) }

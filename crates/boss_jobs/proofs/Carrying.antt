@@ -11,6 +11,8 @@ use Rattle.boss_disk.proofs.Torn.{settled_image}
 use Rattle.boss_disk_pair.specs.Images.{OpensTo, OpensToOne}
 use Rattle.boss_model.specs.declared.state.Actuator.{Actuator}
 use Rattle.boss_model.specs.State.{Persistent, State}
+use Rattle.boss_opening.specs.Opens.{WhileLooked}
+use Rattle.boss_pair_find.specs.Two.{MightLeave}
 use Rattle.boss_shared.specs.Walking.{WalksBy}
 use Rattle.boss_shared.proofs.Walks.{walks_lead}
 use Rattle.def_history.specs.declared.entry.Entry.{Entry}
@@ -62,6 +64,13 @@ quiet-legs P from to quiet here = weaker_legs (λ first second within a b at the
 
 pub then-quiet : (P : List ℕ → List ℕ → Type 0) (from mid to : Two) → Legs (LeaveBoth P) from mid → Quietly mid to → Legs (LeaveBoth P) from to
 then-quiet P from mid to legs quiet = then_legs legs (quiet-legs P mid to quiet (legs_last legs))
+
+-- it was only looked at
+pub quiet-looked : (from to : Two) → Quietly from to → WhileLooked from to
+quiet-looked from to quiet = quiet-legs (MightLeave from.first.window from.second.window) from to quiet (λ a b one other. (one, other))
+
+pub still-looked : (from to : Two) → to ≡ from → WhileLooked from to
+still-looked from to same = subst (WhileLooked from) (sym same) (stand from (λ a b one other. (one, other)))
 
 module _ (plant : List Actuator) (digest : List ℕ) where
   abbrev passes : Two → Two → Persistent → Persistent → Type 0

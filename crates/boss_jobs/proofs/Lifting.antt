@@ -15,11 +15,12 @@ use Rattle.boss_outside.specs.declared.actuators.Actuators as actuators_of
 use Rattle.boss_outside.specs.declared.sink.Sink as sink
 use Rattle.boss_outside.specs.declared.source.Source as source
 use Rattle.boss_opening.specs.Checks.{ChecksPair}
-use Rattle.boss_opening.specs.Opens.{digest_of, OpenedAt, OpenRefuses}
+use Rattle.boss_opening.specs.Opens.{digest_of, OpenedAt, OpenRefuses, WhileLooked}
 use Rattle.boss_opening.specs.UnderWay.{MayComeTo}
 use Rattle.def_disk_pair.specs.Pairs.{OpensCleanly}
 use Rattle.boss_disk_pair.specs.Images.{OpensToOne}
 use Rattle.boss_files.specs.Names.{second_name}
+use Rattle.boss_pair_find.specs.Two.{MightLeave}
 use Rattle.boss_jobs.specs.Crashes.{WhileMoved, WhileOpened, WhileRun}
 use Rattle.boss_jobs.proofs.Carrying.{Quietly, both_later, later, legs-later, shut, shut-quietly, steps-later, steps-quietly, then-quiet}
 use Rattle.boss_jobs.specs.Journals.{Beside, ChecksOver, file_story, FoundJournal, HadNoJournal, HoldsAfter, in_files, on_disks, Pair, RanJournal, RefusedJournal, RunsOver, StillStands}
@@ -52,6 +53,12 @@ pub record Follows (was now first_was first_now : Pair) : Type 0 where
   pub carries : was.tells → now.whole → Carries first_was.stories first_now.stories was.stories now.stories
 
 -- ---- what a crash may leave meanwhile
+
+pub looked-carried : (first_was first_now was now : Two) → Carries first_was first_now was now → WhileLooked first_was first_now → WhileLooked was now
+looked-carried first_was first_now was now carries looked =
+    subst (λ from. WhileLooked from now) (sym carries.begins)
+    (then-quiet (MightLeave first_was.first.window first_was.second.window) (both_later carries.before carries.other first_was) (both_later carries.before carries.other first_now) now
+    (legs-later carries.before carries.other looked) carries.ends)
 
 module _ (plant : List Actuator) (digest : List ℕ) (first second first' second' : List ℕ) (same : (first' ≡ first) × (second' ≡ second)) where
   opening-later : (before other : List Window) (from to : Two) → WhileOpened plant digest first' second' from to →
@@ -126,6 +133,9 @@ module _ (was now was' now' : Pair) (so : Follows was now was' now') where
       let left : (now'.first ≡ now.first) × (now'.second ≡ now.second) = so.left told in
       (sym left.0 ∙ held.0 ∙ began.0, sym left.1 ∙ held.1 ∙ began.1)
 
+  pub looked-so : (was'.tells → now'.whole → WhileLooked was'.stories now'.stories) → was.tells → now.whole → WhileLooked was.stories now.stories
+  looked-so it told whole = looked-carried was'.stories now'.stories was.stories now.stories (so.carries told whole) (it (so.tells told) (so.whole told whole))
+
   module _ {K : Type 0} (k : sink.Ghosts K) (catalogue : Catalogue) (old new : K) (status : ℕ) where
     pub refused-so : RefusedJournal k catalogue was' now' old new status → RefusedJournal k catalogue was now old new status
     refused-so it = record {
@@ -135,6 +145,7 @@ module _ (was now was' now' : Pair) (so : Follows was now was' now') where
       tells = it.tells;
       holds = holds-so it.holds;
       faults = so.stood it.faults;
+      images = looked-so it.images;
     }
 
     found-so : FoundJournal k catalogue was' now' old new status → FoundJournal k catalogue was now old new status
@@ -149,6 +160,7 @@ module _ (was now was' now' : Pair) (so : Follows was now was' now') where
     checks-so it = record {
       did = elim it.did [ inl none ↦ inl (none-so old new status none) | inr (inl refused) ↦ inr (inl (refused-so refused)) | inr (inr found) ↦ inr (inr (found-so found)) ];
       holds = holds-so it.holds;
+      images = looked-so it.images;
     }
 
   module _ {S K A : Type 0} (s : source.Ghosts S) (k : sink.Ghosts K) (a : actuators_of.Ghosts A) (catalogue : Catalogue) (old new : Beside S K A) (status : ℕ) where

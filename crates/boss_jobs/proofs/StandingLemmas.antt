@@ -53,6 +53,20 @@ opened-file past now bytes bytes' still same opened =
     (stand to (within, λ _ is. is))
 
 -- no file changes, but that an empty one may stand where there was none
+pub files-quiet : {F D : Type 0} (f : files.Ghosts F D) (journal : List ℕ) (old new : F) (second : List ℕ) → second ≡ second_name journal → second ≢ journal →
+    (f.tells → (file : List ℕ) → unwrap_or (f.holds new file) [] ≡ unwrap_or (f.holds old file) []) →
+    (f.tells → f.whole new → f.whole old × MayBeTried (unwrap_or (f.holds old journal) []) (f.past old journal) (f.past new journal)) →
+    (f.tells → (file : List ℕ) → file ≢ journal → f.past new file ≡ f.past old file) →
+    f.tells → f.whole new → Quietly (in_files f journal old).stories (in_files f journal new).stories
+files-quiet f journal old new second named apart keeps tried others told whole =
+    subst (λ still. Quietly (in_files f journal old).stories (two (file_story f journal new) still))
+    (λ i. record {
+      past = (sym (others told (second_name journal) (subst (λ n. n ≢ journal) named apart))) i;
+      window = settled (sym (keeps told (second_name journal)) i);
+    })
+    (opened-file (f.past old journal) (f.past new journal) (unwrap_or (f.holds old journal) []) (unwrap_or (f.holds new journal) []) (file_story f (second_name journal) old)
+    (keeps told journal) (tried told whole).1)
+
 pub files-stand : {F D : Type 0} (f : files.Ghosts F D) (catalogue : Catalogue) (journal : List ℕ) (old new : F) (second : List ℕ) → second ≡ second_name journal → second ≢ journal →
     (f.tells → (file : List ℕ) → unwrap_or (f.holds new file) [] ≡ unwrap_or (f.holds old file) []) →
     (f.tells → f.whole new → f.whole old × MayBeTried (unwrap_or (f.holds old journal) []) (f.past old journal) (f.past new journal)) →
@@ -60,13 +74,7 @@ pub files-stand : {F D : Type 0} (f : files.Ghosts F D) (catalogue : Catalogue) 
     f.tells → StillStands catalogue (in_files f journal old) (in_files f journal new)
 files-stand f catalogue journal old new second named apart keeps tried others told =
     same-stands catalogue (in_files f journal old) (in_files f journal new) (keeps told journal, keeps told (second_name journal))
-    (λ whole. subst (λ still. Quietly (in_files f journal old).stories (two (file_story f journal new) still))
-    (λ i. record {
-      past = (sym (others told (second_name journal) (subst (λ n. n ≢ journal) named apart))) i;
-      window = settled (sym (keeps told (second_name journal)) i);
-    })
-    (opened-file (f.past old journal) (f.past new journal) (unwrap_or (f.holds old journal) []) (unwrap_or (f.holds new journal) []) (file_story f (second_name journal) old)
-    (keeps told journal) (tried told whole).1))
+    (files-quiet f journal old new second named apart keeps tried others told)
 
 -- disks of which all was synced, behind an opening that failed
 pub disks-stand : {D : Type 0} (d : disk.Ghosts D) (catalogue : Catalogue) (first second : D) (back : D × D) → ((disk : D) → d.tells → IsImage (d.story disk).window (d.reads disk)) →

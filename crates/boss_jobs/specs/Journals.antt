@@ -32,7 +32,7 @@ use Rattle.boss_pair_find.specs.Refusals.{IsOfBytes}
 use Rattle.boss_opening.specs.declared.checking.Checked.{Checked}
 use Rattle.boss_opening.specs.declared.checking.Checked.TheVariants.{New, Found}
 use Rattle.boss_opening.specs.Checks.{ChecksPair}
-use Rattle.boss_opening.specs.Opens.{digest_of, OpenedAt, OpenRefuses}
+use Rattle.boss_opening.specs.Opens.{digest_of, OpenedAt, OpenRefuses, WhileLooked}
 use Rattle.boss_opening.specs.UnderWay.{MayComeTo}
 use Rattle.boss_journal_lines.specs.Reports.{new_line, refusal_line, summary_line}
 use Rattle.boss_pair_find.specs.Two.{two}
@@ -148,6 +148,8 @@ module _ {K : Type 0} (k : sink.Ghosts K) (catalogue : Catalogue) (was now : Pai
     pub tells : TellsLine k (refusal_line refusal) 4 old new status
     pub holds : was.tells → HoldSame was now
     pub faults : now.faults ≡ was.faults
+    -- what a crash may leave meanwhile
+    pub images : was.tells → now.whole → WhileLooked was.stories now.stories
 
   -- One line tells what it stands for, with status 0.
   pub record FoundJournal : Type 0 where
@@ -160,6 +162,7 @@ module _ {K : Type 0} (k : sink.Ghosts K) (catalogue : Catalogue) (was now : Pai
   pub record ChecksOver : Type 0 where
     pub did : HadNoJournal was now old new status ⊎ RefusedJournal ⊎ FoundJournal
     pub holds : was.tells → HoldSame was now
+    pub images : was.tells → now.whole → WhileLooked was.stories now.stories
 
 module _ {S K A : Type 0} (s : source.Ghosts S) (k : sink.Ghosts K) (a : actuators_of.Ghosts A) where
   abbrev pub outside_of : Beside S K A → Outside

@@ -21,7 +21,7 @@ use Rattle.boss_disk_pair.specs.Images.{OpensToOne}
 use Rattle.boss_disk_pair.specs.Orders.{InOrder, first_of, second_of}
 use Rattle.boss_disk_pair.specs.Reads.{ends_at, is_clean, is_damaged_at, is_settled, reads_to, stands_for}
 use Rattle.boss_disk_pair.specs.Rests.{passes, rests, stories}
-use Rattle.boss_opening.specs.Opens.{Finishing, OpenedAt, Opening, Stays}
+use Rattle.boss_opening.specs.Opens.{Finishing, IsUntouched, OpenedAt, Opening, Stays}
 use Rattle.boss_opening.specs.Reading.{GoesOn, IsOfLog, IsReadOn, ReadWhole, ShutsCleanly}
 use Rattle.boss_opening.proofs.Openings.{finished, finished_legs, of_damage, of_log, refused}
 use Rattle.boss_opening.proofs.ReadOn.{still_settled, stood_for}
@@ -136,6 +136,12 @@ module _ {D : Type 0} {g : disk.Ghosts D} where
         (λ told some. of_damage ((g.reads back.0 ≡ g.reads (first_disk old)) × (g.reads back.1 ≡ g.reads (second_disk old))) why kind
         (λ place at. (back_first old new back is order spare g.reads (still told place at), back_second old new back is order spare g.reads (still told place at))) some)
         (subst (λ (now : Counts). PairCause (counts_of old) now why) (closed_counts new back is) cause)
+
+    pub wrong_untouched : IsOfLog why → ((place : ℕ) → why ≡ Damaged place → g.story new.journal.disk ≡ g.story old.journal.disk) → new.second ≡ old.second → new.spare ≡ old.spare →
+        IsUntouched {D = D} {g = g} (first_disk old) (second_disk old) (Err (back, why))
+    wrong_untouched kind still order spare some =
+        of_damage ((g.story back.0 ≡ g.story (first_disk old)) × (g.story back.1 ≡ g.story (second_disk old))) why kind
+        (λ place at. (back_first old new back is order spare g.story (still place at), back_second old new back is order spare g.story (still place at))) some
 
     pub wrong_cleanly : g.tells → (now : Persistent) (result : Result Unit DurableRefusal) →
         ((d : Persistent) (count : ℕ) → is_clean old plant d count → ShutsCleanly old new plant d count now result) →

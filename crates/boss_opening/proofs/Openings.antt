@@ -24,7 +24,7 @@ use Rattle.boss_disk_pair.specs.Images.{OpensToOne}
 use Rattle.boss_disk_pair.specs.Orders.{InOrder, first_of, second_of}
 use Rattle.boss_disk_pair.specs.Reads.{is_clean, is_damaged_at, is_settled, stands_for}
 use Rattle.boss_disk_pair.specs.Rests.{passes, stories}
-use Rattle.boss_opening.specs.Opens.{Finishing, IsReady, Meanwhile, OpenedAt, OpenRefuses, Opening, Stays, first_left, second_left}
+use Rattle.boss_opening.specs.Opens.{Finishing, IsReady, IsUntouched, Meanwhile, OpenedAt, OpenRefuses, Opening, Stays, WhileLooked, first_left, second_left}
 use Rattle.boss_opening.specs.Reading.{GoesOn, IsOfLog, IsOfNoBytes, ShutsCleanly}
 use Rattle.boss_opening.specs.UnderWay.{MayComeTo}
 
@@ -98,6 +98,10 @@ module _ {D : Type 0} {g : disk.Ghosts D} where
     cause = cause;
   }
 
+  pub none_touched : (first second : D) (result : Result (Durable D g) ((D × D) × DurableRefusal)) → IfErr result (λ refused. IsOfNoBytes refused.1) → IsUntouched first second result
+  none_touched first second (Ok durable) none = tt
+  none_touched first second (Err refused) none = λ some. absurd (not_of_bytes refused.1 none some)
+
   -- ---- other disks that read the same
 
   module _ (plant : List Actuator) (digest : List ℕ) (limit : ℕ) (a b x y : D) (result : Result (Durable D g) ((D × D) × DurableRefusal))
@@ -126,6 +130,11 @@ module _ {D : Type 0} {g : disk.Ghosts D} where
           subst (λ s. Legs (LeaveBoth (OpensToOne plant digest d there.0)) (two s (g.story y)) (two (g.story (first_left result)) (g.story (second_left result)))) moved
               (subst (λ s. Legs (LeaveBoth (OpensToOne plant digest d there.0)) (two (g.story a) s) (two (g.story (first_left result)) (g.story (second_left result)))) also there.2),
         )
+
+    pub same_untouched : g.story a ≡ g.story x → g.story b ≡ g.story y → IsUntouched a b result → IsUntouched x y result
+    same_untouched moved also untouched =
+        subst (λ s. IfErr result (λ refused. IsOfBytes refused.1 → (g.story refused.0.0 ≡ s) × (g.story refused.0.1 ≡ g.story y))) moved
+        (subst (λ s. IfErr result (λ refused. IsOfBytes refused.1 → (g.story refused.0.0 ≡ g.story a) × (g.story refused.0.1 ≡ s))) also untouched)
 
   -- ---- a pair that rests and is finished
 
@@ -224,3 +233,11 @@ module _ {D : Type 0} (g : disk.Ghosts D) where
     pub synced_ill : (d : Persistent) (count : ℕ) → (after : Persistent) × MayComeTo plant digest d count after (g.reads first) (g.reads second)
         × Meanwhile plant digest d after (g.story first) (g.story second) (g.story a) (g.story b)
     synced_ill d count = (d, inl refl, sync_legs d d)
+
+    pub synced_untouched : (result : Result (Durable D g) ((D × D) × DurableRefusal)) → IsUntouched a b result →
+        IfErr result (λ refused. IsOfBytes refused.1 → WhileLooked (two (g.story first) (g.story second)) (two (g.story refused.0.0) (g.story refused.0.1)))
+    synced_untouched (Ok durable) untouched = tt
+    synced_untouched (Err refused) untouched = λ some.
+        let same = untouched some in
+        subst (λ s. WhileLooked (two (g.story first) (g.story second)) (two s (g.story refused.0.1))) (sym same.0)
+        (subst (λ s. WhileLooked (two (g.story first) (g.story second)) (two (g.story a) s)) (sym same.1) run)

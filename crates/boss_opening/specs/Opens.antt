@@ -1,8 +1,8 @@
--- Source: own; digest_of: FIPS 180-4 (SHA-256).
+-- Source: own.
 -- What is said of an opening: what was opened, why a pair is refused, which disks come back, and what a crash may leave meanwhile.
 use Rattle.std.specs.Prelude.{◌≡◌, ◌⊎◌, ℕ, ◌+◌, List, length, Some, Result, Ok, Err, false, IfOk, IfErr}
 use Rattle.boss_disk.specs.declared.disk.Disk as disk
-use Rattle.boss_disk.specs.Legs.{Legs, LeaveBoth}
+use Rattle.boss_disk.specs.Legs.{Legs, LeaveBoth, Two}
 use Rattle.boss_disk.specs.Story.{Story}
 use Rattle.boss_durable.specs.declared.durable.Durable.{Durable}
 use Rattle.boss_durable.specs.Words.{keeps, lasting, leaves}
@@ -19,18 +19,14 @@ use Rattle.boss_model.specs.Settle.{opened}
 use Rattle.boss_model.specs.Sound.{IsSound, IsSoundPersistent}
 use Rattle.boss_model.specs.State.{Persistent, State}
 use Rattle.def_disk_pair.specs.Pairs.{DamagedAt, OpensCleanly, StandsFor}
-use Rattle.boss_points.specs.Canonical.{canonical}
+-- what a pair is kept under: the digest of the catalogue's canonical text
+pub use Rattle.def_catalogue.specs.Canonical.{digest_of}
 use Rattle.boss_disk_pair.specs.Causes.{counts_of, first_disk, second_disk}
 use Rattle.boss_disk_pair.specs.Images.{OpensToOne}
 use Rattle.boss_disk_pair.specs.declared.two_disks.TwoDisks.{TwoDisks}
 use Rattle.boss_disk_pair.specs.Rests.{counted}
 use Rattle.boss_opening.specs.Reading.{IsOfNoBytes}
 use Rattle.boss_opening.specs.UnderWay.{MayComeTo}
-use Rattle.sha2.specs.Sha256.{sha256}
-
--- what a pair is kept under: the digest of the catalogue's canonical text
-abbrev pub digest_of : Points → List ℕ
-digest_of catalogue = sha256 (canonical catalogue)
 
 -- The pair stands for events behind a state, and the engine was opened at what they lead to; the disks count them.
 pub record OpenedAt (plant : List Actuator) (digest first second : List ℕ) (s : State) (number : ℕ) : Type 0 where
@@ -64,6 +60,10 @@ abbrev pub Meanwhile : List Actuator → List ℕ → Persistent → Persistent 
 Meanwhile plant digest d after first second first_new second_new =
     Legs (LeaveBoth (λ a b. MightLeave first.window second.window a b ⊎ OpensToOne plant digest d after a b)) (two first second) (two first_new second_new)
 
+-- It was only looked at: from the one moment to the other each image is one that a crash might have left as that began.
+abbrev pub WhileLooked : Two → Two → Type 0
+WhileLooked from to = Legs (LeaveBoth (MightLeave from.first.window from.second.window)) from to
+
 module _ {D : Type 0} {g : disk.Ghosts D} where
   -- the disks, whatever the answer is
   abbrev pub first_left : Result (Durable D g) ((D × D) × DurableRefusal) → D
@@ -91,6 +91,11 @@ module _ {D : Type 0} {g : disk.Ghosts D} where
     pub opens : g.tells → IfOk result (λ durable. OpenedAt plant digest (g.reads first) (g.reads second) durable.engine.state durable.disks.events)
     pub ready : IfOk result (IsReady plant digest log_limit)
     pub cause : AnswerCause (counts (g.faults first) (g.faults second)) (counts (g.faults (first_left result)) (g.faults (second_left result))) result
+
+  -- Refused for what it holds, nothing of it was written, cut or synced.
+  abbrev pub IsUntouched : D → D → Result (Durable D g) ((D × D) × DurableRefusal) → Type 0
+  IsUntouched first second result =
+      IfErr result (λ refused. IsOfBytes refused.1 → (g.story refused.0.0 ≡ g.story first) × (g.story refused.0.1 ≡ g.story second))
 
   -- Where the pair was clean and synced: all the while each image is clean and opens to what it stood for, or to what a record that was
   -- under way makes of that.

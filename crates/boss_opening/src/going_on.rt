@@ -7,7 +7,7 @@ ghost use Rattle.boss_model.specs.Plants.{IsPlant};
 ghost use Rattle.boss_model.specs.Seen.{seen};
 ghost use Rattle.boss_model.specs.Sound.{IsSound, IsSoundPersistent};
 ghost use Rattle.boss_model.specs.State.{Persistent};
-ghost use Rattle.boss_opening.specs.Opens.{Finishing, Opening, Stays};
+ghost use Rattle.boss_opening.specs.Opens.{Finishing, IsUntouched, Opening, Stays};
 ghost use Rattle.boss_opening.specs.Reading.{GoesOn, IsOfLog, IsOfNoBytes, ShutsCleanly};
 ghost use Rattle.boss_disk_pair.specs.Causes.{counts_of, first_disk, second_disk};
 ghost use Rattle.boss_disk_pair.specs.Reads.{is_clean, is_damaged_at, is_settled, reads_to};
@@ -38,6 +38,7 @@ pub fn go_on<D: Disk>(
     requires settled { is_settled pair }
     ensures opening { Opening engine.plant pair.digest log_limit (first_disk pair) (second_disk pair) result }
     ensures stays { D.tells → Stays engine.plant pair.digest (first_disk pair) (second_disk pair) result }
+    ensures untouched { D.tells → IsUntouched (first_disk pair) (second_disk pair) result }
 {
     let mut pair = pair;
     let mut engine = engine;
@@ -62,6 +63,7 @@ fn do_again<D: Disk>(
         → ShutsCleanly pair.old pair.new engine.old.plant d count engine.new.state.persistent result }
     ensures damaged { IfErr result (λ why. (place : ℕ) → why ≡ Damaged place → is_damaged_at pair.old engine.old.plant place) }
     ensures unchanged { D.tells → IfErr result (λ why. (place : ℕ) → why ≡ Damaged place → D.reads pair.new.journal.disk ≡ D.reads pair.old.journal.disk) }
+    ensures still { D.tells → IfErr result (λ why. (place : ℕ) → why ≡ Damaged place → D.story pair.new.journal.disk ≡ D.story pair.old.journal.disk) }
     ensures refuses { IfErr result IsOfLog }
     ensures fine { OnOk result (counts_of pair.new ≡ counts_of pair.old) }
     ensures cause { IfErr result (PairCause (counts_of pair.old) (counts_of pair.new)) }

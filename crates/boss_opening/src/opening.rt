@@ -4,14 +4,14 @@ ghost use Rattle.boss_durable.specs.Words.{keeps, lasting, leaves};
 ghost use Rattle.boss_pair_find.specs.Finds.{Finds, IsAtFirst, IsAtStart, IsSettled, Starts, found_first, found_second};
 ghost use Rattle.boss_pair_find.specs.Holds.{IsNewPair, IsStatePair};
 ghost use Rattle.boss_pair_find.specs.Refusals.{AnswerCause, IsOfBytes};
-ghost use Rattle.boss_pair_find.specs.Two.{counts};
+ghost use Rattle.boss_pair_find.specs.Two.{counts, two};
 ghost use Rattle.boss_model.specs.Catalogue.{actuators};
 ghost use Rattle.boss_model.specs.declared.event.Event.{Event};
 ghost use Rattle.boss_model.specs.Plants.{IsPlant};
 ghost use Rattle.boss_model.specs.Seen.{seen};
 ghost use Rattle.boss_model.specs.Sound.{IsSound, IsSoundPersistent};
 ghost use Rattle.boss_model.specs.State.{Persistent, first_persistent};
-ghost use Rattle.boss_opening.specs.Opens.{Meanwhile, OpenedAt, OpenRefuses, Opening, Stays, digest_of, first_left, second_left};
+ghost use Rattle.boss_opening.specs.Opens.{IsUntouched, Meanwhile, OpenedAt, OpenRefuses, Opening, Stays, WhileLooked, digest_of, first_left, second_left};
 ghost use Rattle.boss_opening.specs.UnderWay.{MayComeTo};
 ghost use Rattle.def_disk_pair.specs.Pairs.{OpensCleanly};
 ghost use Rattle.boss_disk_pair.specs.Causes.{first_disk, second_disk};
@@ -50,6 +50,9 @@ pub fn open<D: Disk>(
     // A pair that is refused for what it holds comes back as it was.
     ensures unchanged { D.tells → IfErr result
         (λ refused. IsOfBytes refused.1 → (D.reads refused.0.0 ≡ D.reads first) × (D.reads refused.0.1 ≡ D.reads second)) }
+    // A crash meanwhile leaves nothing of it that it might not have left before.
+    ensures looked { D.tells → IfErr result (λ refused. IsOfBytes refused.1
+        → WhileLooked (two (D.story first) (D.story second)) (two (D.story refused.0.0) (D.story refused.0.1))) }
     ensures opens { D.tells → IfOk result (λ durable.
         OpenedAt (actuators catalogue.now) (digest_of catalogue.now) (D.reads first) (D.reads second) durable.engine.state durable.disks.events) }
     ensures keeps { (any : List Event) → IfOk result (λ durable. counted (length any) ≡ durable.disks.events → keeps durable any) }
@@ -87,6 +90,7 @@ fn open_synced<D: Disk>(
     requires synced { D.tells → ((D.story first).window ≡ settled (D.reads first)) × ((D.story second).window ≡ settled (D.reads second)) }
     ensures opening { Opening (actuators catalogue.now) (digest_of catalogue.now) log_limit first second result }
     ensures stays { D.tells → Stays (actuators catalogue.now) (digest_of catalogue.now) first second result }
+    ensures untouched { D.tells → IsUntouched first second result }
 {
     match find(alloc, first, second, &catalogue.digest()) {
         Ok(found) => open_found(alloc, catalogue, found, log_limit),
@@ -109,6 +113,7 @@ fn open_found<D: Disk>(
     requires settled { D.tells → IsSettled found }
     ensures opening { Opening (actuators catalogue.now) (digest_of catalogue.now) log_limit (found_first found) (found_second found) result }
     ensures stays { D.tells → Stays (actuators catalogue.now) (digest_of catalogue.now) (found_first found) (found_second found) result }
+    ensures untouched { D.tells → IsUntouched (found_first found) (found_second found) result }
 {
     match found {
         Found::New { first, second } => open_new(alloc, catalogue, first, second, log_limit),
@@ -130,6 +135,7 @@ fn open_new<D: Disk>(
     requires synced { D.tells → ((D.story first).window ≡ settled (D.reads first)) × ((D.story second).window ≡ settled (D.reads second)) }
     ensures opening { Opening (actuators catalogue.now) (digest_of catalogue.now) log_limit first second result }
     ensures stays { D.tells → Stays (actuators catalogue.now) (digest_of catalogue.now) first second result }
+    ensures untouched { D.tells → IsUntouched first second result }
 {
     points_are_a_plant(catalogue);
     match Engine::new(alloc, catalogue) {
@@ -154,6 +160,7 @@ fn open_plain<D: Disk>(
     requires settled { is_settled pair }
     ensures opening { Opening (actuators catalogue.now) (digest_of catalogue.now) log_limit (first_disk pair) (second_disk pair) result }
     ensures stays { D.tells → Stays (actuators catalogue.now) (digest_of catalogue.now) (first_disk pair) (second_disk pair) result }
+    ensures untouched { D.tells → IsUntouched (first_disk pair) (second_disk pair) result }
 {
     points_are_a_plant(catalogue);
     match Engine::new(alloc, catalogue) {
@@ -179,6 +186,7 @@ fn open_state<D: Disk>(
     requires settled { is_settled pair }
     ensures opening { Opening (actuators catalogue.now) (digest_of catalogue.now) log_limit (first_disk pair) (second_disk pair) result }
     ensures stays { D.tells → Stays (actuators catalogue.now) (digest_of catalogue.now) (first_disk pair) (second_disk pair) result }
+    ensures untouched { D.tells → IsUntouched (first_disk pair) (second_disk pair) result }
 {
     points_are_a_plant(catalogue);
     match Engine::restore(alloc, catalogue, kept) {

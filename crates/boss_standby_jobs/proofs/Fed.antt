@@ -1,5 +1,5 @@
 -- A feed that was told, by its answer.
-use Rattle.std.proofs.Common.{◌≡◌, ◌⊎◌, inl, inr, ℕ, List, [], ◌++◌, Result, Ok, Err, IfErr, IfOk, refl, sym, append-nil, ap, subst, ◌∙◌, arith}
+use Rattle.std.proofs.Common.{◌≡◌, ◌⊎◌, inl, inr, ℕ, List, ◌++◌, Result, Ok, Err, IfErr, IfOk, refl, sym, ap, subst, ◌∙◌, arith}
 use Rattle.boss_disk_pair.specs.Causes.{Counts}
 use Rattle.boss_feeding.specs.declared.fault.FeedFault.{FeedFault}
 use Rattle.boss_feeding.specs.declared.fault.FeedFault.TheVariants.{Refused, WriteFault}
@@ -12,7 +12,7 @@ use Rattle.boss_journal_lines.specs.Reports.{refusal_line}
 use Rattle.boss_model.specs.Catalogue.{Catalogue, actuators}
 use Rattle.boss_model.specs.declared.event.Event.{Event}
 use Rattle.boss_model.specs.State.{Persistent}
-use Rattle.boss_opening.specs.Opens.{digest_of, OpenRefuses}
+use Rattle.boss_opening.specs.Opens.{digest_of, OpenRefuses, WhileLooked}
 use Rattle.boss_outside.specs.Counts.{Rose}
 use Rattle.boss_outside.specs.declared.sink.Sink as sink
 use Rattle.boss_outside.specs.Streams.{TakesFront, Writes}
@@ -53,26 +53,35 @@ module _ {K : Type 0} (k : sink.Ghosts K) (catalogue : Catalogue) (from : ℕ) (
   Took fed = was.tells → k.tells → (base : Persistent) (number : ℕ) (events : List Event) → StandsUnder catalogue was base number events
       → Writes (k.taken old) (k.taken mid) (feed_text from base number events) fed
 
+  abbrev Stands : Type 0
+  Stands = (base : Persistent) × (number : ℕ) × (events : List Event) × StandsUnder catalogue was base number events
+
   -- the feed broke off, and nothing was told behind it
   broke-so : ((status ≡ 5) × Rose was.faults now.faults × (k.faults new ≡ k.faults old))
       ⊎ ((status ≡ 7) × (now.faults ≡ was.faults) × Rose (k.faults old) (k.faults new))
       ⊎ ((status ≡ 8) × (now.faults ≡ was.faults) × (k.faults new ≡ k.faults old)) →
-      (why : FeedFault) → Took (Err why) → new ≡ mid → BrokeFeed k catalogue from was now old new status
-  broke-so why fault took untold = record {
+      (why : FeedFault) → Took (Err why) → (was.tells → (k.tells → k.taken mid ≡ k.taken old) ⊎ Stands) → new ≡ mid → BrokeFeed k catalogue from was now old new status
+  broke-so why fault took broke untold = record {
     why = why;
-    told = λ t kt base number events stands.
-        subst (λ x. TakesFront (k.taken old) (k.taken x) (feed_text from base number events)) (sym untold) (took t kt base number events stands);
+    told = λ t kt. elim (broke t) [
+      | inl silent ↦ inl (ap k.taken untold ∙ silent kt)
+      | inr found ↦ inr (record {
+        base = found.0;
+        before = found.1;
+        events = found.2;
+        stands = found.3;
+        told = subst (λ x. TakesFront (k.taken old) (k.taken x) (feed_text from found.0 found.1 found.2)) (sym untold) (took t kt found.0 found.1 found.2 found.3);
+      })
+    ];
   }
 
-  abbrev Stands : Type 0
-  Stands = (base : Persistent) × (number : ℕ) × (events : List Event) × StandsUnder catalogue was base number events
-
   pub fed-so : (fed : Result Unit FeedFault) → Took fed → (was.tells → IfOk fed (λ _. Stands)) →
+      (was.tells → IfErr fed (λ _. (k.tells → k.taken mid ≡ k.taken old) ⊎ Stands)) →
       (was.tells → IfErr fed (FeedRefuses (actuators catalogue) (digest_of catalogue) was.first was.second)) →
       (k.tells → IfErr fed (λ fault. IsOfPair fault → k.taken mid ≡ k.taken old)) →
       DisksCause before after fed → SinkCause (k.faults old) (k.faults mid) fed → TellsFed k fed mid new status →
       RefusedFeed k catalogue from was now old new status ⊎ ToldFeed k catalogue from was now old new status ⊎ BrokeFeed k catalogue from was now old new status
-  fed-so (Ok done) took stands refuses silent cause fault told = inr (inl (record {
+  fed-so (Ok done) took stands broke refuses silent cause fault told = inr (inl (record {
     status_is = told.0;
     told = λ t. let found = stands t in record {
       base = found.0;
@@ -84,29 +93,31 @@ module _ {K : Type 0} (k : sink.Ghosts K) (catalogue : Catalogue) (from : ℕ) (
     sink = ap k.faults told.1 ∙ fault;
     faults = stood cause;
   }))
-  fed-so (Err (Refused refusal.NotAJournal)) took stands refuses silent cause fault told =
+  fed-so (Err (Refused refusal.NotAJournal)) took stands broke refuses silent cause fault told =
       inl (refused-so refusal.NotAJournal tt refuses (λ t. silent t tt) fault (stood cause) told)
-  fed-so (Err (Refused (refusal.Version found))) took stands refuses silent cause fault told =
+  fed-so (Err (Refused (refusal.Version found))) took stands broke refuses silent cause fault told =
       inl (refused-so (refusal.Version found) tt refuses (λ t. silent t tt) fault (stood cause) told)
-  fed-so (Err (Refused (refusal.Catalogue kept found))) took stands refuses silent cause fault told =
+  fed-so (Err (Refused (refusal.Catalogue kept found))) took stands broke refuses silent cause fault told =
       inl (refused-so (refusal.Catalogue kept found) tt refuses (λ t. silent t tt) fault (stood cause) told)
-  fed-so (Err (Refused (refusal.Damaged place))) took stands refuses silent cause fault told =
+  fed-so (Err (Refused (refusal.Damaged place))) took stands broke refuses silent cause fault told =
       inl (refused-so (refusal.Damaged place) tt refuses (λ t. silent t tt) fault (stood cause) told)
-  fed-so (Err (Refused refusal.DiskFault)) took stands refuses silent cause fault told =
+  fed-so (Err (Refused refusal.DiskFault)) took stands broke refuses silent cause fault told =
       let rose : Rose (both before) (both after) = one-rose before after cause in
-      inr (inr (broke-so (inl (told.0, omega arith, ap k.faults told.1 ∙ fault)) (Refused refusal.DiskFault) took told.1))
-  fed-so (Err (Refused refusal.NoMemory)) took stands refuses silent cause fault told =
-      inr (inr (broke-so (inr (inr (told.0, stood cause, ap k.faults told.1 ∙ fault))) (Refused refusal.NoMemory) took told.1))
-  fed-so (Err WriteFault) took stands refuses silent cause fault told =
-      inr (inr (broke-so (inr (inl (told.0, stood cause, subst (λ x. Rose (k.faults old) (k.faults x)) (sym told.1) fault))) WriteFault took told.1))
+      inr (inr (broke-so (inl (told.0, omega arith, ap k.faults told.1 ∙ fault)) (Refused refusal.DiskFault) took broke told.1))
+  fed-so (Err (Refused refusal.NoMemory)) took stands broke refuses silent cause fault told =
+      inr (inr (broke-so (inr (inr (told.0, stood cause, ap k.faults told.1 ∙ fault))) (Refused refusal.NoMemory) took broke told.1))
+  fed-so (Err WriteFault) took stands broke refuses silent cause fault told =
+      inr (inr (broke-so (inr (inl (told.0, stood cause, subst (λ x. Rose (k.faults old) (k.faults x)) (sym told.1) fault))) WriteFault took broke told.1))
 
 -- the journal was not opened: nothing is told
 pub none-fed : {K : Type 0} (k : sink.Ghosts K) (catalogue : Catalogue) (from : ℕ) (was now : Pair) (old : K) (status : ℕ) →
-    ((status ≡ 5) × Rose was.faults now.faults) ⊎ ((status ≡ 8) × (now.faults ≡ was.faults)) → (was.tells → HoldSame was now) → FeedsOver k catalogue from was now old old status
-none-fed k catalogue from was now old status why holds = record {
+    ((status ≡ 5) × Rose was.faults now.faults) ⊎ ((status ≡ 8) × (now.faults ≡ was.faults)) → (was.tells → HoldSame was now) →
+    (was.tells → now.whole → WhileLooked was.stories now.stories) → FeedsOver k catalogue from was now old old status
+none-fed k catalogue from was now old status why holds looked = record {
   did = inr (inr (record {
     why = elim why [ inl fault ↦ inl (fault.0, fault.1, refl) | inr lack ↦ inr (inr (lack.0, lack.1, refl)) ];
-    told = λ t kt base before events stands. ([], feed_text from base before events, refl, sym (append-nil (k.taken old)));
+    told = λ t kt. inl refl;
   }));
   holds = holds;
+  images = looked;
 }

@@ -8,7 +8,7 @@ use Rattle.boss_following.specs.Ends.{LastsAfterSome, OpensToSome}
 use Rattle.boss_following.specs.Owns.{IsAmong, known_after}
 use Rattle.boss_jobs.specs.Crashes.{WhileMoved}
 use Rattle.boss_jobs.specs.Journals.{on_disks, Pair}
-use Rattle.boss_jobs.proofs.Lifting.{Follows, holds-so, moved-carried, none-so, refused-so, same-two, stands-so}
+use Rattle.boss_jobs.proofs.Lifting.{Follows, holds-so, looked-so, moved-carried, none-so, refused-so, same-two, stands-so}
 use Rattle.boss_model.specs.Catalogue.{Catalogue, actuators}
 use Rattle.boss_model.specs.declared.event.Event.{Event}
 use Rattle.boss_model.specs.State.{Persistent}
@@ -108,13 +108,20 @@ module _ (was now was' now' : Pair) where
             | inr (inl unwritten) ↦ inr (inl (unwritten.0, so.stood unwritten.1, unwritten.2))
             | inr (inr lack) ↦ inr (inr (lack.0, so.stood lack.1, lack.2))
           ];
-          told = λ told written base before events stands.
-              let began = so.began told in
-              broke.told (so.tells told) written base before events
-              (same-two (λ a b. StandsFor (actuators catalogue) (digest_of catalogue) base before events a b) was.first was.second was'.first was'.second (sym began.0, sym began.1) stands);
+          told = λ told written. elim (broke.told (so.tells told) written) [
+            | inl silent ↦ inl silent
+            | inr front ↦ inr (record {
+              base = front.base;
+              before = front.before;
+              events = front.events;
+              stands = same-two (λ a b. StandsFor (actuators catalogue) (digest_of catalogue) front.base front.before front.events a b) _ _ _ _ (so.began told) front.stands;
+              told = front.told;
+            })
+          ];
         }))
       ];
       holds = holds-so was now was' now' so it.holds;
+      images = looked-so was now was' now' so it.images;
     }
 
     pub follows-so : {S K : Type 0} (s : source.Ghosts S) (k : sink.Ghosts K) (catalogue : Catalogue) (old new : Streams S K) (status : ℕ) → FollowsOver s k catalogue was' now' old new status →

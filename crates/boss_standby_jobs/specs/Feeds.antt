@@ -6,7 +6,7 @@ use Rattle.boss_journal_lines.specs.Reports.{refusal_line}
 use Rattle.boss_model.specs.Catalogue.{Catalogue, actuators}
 use Rattle.boss_model.specs.declared.event.Event.{Event}
 use Rattle.boss_model.specs.State.{Persistent}
-use Rattle.boss_opening.specs.Opens.{digest_of, OpenRefuses}
+use Rattle.boss_opening.specs.Opens.{digest_of, OpenRefuses, WhileLooked}
 use Rattle.boss_outside.specs.Counts.{Rose}
 use Rattle.boss_outside.specs.declared.sink.Sink as sink
 use Rattle.boss_outside.specs.Streams.{TakesFront}
@@ -46,16 +46,25 @@ module _ {K : Type 0} (k : sink.Ghosts K) (catalogue : Catalogue) (from : ℕ) (
     pub sink : k.faults new ≡ k.faults old
     pub faults : now.faults ≡ was.faults
 
-  -- A file or a disk failed, which is status 5, or a write, which is 7, or no memory was to be had, which is 8: of a journal that stands
-  -- for something, a front of its feed was told.
+  -- a front of the feed of what it stands for was told
+  pub record ToldFront : Type 0 where
+    pub base : Persistent
+    pub before : ℕ
+    pub events : List Event
+    pub stands : StandsUnder catalogue was base before events
+    pub told : TakesFront (k.taken old) (k.taken new) (feed_text from base before events)
+
+  -- A file or a disk failed, which is status 5, or a write, which is 7, or no memory was to be had, which is 8: nothing was told, or a
+  -- front of the feed of what the journal stands for.
   pub record BrokeFeed : Type 0 where
     pub why : ((status ≡ 5) × Rose was.faults now.faults × (k.faults new ≡ k.faults old))
         ⊎ ((status ≡ 7) × (now.faults ≡ was.faults) × Rose (k.faults old) (k.faults new))
         ⊎ ((status ≡ 8) × (now.faults ≡ was.faults) × (k.faults new ≡ k.faults old))
-    pub told : was.tells → k.tells → (base : Persistent) (before : ℕ) (events : List Event) → StandsUnder catalogue was base before events
-        → TakesFront (k.taken old) (k.taken new) (feed_text from base before events)
+    pub told : was.tells → k.tells → (k.taken new ≡ k.taken old) ⊎ ToldFront
 
   -- the feed of a journal, which holds what it held
   pub record FeedsOver : Type 0 where
     pub did : RefusedFeed ⊎ ToldFeed ⊎ BrokeFeed
     pub holds : was.tells → HoldSame was now
+    -- what a crash may leave meanwhile
+    pub images : was.tells → now.whole → WhileLooked was.stories now.stories

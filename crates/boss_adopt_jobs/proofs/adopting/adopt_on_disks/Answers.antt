@@ -9,7 +9,7 @@ use Rattle.boss_opening.specs.Opens.{digest_of, OpenRefuses}
 use Rattle.boss_pair_find.specs.Two.{counts, two}
 use Rattle.boss_jobs.specs.Jobs.{TellsLine}
 use Rattle.boss_jobs.specs.Journals.{on_disks}
-use Rattle.boss_jobs.proofs.Carrying.{Quietly}
+use Rattle.boss_jobs.proofs.Carrying.{Quietly, still-looked}
 use Rattle.boss_jobs.proofs.Lifting.{same-carries}
 use Rattle.boss_jobs.proofs.Refusals.{both, told-so}
 use Rattle.boss_jobs.proofs.StandingLemmas.{same-stands}
@@ -32,6 +32,7 @@ returns-in-Ok-New g c =
       tells = subst (λ line. TellsLine g.K.Sink line 0 c.args.sink.now c.say-status.new.sink c.say-status.result.0) c.new_line.ensures c.say-status.ensures;
       holds = λ told. (checked.first_reads told, checked.second_reads told);
       faults = ap both (no-fault answer New (counts (d.faults c.args.first) (d.faults c.args.second)) (counts (d.faults disks.0) (d.faults disks.1)) is checked.cause);
+      images = λ told _. still-looked (on_disks d (c.args.first, c.args.second)).stories (on_disks d disks).stories (λ i. two (checked.first_story told i) (checked.second_story told i));
     })))
 
 -- it is not
@@ -81,7 +82,7 @@ returns-in-Err g c =
     let after = counts (d.faults disks.0) (d.faults disks.1) in
     let it = told-so g.K.Sink c.args.old.now was now c.args.sink.now c.say_journal-status.new.sink c.say_journal-status.result.0 before after refl refl c.in-Err.refusal
     (λ told. subst (λ r. IfErr r (OpenRefuses (actuators c.args.old.now) (digest_of c.args.old.now) (d.reads c.args.first) (d.reads c.args.second))) c.in-Err.is (checked.refuses told))
-    (λ told _. (checked.first_reads told, checked.second_reads told)) c.say_journal-status.ensures (subst (CheckCause before after) c.in-Err.is checked.cause) in
+    (λ told _. (checked.first_reads told, checked.second_reads told)) (λ told _. still-looked was.stories now.stories (λ i. two (checked.first_story told i) (checked.second_story told i))) c.say_journal-status.ensures (subst (CheckCause before after) c.in-Err.is checked.cause) in
     elim it [
       | inl none ↦ inl (
         none,

@@ -35,7 +35,7 @@ returns-in-Err g c =
     let d = g.D.Disk in
     let it = told-so g.K.Sink c.args.old.now (on_disks d (c.args.first, c.args.second)) (on_disks d c.in-Err.disks) c.args.sink.now c.say_journal-status.new.sink c.say_journal-status.result.0
     (counts (d.faults c.args.first) (d.faults c.args.second)) (counts (d.faults c.in-Err.disks.0) (d.faults c.in-Err.disks.1)) refl refl c.in-Err.refusal
-    c.in-Err.ensures.refuses c.in-Err.ensures.unchanged c.say_journal-status.ensures c.in-Err.ensures.cause in
+    c.in-Err.ensures.refuses c.in-Err.ensures.unchanged c.in-Err.ensures.looked c.say_journal-status.ensures c.in-Err.ensures.cause in
     elim it [
       | inl none ↦ inl (none, disks-stand d c.args.old.now c.args.first c.args.second c.in-Err.disks g.met.D.Disk.reads_stay c.in-Err.ensures.images)
       | inr refused ↦ inr (inl refused)

@@ -1,15 +1,15 @@
-use Rattle.std.proofs.Common.{List, [], ℕ, sym, subst}
+use Rattle.std.proofs.Common.{◌≡◌, inl, List, [], ℕ, refl, sym, subst}
 use Rattle.std.specs.Prelude.{IfErr}
 use Rattle.boss_disk_pair.specs.Causes.{Counts}
 use Rattle.boss_feeding.specs.Faults.{DisksCause}
+use Rattle.boss_feeding.specs.Held.{Stands}
 use Rattle.boss_feeding.specs.Refusals.{FeedRefuses}
 use Rattle.boss_feeding.proofs.Forced.{new_stands}
-use Rattle.boss_feeding.proofs.Looked.{looked_cause, looked_fine, looked_found, looked_new, looked_refused, whatever}
+use Rattle.boss_feeding.proofs.Looked.{looked_cause, looked_fine, looked_found, looked_new, looked_refused, at_any_rate, whatever}
 use Rattle.boss_feeding.proofs.Stood.{feed_new, new_has}
 use Rattle.boss_feeding.proofs.Writing.{no_lines, nothing_told}
 use Rattle.boss_model.specs.Catalogue.{actuators}
-use Rattle.boss_model.specs.declared.event.Event.{Event}
-use Rattle.boss_model.specs.State.{Persistent, first_persistent}
+use Rattle.boss_model.specs.State.{first_persistent}
 use Rattle.boss_opening.specs.Opens.{digest_of}
 use Rattle.boss_pair_find.specs.Two.{counts}
 use Rattle.boss_pair_find.proofs.Orders.{at_both}
@@ -55,7 +55,17 @@ returns-in-Ok-Found-clause-stands g c tells =
     let second = g.D.Disk.reads c.args.second in
     let found = looked_found plant digest first second c.check-disks.result.1 c.in-Ok-Found.field-0 c.in-Ok-Found.field-0-0 c.in-Ok-Found.field-0-1 c.in-Ok-Found.field-0-2 c.in-Ok-Found.field-0-3 c.in-Ok-Found.is
     (rw c.in-Ok-Found.is at c.in-Ok-Found.field-0-is) (c.check-disks.ensures.tells tells) in
-    whatever ((base : Persistent) × (before : ℕ) × (events : List Event) × StandsFor plant digest base before events first second) c.feed_again.result.1
+    whatever (Stands plant digest first second) c.feed_again.result.1 (found.from, found.before, found.events, found.stands)
+
+pub returns-in-Ok-Found-clause-broke : goal.returns-in-Ok-Found-clause-broke
+returns-in-Ok-Found-clause-broke g c tells =
+    let plant = actuators c.args.catalogue.now in
+    let digest = digest_of c.args.catalogue.now in
+    let first = g.D.Disk.reads c.args.first in
+    let second = g.D.Disk.reads c.args.second in
+    let found = looked_found plant digest first second c.check-disks.result.1 c.in-Ok-Found.field-0 c.in-Ok-Found.field-0-0 c.in-Ok-Found.field-0-1 c.in-Ok-Found.field-0-2 c.in-Ok-Found.field-0-3 c.in-Ok-Found.is
+    (rw c.in-Ok-Found.is at c.in-Ok-Found.field-0-is) (c.check-disks.ensures.tells tells) in
+    at_any_rate (Stands plant digest first second) (g.K.Sink.tells → g.K.Sink.taken c.feed_again.new.sink ≡ g.K.Sink.taken c.args.sink.now) c.feed_again.result.1
     (found.from, found.before, found.events, found.stands)
 
 pub returns-in-Ok-Found-clause-refuses : goal.returns-in-Ok-Found-clause-refuses
@@ -72,6 +82,9 @@ returns-in-Ok-Found-clause-cause g c =
 
 pub returns-in-Err-clause-told : goal.returns-in-Err-clause-told
 returns-in-Err-clause-told g c tells takes base before events stands = nothing_told _ _
+
+pub returns-in-Err-clause-broke : goal.returns-in-Err-clause-broke
+returns-in-Err-clause-broke g c tells = inl (λ _. refl)
 
 pub returns-in-Err-clause-refuses : goal.returns-in-Err-clause-refuses
 returns-in-Err-clause-refuses g c tells =

@@ -9,7 +9,7 @@ use Rattle.boss_feeding.proofs.Stood.{feed_new, first_has, never_foreign, new_ha
 use Rattle.boss_feeding.proofs.Writing.{no_lines}
 use Rattle.boss_model.specs.Catalogue.{actuators}
 use Rattle.boss_opening.specs.Opens.{digest_of}
-use Rattle.boss_points.specs.Canonical.{canonical}
+use Rattle.def_catalogue.specs.Canonical.{canonical}
 use Rattle.def_log.specs.Kinds.{kind_of}
 use Rattle.sha2.proofs.Facts256.{length-sha256}
 use Rattle.boss_feeding.proofs.feeding.feed_forced.Goals as goal

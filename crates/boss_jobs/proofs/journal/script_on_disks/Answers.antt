@@ -16,7 +16,7 @@ returns-in-Err g c =
     let d = g.D.Disk in
     let it = told-so g.K.Sink c.args.catalogue.now (on_disks d (c.args.first, c.args.second)) (on_disks d c.in-Err.disks) c.args.sink.now c.say_journal-status.new.sink c.say_journal-status.result.0
     (counts (d.faults c.args.first) (d.faults c.args.second)) (counts (d.faults c.in-Err.disks.0) (d.faults c.in-Err.disks.1)) refl refl c.in-Err.refusal
-    c.in-Err.ensures.refuses c.in-Err.ensures.unchanged c.say_journal-status.ensures c.in-Err.ensures.cause in
+    c.in-Err.ensures.refuses c.in-Err.ensures.unchanged c.in-Err.ensures.looked c.say_journal-status.ensures c.in-Err.ensures.cause in
     elim it [
       | inl none ↦ inl (
         record { why = none.why; untouched = ap (λ k. beside c.args.source.now k c.args.devices.now.items) none.untouched },

@@ -1,7 +1,7 @@
 use Rattle.std.proofs.lemmas.Result.{IfOk-weaker}
 use Rattle.boss_model.specs.Catalogue.{actuators}
 use Rattle.boss_opening.specs.Opens.{digest_of}
-use Rattle.boss_opening.proofs.Openings.{same_opening, synced_ill, synced_then}
+use Rattle.boss_opening.proofs.Openings.{same_opening, synced_ill, synced_then, synced_untouched}
 use Rattle.boss_opening.proofs.opening.open.Goals as goal
 
 pub returns-in-Ok-clause-refuses : goal.returns-in-Ok-clause-refuses
@@ -51,6 +51,11 @@ returns-in-Ok-clause-digest g c =
 pub returns-in-Ok-clause-limit : goal.returns-in-Ok-clause-limit
 returns-in-Ok-clause-limit g c =
     IfOk-weaker c.open_synced.result _ _ (λ durable ready. ready.limit_is) c.open_synced.ensures.opening.ready
+
+pub returns-in-Ok-clause-looked : goal.returns-in-Ok-clause-looked
+returns-in-Ok-clause-looked g c told =
+    synced_untouched g.D.Disk (actuators c.args.catalogue.now) (digest_of c.args.catalogue.now) c.args.first c.args.second c.sync_both.new.first c.sync_both.new.second (c.sync_both.ensures.images told)
+    c.open_synced.result (c.open_synced.ensures.untouched told)
 
 pub returns-in-Ok-clause-images : goal.returns-in-Ok-clause-images
 returns-in-Ok-clause-images g c told =

@@ -2,13 +2,17 @@ use Rattle.std.proofs.Common.{◌≡◌, subst, sym}
 use Rattle.boss_disk.specs.Window.{settled}
 use Rattle.boss_pair_find.specs.Finds.{Finds, IsSettled, Starts, found_first, found_second}
 use Rattle.boss_model.specs.Catalogue.{actuators}
-use Rattle.boss_opening.specs.Opens.{Opening, Stays, digest_of}
+use Rattle.boss_opening.specs.Opens.{IsUntouched, Opening, Stays, digest_of}
 use Rattle.boss_disk_pair.specs.Reads.{is_settled, reads_to}
 use Rattle.boss_opening.proofs.opening.open_found.Goals as goal
 
 pub returns-in-New-clause-opening : goal.returns-in-New-clause-opening
 returns-in-New-clause-opening g c =
     subst (λ found. Opening (actuators c.args.catalogue.now) (digest_of c.args.catalogue.now) c.args.log_limit (found_first found) (found_second found) c.open_new.result) (sym c.in-New.is) c.open_new.ensures.opening
+
+pub returns-in-New-clause-untouched : goal.returns-in-New-clause-untouched
+returns-in-New-clause-untouched g c told =
+    subst (λ found. IsUntouched (found_first found) (found_second found) c.open_new.result) (sym c.in-New.is) (c.open_new.ensures.untouched told)
 
 pub returns-in-New-clause-stays : goal.returns-in-New-clause-stays
 returns-in-New-clause-stays g c told =
@@ -18,6 +22,10 @@ pub returns-in-Plain-clause-opening : goal.returns-in-Plain-clause-opening
 returns-in-Plain-clause-opening g c =
     subst (λ found. Opening (actuators c.args.catalogue.now) (digest_of c.args.catalogue.now) c.args.log_limit (found_first found) (found_second found) c.open_plain.result) (sym c.in-Plain.is) c.open_plain.ensures.opening
 
+pub returns-in-Plain-clause-untouched : goal.returns-in-Plain-clause-untouched
+returns-in-Plain-clause-untouched g c told =
+    subst (λ found. IsUntouched (found_first found) (found_second found) c.open_plain.result) (sym c.in-Plain.is) (c.open_plain.ensures.untouched told)
+
 pub returns-in-Plain-clause-stays : goal.returns-in-Plain-clause-stays
 returns-in-Plain-clause-stays g c told =
     subst (λ found. Stays (actuators c.args.catalogue.now) (digest_of c.args.catalogue.now) (found_first found) (found_second found) c.open_plain.result) (sym c.in-Plain.is) (c.open_plain.ensures.stays told)
@@ -25,6 +33,10 @@ returns-in-Plain-clause-stays g c told =
 pub returns-in-State-clause-opening : goal.returns-in-State-clause-opening
 returns-in-State-clause-opening g c =
     subst (λ found. Opening (actuators c.args.catalogue.now) (digest_of c.args.catalogue.now) c.args.log_limit (found_first found) (found_second found) c.open_state.result) (sym c.in-State.is) c.open_state.ensures.opening
+
+pub returns-in-State-clause-untouched : goal.returns-in-State-clause-untouched
+returns-in-State-clause-untouched g c told =
+    subst (λ found. IsUntouched (found_first found) (found_second found) c.open_state.result) (sym c.in-State.is) (c.open_state.ensures.untouched told)
 
 pub returns-in-State-clause-stays : goal.returns-in-State-clause-stays
 returns-in-State-clause-stays g c told =

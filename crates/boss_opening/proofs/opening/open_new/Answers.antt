@@ -2,6 +2,7 @@ use Rattle.std.proofs.Common.{ℕ, List, [], refl, sym, ap, subst, ◌∙◌}
 use Rattle.boss_disk.specs.Legs.{Legs, LeaveBoth}
 use Rattle.boss_engine.specs.Running.{Running}
 use Rattle.boss_pair_find.specs.declared.refusal.DurableRefusal.TheVariants.{NoMemory}
+use Rattle.boss_pair_find.specs.Refusals.{IsOfBytes}
 use Rattle.boss_pair_find.specs.Two.{two}
 use Rattle.boss_model.specs.Catalogue.{actuators}
 use Rattle.boss_model.specs.declared.state.Actuator.{Actuator}
@@ -9,7 +10,7 @@ use Rattle.boss_model.specs.Plants.{IsPlant}
 use Rattle.boss_model.specs.State.{State, first_persistent}
 use Rattle.boss_opening.specs.Opens.{Finishing, Opening, Stays, digest_of}
 use Rattle.boss_opening.proofs.Beginnings.{new_opening, new_stays, not_made, not_made_stays}
-use Rattle.boss_opening.proofs.Openings.{nothing_moved, refused}
+use Rattle.boss_opening.proofs.Openings.{none_touched, nothing_moved, refused}
 use Rattle.def_disk_pair.specs.Pairs.{OpensCleanly}
 use Rattle.boss_disk_pair.specs.Causes.{first_disk, second_disk}
 use Rattle.boss_disk_pair.specs.Rests.{rests}
@@ -40,6 +41,12 @@ returns-in-Ok-make-clause-stays g c told =
     (subst (λ digest. Legs (LeaveBoth (OpensCleanly (actuators c.args.catalogue.now) digest first_persistent 0)) (two (g.D.Disk.story c.args.first) (g.D.Disk.story c.args.second))
     (two (g.D.Disk.story (first_disk c.in-Ok-make.pair)) (g.D.Disk.story (second_disk c.in-Ok-make.pair)))) c.digest.ensures
     (c.in-Ok-make.ensures.images told (c.requires.synced told).0 (c.requires.synced told).1 (actuators c.args.catalogue.now)))
+
+pub returns-in-Ok-make-clause-untouched : goal.returns-in-Ok-make-clause-untouched
+returns-in-Ok-make-clause-untouched g c told = none_touched _ _ c.finish.result c.finish.ensures.refuses
+
+pub returns-in-Err-make-clause-untouched : goal.returns-in-Err-make-clause-untouched
+returns-in-Err-make-clause-untouched g c told some = absurd (subst IsOfBytes (c.in-Err-make.ensures.refuses told) some)
 
 pub returns-in-Err-make-clause-opening : goal.returns-in-Err-make-clause-opening
 returns-in-Err-make-clause-opening g c =

@@ -35,6 +35,9 @@ returns-in-Err-NotSound-clause-opening g c =
     unread (actuators c.args.catalogue.now) (digest_of c.args.catalogue.now) c.args.log_limit c.args.pair c.close.result c.close.ensures.disks (Damaged 65)
     (λ told. inr (inl (refl, (seen c.args.kept.now, c.args.pair.events, c.args.pair.journal.place, c.requires.found told, c.in-Err-NotSound.ensures.wrong c.in-Err-NotSound.field-0-is)))) refl
 
+pub returns-in-Err-NotSound-clause-untouched : goal.returns-in-Err-NotSound-clause-untouched
+returns-in-Err-NotSound-clause-untouched g c told some = (ap g.D.Disk.story c.close.ensures.disks.0, ap g.D.Disk.story c.close.ensures.disks.1)
+
 pub returns-in-Err-NotSound-clause-stays : goal.returns-in-Err-NotSound-clause-stays
 returns-in-Err-NotSound-clause-stays g c told =
     unread_stays (actuators c.args.catalogue.now) (digest_of c.args.catalogue.now) c.args.log_limit c.args.pair c.close.result c.close.ensures.disks (Damaged 65) c.requires.settled told

@@ -6,7 +6,7 @@ use Rattle.boss_pair_find.specs.Refusals.{FindRefuses}
 use Rattle.boss_pair_find.proofs.Orders.{at_both}
 use Rattle.boss_model.specs.Catalogue.{actuators}
 use Rattle.boss_opening.specs.Opens.{digest_of}
-use Rattle.boss_opening.proofs.Openings.{nothing_moved, of_find, refused, same_opening, same_stays}
+use Rattle.boss_opening.proofs.Openings.{nothing_moved, of_find, refused, same_opening, same_stays, same_untouched}
 use Rattle.boss_opening.proofs.opening.open_synced.Goals as goal
 
 pub open_found-requires-clause-finds : goal.open_found-requires-clause-finds
@@ -35,6 +35,14 @@ pub returns-in-Ok-clause-stays : goal.returns-in-Ok-clause-stays
 returns-in-Ok-clause-stays g c told =
     same_stays (actuators c.args.catalogue.now) (digest_of c.args.catalogue.now) c.args.log_limit (found_first c.in-Ok.found) (found_second c.in-Ok.found) c.args.first c.args.second
     c.open_found.result c.in-Ok.ensures.first_reads c.in-Ok.ensures.second_reads told (c.in-Ok.ensures.first_windows told) (c.in-Ok.ensures.second_windows told) (c.open_found.ensures.stays told)
+
+pub returns-in-Ok-clause-untouched : goal.returns-in-Ok-clause-untouched
+returns-in-Ok-clause-untouched g c told =
+    same_untouched (actuators c.args.catalogue.now) (digest_of c.args.catalogue.now) c.args.log_limit (found_first c.in-Ok.found) (found_second c.in-Ok.found) c.args.first c.args.second
+    c.open_found.result c.in-Ok.ensures.first_reads c.in-Ok.ensures.second_reads (c.in-Ok.ensures.first_windows told) (c.in-Ok.ensures.second_windows told) (c.open_found.ensures.untouched told)
+
+pub returns-in-Err-clause-untouched : goal.returns-in-Err-clause-untouched
+returns-in-Err-clause-untouched g c told some = (c.in-Err.ensures.first_windows told, c.in-Err.ensures.second_windows told)
 
 pub returns-in-Err-clause-opening : goal.returns-in-Err-clause-opening
 returns-in-Err-clause-opening g c =

@@ -2,8 +2,9 @@ use Rattle.std.proofs.Common.{◌≡◌, ◌≢◌, inl, inr, ℕ, List, [], unw
 use Rattle.boss_files.specs.Names.{second_name}
 use Rattle.boss_files.proofs.Held.{of-each}
 use Rattle.boss_jobs.specs.Journals.{in_files, on_disks}
+use Rattle.boss_jobs.proofs.Carrying.{quiet-looked, still-looked}
 use Rattle.boss_jobs.proofs.Lifting.{stores-follow}
-use Rattle.boss_jobs.proofs.StandingLemmas.{failed-rose, lacking-stood}
+use Rattle.boss_jobs.proofs.StandingLemmas.{failed-rose, files-quiet, lacking-stood}
 use Rattle.boss_standby_jobs.proofs.Fed.{none-fed}
 use Rattle.boss_standby_jobs.proofs.Lifted.{feeds-so}
 use Rattle.boss_standby_jobs.proofs.feed_jobs.feed_in_files.Goals as goal
@@ -46,7 +47,7 @@ returns-in-Ok-open_stores-clause-keeps g c tells =
 pub returns-in_default-clause-feeds : goal.returns-in_default-clause-feeds
 returns-in_default-clause-feeds g c =
     let files = in_files g.F.Files c.args.journal.now c.args.files.now in
-    none-fed g.K.Sink c.args.catalogue.now c.args.from files files c.args.sink.now 8 (inr (refl, refl)) (λ told. (refl, refl))
+    none-fed g.K.Sink c.args.catalogue.now c.args.from files files c.args.sink.now 8 (inr (refl, refl)) (λ told. (refl, refl)) (λ told whole. still-looked files.stories files.stories refl)
 
 pub returns-in-Err-Failed-clause-feeds : goal.returns-in-Err-Failed-clause-feeds
 returns-in-Err-Failed-clause-feeds g c =
@@ -55,6 +56,9 @@ returns-in-Err-Failed-clause-feeds g c =
     none-fed g.K.Sink c.args.catalogue.now c.args.from (in_files f journal c.args.files.now) (in_files f journal c.open_stores.new.files) c.args.sink.now 5
     (inl (refl, failed-rose _ _ c.open_stores.result (c.in-Err-Failed.is ∙ ap Err c.in-Err-Failed.field-0-is) c.open_stores.ensures.cause))
     (λ told. (c.in-Err-Failed.ensures.keeps told journal, c.in-Err-Failed.ensures.keeps told (second_name journal)))
+    (λ told whole. quiet-looked (in_files f journal c.args.files.now).stories (in_files f journal c.open_stores.new.files).stories
+    (files-quiet f journal c.args.files.now c.open_stores.new.files c.as_str.result.now (c.as_str.ensures.value ∙ c.in-Ok.ensures.name)
+    (λ is. c.in-Ok.ensures.other (sym is ∙ c.as_str.ensures.value ∙ c.in-Ok.ensures.name)) c.in-Err-Failed.ensures.keeps c.in-Err-Failed.ensures.tried c.in-Err-Failed.ensures.others told whole))
 
 pub returns-clause-feeds : goal.returns-clause-feeds
 returns-clause-feeds g c =
@@ -63,3 +67,6 @@ returns-clause-feeds g c =
     none-fed g.K.Sink c.args.catalogue.now c.args.from (in_files f journal c.args.files.now) (in_files f journal c.open_stores.new.files) c.args.sink.now 8
     (inr (refl, lacking-stood _ _ c.open_stores.result (c.in-Err-NoMemory.is ∙ ap Err c.in-Err-NoMemory.field-0-is) c.open_stores.ensures.cause))
     (λ told. (c.in-Err-NoMemory.ensures.keeps told journal, c.in-Err-NoMemory.ensures.keeps told (second_name journal)))
+    (λ told whole. quiet-looked (in_files f journal c.args.files.now).stories (in_files f journal c.open_stores.new.files).stories
+    (files-quiet f journal c.args.files.now c.open_stores.new.files c.as_str.result.now (c.as_str.ensures.value ∙ c.in-Ok.ensures.name)
+    (λ is. c.in-Ok.ensures.other (sym is ∙ c.as_str.ensures.value ∙ c.in-Ok.ensures.name)) c.in-Err-NoMemory.ensures.keeps c.in-Err-NoMemory.ensures.tried c.in-Err-NoMemory.ensures.others told whole))
