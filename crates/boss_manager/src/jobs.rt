@@ -5,6 +5,7 @@ ghost use Rattle.boss_adopt_jobs.specs.AdoptJobs.{AdoptsJournal, AdoptsMemory};
 ghost use Rattle.boss_jobs.specs.Checks.{ChecksJournal, ChecksMemory};
 ghost use Rattle.boss_jobs.specs.Jobs.{DoesScript, world};
 ghost use Rattle.boss_jobs.specs.KeptScripts.{DoesKeptScript};
+ghost use Rattle.boss_model.specs.Limits.{most_workers};
 ghost use Rattle.boss_serve_jobs.specs.ServeJobs.{DoesServe, ServesInMemory, all_at_end, all_at_start};
 ghost use Rattle.boss_standby_jobs.specs.FeedJobs.{FeedsJournal, FeedsMemory};
 ghost use Rattle.boss_standby_jobs.specs.StandbyJobs.{DoesStandby, StandbyMemory};
@@ -207,7 +208,7 @@ where
     H::Out: Send,
     requires sound { H.sound world.host.now }
     requires some { 1 ≤ service.workers }
-    requires few { service.workers ≤ 32 }
+    requires few { service.workers ≤ most_workers }
     ensures sound { H.sound (all_at_end world.exit).host }
     ensures kept { journal.now ≢ codes "-" → DoesServe F.Files S.Source K.Sink A.Actuators H.Host H.In.Source H.Out.Sink
         C.Clock W.Waiter P.Spawner name.now journal.now service.entry.address.now service.entry.rules.now service.entry.plan.now (vec_len world.entry.devices.now) service.entry.workers service.entry.connections

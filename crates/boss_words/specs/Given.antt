@@ -1,5 +1,6 @@
 -- Source: own.
 use Rattle.std.specs.Prelude.{◌≡◌, ◌≤◌, Option, Some, None, Result, Ok, Err}
+use Rattle.boss_model.specs.Limits.{most_workers}
 use Rattle.boss_words.specs.declared.job.Job.{Job}
 use Rattle.boss_words.specs.declared.job.Job.TheVariants.{Script, Serve, Check, Adopt, Feed, Standby, Load}
 use Rattle.boss_words.specs.declared.read.WordsRefusal.{WordsRefusal}
@@ -11,9 +12,9 @@ Gives (Ok x) wanted = wanted ≡ Some x
 Gives (Err Usage) wanted = wanted ≡ None
 Gives (Err NoMemory) wanted = Unit {0}
 
--- a server has 1 to 32 workers; of other jobs nothing is said
+-- a server has 1 to 1,024 workers; of other jobs nothing is said
 abbrev pub HasWorkers : Job → Type 0
-HasWorkers (Serve catalogue journal address workers connections rules plan) = (1 ≤ workers) × (workers ≤ 32)
+HasWorkers (Serve catalogue journal address workers connections rules plan) = (1 ≤ workers) × (workers ≤ most_workers)
 HasWorkers (Script catalogue journal) = Unit {0}
 HasWorkers (Check catalogue journal) = Unit {0}
 HasWorkers (Adopt old new journal) = Unit {0}

@@ -7,6 +7,7 @@ use Rattle.std.specs.List.{list_all}
 use Rattle.std.specs.Str.{bytes_eq}
 use Rattle.std.specs.Str.Parse.{digits_value}
 use Rattle.std.specs.declared.alloc.Global.{Global}
+use Rattle.boss_model.specs.Limits.{most_workers}
 use Rattle.boss_words.specs.declared.job.Job.{Job}
 use Rattle.boss_words.specs.declared.job.Job.TheVariants.{Script, Serve, Check, Adopt, Feed, Standby, Load}
 
@@ -66,7 +67,7 @@ optional_of _ = None
 -- serve CATALOGUE JOURNAL ADDRESS WORKERS CONNECTIONS, and then RULES PLAN
 abbrev pub serve_of : List (List ℕ) → Option Job
 serve_of (catalogue ∷ journal ∷ address ∷ workers ∷ connections ∷ optional) = do
-  workers ← number_of 1 32 workers
+  workers ← number_of 1 most_workers workers
   connections ← number_of 1 4294967295 connections
   catalogue ← word_of catalogue
   journal ← word_of journal

@@ -18,7 +18,7 @@ pub enum Job {
         journal: Word,
         /// Where connections are taken.
         address: Word,
-        /// How many connections are served at once: 1 to 32.
+        /// How many connections are served at once: 1 to 1,024.
         workers: u32,
         /// How many connections are taken in all, at least 1.
         connections: u32,

@@ -5,6 +5,7 @@ ghost use Rattle.std.specs.Prelude.{◌≡◌, IfOk};
 
 use crate::number::{event_number, number};
 use crate::{Job, Word};
+use boss_model::MOST_WORKERS;
 use std::alloc::{AllocError, Global};
 use std::error::Error;
 use std::fmt;
@@ -37,7 +38,7 @@ impl From<AllocError> for WordsRefusal {
     }
 }
 
-/// The job that the words ask for; they do not include the program's own name. No word is an option. A server has 1 to 32 workers.
+/// The job that the words ask for; they do not include the program's own name. No word is an option. A server has 1 to 1,024 workers.
 pub fn read_words(alloc: Global, words: &Vec<String>) -> Result<Job, WordsRefusal>
     ensures job { Gives result (job_of (texts words.now.items)) }
     ensures workers { IfOk result HasWorkers }
@@ -86,7 +87,7 @@ fn serve(alloc: Global, arguments: &[String]) -> Result<Job, WordsRefusal>
     else {
         return Err(WordsRefusal::Usage);
     };
-    let workers = number(workers.as_str(), 1, 32).ok_or(WordsRefusal::Usage)?;
+    let workers = number(workers.as_str(), 1, MOST_WORKERS as u32).ok_or(WordsRefusal::Usage)?;
     let connections = number(connections.as_str(), 1, u32::MAX).ok_or(WordsRefusal::Usage)?;
     let catalogue = Word::new(alloc, catalogue.as_str())?;
     let journal = Word::new(alloc, journal.as_str())?;
