@@ -6,7 +6,7 @@ ghost use Rattle.def_history.specs.History.{MayCall};
 
 use boss_model::{Answer, Command, SessionId};
 use boss_points::Catalogue;
-use boss_requests::{Ask, Form, Request, read_request};
+use boss_requests::{Ask, Form, Request, RequestReader, read_by};
 use boss_shared::Desk;
 use def_history::Outcome;
 use std::alloc::Global;
@@ -64,8 +64,9 @@ pub fn is_line_done<G: Desk>(
     ensures own { G.owns desk.now pass.new }
     ensures parts { G.parts pass.new ≡ G.parts pass.old }
 {
-    let Ok(Request { on, at, ask }) = read_request(alloc, catalogue, line.as_bytes(), Form::Script)
-    else {
+    let mut reader = RequestReader::new(alloc);
+    let read = read_by(alloc, catalogue, line.as_bytes(), Form::Script, &mut reader);
+    let Ok(Request { on, at, ask }) = read else {
         return false;
     };
     let Ask::Command(command) = ask else {

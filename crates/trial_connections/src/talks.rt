@@ -42,6 +42,8 @@ const FREE: &str =
 
 const MALFORMED: &str = r#"{"error":"malformed"}"#;
 
+const NO_OP: &str = r#"{"error":"malformed","key":"op"}"#;
+
 const UNKNOWN_OP: &str = r#"{"error":"unknown-op"}"#;
 
 const TOO_LONG: &str = r#"{"error":"too-long"}"#;
@@ -211,7 +213,7 @@ const OTHER_LINES: &[Talk] = &[
     Talk {
         shows: "a line between two reads that asks nothing",
         lines: &[READ, "{}", READ],
-        told: &[FREE, MALFORMED, FREE, ENDED, "1 at 1000", "1 at 1000"],
+        told: &[FREE, NO_OP, FREE, ENDED, "1 at 1000", "1 at 1000"],
         ..ONE_PIECE
     },
     Talk {
@@ -502,7 +504,7 @@ const WRITES: &[Talk] = &[
         shows: "a line that asks nothing has a write of its own",
         lines: &[READ, READ, "{}"],
         counts: true,
-        told: &[FREE, FREE, MALFORMED, ENDED, "2 at 1000", "writes: 2"],
+        told: &[FREE, FREE, NO_OP, ENDED, "2 at 1000", "writes: 2"],
         ..ONE_PIECE
     },
     Talk {

@@ -105,15 +105,6 @@ const REFUSED: &[(&str, CatalogueRefusal)] = &[
     ("drivers=[]", Missing { key: Key::Point }),
     ("drivers=[]\npoint='a'", Missing { key: Key::Point }),
     ("drivers=[]\n[point]\nname='a'", Missing { key: Key::Point }),
-    // Seventeen drivers, also where one of them is no name.
-    (
-        "drivers=['d0','d1','d2','d3','d4','d5','d6','d7','d8','d9','d10','d11','d12','d13','d14','d15','d16']\npoint=[]",
-        TooMany { count: 17 },
-    ),
-    (
-        "drivers=[7,'d0','d1','d2','d3','d4','d5','d6','d7','d8','d9','d10','d11','d12','d13','d14','d15']\npoint=[]",
-        TooMany { count: 17 },
-    ),
     // A driver that is no text, no name, or stands earlier; the least place.
     ("drivers=['f',7]\npoint=[]", BadDriver { place: 1 }),
     ("drivers=['']\npoint=[]", BadDriver { place: 0 }),
@@ -583,4 +574,39 @@ fn reads_1048576_bytes_and_no_more(rt: HostRuntime) {
     assert!(&rt; has_three_points(alloc, &most));
     let more = file_of(&rt, alloc, 1_048_577);
     assert!(&rt; is_refused(alloc, &more, TooLong { length: 1_048_577 }));
+}
+
+/// A file of so many drivers, behind one whose name this is, and no point.
+fn drivers(rt: &impl Abort, alloc: Global, first: &str, others: u32) -> String {
+    let mut text = format!(in alloc; "drivers=[{first}").expect(rt, "memory");
+    for number in 0..others {
+        add_driver(rt, alloc, &mut text, number);
+    }
+    text.push_str("]\npoint=[]\n").expect(rt, "memory");
+    text
+}
+
+/// One driver more.
+fn add_driver(rt: &impl Abort, alloc: Global, file: &mut String, number: u32) {
+    let driver = format!(in alloc; ",'d{number}'").expect(rt, "memory");
+    file.push_str(driver.as_str()).expect(rt, "memory");
+}
+
+fn has_256_drivers(alloc: Global, file: &[u8]) -> bool {
+    match Catalogue::read(alloc, file) {
+        Ok(catalogue) => catalogue.drivers() == 256,
+        Err(_refusal) => false,
+    }
+}
+
+#[test]
+fn reads_256_drivers_and_no_more(rt: HostRuntime) {
+    let alloc = rt.alloc();
+    let most = drivers(&rt, alloc, "'d'", 255);
+    assert!(&rt; has_256_drivers(alloc, most.as_bytes()));
+    let more = drivers(&rt, alloc, "'d'", 256);
+    assert!(&rt; is_refused(alloc, more.as_bytes(), TooMany { count: 257 }));
+    // Also where one of them is no name.
+    let nameless = drivers(&rt, alloc, "7", 256);
+    assert!(&rt; is_refused(alloc, nameless.as_bytes(), TooMany { count: 257 }));
 }

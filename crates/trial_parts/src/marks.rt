@@ -1,6 +1,6 @@
 ghost use Rattle.std.specs.Prelude.{◌≤◌, ◌<◌, ◌^◌, length};
 
-use self::Deed::{Looked, Next, Reported, Retried, Settled, Started, Wanting};
+use self::Deed::{Differed, Doubted, Looked, Next, Reported, Retried, Settled, Started, Wanting};
 use boss_marks::Marks;
 use boss_model::{DriverId, Items, PointId};
 use std::alloc::Global;
@@ -28,6 +28,10 @@ enum Deed {
     Next(u16),
     /// The driver tells whether the point's device took this version, at a moment.
     Reported(u32, u64, bool, u32),
+    /// The point's device is doubted, and whether it was found with another value.
+    Doubted(u32, bool),
+    /// How often it was found with another value is asked for.
+    Differed(u32),
     /// What failed is tried again, at a moment.
     Retried(u32),
     /// The point's mark is asked for.
@@ -108,6 +112,40 @@ const TRIALS: &[&[(Deed, &str)]] = &[
         ),
         (Reported(LAMP, 1, false, 6000), "LaterFailure"),
     ],
+    // A settled device that is doubted is written again, with the same version and value, and its failure concerns nobody.
+    &[
+        (Doubted(FAN, true), "false"),
+        (
+            Next(ROOF),
+            "Some(Want { point: PointId(2), version: 1, value: 1 })",
+        ),
+        (Doubted(FAN, true), "false"),
+        (Reported(FAN, 1, true, 0), "Settled"),
+        (Differed(FAN), "0"),
+        (Doubted(FAN, true), "true"),
+        (Looked(FAN), "Pending"),
+        (Doubted(FAN, true), "false"),
+        (
+            Next(ROOF),
+            "Some(Want { point: PointId(2), version: 1, value: 1 })",
+        ),
+        (Reported(FAN, 1, false, 1000), "LaterFailure"),
+        (Doubted(FAN, true), "false"),
+        (Retried(6000), "()"),
+        (
+            Next(ROOF),
+            "Some(Want { point: PointId(2), version: 1, value: 1 })",
+        ),
+        (Reported(FAN, 1, true, 6000), "Settled"),
+        (Doubted(FAN, false), "true"),
+        (Differed(FAN), "1"),
+        (Settled(FAN, 0), "()"),
+        (
+            Next(ROOF),
+            "Some(Want { point: PointId(2), version: 2, value: 0 })",
+        ),
+        (Reported(FAN, 2, false, 7000), "FirstFailure"),
+    ],
 ];
 
 /// The point at this place of the marks.
@@ -140,6 +178,11 @@ fn told(rt: &impl Abort, alloc: Global, marks: &mut Marks, deed: Deed) -> String
             let point = known(rt, marks, point);
             shown(rt, alloc, &marks.report(point, version, ok, u64::from(n)))
         }
+        Doubted(point, differs) => {
+            let point = known(rt, marks, point);
+            shown(rt, alloc, &marks.doubt(point, differs))
+        }
+        Differed(point) => shown(rt, alloc, &marks.differed(known(rt, marks, point))),
         Retried(n) => shown(rt, alloc, &marks.retry_due(u64::from(n))),
         Looked(point) => shown(rt, alloc, &marks.mark(known(rt, marks, point))),
         Wanting => shown(rt, alloc, &marks.wanting()),

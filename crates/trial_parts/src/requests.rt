@@ -1,8 +1,6 @@
 use crate::THREE_POINTS;
 use boss_points::Catalogue;
-use boss_requests::{
-    Ask, Form, ReadRefusal, Request, RequestReader, is_blank, read_by, read_request,
-};
+use boss_requests::{Ask, Form, ReadRefusal, Request, RequestReader, is_blank, read_by};
 use std::alloc::Global;
 use std::process::Abort;
 
@@ -10,7 +8,7 @@ fn three_points(rt: &impl Abort, alloc: Global) -> Catalogue {
     Catalogue::read(alloc, THREE_POINTS.as_bytes()).expect(rt, "a catalogue")
 }
 
-/// What a line is read as, by itself and by a reader that has read others.
+/// What a line is read as, by a reader of its own and by one that has read others.
 fn reading(
     rt: &impl Abort,
     alloc: Global,
@@ -26,8 +24,8 @@ fn reading(
 }
 
 fn alone(rt: &impl Abort, alloc: Global, catalogue: &Catalogue, form: Form, line: &[u8]) -> String {
-    let read = read_request(alloc, catalogue, line, form);
-    told(rt, alloc, &read)
+    let mut reader = RequestReader::new(alloc);
+    along(rt, alloc, catalogue, form, line, &mut reader)
 }
 
 fn along(
@@ -88,6 +86,12 @@ const LINES: &str = r#"
 {"op":"notices"}
 = 1 0 Notices { name: None, from: 9223372036854775807, max: 64 }
 {"op":"notices","from":9223372036854775807,"max":64}
+= 1 0 Points { from: 0, max: 64 }
+{"op":"points"}
+= 1 0 Points { from: 4611686018427387904, max: 1 }
+{"op":"points","from":4611686018427387904,"max":1}
+= 1 0 Version
+{"op":"version"}
 
 # Submits. What the machine refuses is a request all the same.
 = 1 0 Submit { writes: Items { items: [Setting { point: PointId(0), value: 45000, priority: 16, lease: 60000, revert: Items { items: [] } }] }, policy: Abort, seq: 0 }
@@ -216,7 +220,7 @@ const LINES: &str = r#"
 {"op":"submit","seq":9,"policy":"keep","writes":[{ "point":"fan","value":3,"priority":5,"lease":1,"revert":[ [ 2 , 30000 ] ] }]}
 {"op":"submit","seq":9,"policy":"keep","writes":[{"point":"fan","x":[],"value":3,"priority":5,"lease":1,"y":{},"revert":[[2,30000]]}]}
 
-= Malformed
+= Malformed { at: None }
 # No JSON, or more than one value.
 {
 tick
@@ -313,6 +317,7 @@ tick
 # A number that is too great for JSON's reader, also beside what is not known.
 {"op":"tick","x":1e400}
 {"op":"dance","x":1e400}
+= Malformed { at: Some(Line { key: Op }) }
 # No object.
 null
 7
@@ -329,56 +334,87 @@ null
 {"op":7}
 {"op":["tick"]}
 {"op":{"op":"tick"}}
+= Malformed { at: Some(Line { key: Process }) }
 # A key that is missing.
 {"op":"attach"}
+= Malformed { at: Some(Line { key: Writes }) }
 {"op":"submit"}
+= Malformed { at: Some(Line { key: Length }) }
 {"op":"renew","txn":1}
+= Malformed { at: Some(Line { key: Txn }) }
 {"op":"renew","length":1}
 {"op":"cancel"}
+= Malformed { at: Some(Line { key: Point }) }
 {"op":"read"}
 {"op":"array"}
+= Malformed { at: Some(Line { key: Txn }) }
 {"op":"status"}
+= Malformed { at: Some(Write { place: 0, key: Point }) }
 {"op":"submit","writes":[{"value":1,"lease":1}]}
+= Malformed { at: Some(Write { place: 0, key: Value }) }
 {"op":"submit","writes":[{"point":"lamp","lease":1}]}
+= Malformed { at: Some(Write { place: 0, key: Lease }) }
 {"op":"submit","writes":[{"point":"lamp","value":1}]}
+= Malformed { at: Some(Line { key: Process }) }
 # A key of another kind.
 {"op":"attach","process":7}
 {"op":"notices","process":null}
+= Malformed { at: Some(Line { key: From }) }
 {"op":"notices","from":"1"}
+= Malformed { at: Some(Line { key: Max }) }
 {"op":"notices","max":[1]}
+= Malformed { at: Some(Line { key: Txn }) }
 {"op":"cancel","txn":"1"}
 {"op":"status","txn":null}
+= Malformed { at: Some(Line { key: Point }) }
 {"op":"read","point":0}
 {"op":"array","point":["lamp"]}
+= Malformed { at: Some(Line { key: Length }) }
 {"op":"renew","txn":1,"length":"1"}
+= Malformed { at: Some(Line { key: Points }) }
 {"op":"renew","txn":1,"length":1,"points":"lamp"}
+= Malformed { at: Some(Named { place: 1 }) }
 {"op":"renew","txn":1,"length":1,"points":["lamp",7]}
+= Malformed { at: Some(Line { key: Points }) }
 {"op":"renew","txn":1,"length":1,"points":null}
+= Malformed { at: Some(Line { key: Writes }) }
 {"op":"submit","writes":{"point":"lamp","value":1,"lease":1}}
+= Malformed { at: Some(Write { place: 0, key: Point }) }
 {"op":"submit","writes":[7]}
 {"op":"submit","writes":[["lamp",1,1]]}
 {"op":"submit","writes":[{"point":7,"value":1,"lease":1}]}
+= Malformed { at: Some(Write { place: 0, key: Value }) }
 {"op":"submit","writes":[{"point":"lamp","value":true,"lease":1}]}
+= Malformed { at: Some(Write { place: 0, key: Priority }) }
 {"op":"submit","writes":[{"point":"lamp","value":1,"lease":1,"priority":"8"}]}
 {"op":"submit","writes":[{"point":"lamp","value":1,"lease":1,"priority":null}]}
+= Malformed { at: Some(Line { key: On }) }
 {"op":"tick","on":"1"}
+= Malformed { at: Some(Line { key: At }) }
 {"op":"tick","at":null}
+= Malformed { at: Some(Line { key: Policy }) }
 # A policy that is none.
 {"op":"submit","writes":[{"point":"lamp","value":1,"lease":1}],"policy":"stop"}
 {"op":"submit","writes":[{"point":"lamp","value":1,"lease":1}],"policy":null}
+= Malformed { at: Some(Write { place: 0, key: Revert }) }
 # A reversion that is no array of pairs.
 {"op":"submit","writes":[{"point":"lamp","value":1,"lease":1,"revert":{}}]}
+= Malformed { at: Some(Step { write: 0, place: 0 }) }
 {"op":"submit","writes":[{"point":"lamp","value":1,"lease":1,"revert":[0,1]}]}
 {"op":"submit","writes":[{"point":"lamp","value":1,"lease":1,"revert":[[0]]}]}
 {"op":"submit","writes":[{"point":"lamp","value":1,"lease":1,"revert":[[0,1,2]]}]}
+= Malformed { at: Some(Half { write: 0, place: 1, half: 1 }) }
 {"op":"submit","writes":[{"point":"lamp","value":1,"lease":1,"revert":[[0,1],[0,"1"]]}]}
+= Malformed { at: Some(Line { key: Txn }) }
 # A fraction, an exponent, minus zero, and numbers past 64 bits.
 {"op":"cancel","txn":1.0}
 {"op":"cancel","txn":1e3}
 {"op":"cancel","txn":-0}
+= Malformed { at: Some(Line { key: At }) }
 {"op":"tick","at":-0}
 {"op":"tick","at":1.0}
 {"op":"tick","at":18446744073709551616}
+= Malformed { at: Some(Line { key: Txn }) }
 {"op":"cancel","txn":9223372036854775808}
 {"op":"cancel","txn":9999999999999999999}
 {"op":"cancel","txn":10000000000000000000}
@@ -386,23 +422,37 @@ null
 {"op":"cancel","txn":18446744073709551616}
 {"op":"cancel","txn":99999999999999999999}
 {"op":"cancel","txn":100000000000000000000}
+= Malformed { at: Some(Line { key: Length }) }
 {"op":"renew","txn":7,"length":-9223372036854775809}
 {"op":"renew","txn":7,"length":-10000000000000000000}
 {"op":"renew","txn":7,"length":-0}
+= Malformed { at: Some(Write { place: 0, key: Value }) }
 {"op":"submit","writes":[{"point":"lamp","value":-0,"lease":1}]}
+= Malformed { at: Some(Half { write: 0, place: 0, half: 0 }) }
 {"op":"submit","writes":[{"point":"lamp","value":1,"lease":1,"revert":[[-0,1]]}]}
+= Malformed { at: Some(Write { place: 0, key: Value }) }
 {"op":"submit","writes":[{"point":"lamp","value":-9223372036854775809,"lease":1}]}
 {"op":"submit","writes":[{"point":"lamp","value":9223372036854775808,"lease":1}]}
+= Malformed { at: Some(Line { key: Txn }) }
 # A number below 0, and others out of their bounds.
 {"op":"cancel","txn":-1}
+= Malformed { at: Some(Line { key: On }) }
 {"op":"tick","on":0}
 {"op":"tick","on":-1}
 {"op":"tick","on":65536}
+= Malformed { at: Some(Line { key: At }) }
 {"op":"tick","at":-1}
 {"op":"tick","at":1152921504606846977}
+= Malformed { at: Some(Line { key: From }) }
 {"op":"notices","from":0}
+{"op":"points","from":-1}
+{"op":"points","from":4611686018427387905,"max":0}
+= Malformed { at: Some(Line { key: Max }) }
 {"op":"notices","max":0}
 {"op":"notices","max":65}
+{"op":"points","max":0}
+{"op":"points","max":65}
+= Malformed { at: Some(Line { key: Seq }) }
 # A number for the request that is none.
 {"op":"cancel","txn":1,"seq":0}
 {"op":"cancel","txn":1,"seq":-1}
@@ -413,14 +463,20 @@ null
 {"op":"cancel","txn":1,"seq":null}
 {"op":"renew","txn":1,"length":1,"seq":0}
 {"op":"submit","seq":0,"writes":[{"point":"lamp","value":1,"lease":1}]}
+= Malformed { at: Some(Line { key: Writes }) }
 # An array without an item, and an item that has nothing.
 {"op":"submit","writes":[]}
 {"op":"submit","writes":[ ]}
+= Malformed { at: Some(Line { key: Points }) }
 {"op":"renew","txn":1,"length":1,"points":[]}
+= Malformed { at: Some(Write { place: 0, key: Point }) }
 {"op":"submit","writes":[{}]}
 {"op":"submit","writes":[[]]}
+= Malformed { at: Some(Write { place: 1, key: Point }) }
 {"op":"submit","writes":[{"point":"lamp","value":1,"lease":1},{}]}
+= Malformed { at: Some(Step { write: 0, place: 0 }) }
 {"op":"submit","writes":[{"point":"lamp","value":1,"lease":1,"revert":[[]]}]}
+= Malformed { at: Some(Line { key: Process }) }
 # A process that has no name.
 {"op":"attach","process":""}
 {"op":"attach","process":"A"}
@@ -428,19 +484,28 @@ null
 {"op":"attach","process":"ü"}
 {"op":"attach","process":"xxxxxxxxxxxxxxxxxxxxxxxxxxxxxxxxxxxxxxxxxxxxxxxxxxxxxxxxxxxxxxxxx"}
 {"op":"notices","process":"a/b"}
+= Malformed { at: Some(Line { key: On }) }
 # Malformed, and of a point that is not known as well.
 {"on":0,"op":"read","point":"door"}
+= Malformed { at: Some(Write { place: 1, key: Value }) }
 {"op":"submit","writes":[{"point":"door","value":1,"lease":1},{"point":"lamp"}]}
+= Malformed { at: Some(Line { key: Policy }) }
 {"op":"submit","writes":[{"point":"door","value":1,"lease":1}],"policy":"stop"}
+= Malformed { at: Some(Named { place: 1 }) }
 {"op":"renew","txn":1,"length":1,"points":["door",7]}
+= Malformed { at: Some(Line { key: Txn }) }
 {"op":"renew","txn":-1,"length":1,"points":["door"]}
+= Malformed { at: Some(Line { key: Seq }) }
 {"op":"renew","txn":1,"length":1,"points":["door"],"seq":0}
 {"op":"submit","seq":0,"writes":[{"point":"door","value":1,"lease":1}]}
+= Malformed { at: Some(Line { key: Op }) }
 # Of two equal keys the last counts.
 {"op":"tick","op":7}
 {"op":"tick","\u006fp":7}
+= Malformed { at: Some(Line { key: Txn }) }
 {"op":"cancel","txn":1,"txn":"1"}
 {"op":"cancel","txn":1,"t\u0078n":"1"}
+= Malformed { at: Some(Line { key: Points }) }
 {"op":"renew","txn":1,"length":1,"points":["lamp"],"points":[]}
 
 = UnknownOp
@@ -496,16 +561,19 @@ const FIRST_LINES: &str = r#"
 # Which session asks, and when, is passed over.
 {"on":7,"at":1000,"op":"status","txn":3}
 {"on":0,"at":"soon","op":"status","txn":3}
-= Malformed
+= Malformed { at: Some(Line { key: Process }) }
 {"op":"watch"}
 {"op":"watch","process":7}
 {"op":"watch","process":"Schedule"}
 {"op":"watch","process":null,"from":1}
+= Malformed { at: Some(Line { key: From }) }
 {"op":"watch","process":"schedule","from":0}
 {"op":"watch","process":"schedule","from":"1"}
+= Malformed { at: None }
 {"op":"watch","process":"schedule","from":01}
 {"op":"watch","process":"schedule",}
 {"op":"watch","process":"schedule"}}
+= Malformed { at: Some(Line { key: From }) }
 {"op":"watch","process":"schedule","from":9223372036854775808}
 = UnknownOp
 {"op":"tick"}
@@ -524,22 +592,25 @@ const LATER_LINES: &str = r#"
 {"on":65536,"at":-1,"op":"notices"}
 "#;
 
+/// What a line is told that is no JSON.
+const NO_JSON: &str = "Malformed { at: None }";
+
 /// Lines of a script that are no text, or have blanks at their ends, and what they are read as.
 const ENDS: &[(&[u8], &str)] = &[
-    (b"", "Malformed"),
+    (b"", NO_JSON),
     // No UTF-8: a byte that no text has, one alone of a letter, a letter cut short, one of too many bytes, half of a pair, one past the last.
-    (b"{\"op\":\"tick\",\"x\":\"\xff\"}", "Malformed"),
-    (b"{\"op\":\"tick\",\"x\":\"\x80\"}", "Malformed"),
-    (b"{\"op\":\"tick\",\"x\":\"\xc3\"}", "Malformed"),
-    (b"{\"op\":\"tick\",\"x\":\"\xe2\x82\"}", "Malformed"),
-    (b"{\"op\":\"tick\",\"x\":\"\xc1\xbf\"}", "Malformed"),
-    (b"{\"op\":\"tick\",\"x\":\"\xed\xa0\x80\"}", "Malformed"),
-    (b"{\"op\":\"tick\",\"x\":\"\xf4\x90\x80\x80\"}", "Malformed"),
-    (b"{\"\xff\":7,\"op\":\"tick\"}", "Malformed"),
-    (b"{\"op\":\"t\xefck\"}", "Malformed"),
-    (b"{\"op\":\"read\",\"point\":\"lamp\xff\"}", "Malformed"),
-    (b"{\"op\":\"tick\"}\xff", "Malformed"),
-    (b"\xef\xbb\xbf{\"op\":\"tick\"}", "Malformed"),
+    (b"{\"op\":\"tick\",\"x\":\"\xff\"}", NO_JSON),
+    (b"{\"op\":\"tick\",\"x\":\"\x80\"}", NO_JSON),
+    (b"{\"op\":\"tick\",\"x\":\"\xc3\"}", NO_JSON),
+    (b"{\"op\":\"tick\",\"x\":\"\xe2\x82\"}", NO_JSON),
+    (b"{\"op\":\"tick\",\"x\":\"\xc1\xbf\"}", NO_JSON),
+    (b"{\"op\":\"tick\",\"x\":\"\xed\xa0\x80\"}", NO_JSON),
+    (b"{\"op\":\"tick\",\"x\":\"\xf4\x90\x80\x80\"}", NO_JSON),
+    (b"{\"\xff\":7,\"op\":\"tick\"}", NO_JSON),
+    (b"{\"op\":\"t\xefck\"}", NO_JSON),
+    (b"{\"op\":\"read\",\"point\":\"lamp\xff\"}", NO_JSON),
+    (b"{\"op\":\"tick\"}\xff", NO_JSON),
+    (b"\xef\xbb\xbf{\"op\":\"tick\"}", NO_JSON),
     // The same letters as they are to be.
     (
         b"{\"op\":\"tick\",\"x\":\"\xc3\xbf \xe2\x82\xac \xf4\x8f\xbf\xbf \x7f\"}",
@@ -551,15 +622,15 @@ const ENDS: &[(&[u8], &str)] = &[
         "UnknownPoint { index: 0 }",
     ),
     // A text has no control character, and only four of all characters are blanks.
-    (b"{\"op\":\"tick\",\"x\":\"\0\"}", "Malformed"),
-    (b"{\"op\":\"tick\",\"x\":\"\x1f\"}", "Malformed"),
-    (b"{\"op\":\"tick\",\"x\":\"a\nb\"}", "Malformed"),
-    (b"{\"op\":\"tick\",\"x\":\"a\tb\"}", "Malformed"),
-    (b"{\"o\tp\":\"tick\"}", "Malformed"),
-    (b"{\"op\":\"tick\"}\0", "Malformed"),
-    (b"{\"op\":\x0b\"tick\"}", "Malformed"),
-    (b"{\x0c\"op\":\"tick\"}", "Malformed"),
-    (b"{\"op\":\xc2\xa0\"tick\"}", "Malformed"),
+    (b"{\"op\":\"tick\",\"x\":\"\0\"}", NO_JSON),
+    (b"{\"op\":\"tick\",\"x\":\"\x1f\"}", NO_JSON),
+    (b"{\"op\":\"tick\",\"x\":\"a\nb\"}", NO_JSON),
+    (b"{\"op\":\"tick\",\"x\":\"a\tb\"}", NO_JSON),
+    (b"{\"o\tp\":\"tick\"}", NO_JSON),
+    (b"{\"op\":\"tick\"}\0", NO_JSON),
+    (b"{\"op\":\x0b\"tick\"}", NO_JSON),
+    (b"{\x0c\"op\":\"tick\"}", NO_JSON),
+    (b"{\"op\":\xc2\xa0\"tick\"}", NO_JSON),
     (b"{\r\n\"op\"\t:\r\"tick\"\n}\n", "1 0 Tick"),
     (b"{\"op\":\"tick\",\"at\":8} ", "1 8 Tick"),
     (

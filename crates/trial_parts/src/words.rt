@@ -10,8 +10,8 @@ const ROWS: &[(&str, &str)] = &[
         r#"Ok(Script { catalogue: Word { text: "--help" }, journal: Word { text: "-" } })"#,
     ),
     (
-        "serve|k.toml|j|[::1]:80|0000000032|4294967295",
-        r#"Ok(Serve { catalogue: Word { text: "k.toml" }, journal: Word { text: "j" }, address: Word { text: "[::1]:80" }, workers: 32, connections: 4294967295, rules: None, plan: None })"#,
+        "serve|k.toml|j|[::1]:80|0000001024|4294967295",
+        r#"Ok(Serve { catalogue: Word { text: "k.toml" }, journal: Word { text: "j" }, address: Word { text: "[::1]:80" }, workers: 1024, connections: 4294967295, rules: None, plan: None })"#,
     ),
     (
         "serve|k|j|a|1|2|-",
@@ -92,7 +92,7 @@ const ROWS: &[(&str, &str)] = &[
     ("serve|k|j|a|1|1|-|-|-", USAGE),
     ("serve|k|j||1|1", USAGE),
     ("serve|k|j|a|0|1", USAGE),
-    ("serve|k|j|a|33|1", USAGE),
+    ("serve|k|j|a|1025|1", USAGE),
     ("serve|k|j|a|+1|1", USAGE),
     ("serve|k|j|a|1|0", USAGE),
     ("serve|k|j|a|1|4294967296", USAGE),

@@ -185,8 +185,8 @@ const ENDINGS: &[Ending] = &[
         ..LATE
     },
     Ending {
-        shows: "a server with 33 workers",
-        words: "serve site.toml - here 33 1",
+        shows: "a server with 1,025 workers",
+        words: "serve site.toml - here 1025 1",
         ..EARLY
     },
     Ending {

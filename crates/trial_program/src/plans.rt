@@ -42,9 +42,24 @@ place=[{point='lamp',unit=1,coil=19},{point='lamp',unit=1,coil=20}]",
         "a point twice",
     ),
     (
-        "driver=[{name='field',host='127.0.0.1:1502'}]\nplace=[{point='lamp',unit=1,register=19}]",
+        "driver=[{name='field',host='127.0.0.1:1502',wait=49}]\nplace=[]",
+        "plan bad-driver 0\n",
+        "a host that is hardly waited for",
+    ),
+    (
+        "driver=[{name='field',host='127.0.0.1:1502'}]\nplace=[{point='fan',unit=1,coil=3}]",
         "plan bad-place 0\n",
-        "a register for a lamp",
+        "a coil for a fan",
+    ),
+    (
+        "driver=[{name='field',host='127.0.0.1:1502'}]\nplace=[{point='fan',unit=1,register=65535,type='f32'}]",
+        "plan bad-place 0\n",
+        "a float without its second register",
+    ),
+    (
+        "driver=[{name='field',host='127.0.0.1:1502'}]\nplace=[{point='lamp',unit=1,coil=19,type='u16'}]",
+        "plan bad-place 0\n",
+        "a type at a coil",
     ),
     (
         "driver=[]\nplace=[{point='lamp',unit=1,coil=19}]",

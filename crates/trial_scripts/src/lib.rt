@@ -269,9 +269,25 @@ const REFUSED: &str = r#"
 > {"on":2,"op":"attach","process":"xxxxxxxxxxxxxxxxxxxxxxxxxxxxxxxxxxxxxxxxxxxxxxxxxxxxxxxxxxxxxxxx"}
 {"error":"taken","session":65535}
 
+== the catalogue and the program are told to anybody
+> {"on":7,"op":"points"}
+{"ok":"points","digest":"aaf24f74f7546ec5b6518644b791c16f2669c87380766435de2d82a7a610d059","drivers":["field"],"count":3,"next":3,"list":[{"point":"ahu1.damper","kind":"analog","min":0,"max":100000,"default":20000,"driver":"field"},{"point":"lamp","kind":"binary","default":0,"driver":"field"},{"point":"fan","kind":"multi","states":3,"default":1,"driver":"field"}]}
+> {"op":"points","from":2,"max":1}
+{"ok":"points","digest":"aaf24f74f7546ec5b6518644b791c16f2669c87380766435de2d82a7a610d059","count":3,"next":3,"list":[{"point":"fan","kind":"multi","states":3,"default":1,"driver":"field"}]}
+> {"op":"points","from":3}
+{"ok":"points","digest":"aaf24f74f7546ec5b6518644b791c16f2669c87380766435de2d82a7a610d059","count":3,"next":3,"list":[]}
+> {"op":"version"}
+{"ok":"version","program":"0.3.0","journal":2,"digest":"aaf24f74f7546ec5b6518644b791c16f2669c87380766435de2d82a7a610d059","points":3,"drivers":1}
+
 == lines that ask nothing are refused
-> []
+> [
 {"error":"malformed"}
+> []
+{"error":"malformed","key":"op"}
+> {"op":"points","max":65}
+{"error":"malformed","key":"max"}
+> {"op":"submit","writes":[{"point":"lamp","value":1,"lease":1,"revert":[[0,5],[0,5.5]]}]}
+{"error":"malformed","key":"writes[0].revert[1][1]"}
 > {"op":"fly"}
 {"error":"unknown-op"}
 > {"op":"read","point":"x"}

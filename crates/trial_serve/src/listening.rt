@@ -9,6 +9,7 @@ use boss_outside_server::{Accepted, Announcement, Host};
 use std::alloc::Global;
 use std::io::Eprint;
 use std::net::{Net, TcpListener, TcpStream};
+use std::time::Clock;
 
 /// A host that listens already.
 #[derive(Drop)]
@@ -16,7 +17,7 @@ pub struct Listening<R> {
     pub host: RealHost<R>,
 }
 
-impl<R: Net<Listener = TcpListener, Stream = TcpStream> + Eprint + Copy + Drop> Host
+impl<R: Net<Listener = TcpListener, Stream = TcpStream> + Eprint + Clock + Copy + Drop> Host
     for Listening<R> {
     type In = RealSource;
 

@@ -79,7 +79,7 @@ fn put_answer(rt: &impl Abort, text: &mut String, txn: u32) {
 /// What is told: each transaction takes the place of the one before it, and the last one's 32 reversions are left.
 fn told(rt: &impl Abort, alloc: Global) -> String {
     let front =
-        "session 1\n{\"ok\":\"attached\",\"process\":\"a\",\"next\":1}\n{\"error\":\"malformed\"}\n";
+        "session 1\n{\"ok\":\"attached\",\"process\":\"a\",\"next\":1}\n{\"error\":\"malformed\",\"key\":\"op\"}\n";
     let end = "pauses 0\npauses 1 closed\nevents 18 now 1000 leases 0 pending 32\nstatus 0\n";
     let mut text = String::from_str(alloc, front).expect(rt, "memory");
     put_answers(rt, &mut text);

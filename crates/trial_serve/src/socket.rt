@@ -28,7 +28,7 @@ status 0
 "#;
 
 /// A client of this host, which has sent all that it sends. The system keeps it until the host accepts.
-fn client<R: Net<Listener = TcpListener, Stream = TcpStream> + Eprint + Copy>(
+fn client<R: Net<Listener = TcpListener, Stream = TcpStream> + Eprint + time::Clock + Copy>(
     rt: R,
     host: &RealHost<R>,
 ) -> io::Result<Option<TcpStream>> {
