@@ -1,0 +1,10 @@
+"""The catalogue's points, lengths of time and the lint's files, as `bossctl` reads them: the one place that reaches into the client's own
+modules."""
+
+from bossd._protocol import host_and_port, is_name
+from bossd.ctl._lint import File, Finding, is_pattern, name_of, shown
+from bossd.ctl._show import Catalogue, Cell, Point, exact_length, now, read_catalogue, read_length, table
+from bossd.ctl._toml import Failure, Path
+
+__all__ = ["Catalogue", "Cell", "Failure", "File", "Finding", "Path", "Point", "exact_length", "host_and_port", "is_name", "is_pattern",
+           "name_of", "now", "read_catalogue", "read_length", "shown", "table"]
