@@ -92,6 +92,7 @@ class Requests(Case):
         self.server.start()
         self.assertEqual((await client.ask(caught.exception.request))["txn"], 1)
         self.assertEqual((await client.submit([damper()])).txn, 2)
+        self.assertEqual(client.attachments, 2)
 
     async def test_made_once(self):
         for loses, live in [("line", 1), ("answer", 0)]:

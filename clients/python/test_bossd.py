@@ -3,6 +3,7 @@
 BOSSD in the environment may name another program to start."""
 
 import copy
+import hashlib
 import json
 import os
 import pickle
@@ -187,6 +188,31 @@ class Requests(Case):
             self.client("a")
         self.assertGreater(caught.exception.session, 0)
 
+    def test_refusals_name_what_was_asked(self):
+        client, other = self.client("a"), self.client("b")
+        client.submit([damper()])
+        for words, ask in [
+            (["unknown-point", "writes[1]", "door"], lambda: client.submit([damper(), bossd.write("door", 1, lease=1)])),
+            (["unknown-point", "door"], lambda: client.read("door")),
+            (["unknown-point", "points[1]", "door"], lambda: client.renew(1, MINUTE, ["ahu1.damper", "door"])),
+            (["out-of-range", "writes[0]", "ahu1.damper", "100001"], lambda: client.submit([damper(100_001)])),
+            (["bad-priority", "ahu1.damper", "priority 6", "1 to 16"], lambda: client.submit([damper(priority=6)])),
+            (["bad-lease", "ahu1.damper", "604800001", "1 to 604800000"], lambda: client.submit([damper(lease=604_800_001)])),
+            (["bad-lease", "renewal", " 0 ", "1 to 604800000"], lambda: client.renew(1, 0)),
+            (["bad-reversion", "ahu1.damper", "[[0, 0]]", "1 to 86400000"], lambda: client.submit([damper(revert=[(0, 0)])])),
+            (["same-point", "writes[1]", "ahu1.damper"], lambda: client.submit([damper(), damper()])),
+            (["not-in-txn", "points[0]", "lamp", "transaction 1"], lambda: client.renew(1, MINUTE, ["lamp"])),
+            (["unknown-txn", "9"], lambda: client.cancel(9)),
+            (["not-yours", "1"], lambda: other.cancel(1)),
+        ]:
+            with self.subTest(words), self.assertRaises(bossd.Refused) as caught:
+                ask()
+            for word in words:
+                self.assertIn(word, str(caught.exception))
+        with self.assertRaises(bossd.OutOfRange) as caught:
+            client.submit([damper(100_001)])
+        self.assertEqual((caught.exception.point, caught.exception.write["value"]), ("ahu1.damper", 100_001))
+
     def test_what_is_over_says_how_it_ended(self):
         client, other = self.client("a"), self.client("b")
         client.submit([damper()])
@@ -215,6 +241,7 @@ class Requests(Case):
         self.server.start()
         self.assertEqual(client.ask(caught.exception.request)["txn"], 1)
         self.assertEqual(client.submit([damper()]).txn, 2)
+        self.assertEqual(client.attachments, 2)
 
 
 class Holding(Case):
@@ -364,8 +391,8 @@ class Watching(Case):
     def test_a_silent_server_is_left(self):
         listener = socket.create_server(("127.0.0.1", 0))
         self.addCleanup(listener.close)
-        silence, bossd._client.SILENCE = bossd._client.SILENCE, 0.3
-        self.addCleanup(setattr, bossd._client, "SILENCE", silence)
+        silence, bossd._session.SILENCE = bossd._session.SILENCE, 0.3
+        self.addCleanup(setattr, bossd._session, "SILENCE", silence)
         watched = bossd.watch(f"127.0.0.1:{listener.getsockname()[1]}", "a")
         threading.Timer(3, watched.close).start()
         self.assertEqual(list(watched), [])
@@ -403,7 +430,7 @@ class Denying(unittest.TestCase):
             with self.assertRaises(bossd.Denied) as caught:
                 client.submit([damper(), bossd.write("lamp", 1, lease=MINUTE)])
             self.assertEqual((caught.exception.index, caught.exception.rule, caught.exception.error), (1, 2, "denied"))
-            self.assertEqual(str(caught.exception), "denied index=1 rule=2")
+            self.assertEqual(str(caught.exception), "denied: writes[1]: lamp at priority 16, by rule 2")
             with self.assertRaises(bossd.Denied):
                 client.hold([damper()])
         # It is not asked again.
@@ -434,6 +461,52 @@ class Denying(unittest.TestCase):
                 client.submit([damper()])
             self.assertEqual(client.submit([bossd.write("lamp", 1, lease=MINUTE)]).txn, 2)
         self.assertEqual(submits, [1, 1, 2])
+
+
+class Later(unittest.TestCase):
+    """A later server, whose answers have more keys."""
+
+    def answering(self, answers):
+        made = Answering(lambda asked: answers[asked["op"]])
+        self.addCleanup(made.listener.close)
+        return made
+
+    def test_its_keys_are_passed_over(self):
+        notice = {"n": 1, "at": 5, "txn": 2, "kind": "ended", "point": "lamp", "cause": "died", "held": 7}
+        slots = [None] * 15 + [{"value": 1, "txn": 2, "until": 9, "since": 3}]
+        server = self.answering({
+            "read": {"ok": "read", "point": "lamp", "value": 1, "from": "lease", "mark": "settled", "priority": 16, "txn": 2, "taken": 1},
+            "array": {"ok": "array", "point": "lamp", "default": 0, "slots": slots, "kind": "binary"},
+            "status": {"ok": "status", "txn": 2, "owner": "a", "stage": "run", "live": 1, "pending": 0, "since": 3},
+            "notices": {"ok": "notices", "first": 1, "next": 2, "list": [notice], "kept": 1},
+            "watch": notice,
+        })
+        told = bossd.Notice(1, 5, 2, "ended", "lamp", "died")
+        with bossd.Client(server.address) as client:
+            self.assertEqual(client.read("lamp"), bossd.Reading("lamp", 1, "lease", "settled", 16, 2))
+            self.assertEqual(client.array("lamp"), bossd.Slots("lamp", 0, {16: bossd.Slot(1, 2, 9)}))
+            self.assertEqual(client.status(2), bossd.Status(2, "a", "run", 1, 0))
+            self.assertEqual(client.notices("a"), bossd.Notices(1, 2, [told]))
+        with bossd.watch(server.address, "a") as watched:
+            self.assertEqual(next(watched), told)
+
+    def test_its_refusals_are_taken(self):
+        refusal = {"error": "out-of-range", "index": 0, "least": 0, "args": 3, "fields": 4, "_text": 5, "point": 6}
+        with bossd.Client(self.answering({"read": refusal}).address) as client, self.assertRaises(bossd.OutOfRange) as caught:
+            client.read("lamp")
+        error = caught.exception
+        self.assertEqual((error.index, error.least, error.fields, error.point), (0, 0, refusal, "lamp"))
+        self.assertFalse({"index", "least", "args", "fields", "_text", "point"} & vars(error).keys())
+        self.assertIn("least=0", str(error))
+        with self.assertRaises(AttributeError):
+            error.most
+
+    def test_it_names_the_key_that_is_malformed(self):
+        for refusal, key in [({"error": "malformed", "key": "writes[0].value"}, "writes[0].value"), ({"error": "malformed"}, None)]:
+            with bossd.Client(self.answering({"later": refusal}).address) as client, self.assertRaises(bossd.Malformed) as caught:
+                client.ask({"op": "later"})
+            self.assertEqual((caught.exception.key, caught.exception.found), (key, None))
+            self.assertEqual(str(caught.exception), "malformed" + (f": {key}" if key else ""))
 
 
 class Kept(unittest.TestCase):
@@ -503,6 +576,14 @@ class Checked(unittest.TestCase):
             self.assertEqual(caught.exception.key, key)
             self.assertIn(key, str(caught.exception))
 
+    def test_a_reversion_is_looked_at_where_it_is_made(self):
+        for key, revert in [("revert[0]", [30_000, 5_000]), ("revert[1]", [(1, 1), (1,)]), ("revert[0]", ["ab"]), ("revert", 5),
+                            ("revert[0][1]", [(1, 0.5)])]:
+            with self.subTest(revert), self.assertRaises(bossd.Malformed) as caught:
+                bossd.write("lamp", 1, lease=1, revert=revert)
+            self.assertEqual(caught.exception.key, key)
+        self.assertEqual(bossd.write("lamp", 1, lease=1, revert=((0, 5),))["revert"], [[0, 5]])
+
     def test_what_the_server_judges_is_sent(self):
         for request in [{"op": "tick"}, {"op": "submit", "writes": [{"point": "x", "value": -1, "lease": 0, "priority": 6}]}]:
             bossd.line_of(request)
@@ -521,13 +602,56 @@ class AtOnce(Case):
         self.assertEqual(client.status(1).live, 1)
 
 
+class Catalogue(Case):
+    def test_all_of_it(self):
+        with self.client() as client:
+            found, version = client.points(), client.version()
+        lines = [f"d {name}\n" for name in found.drivers]
+        for point in found.list:
+            least, most = {"analog": (point.min, point.max), "binary": (0, 1), "multi": (1, point.states)}[point.kind]
+            times = f" {point.min_on} {point.min_off}" if point.min_on or point.min_off else ""
+            lines.append(f"p {point.name} {point.driver} {point.kind} {least} {most} {point.default}{times}\n")
+        self.assertEqual(hashlib.sha256("".join(lines).encode()).hexdigest(), found.digest)
+        self.assertEqual(version, bossd.Version(bossd.__version__, version.journal, found.digest, len(found.list), len(found.drivers)))
+
+
+class Gathering(unittest.TestCase):
+    def test_a_server_that_was_started_anew_meanwhile(self):
+        gathering = bossd._protocol.Gathering()
+        point = {"point": "lamp", "kind": "binary", "default": 0, "driver": "hall"}
+        old = {"ok": "points", "digest": "0" * 64, "drivers": ["hall"], "count": 2, "next": 1, "list": [point]}
+        new = {"ok": "points", "digest": "1" * 64, "drivers": ["cellar"], "count": 1, "next": 1, "list": [{**point, "driver": "cellar"}]}
+        self.assertFalse(gathering.is_done_with(old))
+        self.assertFalse(gathering.is_done_with({"ok": "points", "digest": "1" * 64, "count": 1, "next": 1, "list": []}))
+        self.assertEqual(gathering.request(), {"op": "points", "from": 0})
+        self.assertTrue(gathering.is_done_with(new))
+        self.assertEqual(gathering.gathered(), bossd.Points("1" * 64, ["cellar"], [bossd.Point("lamp", "binary", 0, "cellar")]))
+
+
 class Units(unittest.TestCase):
     def test_thousandths(self):
         self.assertEqual([bossd.thousandths(units) for units in (21.5, "0.001", -3, 0.1)], [21_500, 1, -3_000, 100])
-        with self.assertRaises(ValueError):
-            bossd.thousandths(0.0001)
-        self.assertEqual(str(bossd.units(21_500)), "21.5")
         self.assertEqual(bossd.milliseconds(hours=1, seconds=0.5), 3_600_500)
+
+    def test_they_are_rounded(self):
+        self.assertEqual([bossd.thousandths(units) for units in (100 / 3, 0.29 * 100, -100 / 3)], [33_333, 29_000, -33_333])
+        # Halves go to the even one.
+        self.assertEqual([bossd.thousandths(units) for units in ("0.0005", "0.0015", "-0.0025", 0.0001)], [0, 2, -2, 0])
+        for none in ("warm", "", None, True, float("nan"), float("inf"), "1e999999"):
+            with self.subTest(none), self.assertRaises(ValueError):
+                bossd.thousandths(none)
+
+    def test_they_are_not_rounded_where_that_is_wanted(self):
+        self.assertEqual(bossd.thousandths(21.5, exact=True), 21_500)
+        for units in (100 / 3, 0.0001):
+            with self.subTest(units), self.assertRaisesRegex(ValueError, "no whole number of thousandths"):
+                bossd.thousandths(units, exact=True)
+
+    def test_units_are_numbers_to_count_with(self):
+        self.assertEqual((bossd.units(21_500), bossd.units(21_500) * 1.5, bossd.units(-1)), (21.5, 32.25, -0.001))
+        # The bounds of a point are at most 10^15.
+        for value in (1, 29_001, 10**15, 10**15 - 1, -10**15 + 3, 123_456_789_012_347):
+            self.assertEqual(bossd.thousandths(bossd.units(value), exact=True), value)
 
 
 if __name__ == "__main__":

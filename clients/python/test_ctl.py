@@ -156,11 +156,62 @@ class Linting(Folder):
             unit = 3
             """), [
             (1, "drivers[1]", "", True), (1, "drivers[2]", "", True),
-            (6, "point[0]", "min", True), (8, "point[0]", "defualt", False),
+            (6, "point[0]", "min", True), (8, "point[0]", "defualt", True),
             (10, "point[1]", "name", True), (11, "point[1]", "driver", True), (12, "point[1]", "kind", True),
             (15, "point[2]", "name", True), (18, "point[2]", "states", True),
             (23, "point[3]", "min", True),
             (30, "point[4]", "default", True), (31, "point[4]", "min_on", True), (32, "point[4]", "unit", True)])
+
+    def sentences(self, catalogue, plan=None):
+        """What is found, whether it is a mistake, and what is wanted."""
+        files = [self.file("plant.toml", catalogue), None] + ([self.file("plan.toml", plan)] if plan else [])
+        return [(it.found, it.is_mistake, it.wanted) for it in _lint.lint(*files)]
+
+    def test_a_misspelt_key_is_a_mistake_and_another_one_is_not(self):
+        lamp = 'kind = "binary"\ndefault = 0\n'
+        for key, is_mistake, wanted in [("minon = 5", True, "is min_on meant?"), ("min-on = 5", True, "is min_on meant?"),
+                                        ("room = 5", False, "known here are"), ("notes = 5\nnote = ''", False, "known here are")]:
+            with self.subTest(key):
+                [(found, mistake, text)] = self.sentences(PLANT.replace(lamp, lamp + key + "\n"))
+                self.assertEqual((found, mistake), ("a key that nothing reads", is_mistake))
+                self.assertIn(wanted, text)
+        odd = self.file("odd.toml", PLANT.replace(lamp, lamp + "room = 5\n"))
+        self.assertEqual([self.run_here(*words)[0] for words in (("lint", odd), ("lint", "--strict", odd))], [0, 1])
+        self.assertEqual(self.run_here("lint", "--strict", self.file("right.toml", PLANT))[0], 0)
+        self.assertEqual(self.run_here("lint", self.file("wrong.toml", PLANT.replace(lamp, lamp + "minon = 5\n")))[0], 1)
+
+    def test_whole_units_where_thousandths_are_meant(self):
+        for old, new, found, wanted in [
+            ("max = 100000\ndefault = 20000", "max = 100\ndefault = 20", "100 with the unit %, which is 0.1 %", "is 100000 meant?"),
+            ("default = 20000", "default = 20", "20, which is 0.02 of 100", "is 20000 meant?"),
+        ]:
+            [told] = self.sentences(PLANT.replace(old, new))
+            self.assertEqual(told[:2], (found, False))
+            self.assertIn(wanted, told[2])
+        # Half a percent is a default like others.
+        self.assertEqual(self.sentences(PLANT.replace("default = 20000", "default = 500")), [])
+
+    def test_a_byte_order_mark_is_passed_over(self):
+        marked = self.file("marked.toml", b"\xef\xbb\xbf" + PLANT.encode())
+        self.assertEqual(_lint.lint(marked), [])
+        self.assertEqual(_show.read_catalogue(marked).digest, _show.read_catalogue(self.file("plain.toml", PLANT)).digest)
+
+    def test_a_bracket_too_few(self):
+        for text, found, wanted in [(PLANT.replace("[[point]]", "[point]"), "[point] again", "[[point]]"),
+                                    (PLANT.replace("[[point]]", "[point] # one"), "[point] again", "[[point]]")]:
+            [told] = self.sentences(text)
+            self.assertEqual(told[:2], (found, True))
+            self.assertIn(wanted, told[2])
+
+    def test_drivers_that_are_missing_are_one_mistake(self):
+        self.assertEqual(self.found(PLANT.replace('drivers = ["field"]', "")), [(None, "", "drivers", True)])
+
+    def test_names_that_may_have_been_meant(self):
+        [(_, _, wanted)] = self.sentences(PLANT.replace('driver = "field"\nkind = "binary"', 'driver = "feild"\nkind = "binary"'))
+        self.assertIn("is field meant?", wanted)
+        self.assertIn("a point of the catalogue; is lamp meant?", [it[2] for it in self.sentences(PLANT, PLAN.replace('"lamp"', '"lmap"'))])
+        with self.assertRaisesRegex(Failure, "no point ahu1.dampr; is ahu1.damper meant?"):
+            _show.read_catalogue(self.file("plant.toml", PLANT)).point("ahu1.dampr")
 
     def test_a_missing_key_is_told_at_its_table(self):
         self.assertEqual(self.found('drivers = []\n[[point]]\nname = "a"\n')[0], (2, "point[0]", "driver", True))
@@ -207,7 +258,7 @@ class Linting(Folder):
             piont = "lamp"
             """), [
             (4, "rule 1", "highest", True), (6, "rule 2", "process", True), (8, "rule 2", "allow", True),
-            (12, "rule 4", "point", True), (14, "rule 4", "piont", False)])
+            (12, "rule 4", "point", True), (14, "rule 4", "piont", True)])
 
     def test_rules_that_are_no_file_of_tables(self):
         for text, line, key, found in [
@@ -256,7 +307,7 @@ class Linting(Folder):
             (RULES.replace("ahu1.*", "roof.*"), 7, "rule 2", "point", '"roof.*", which fits no point'),
             (RULES.replace("ahu1.*", "ahu1.dampre"), 7, "rule 2", "point", '"ahu1.dampre", which fits no point'),
             (RULES + "highest = 8\n", 13, "rule 3", "highest", "highest beside allow = false"),
-            (RULES.replace("highest = 13", "highset = 13"), 8, "rule 2", "highset", "a key that nothing reads"),
+            (RULES.replace("highest = 13", "highest = 13\nowner = 1"), 9, "rule 2", "owner", "a key that nothing reads"),
             (RULES + '[[rule]]\nprocess = "comfort"\npoint = "lamp"\n', 13, "rule 4", "", "a rule that no write comes to"),
             (RULES[:RULES.index("[[rule]]", 1)].replace('"*"', '"ahu1.*"'), None, "", "", 'no rule for "lamp", "fan"'),
             ("rule = []\n", None, "", "", 'no rule for "ahu1.damper", "lamp", "fan"'),
@@ -288,7 +339,7 @@ class Linting(Folder):
         self.assertEqual(self.of_plan("driver = []\nplace = []\n"), [])
         self.assertEqual(self.of_plan("place = []\n" + DRIVER + DRIVER, "drivers = []\npoint = []\n"), [
             (3, "driver[0]", "name", '"field"', True), (6, "driver[1]", "name", '"field"', True)])
-        for name in ("plant", "pump"):
+        for name in ("plant", "pump", "heatpump"):
             catalogue, plan = (os.path.join(common.EXAMPLES, f"{name}.{kind}") for kind in ("toml", "plan.toml"))
             self.assertEqual(_lint.lint(catalogue, None, plan), [])
 
@@ -317,6 +368,14 @@ class Linting(Folder):
         for host in ("plant-server", "192.0.2.10:0", "192.0.2.10:70000"):
             self.assertEqual(self.of_plan(PLAN.replace("127.0.0.1:1502", host)), [(3, "driver[0]", "host", f'"{host}"', False)])
 
+    def test_what_manuals_and_urls_have(self):
+        self.assertEqual(self.of_plan(PLAN.replace("127.0.0.1:1502", "tcp://192.0.2.7:502")),
+                         [(3, "driver[0]", "host", '"tcp://192.0.2.7:502"', True)])
+        [told] = self.sentences(PLANT, PLAN.replace("register = 3", "register = 40001"))
+        self.assertEqual(told[:2], ("40001", False))
+        self.assertIn("is 0 meant?", told[2])
+        self.assertEqual(self.of_plan(PLAN.replace("register = 3", "register = 40000")), [])
+
     def test_places_of_a_plan(self):
         """Each fault of a place, in that of the lamp, which begins at line 9."""
         for old, new, line, key, found in [
@@ -331,7 +390,20 @@ class Linting(Folder):
             ("coil = 19", "coil = 19\nregister = 19", 9, "", "coil and register"),
             ("coil = 19", "coil = 65536", 12, "coil", "65536"),
             ("coil = 19", "coil = true", 12, "coil", "true"),
-            ("coil = 19", "register = 19", 12, "register", "a register for a binary point"),
+            ("coil = 19", 'coil = 19\ntype = "u16"', 13, "type", "type at a coil"),
+            ("coil = 19", "coil = 19\nfunction = 6", 13, "function", "6"),
+            ("coil = 19", 'register = 19\ntype = "f64"', 13, "type", '"f64"'),
+            ("coil = 19", 'register = 65535\ntype = "f32"', 12, "register", "65535 for type f32"),
+            ("coil = 19", 'register = 19\nfirst = "low"', 13, "first", "first at one register of type u16"),
+            ("coil = 19", 'register = 19\ntype = "u32"\nfirst = "big"', 14, "first", '"big"'),
+            ("coil = 19", "register = 19\ntimes = 0", 13, "times", "0"),
+            ("coil = 19", "register = 19\noffset = 1000000001", 13, "offset", "1000000001"),
+            ("coil = 19", "register = 19\nper = 10000000000\noffset = 1000000000", 14, "offset", "1000000000 times 10000000000"),
+            ("coil = 19", 'register = 19\nround = "up"', 13, "round", '"up"'),
+            ("coil = 19", 'register = 19\ntype = "f32"\nround = "down"', 14, "round", "round at type f32"),
+            ("coil = 19", "register = 19\nfunction = 5", 13, "function", "5"),
+            ("coil = 19", 'register = 19\ntype = "i32"\nfunction = 6', 14, "function", "6"),
+            ("coil = 19", "register = 19\noffset = -1", 12, "register", "0, which comes to -1"),
             ("coil = 19", "coil = 19\nper = 0", 13, "per", "0"),
             ("coil = 19", "coil = 19\nper = 1000000000000001", 13, "per", "1000000000000001"),
         ]:
@@ -341,6 +413,13 @@ class Linting(Folder):
         self.assertIn((8, "place[0]", "per", "100000 divided by 1, which is 100000", True), self.of_plan(PLAN.replace("per = 1000", "per = 1")))
         self.assertIn((7, "place[0]", "register", "a point with values down to -1", True), self.of_plan(PLAN, PLANT.replace("min = 0", "min = -1")))
         self.assertIn((1, "place[0]", "", "7", True), self.of_plan("place = [7]\n" + DRIVER))
+        self.assertEqual(self.of_plan(PLAN.replace("coil = 19", "register = 19")), [])
+        below = PLANT.replace("min = 0", "min = -20000")
+        self.assertEqual(self.of_plan(PLAN.replace("per = 1000", 'per = 1000\ntype = "i16"'), below), [])
+        self.assertEqual(self.of_plan(PLAN.replace("per = 1000", 'per = 1000\ntype = "f32"\nfirst = "low"'), below),
+                         [(19, "place[2]", "register", 'register 3 again, which "ahu1.damper" has', False)])
+        for wait in ("49", "5001", '"1s"', "true"):
+            self.assertIn((2, "driver[0]", "wait", wait, True), self.of_plan(PLAN.replace("[[driver]]\n", "[[driver]]\nwait = " + wait + "\n", 1)))
         self.assertIn((5, "place[0]", "point", 'a point of the driver "field"', True),
                       self.of_plan(PLAN.replace('"field"', '"roof"'), PLANT.replace('["field"]', '["field", "roof"]')))
 
@@ -393,6 +472,18 @@ class Showing(unittest.TestCase):
                 damper.value(text)
         with self.assertRaises(Failure):
             _show.Point("l", "f", "binary", 0, 1, 0).value("0.5")
+
+    def test_values_as_people_write_them(self):
+        lamp = _show.Point("l", "f", "binary", 0, 1, 0)
+        self.assertEqual([lamp.value(text) for text in ("on", "off", "ON", "1", "0")], [1, 0, 1, 1, 0])
+        damper, supply = (_show.Point("d", "f", "analog", 0, 100_000, 0, unit) for unit in ("%", "°C"))
+        self.assertEqual([damper.value(text) for text in ("40%", "40 %", "40")], [40_000] * 3)
+        self.assertEqual([supply.value(text) for text in ("21.5°C", "21.5 °C")], [21_500] * 2)
+        self.assertEqual(_show.Point("d", "f", "analog", 0, 100_000, 0, "percent").value("40%"), 40_000)
+        for point, text, why in [(supply, "40%", "no value of d"), (damper, "on", "no value of d"), (damper, "40,5", "written 40.5"),
+                                 (lamp, "open", "0 or 1, which are off and on"), (damper, "%", "no value of d")]:
+            with self.subTest(text), self.assertRaisesRegex(Failure, why):
+                point.value(text)
 
     def test_lengths_of_time(self):
         self.assertEqual([_show.read_length(text) for text in ("30m", "90s", "1h30m", "250ms", "2d", "1.5s")],
@@ -485,6 +576,14 @@ class Denied(Folder):
         status, _, aside = self.asked_of(denying(0), "hold", "lamp", "1", "--as", "me", "--priority", "3")
         self.assertEqual((status, aside), (
             1, "bossctl: refused: write 0 (lamp) is denied for me at priority 3: no rule of the rules file is for it\n"))
+
+    def test_the_policy(self):
+        for words, policy in [(["set", "lamp", "on", "--for", "1m"], "keep"), (["hold", "lamp", "on"], "keep"),
+                              (["set", "lamp", "on", "--for", "1m", "--policy", "abort"], "abort")]:
+            server = Answering(denying(1))
+            self.addCleanup(server.listener.close)
+            self.run_here(*words, "--server", server.address, "--catalogue", self.file("plant.toml", PLANT))
+            self.assertEqual([asked["policy"] for asked in server.asked if asked["op"] == "submit"], [policy])
 
     def test_a_slot_that_it_may_not_release(self):
         def answer(asked):

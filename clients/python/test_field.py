@@ -8,14 +8,17 @@ import queue
 import re
 import signal
 import socket
+import struct
 import subprocess
 import sys
 import tempfile
 import threading
 import time
 import unittest
+from fractions import Fraction
 
 import bossd
+from bossd.ctl import _forms
 from test_bossd import CATALOGUE, MINUTE, common, eventually
 
 HERE = os.path.dirname(os.path.abspath(__file__))
@@ -39,6 +42,34 @@ register = 1
 point = "ahu1.damper"
 unit = 1
 register = 2
+per = 1000
+"""
+# The damper as a binary32 whose low half stands first, the fan in a register with a sign, the lamp by the function for several.
+FORMS = """
+[[driver]]
+name = "field"
+host = "{}"
+wait = 500
+
+[[place]]
+point = "lamp"
+unit = 1
+coil = 19
+function = 15
+
+[[place]]
+point = "fan"
+unit = 1
+register = 9
+type = "i16"
+function = 16
+
+[[place]]
+point = "ahu1.damper"
+unit = 1
+register = 1
+type = "f32"
+first = "low"
 per = 1000
 """
 HEADER = "1501 0000 0006 ff"
@@ -167,8 +198,13 @@ class Field(Begun):
     def test_other_requests_are_refused(self):
         connection = self.connect()
         for frame, function, code in [
-            (HEADER + "03 0004 0001", 3, 1),        # a function that is not served: read holding registers, the example of 4.4.1.1
-            (HEADER + "01 04a1 0001", 1, 1),        # read coils, the example of 7
+            (HEADER + "04 0008 0001", 4, 1),        # a function that is not served: read input registers, the example of 6.4
+            (HEADER + "03 0004 0001", 3, 2),        # no place at this register: the example of 4.4.1.1
+            (HEADER + "01 04a1 0001", 1, 2),        # no place at this coil: the example of 7
+            (HEADER + "03 0001 0000", 3, 3),        # none (6.3)
+            (HEADER + "03 0001 0002", 3, 2),        # one of two
+            ("1501 0000 0008 ff 0f 00ac 0001 02 00", 15, 3),    # one coil, two bytes (6.11)
+            ("1501 0000 0009 ff 10 0001 0002 02 0001", 16, 3),  # two registers, two bytes (6.12)
             (HEADER + "05 00ac 0001", 5, 3),        # neither on nor off (6.5)
             (HEADER + "05 00ad ff00", 5, 2),        # no place at this coil
             (HEADER + "05 0001 ff00", 5, 2),        # a register, and no coil
@@ -240,7 +276,8 @@ class Field(Begun):
         self.wait_for("fails with code 2")
         self.assertEqual(self.ask(LAMP_ON, length=9), refusal(5, 2))
         self.assertEqual(self.ask(DAMPER, length=9), refusal(6, 2, "0002 0000 0003 01"))
-        self.assertEqual(self.ask(HEADER + "03 0004 0001", length=9), refusal(3, 1))
+        self.assertEqual(self.ask(HEADER + "04 0008 0001", length=9), refusal(4, 1))
+        self.assertEqual(self.ask(HEADER + "03 0001 0001", length=9), refusal(3, 2))
 
     def test_a_host_refuses_and_comes_back(self):
         connection = self.connect()
@@ -284,6 +321,81 @@ class Field(Begun):
         told = json.loads(self.wait_for('"request"'))
         self.assertEqual((told["points"], told["unit"], told["request"], told["response"], told["came"]),
                          (["ahu1.damper"], 1, "060002002d", "060002002d", "taken"))
+
+
+class Forms(Begun):
+    """Coils and registers by the functions that write several, in forms of two registers, and read back."""
+
+    def setUp(self):
+        Case.setUp(self)
+        self.port = common.free_port()
+        self.begin(self.plan(f"127.0.0.1:{self.port}", FORMS))
+
+    def test_several_are_answered_by_their_count(self):
+        connection = self.connect()
+        for sent, answered in [
+            ("0001 0000 000b 01 10 0001 0002 04 0000 4236", "0001 0000 0006 01 10 0001 0002"),
+            ("0002 0000 0006 01 03 0001 0002", "0002 0000 0007 01 03 04 0000 4236"),
+            ("0003 0000 0008 01 0f 0013 0001 01 01", "0003 0000 0006 01 0f 0013 0001"),
+            ("0004 0000 0006 01 01 0013 0001", "0004 0000 0004 01 01 01 01"),
+            ("0005 0000 0009 01 10 0009 0001 02 fffe", "0005 0000 0006 01 10 0009 0001"),
+            ("0006 0000 0006 01 06 0001 8000", "0006 0000 0006 01 06 0001 8000"),
+            ("0007 0000 0006 01 03 0001 0002", "0007 0000 0007 01 03 04 8000 4236"),
+        ]:
+            answered = bytes.fromhex(answered)
+            self.assertEqual(self.ask(sent, connection, len(answered)), answered, sent)
+        lines = [self.shown("ahu1.damper"), self.shown("ahu1.damper"), self.shown("lamp"), self.shown("lamp"), self.shown("fan")]
+        self.assertEqual(lines, [["unit 1 register 1 = 45.5", "45.5", "taken"], ["unit 1 register 1 read", "45.5", "read"],
+                                 ["unit 1 coil 19 = on", "1", "taken"], ["unit 1 coil 19 read", "1", "read"], ["unit 1 register 9 = -2", "-2", "taken"]])
+        # One register of two is a word, and stands for no value.
+        self.assertEqual([self.shown("ahu1.damper"), self.shown("ahu1.damper")],
+                         [["unit 1 register 1 = 32768", "-", "taken"], ["unit 1 register 1 read", "45.625", "read"]])
+
+    def test_a_hand_turns_a_device(self):
+        connection = self.connect()
+        self.type("set", "ahu1.damper", "30")
+        self.assertIn("by hand: unit 1 register 1 = 30", self.wait_for("ahu1.damper is 30.0"))
+        self.type("set", "lamp", "1")
+        self.wait_for("lamp is 1 by hand: unit 1 coil 19 = on")
+        answered = bytes.fromhex("0002 0000 0007 01 03 04 0000 41f0")
+        self.assertEqual(self.ask("0002 0000 0006 01 03 0001 0002", connection, len(answered)), answered)
+        for words, text in [(("set", "fan", "7"), "wanted a state"), (("set", "door", "1"), "no point of the plan"), (("set", "fan"), "no such words")]:
+            self.type(*words)
+            self.wait_for(text)
+
+    def test_the_plan_that_is_written_says_the_same(self):
+        self.type("quit")
+        self.process.wait(20)
+        scaled = FORMS.replace('type = "i16"', 'type = "i16"\noffset = -5\nround = "nearest"')
+        self.begin(self.plan("192.0.2.1:502", scaled), "--ports", "0")
+        with open(os.path.join(self.folder, "floor.plan.local.toml")) as file:
+            text = file.read()
+        for line in ("wait = 500", "function = 15", 'type = "f32"', 'first = "low"', "offset = -5", 'round = "nearest"'):
+            self.assertIn(line, text)
+
+
+class Numbers(unittest.TestCase):
+    """Numbers in registers, against Python's own binary32 and by hand."""
+
+    def test_a_binary32_is_the_nearest(self):
+        for number, bits in [((1, 10), 0x3dcccccd), ((16_777_217, 1), 0x4b800000), ((16_777_219, 1), 0x4b800002), ((-215, 10), 0xc1ac0000),
+                             ((1, 1000), 0x3a83126f), ((0, 5), 0), ((2**63 - 1, 1), 0x5f000000)]:
+            self.assertEqual(_forms.single(Fraction(*number)), bits, number)
+        for thousandths in range(-100_000, 100_000, 37):
+            self.assertEqual(_forms.single(Fraction(thousandths, 1000)), int.from_bytes(struct.pack(">f", thousandths / 1000), "big"))
+
+    def test_each_form_comes_back(self):
+        for form, value, words in [("u16", 45, [45]), ("i16", -215, [65_321]), ("u32", 4_294_967_295, [65_535, 65_535]), ("i32", -100_000, [65_534, 31_072])]:
+            self.assertEqual((_forms.Scale(form).words(value), _forms.Scale(form).value(words)), (words, value))
+        low = _forms.Scale("i32", True)
+        self.assertEqual((low.words(-100_000), low.value([31_072, 65_534])), ([31_072, 65_534], -100_000))
+        self.assertFalse(_forms.Scale("i16").fits(32_768))
+
+    def test_scales(self):
+        for scale, value, whole in [(_forms.Scale(per=1000), 45_900, 45), (_forms.Scale(per=1000, is_nearest=True), 45_900, 46),
+                                    (_forms.Scale(per=1000), -500, -1), (_forms.Scale(per=1000, is_nearest=True), -500, 0),
+                                    (_forms.Scale(times=9, per=5000, offset=32), 21_500, 70), (_forms.Scale(times=9, per=5000, offset=32, is_nearest=True), 21_500, 71)]:
+            self.assertEqual(scale.whole(value), whole, scale)
 
 
 class Driven(Begun):

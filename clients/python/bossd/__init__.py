@@ -24,9 +24,10 @@ was done at first, and `status` tells what still stands. A write that the server
 from ._client import Client, Held, Watch, connect, connected, watch
 from ._protocol import (
     LONGEST_LINE, PARTING, PAUSE, PULSE, REFUSALS, SILENCE, Accepted, Already, Answer, BadLease, BadPriority, BadReversion, Denied,
-    Ended, Malformed, NoMemory, NotAttached, Notice, Notices, NotInTransaction, NotYours, OutOfRange, Over, Reading, Refused, Request,
-    SamePoint, Slot, Slots, Spent, Stale, Status, Stopped, Taken, TooLong, TooManyProcesses, Unanswered, UnknownHost, UnknownOp,
-    UnknownPoint, UnknownTransaction, answer_of, check, line_of, milliseconds, renewal, thousandths, units, write,
+    Ended, Malformed, NoMemory, NotAttached, Notice, Notices, NotInTransaction, NotYours, OutOfRange, Over, Point, Points, Reading,
+    Refused, Request, SamePoint, Slot, Slots, Spent, Stale, Status, Stopped, Taken, TooLong, TooManyProcesses, Unanswered, UnknownHost,
+    UnknownOp, UnknownPoint, UnknownTransaction, Version, answer_of, check, line_of, milliseconds, notice_of, notices_of, point_of,
+    reading_of, renewal, slots_of, status_of, thousandths, units, version_of, write,
 )
 
 __version__ = "0.3.0"
@@ -34,8 +35,8 @@ __version__ = "0.3.0"
 __all__ = [
     "Accepted", "Already", "Answer", "BadLease", "BadPriority", "BadReversion", "Client", "Denied", "Ended", "Held", "LONGEST_LINE",
     "Malformed", "NoMemory", "NotAttached", "NotInTransaction", "NotYours", "Notice", "Notices", "OutOfRange", "Over", "PARTING",
-    "PAUSE", "PULSE", "REFUSALS", "Reading", "Refused", "Request", "SILENCE", "SamePoint", "Slot", "Slots", "Spent", "Stale", "Status",
-    "Stopped", "Taken", "TooLong", "TooManyProcesses", "Unanswered", "UnknownHost", "UnknownOp", "UnknownPoint", "UnknownTransaction",
-    "Watch", "answer_of", "check", "connect", "connected", "line_of", "milliseconds", "renewal", "thousandths", "units", "watch",
-    "write",
+    "PAUSE", "PULSE", "Point", "Points", "REFUSALS", "Reading", "Refused", "Request", "SILENCE", "SamePoint", "Slot", "Slots", "Spent",
+    "Stale", "Status", "Stopped", "Taken", "TooLong", "TooManyProcesses", "Unanswered", "UnknownHost", "UnknownOp", "UnknownPoint",
+    "UnknownTransaction", "Version", "Watch", "answer_of", "check", "connect", "connected", "line_of", "milliseconds", "notice_of",
+    "notices_of", "point_of", "reading_of", "renewal", "slots_of", "status_of", "thousandths", "units", "version_of", "watch", "write",
 ]

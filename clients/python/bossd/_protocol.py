@@ -5,8 +5,10 @@ Nothing here opens a connection. `docs/PROTOCOL.md` describes the lines."""
 import json
 import socket
 from datetime import timedelta
-from decimal import Decimal
-from typing import Any, Callable, Dict, Iterable, List, Mapping, NamedTuple, Optional, Sequence, Tuple, Type, Union
+from decimal import ROUND_HALF_EVEN, Decimal
+from typing import (
+    TYPE_CHECKING, Any, Callable, Dict, Iterable, List, Mapping, NamedTuple, Optional, Sequence, Tuple, Type, Union,
+)
 
 # A request or a write, by its keys as docs/PROTOCOL.md names them.
 Request = Dict[str, Any]
@@ -33,37 +35,86 @@ SILENCE = 90.0
 WINDOW = 16_384
 
 
+# The keys of refusals that their texts tell in words of their own.
+TOLD = frozenset({"error", "index", "rule", "kept", "at", "cause", "moment", "by", "process", "session"})
+
+
 class Refused(Exception):
-    """A request was refused: nothing was changed by it. `error` is the refusal's word, and its other fields are attributes."""
+    """A request was refused: nothing was changed by it. `error` is the refusal's word, `fields` has that and all else that was answered,
+    and the fields are attributes too. `request` is what was asked, where that is known, and the text tells the point, what was asked of
+    it, and what may be asked."""
 
-    error: str
-
-    def __init__(self, fields: Mapping[str, Any]) -> None:
-        super().__init__(" ".join([fields["error"]] + [f"{key}={value}" for key, value in fields.items() if key != "error"]))
-        self.__dict__.update(fields)
+    def __init__(self, fields: Mapping[str, Any], request: Optional[Mapping[str, Any]] = None) -> None:
+        self._fields, self.request = dict(fields), request
+        self.error: str = self._fields.get("error", "")
+        super().__init__(self._text())
 
     def __reduce__(self) -> Tuple[Any, ...]:
-        return type(self), (self.fields,)
+        return type(self), (self._fields, self.request)
+
+    if not TYPE_CHECKING:
+        def __getattr__(self, name: str) -> Any:
+            # A field is never in the way of an attribute that this class has, whatever a server calls it.
+            fields = self.__dict__.get("_fields", {})
+            if name.startswith("_") or name not in fields:
+                raise AttributeError(f"{type(self).__name__!r} object has no attribute {name!r}")
+            return fields[name]
 
     @property
     def fields(self) -> Answer:
         """The refusal's word and its other fields."""
-        return {key: value for key, value in vars(self).items() if not key.startswith("_") and value is not None}
+        return dict(self._fields)
+
+    @property
+    def write(self) -> Mapping[str, Any]:
+        """The write that was refused; an empty dict where it is none, or not known which."""
+        return self._place()[1]
+
+    @property
+    def point(self) -> Optional[str]:
+        """The name of the point that it is about, where it is about one and was asked for by this client."""
+        name = self.write.get("point") or self._place()[2]
+        return name if isinstance(name, str) else None
+
+    def _place(self) -> Tuple[str, Mapping[str, Any], object]:
+        """Where in the request the fault is, the write that stands there, or what else does."""
+        request, index = self.request or {}, self._fields.get("index")
+        for key in ("writes", "points"):
+            listed = request.get(key)
+            if isinstance(listed, (list, tuple)) and isinstance(index, int) and 0 <= index < len(listed):
+                one = listed[index]
+                return (f"{key}[{index}]", one, None) if isinstance(one, Mapping) else (f"{key}[{index}]", {}, one)
+        return "", {}, request.get("point")
+
+    def _text(self) -> str:
+        why = self._why() if self.request is not None else ""
+        told = TOLD if why else {"error"}
+        rest = " ".join(f"{key}={value}" for key, value in self._fields.items() if key not in told)
+        place = self._place()[0] if why else ""
+        return " ".join(filter(None, (": ".join(filter(None, (self.error, place, why))), rest)))
+
+    def _why(self) -> str:
+        """What the text says of a request that is known."""
+        return ""
+
+    def _asked(self, key: str) -> Any:
+        return (self.request or {}).get(key)
 
 
 class Malformed(Refused):
     """A key is missing, of another kind or out of its range. The client finds this before it sends anything: `key` is the key at
     fault, as `writes[0].value`, `found` what stood there, and `wanted` what may stand there. Where it was the server that found
-    it, `key` is None."""
+    it, `key` is what the server said, or None, and the other two are None."""
 
-    def __init__(self, fields: Mapping[str, Any]) -> None:
-        super().__init__(fields)
+    def __init__(self, fields: Mapping[str, Any], request: Optional[Mapping[str, Any]] = None) -> None:
         self.key: Optional[str] = fields.get("key")
         self.found: Optional[str] = fields.get("found")
         self.wanted: Optional[str] = fields.get("wanted")
+        super().__init__(fields, request)
 
-    def __str__(self) -> str:
-        return "malformed" if self.key is None else f"malformed: {self.key}: found {self.found}; wanted {self.wanted}"
+    def _text(self) -> str:
+        what = f": found {self.found}; wanted {self.wanted}" if self.wanted is not None else ""
+        return self.error + ("" if self.key is None else f": {self.key}{what}")
 
 
 class UnknownOp(Refused):
@@ -74,6 +125,9 @@ class UnknownPoint(Refused):
     """`index`: this write, or this one of the points, counted from 0, names no point of the catalogue."""
 
     index: int
+
+    def _why(self) -> str:
+        return f"the catalogue has no point {self.point}"
 
 
 class NotAttached(Refused):
@@ -88,11 +142,18 @@ class Denied(Refused):
     index: int
     rule: int
 
+    def _why(self) -> str:
+        rule = self._fields.get("rule")
+        return f"{self.point} at priority {self.write.get('priority', 16)}, " + (f"by rule {rule}" if rule else "since no rule is for it")
+
 
 class Stale(Refused):
     """`kept`: a request of the process with this greater number was accepted: somebody else numbers its requests too."""
 
     kept: int
+
+    def _why(self) -> str:
+        return f"number {self._asked('seq')} after number {self._fields.get('kept')}, which was accepted"
 
 
 class SamePoint(Refused):
@@ -100,11 +161,17 @@ class SamePoint(Refused):
 
     index: int
 
+    def _why(self) -> str:
+        return f"an earlier write is on {self.point} too"
+
 
 class BadPriority(Refused):
     """`index`: the priority of this write is outside 1 to 16, or 6."""
 
     index: int
+
+    def _why(self) -> str:
+        return f"{self.point} at priority {self.write.get('priority')}: 1 to 16 may be, but not 6"
 
 
 class OutOfRange(Refused):
@@ -112,11 +179,19 @@ class OutOfRange(Refused):
 
     index: int
 
+    def _why(self) -> str:
+        return (f"{self.point} does not take {self.write.get('value')}: thousandths of the unit at an analog point, 0 or 1 at a binary one, a "
+                "state from 1 on at a multi-state one, within the point's bounds")
+
 
 class BadLease(Refused):
     """`index`: this lease, or the length of a renewal, is outside 1 to 604,800,000 milliseconds, which is a week."""
 
     index: int
+
+    def _why(self) -> str:
+        what = f"a renewal for {self._asked('length')}" if self._asked("op") == "renew" else f"{self.point} for {self.write.get('lease')}"
+        return f"{what} milliseconds: 1 to {LONGEST_LEASE} may be, which is a week"
 
 
 class BadReversion(Refused):
@@ -124,13 +199,23 @@ class BadReversion(Refused):
 
     index: int
 
+    def _why(self) -> str:
+        return (f"{self.point} with revert {self.write.get('revert')}: at most 8 pairs may be, of a value that fits the point and of 1 to "
+                f"{LONGEST_HOLD} milliseconds")
+
 
 class UnknownTransaction(Refused):
     """No transaction of this number is kept; of those that are done at most 1,024 are, the last ones."""
 
+    def _why(self) -> str:
+        return f"no transaction {self._asked('txn')} is kept"
+
 
 class NotYours(Refused):
     """The transaction is another process's."""
+
+    def _why(self) -> str:
+        return f"transaction {self._asked('txn')} is another process's"
 
 
 class NotInTransaction(Refused):
@@ -138,15 +223,25 @@ class NotInTransaction(Refused):
 
     index: int
 
+    def _why(self) -> str:
+        return f"transaction {self._asked('txn')} did not write {self.point}"
+
 
 class Ended(Refused):
     """A lease that was to be renewed ended at the moment `at`. `cause` is "expired", "cancelled", "died", "fault" or "superseded",
-    and then `by` is the transaction that took its slot. `moment` is when the renewal came."""
+    and then `by` is the transaction that took its slot; else that is None. `moment` is when the renewal came."""
 
     cause: str
     at: int
     moment: int
-    by: int
+
+    @property
+    def by(self) -> Optional[int]:
+        return self._fields.get("by")
+
+    def _why(self) -> str:
+        by = "" if self.by is None else f" by transaction {self.by}"
+        return f"a lease of transaction {self._asked('txn')} ended at {self._fields.get('at')}: {self._fields.get('cause')}{by}"
 
 
 class Over(Refused):
@@ -154,11 +249,17 @@ class Over(Refused):
 
     at: int
 
+    def _why(self) -> str:
+        return f"transaction {self._asked('txn')} has no live lease since {self._fields.get('at')}"
+
 
 class Already(Refused):
     """`process`: the client speaks for this process already."""
 
     process: str
+
+    def _why(self) -> str:
+        return f"this connection speaks for {self._fields.get('process')}"
 
 
 class Taken(Refused):
@@ -166,9 +267,15 @@ class Taken(Refused):
 
     session: int
 
+    def _why(self) -> str:
+        return f"another connection, session {self._fields.get('session')}, speaks for {self._asked('process')}"
+
 
 class TooManyProcesses(Refused):
     """256 names of processes are known, and this is another one."""
+
+    def _why(self) -> str:
+        return f"256 names are known, and {self._asked('process')} is another one"
 
 
 class Spent(Refused):
@@ -221,13 +328,15 @@ class Accepted(NamedTuple):
 
 class Reading(NamedTuple):
     """The value that a point is to have, and what it rests on: `basis` is "lease", "pending" (a reversion under way) or "default",
-    and for the first two there are `priority` and `txn`. `mark` says how far the device has come: "settled", "pending", "failed"."""
+    and for the first two there are `priority` and `txn`. `mark` says how far the device has come: "settled", "pending", "failed"; it
+    was found with another value than the one that it had taken `differed` times since the server was started."""
     point: str
     value: int
     basis: str
     mark: str
     priority: Optional[int] = None
     txn: Optional[int] = None
+    differed: int = 0
 
 
 class Slot(NamedTuple):
@@ -267,6 +376,37 @@ class Notice(NamedTuple):
     by: Optional[int] = None
 
 
+class Point(NamedTuple):
+    """A point of the catalogue. `kind` is "analog" (with `min` and `max`, thousandths of the unit), "binary" or "multi" (with `states`,
+    how many there are). `min_on` and `min_off` are its minimum times, in milliseconds, 0 where it has none."""
+    name: str
+    kind: str
+    default: int
+    driver: str
+    min: Optional[int] = None
+    max: Optional[int] = None
+    states: Optional[int] = None
+    min_on: int = 0
+    min_off: int = 0
+
+
+class Points(NamedTuple):
+    """The catalogue of a server: its digest, 64 hexadecimal digits, the names of its drivers, and its points, each in their order."""
+    digest: str
+    drivers: List[str]
+    list: List[Point]
+
+
+class Version(NamedTuple):
+    """Which program serves, the version of the journals that it begins, and its catalogue's digest and how many points and drivers that
+    has."""
+    program: str
+    journal: int
+    digest: str
+    points: int
+    drivers: int
+
+
 class Notices(NamedTuple):
     """Notices of a process; `first` is the least number that is kept, `next` the number to ask from next."""
     first: int
@@ -274,17 +414,25 @@ class Notices(NamedTuple):
     list: List[Notice]
 
 
-def thousandths(units: Union[int, float, str, Decimal]) -> int:
-    """The value of so many units at an analog point: 21.5 is 21500. ValueError where that is no whole number."""
-    value = Decimal(str(units)) * 1000
-    if not value.is_finite() or value != value.to_integral_value():
+def thousandths(units: Union[int, float, str, Decimal], *, exact: bool = False) -> int:
+    """The value of so many units at an analog point: 21.5 is 21500. It is rounded to the next thousandth, and to the even one of two that
+    are as near; with `exact` it is not, and ValueError says that it is no whole number of them. ValueError for what is no number."""
+    try:
+        value = Decimal(str(units)) * 1000
+    except ArithmeticError:
+        raise ValueError(f"{units!r} is no number of units") from None
+    if not value.is_finite():
+        raise ValueError(f"{units} is no value: wanted a finite number of units")
+    rounded = value.to_integral_value(ROUND_HALF_EVEN)
+    if exact and value != rounded:
         raise ValueError(f"{units} is no whole number of thousandths")
-    return int(value)
+    return int(rounded)
 
 
-def units(value: int) -> Decimal:
-    """The units of a value of an analog point, as a Decimal: 21500 is 21.5."""
-    return Decimal(value) / 1000
+def units(value: int) -> float:
+    """The units of a value of an analog point: 21500 is 21.5. `thousandths` of it gives the value again, for each value that a point may
+    have."""
+    return value / 1000
 
 
 def milliseconds(**parts: float) -> int:
@@ -295,8 +443,19 @@ def milliseconds(**parts: float) -> int:
 def write(point: str, value: int, *, lease: int, priority: int = 16, revert: Iterable[Sequence[int]] = ()) -> Request:
     """A write for `submit` and `hold`: the value is held on the point for `lease` milliseconds, 1 to 604,800,000. `revert` is played
     when the lease ends otherwise than by supersession: at most 8 pairs of a value and for how many milliseconds it is held, 1 to
-    86,400,000."""
-    return {"point": point, "value": value, "priority": priority, "lease": lease, "revert": [list(step) for step in revert]}
+    86,400,000. Malformed where `revert` is no such list: its key is the place, as `revert[0]`."""
+    return {"point": point, "value": value, "priority": priority, "lease": lease, "revert": steps_of(revert)}
+
+
+def steps_of(revert: Iterable[Sequence[int]]) -> List[Any]:
+    """The steps of a reversion, as lists. Malformed."""
+    try:
+        steps = list(revert)
+    except TypeError:
+        raise wrong("revert", f"an array of {A_PAIR}s", revert) from None
+    for place, step in enumerate(steps):
+        a_step(f"revert[{place}]", list(step) if isinstance(step, Sequence) and not isinstance(step, (str, bytes)) else step)
+    return [list(step) for step in steps]
 
 
 # ---- addresses
@@ -425,9 +584,12 @@ A_LENGTH = whole(-GREATEST_WHOLE - 1, GREATEST_WHOLE, " (milliseconds)")
 A_TXN = whole(0, GREATEST_WHOLE)
 
 
+A_PAIR = "pair of a value and how long it is held, in milliseconds"
+
+
 def a_step(key: str, found: object) -> None:
     if not isinstance(found, (list, tuple)) or len(found) != 2:
-        raise wrong(key, "a pair of a value and how long it is held, in milliseconds", found)
+        raise wrong(key, f"a {A_PAIR}", found)
     A_VALUE(f"{key}[0]", found[0])
     A_LENGTH(f"{key}[1]", found[1])
 
@@ -446,6 +608,8 @@ REQUESTS: Dict[str, Check] = {
     "array": table({"point": a_text}, {}),
     "status": table({"txn": A_TXN}, {}),
     "notices": table({}, {"process": a_name, **FROM, "max": whole(1, 64)}),
+    "points": table({}, {"from": whole(0, 1 << 62), "max": whole(1, 64)}),
+    "version": table({}, {}),
     "watch": table({"process": a_name}, FROM),
 }
 
@@ -470,15 +634,15 @@ def line_of(request: Mapping[str, Any]) -> bytes:
     return line + b"\n"
 
 
-def refusal_of(answer: Answer) -> Optional[Refused]:
-    """The refusal that an answer is, if it is one."""
-    return REFUSALS.get(answer["error"], Refused)(answer) if "error" in answer else None
+def refusal_of(answer: Answer, request: Optional[Mapping[str, Any]] = None) -> Optional[Refused]:
+    """The refusal that an answer is, if it is one, of a request where that is known."""
+    return REFUSALS.get(answer["error"], Refused)(answer, request) if "error" in answer else None
 
 
-def answer_of(line: Union[bytes, str]) -> Answer:
-    """The answer that a line tells, as a dict; raises the Refused that it may be."""
+def answer_of(line: Union[bytes, str], request: Optional[Mapping[str, Any]] = None) -> Answer:
+    """The answer that a line tells, as a dict; raises the Refused that it may be, of a request where that is given."""
     answer: Answer = json.loads(line)
-    refused = refusal_of(answer)
+    refused = refusal_of(answer, request)
     if refused is not None:
         raise refused
     return answer
@@ -497,7 +661,7 @@ def windows(lines: Sequence[bytes]) -> List[List[bytes]]:
     return parts
 
 
-# ---- requests, and what their answers say
+# ---- requests, and what their answers say: keys that a later server adds are passed over
 
 def submission(writes: Iterable[Mapping[str, Any]], policy: str = "abort") -> Request:
     """A request that sets several points."""
@@ -518,12 +682,14 @@ def notices_from(process: Optional[str], first: int, most: int) -> Request:
 
 def reading_of(answer: Answer) -> Reading:
     """What the answer to a `read` says."""
-    return Reading(answer["point"], answer["value"], answer["from"], answer["mark"], answer.get("priority"), answer.get("txn"))
+    return Reading(answer["point"], answer["value"], answer["from"], answer["mark"], answer.get("priority"), answer.get("txn"),
+                   answer.get("differed", 0))
 
 
 def slots_of(answer: Answer) -> Slots:
     """What the answer to an `array` says."""
-    taken = {priority: Slot(**slot) for priority, slot in enumerate(answer["slots"], 1) if slot}
+    taken = {priority: Slot(slot["value"], slot["txn"], slot.get("until"), slot.get("end"))
+             for priority, slot in enumerate(answer["slots"], 1) if slot}
     return Slots(answer["point"], answer["default"], taken)
 
 
@@ -534,4 +700,48 @@ def status_of(answer: Answer) -> Status:
 
 def notices_of(answer: Answer) -> Notices:
     """What the answer to a `notices` says."""
-    return Notices(answer["first"], answer["next"], [Notice(**notice) for notice in answer["list"]])
+    return Notices(answer["first"], answer["next"], [notice_of(notice) for notice in answer["list"]])
+
+
+def notice_of(notice: Answer) -> Notice:
+    """What a line of a watch says, or an item of the list in the answer to a `notices`."""
+    return Notice(notice["n"], notice["at"], notice["txn"], notice["kind"], notice.get("point"), notice.get("cause"), notice.get("by"))
+
+
+def version_of(answer: Answer) -> Version:
+    """What the answer to a `version` says."""
+    return Version(answer["program"], answer["journal"], answer["digest"], answer["points"], answer["drivers"])
+
+
+def point_of(told: Answer) -> Point:
+    """A point, as an answer has it."""
+    return Point(told["point"], told["kind"], told["default"], told["driver"], told.get("min"), told.get("max"), told.get("states"),
+                 told.get("min_on", 0), told.get("min_off", 0))
+
+
+class Gathering:
+    """The points of a server, gathered from the answers to `points`. Where the server was started anew under another catalogue meanwhile,
+    it begins again."""
+
+    def __init__(self) -> None:
+        self.next = 0
+        self.digest = ""
+        self.drivers: List[str] = []
+        self.points: List[Point] = []
+
+    def request(self) -> Request:
+        """What to ask next."""
+        return {"op": "points", "from": self.next}
+
+    def is_done_with(self, answer: Answer) -> bool:
+        """Takes the answer, and says whether all are there."""
+        if self.next and answer["digest"] != self.digest:
+            self.next, self.points = 0, []
+            return False
+        self.digest, self.drivers = answer["digest"], answer.get("drivers", self.drivers)
+        self.points += [point_of(told) for told in answer["list"]]
+        self.next = answer["next"]
+        return not answer["list"] or self.next >= answer["count"]
+
+    def gathered(self) -> Points:
+        return Points(self.digest, self.drivers, self.points)

@@ -7,6 +7,7 @@ import os
 import platform
 import shutil
 import signal
+import socket
 import sys
 import time
 from collections import Counter, deque
@@ -15,6 +16,7 @@ from typing import Any, Deque, Dict, Iterable, Iterator, List, Optional
 from .. import __version__
 from .._client import Client, Watch
 from .._protocol import Accepted, Denied, Notice, Over, Request, UnknownTransaction, write
+from ..overrides import NotMade, asked as overrides_asked
 from . import _journal, _lint, _live, _show
 from ._journal import Damaged, Event, Journal, Known
 from ._live import View
@@ -40,7 +42,7 @@ def aside(text: str) -> None:
 
 
 def client_of(words: Words) -> Client:
-    return Client(words.server, None, words.patience)
+    return Client(words.server, None, words.patience, at_once=True)
 
 
 def catalogue_of(words: Words) -> Catalogue:
@@ -179,6 +181,14 @@ def steps_of(words: Words, one: Point) -> List[List[int]]:
 
 
 def set_point(words: Words) -> int:
+    if words.detach and (words.process or words.policy != "keep"):
+        raise ValueError("--detach has the point set by bossd-overrides, as its own process and under the policy keep: leave --as and --policy out")
+    if words.note and not words.detach:
+        raise ValueError("--note is kept with --detach alone")
+    if words.detach:
+        return detach(words)
+    if words.lease is None:
+        raise ValueError("set wants --for TIME, or --detach: then it stands until somebody releases it")
     return take(words, words.lease, is_renewed=False)
 
 
@@ -201,10 +211,10 @@ def take(words: Words, lease: int, is_renewed: bool) -> int:
         other = before.slots.slots.get(words.priority)
         with denials(client, made):
             if is_renewed:
-                held = client.hold([made])
+                held = client.hold([made], words.policy)
                 accepted = Accepted(held.txn, held.until)
             else:
-                accepted = client.submit([made])
+                accepted = client.submit([made], words.policy)
         taking = Taking(words, client, one, accepted.txn, first)
         if other is not None and not words.json:
             taking.say(f"took the slot from {before.owners.get(other.txn)}, which had {one.show(other.value)} there")
@@ -214,6 +224,67 @@ def take(words: Words, lease: int, is_renewed: bool) -> int:
             return taking.follow()
         except KeyboardInterrupt:
             return taking.release()
+
+
+# ---- overrides that stand
+
+def of_overrides(words: Words, request: Request) -> Dict[str, Any]:
+    """What the service answers that holds overrides. Failure, NotMade."""
+    path = words.overrides
+    try:
+        return overrides_asked(path, request, words.patience)
+    except (FileNotFoundError, ConnectionRefusedError):
+        raise Failure(f"nobody listens at {path}: does bossd-overrides run? (systemctl enable --now bossd-overrides; --overrides or "
+                      "BOSSD_OVERRIDES says where it listens)") from None
+    except socket.timeout:
+        raise Failure(f"{path} has not answered yet, as where the server is away: bossctl overrides shows what stands") from None
+    except OSError as error:
+        raise Failure(f"{path}: {error}") from None
+
+
+def detach(words: Words) -> int:
+    """Has a point set by the service that holds overrides."""
+    one = catalogue_of(words).point(words.point)
+    steps = steps_of(words, one)
+    until = {} if words.lease is None else {"until": now() + words.lease}
+    for_whom = {"for": os.environ["SUDO_USER"]} if os.environ.get("SUDO_USER") else {}
+    try:
+        made = of_overrides(words, {"do": "set", "point": one.name, "value": one.value(words.value), "priority": words.priority, "back": steps,
+                                    "note": words.note or "", **until, **for_whom})
+    except NotMade as error:
+        raise Failure(f"refused: {error}") from None
+    if words.json:
+        tell_json(made)
+    else:
+        end = f"until {moment(made['until'])}" if made["until"] else "until somebody releases it"
+        tell([f"{one.name} {one.show(made['value'])} at priority {made['priority']} stands {end}, set by {made['who']}; bossctl overrides shows "
+              "it, bossctl release ends it"])
+    return FINE
+
+
+def overrides(words: Words) -> int:
+    catalogue = catalogue_of(words)
+    told = of_overrides(words, {"do": "list"})
+    if words.json:
+        tell_json(told)
+        return FINE
+    listed: List[Dict[str, Any]] = told["ended" if words.ended else "overrides"]
+    listed.sort(key=lambda it: int(it["at"]))
+    heads = ("POINT", "VALUE", "PRIORITY", "SET BY", "SET AT", "FOR", "ENDED" if words.ended else "ENDS", "WHY" if words.ended else "NOTE")
+    rows = [override_row(one, catalogue.points.get(one["point"]), words.ended) for one in listed]
+    if rows:
+        tell(_show.table(heads, rows, " rr", width_of_terminal()))
+    since = f", the oldest for {length(now() - listed[0]['at'])}" if listed and not words.ended else ""
+    tell([f"{len(listed)} {'ended lately' if words.ended else 'stand'}{since}"])
+    return FINE
+
+
+def override_row(one: Dict[str, Any], point: Optional[Point], has_ended: bool) -> List[Cell]:
+    ends = one["ended"] if has_ended else one["until"]
+    return [Cell(one["point"], "" if point else "failed"), Cell(point.show(one["value"]) if point else str(one["value"])),
+            Cell(str(one["priority"])), Cell(one["who"]), Cell(moment(one["at"])),
+            Cell(length((one["ended"] if has_ended else now()) - one["at"])), Cell("never by itself" if ends is None else moment(ends)),
+            Cell(one["why"] if has_ended else one["note"])]
 
 
 @contextlib.contextmanager
@@ -234,8 +305,8 @@ class Taking:
     def __init__(self, words: Words, client: Client, one: Point, txn: int, first: int) -> None:
         self.words, self.client, self.point, self.txn, self.first = words, client, one, txn, first
         self.shown = ""
-        # At how many looks in turn the device of a point with minimum times had not answered.
-        self.waits = 0
+        # At how many looks in turn the device of a point with minimum times had not answered, and whether it did not take the value.
+        self.waits, self.has_failed = 0, False
 
     def say(self, text: str, **told: Any) -> None:
         if self.words.json:
@@ -257,8 +328,16 @@ class Taking:
         if sentence(view) != self.shown:
             self.shown = sentence(view)
             self.say(f"in force: {self.shown}")
-        if self.point.times() and view.reading is not None:
-            self.wait(view.reading.mark)
+        if view.reading is not None:
+            self.hear_device(view.reading.mark)
+            if self.point.times():
+                self.wait(view.reading.mark)
+
+    def hear_device(self, mark: str) -> None:
+        """Says that a device took a value at last."""
+        if mark == "settled" and self.has_failed:
+            self.has_failed = False
+            self.say("the device took the value")
 
     def wait(self, mark: str) -> None:
         """Says that a device waits for its minimum time, and when it has taken the value."""
@@ -274,7 +353,8 @@ class Taking:
         for notice in page.list:
             self.first = notice.n + 1
             if notice.txn == self.txn and notice.kind == "fault":
-                self.say("the device did not take the value")
+                self.has_failed = True
+                self.say("the device did not take the value" + ("" if self.words.policy == "abort" else "; it is tried again every five seconds"))
             if notice.txn == self.txn and notice.kind == "ended":
                 return notice
         return None
@@ -296,8 +376,28 @@ class Taking:
         return FINE if ended is None else self.over(ended)
 
 
+def release_override(words: Words, one: Point) -> Optional[Dict[str, Any]]:
+    """The override that stood and was ended by its own service; None where there is none, or no service."""
+    if not os.access(words.overrides, os.W_OK):
+        return None
+    try:
+        return of_overrides(words, {"do": "release", "point": one.name, "priority": words.priority})
+    except NotMade as error:
+        if error.error == "none":
+            return None
+        raise Failure(str(error)) from None
+
+
 def release(words: Words) -> int:
     one = catalogue_of(words).point(words.point)
+    override = release_override(words, one)
+    if override is not None:
+        if words.json:
+            tell_json({"released": override})
+        else:
+            tell([f"{one.name}: released the override at priority {words.priority}, {one.show(override['value'])}, which {override['who']} set at "
+                  f"{moment(override['at'])}"])
+        return FINE
     with _live.attached(words.server, words.process, words.patience) as client:
         view = _live.views(client, [one])[0]
         slot = view.slots.slots.get(words.priority)
@@ -328,9 +428,9 @@ def where_else(view: View) -> str:
 # ---- watch
 
 def watch(words: Words) -> int:
+    with client_of(words) as client:
+        count = _live.notice_counts(client, [words.process])[words.process]
     if words.first is None:
-        with client_of(words) as client:
-            count = _live.notice_counts(client, [words.process])[words.process]
         words.first = max(1, count - 9)
         if count == 0:
             aside(f"{words.process} has had no notice yet: is the name right? (bossctl processes)")
@@ -601,7 +701,7 @@ def lint(words: Words) -> int:
         files = ", ".join(file for file in (words.file, words.rules, words.plan) if file)
         passed = len(found) - mistakes
         tell([f"{files}: {mistakes or 'no'} mistake{'s' if mistakes != 1 else ''}" + (f", {passed} passed over" if passed else "")])
-    return WRONG if mistakes else FINE
+    return WRONG if mistakes or (words.strict and found) else FINE
 
 
 def version(words: Words) -> int:

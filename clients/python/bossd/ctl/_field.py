@@ -9,14 +9,19 @@ import sys
 import threading
 from typing import Any, Awaitable, Callable, Dict, Iterable, List, NamedTuple, Optional, Set, Tuple
 
-from . import _lint, _show, _toml
+from . import _forms, _lint, _show, _toml
+from ._forms import Scale
 from ._show import NONE, Cell, Point, now
 from ._toml import Failure
 
-# The two functions that are served, with what they write (MODBUS Application Protocol 1.1b3, 6.5 and 6.6).
-COIL, REGISTER = 5, 6
-KINDS = {COIL: "coil", REGISTER: "register"}
-# The words of a coil that is off and on (6.5).
+# What a function of the protocol is about, and whether it writes one, writes several, or reads (MODBUS Application Protocol 1.1b3, 6.1,
+# 6.3, 6.5, 6.6, 6.11 and 6.12).
+READS, WRITES_ONE, WRITES_SEVERAL = "reads", "writes one", "writes several"
+FUNCTIONS = {1: ("coil", READS), 3: ("register", READS), 5: ("coil", WRITES_ONE), 6: ("register", WRITES_ONE),
+             15: ("coil", WRITES_SEVERAL), 16: ("register", WRITES_SEVERAL)}
+# How many may be asked for at once, and of registers be written.
+MOST = {1: 2_000, 3: 125, 15: 1_968, 16: 123}
+# The word of a coil that is on (6.5).
 ON = 0xFF00
 # Codes of exceptions (7).
 ILLEGAL_FUNCTION, ILLEGAL_ADDRESS, ILLEGAL_VALUE = 1, 2, 3
@@ -26,7 +31,8 @@ CODES = {1: "illegal function", 2: "illegal data address", 3: "illegal data valu
 SHORTEST, LONGEST = 2, 254
 MARK = "# Made by bossctl field"
 HELP = """\
-    fail NAME [CODE]   refuse each write with an exception, code 2 (illegal data address) where none is given
+    set NAME VALUE     turn a point's device by hand, to a value in the point's units: bossd is not told
+    fail NAME [CODE]   refuse each request with an exception, code 2 (illegal data address) where none is given
     silent NAME        take requests and answer none
     refuse DRIVER      end the host's connections and take no new ones
     back [NAME]        work again; all of them without a name
@@ -49,53 +55,123 @@ class Trouble(NamedTuple):
 
 
 class Place:
-    """Where a point is: a register or a coil of a unit. One stands in the register for `per` thousandths, or for one state."""
+    """Where a point is: a coil of a unit, or the registers of one in which its values stand."""
 
-    def __init__(self, point: Point, unit: int, function: int, address: int, per: int) -> None:
-        self.point, self.unit, self.function, self.address, self.per = point, unit, function, address, per
-        self.word: Optional[int] = None
+    def __init__(self, point: Point, unit: int, kind: str, address: int, scale: Scale) -> None:
+        self.point, self.unit, self.kind, self.address, self.scale = point, unit, kind, address, scale
+        # When it was written last, by anyone; 0 before.
         self.moment = 0
         self.trouble: Optional[Trouble] = None
 
-    def where(self) -> str:
-        return f"unit {self.unit} {KINDS[self.function]} {self.address}"
+    def addresses(self) -> range:
+        return range(self.address, self.address + (1 if self.kind == "coil" else self.scale.registers()))
 
-    def value(self, word: int) -> int:
-        """The point's value that this word stands for."""
-        return word // ON if self.function == COIL else word * self.per
+    def where(self) -> str:
+        return f"unit {self.unit} {self.kind} {self.address}"
+
+    def words(self, value: int) -> List[int]:
+        """What stands at the addresses for a value of the point. Failure where it has no form there."""
+        if self.kind == "coil":
+            return [value]
+        if not self.scale.fits(value):
+            raise Failure(f"{self.point.show(value)} has no form of type {self.scale.form} at {self.where()}")
+        return self.scale.words(value)
+
+    def value(self, words: List[int]) -> int:
+        """The point's value that these words stand for."""
+        return words[0] if self.kind == "coil" else self.scale.value(words)
+
+    def shown(self, words: List[int]) -> str:
+        """What the device has."""
+        return ("off", "on")[words[0]] if self.kind == "coil" else self.scale.shown(words)
+
+
+class Asked(NamedTuple):
+    """What a request is about: so many coils or registers from an address on, and the words to be written, which are None where they are
+    read."""
+    kind: str
+    address: int
+    many: int
+    words: Optional[List[int]]
+
+    def addresses(self) -> range:
+        return range(self.address, self.address + self.many)
+
+
+def asked(request: bytes) -> Optional[Asked]:
+    """What a request of a function that is served asks for; None where it is not formed as the function's are (6.1 to 6.12)."""
+    (kind, way), rest = FUNCTIONS[request[0]], request[1:]
+    if len(rest) < 4:
+        return None
+    address, count = int.from_bytes(rest[:2], "big"), int.from_bytes(rest[2:4], "big")
+    if way == WRITES_ONE:
+        if len(rest) != 4 or (kind == "coil" and count not in (0, ON)):
+            return None
+        return Asked(kind, address, 1, [count // ON if kind == "coil" else count])
+    if not 1 <= count <= MOST[request[0]]:
+        return None
+    if way == READS:
+        return Asked(kind, address, count, None) if len(rest) == 4 else None
+    data, size = rest[5:], (count + 7) // 8 if kind == "coil" else 2 * count
+    if rest[4:5] != bytes([size]) or len(data) != size:
+        return None
+    if kind == "coil":
+        return Asked(kind, address, count, [data[at // 8] >> at % 8 & 1 for at in range(count)])
+    return Asked(kind, address, count, [int.from_bytes(data[at:at + 2], "big") for at in range(0, size, 2)])
+
+
+def read_back(kind: str, words: List[int]) -> bytes:
+    """What a function that reads is answered with: how many bytes there are, and they (6.1, 6.3)."""
+    if kind == "register":
+        data = b"".join(word.to_bytes(2, "big") for word in words)
+    else:
+        data = sum(word << at for at, word in enumerate(words)).to_bytes((len(words) + 7) // 8, "little")
+    return bytes([len(data)]) + data
 
 
 class Heard(NamedTuple):
-    """A request, the places that it names, and its response without the header, which is None where there is none."""
+    """A request, what it asks for, the places that it names, the words there after it, and its response without the header, which is None
+    where there is none."""
     unit: int
     request: bytes
+    asked: Optional[Asked]
     places: List[Place]
+    words: List[int]
     response: Optional[bytes]
 
     def code(self) -> Optional[int]:
         """The code of the exception, where the response is one."""
         return self.response[1] if self.response is not None and self.response[0] >= 0x80 else None
 
-    def asked(self) -> str:
-        function, rest = self.request[0], self.request[1:]
-        if function not in KINDS or len(rest) != 4:
+    def said(self) -> str:
+        function = self.request[0]
+        if self.asked is None:
             return f"unit {self.unit} function {function}"
-        word = int.from_bytes(rest[2:], "big")
-        shown = {0: "off", ON: "on"}.get(word, str(word)) if function == COIL else str(word)
-        return f"unit {self.unit} {KINDS[function]} {int.from_bytes(rest[:2], 'big')} = {shown}"
+        at = f"unit {self.unit} {self.asked.kind} {self.asked.address}"
+        if self.asked.words is None:
+            return f"{at} read"
+        exact = next((it for it in self.places if it.addresses() == self.asked.addresses()), None)
+        coil = ("off", "on") if self.asked.kind == "coil" else None
+        shown = exact.shown(self.asked.words) if exact else " ".join(coil[word] if coil else str(word) for word in self.asked.words)
+        return f"{at} = {shown}"
 
     def value(self) -> str:
-        if not self.places or len(self.request) != 5:
+        if self.asked is None or not self.words:
             return NONE
-        word = int.from_bytes(self.request[3:], "big")
-        return ", ".join(dict.fromkeys(place.point.show(place.value(word)) for place in self.places))
+        parts = [(it, it.address - self.asked.address) for it in self.places]
+        whole = [(it, self.words[at:at + len(it.addresses())]) for it, at in parts if 0 <= at and at + len(it.addresses()) <= len(self.words)]
+        return ", ".join(dict.fromkeys(it.point.show(it.value(words)) for it, words in whole)) or NONE
 
     def name(self) -> str:
         return ", ".join(place.point.name for place in self.places)
 
     def came(self) -> str:
         code = self.code()
-        return "no answer" if self.response is None else "taken" if code is None else f"refused with {code_text(code)}"
+        if self.response is None:
+            return "no answer"
+        if code is not None:
+            return f"refused with {code_text(code)}"
+        return "read" if self.asked is not None and self.asked.words is None else "taken"
 
 
 class Host:
@@ -105,34 +181,53 @@ class Host:
         self.address = address
         self.drivers: List[str] = []
         self.places: List[Place] = []
+        # By unit, kind and address: what was written there. All else that a place names is 0.
+        self.store: Dict[Tuple[int, str, int], int] = {}
         self.trouble: Optional[Trouble] = None
         self.server: Optional[asyncio.AbstractServer] = None
         self.open: Set[asyncio.StreamWriter] = set()
 
     def answer(self, unit: int, request: bytes) -> Heard:
         """What comes of a request, which begins with its function."""
-        places, code = self._asked(unit, request)
+        what, places, code = self._asked(unit, request)
+        words = [] if what is None else what.words or [self.store.get((unit, what.kind, at), 0) for at in what.addresses()]
         trouble = self.trouble or next((it.trouble for it in places if it.trouble), None)
         if trouble is not None and trouble.what == "silent":
-            return Heard(unit, request, places, None)
+            return Heard(unit, request, what, places, words, None)
         if code is None and trouble is not None:
             code = trouble.code
-        if code is not None:
-            return Heard(unit, request, places, bytes([request[0] | 0x80, code]))
-        for place in places:
-            place.word, place.moment = int.from_bytes(request[3:], "big"), now()
-        return Heard(unit, request, places, request)
+        if what is None or code is not None:
+            return Heard(unit, request, what, places, words, bytes([request[0] | 0x80, code or ILLEGAL_VALUE]))
+        if what.words is None:
+            return Heard(unit, request, what, places, words, request[:1] + read_back(what.kind, words))
+        self.write(unit, what.kind, what.address, what.words)
+        # Of one the request itself, and of several how many they are (6.5, 6.6, 6.11, 6.12).
+        return Heard(unit, request, what, places, words, request[:5])
 
-    def _asked(self, unit: int, request: bytes) -> Tuple[List[Place], Optional[int]]:
-        """The places that a request names, or the code of its fault. The tests are made in the order of 6.5 and 6.6."""
-        function = request[0]
-        if function not in KINDS:
-            return [], ILLEGAL_FUNCTION
-        address, word = int.from_bytes(request[1:3], "big"), int.from_bytes(request[3:5], "big")
-        if len(request) != 5 or (function == COIL and word not in (0, ON)):
-            return [], ILLEGAL_VALUE
-        places = [it for it in self.places if (it.unit, it.function, it.address) == (unit, function, address)]
-        return places, None if places else ILLEGAL_ADDRESS
+    def write(self, unit: int, kind: str, address: int, words: List[int]) -> None:
+        for at, word in enumerate(words, address):
+            self.store[unit, kind, at] = word
+        for place in self._named(unit, kind, range(address, address + len(words))):
+            place.moment = now()
+
+    def has(self, place: Place) -> Optional[List[int]]:
+        """What a place has, where it was written."""
+        words = [self.store.get((place.unit, place.kind, at)) for at in place.addresses()]
+        return None if all(word is None for word in words) else [word or 0 for word in words]
+
+    def _named(self, unit: int, kind: str, addresses: range) -> List[Place]:
+        return [it for it in self.places if (it.unit, it.kind) == (unit, kind) and any(at in addresses for at in it.addresses())]
+
+    def _asked(self, unit: int, request: bytes) -> Tuple[Optional[Asked], List[Place], Optional[int]]:
+        """What a request asks for, the places that it names, and the code of its fault. The tests are made in the order of 6.1 to 6.12."""
+        if request[0] not in FUNCTIONS:
+            return None, [], ILLEGAL_FUNCTION
+        what = asked(request)
+        if what is None:
+            return None, [], ILLEGAL_VALUE
+        places = self._named(unit, what.kind, what.addresses())
+        known = {at for place in places for at in place.addresses()}
+        return what, places, None if known.issuperset(what.addresses()) else ILLEGAL_ADDRESS
 
     async def listen(self, take: "Take") -> None:
         name, port = split_address(self.address)
@@ -215,7 +310,7 @@ class Field:
     def _heard(self, host: Host, heard: Heard) -> None:
         told = {"host": host.address, "points": [it.point.name for it in heard.places], "unit": heard.unit, "request": heard.request.hex(),
                 "response": None if heard.response is None else heard.response.hex(), "came": heard.came()}
-        self._line(host, heard.name(), f"{heard.asked():<28}  {heard.value():<9}  {heard.came()}", told)
+        self._line(host, heard.name(), f"{heard.said():<28}  {heard.value():<9}  {heard.came()}", told)
 
     def _line(self, host: Host, name: str, text: str, told: Optional[Dict[str, Any]] = None) -> None:
         at = now()
@@ -236,6 +331,8 @@ class Field:
             return self.listed()
         if what == "back" and not names:
             return [text for host in self.hosts for text in await self._back(host, host.places)]
+        if what == "set" and len(names) == 2:
+            return self._set(names[0], names[1])
         if what not in ("fail", "silent", "refuse", "back") or not 1 <= len(names) <= (2 if what == "fail" else 1):
             return [f"no such words: {line.strip()}; help has them"]
         code = names[1] if len(names) == 2 else str(ILLEGAL_ADDRESS)
@@ -243,11 +340,28 @@ class Field:
             return [f"{code} is no code: 1 to 255"]
         return await self._change(names[0], Trouble(what, int(code)))
 
+    def _set(self, name: str, text: str) -> List[str]:
+        """Turns a point's device by hand."""
+        found = self._find(name)
+        if found is None:
+            return [f"no point of the plan is called {name}; list shows them"]
+        host, place = found
+        try:
+            value = place.point.value(text)
+            words = place.words(value)
+        except Failure as failure:
+            return [str(failure)]
+        host.write(place.unit, place.kind, place.address, words)
+        return [f"{name} is {place.point.show(value)} by hand: {place.where()} = {place.shown(words)}"]
+
+    def _find(self, name: str) -> Optional[Tuple[Host, Place]]:
+        return next(((host, place) for host in self.hosts for place in host.places if place.point.name == name), None)
+
     async def _change(self, name: str, trouble: Trouble) -> List[str]:
         host = next((host for host in self.hosts if name in host.drivers), None)
         if host is not None:
             return await self._change_host(host, trouble)
-        found = next(((host, place) for host in self.hosts for place in host.places if place.point.name == name), None)
+        found = self._find(name)
         if found is None:
             return [f"no point and no driver of the plan is called {name}; list shows them"]
         if trouble.what == "refuse":
@@ -285,10 +399,14 @@ class Field:
 
     def listed(self) -> List[str]:
         rows = [[Cell(place.point.name), Cell(host.drivers[0]), Cell(host.address), Cell(place.where()),
-                 Cell(NONE if place.word is None else place.point.show(place.value(place.word))),
-                 Cell(NONE if place.word is None else _show.exact_moment(place.moment)[11:]), self._state(host, place)]
+                 Cell(self._value(host, place)), Cell(_show.exact_moment(place.moment)[11:] if place.moment else NONE), self._state(host, place)]
                 for host in self.hosts for place in host.places]
         return _show.table(("POINT", "DRIVER", "HOST", "PLACE", "VALUE", "WRITTEN", "IT"), rows, "    r")
+
+    @staticmethod
+    def _value(host: Host, place: Place) -> str:
+        words = host.has(place)
+        return NONE if words is None else place.point.show(place.value(words))
 
     def _state(self, host: Host, place: Place) -> Cell:
         trouble = host.trouble or place.trouble
@@ -315,15 +433,15 @@ def read_plan(catalogue: str, plan: str) -> Dict[str, Any]:
     mistakes = [it for it in _lint.lint(catalogue, None, plan) if it.is_mistake]
     if mistakes:
         raise Failure(f"{mistakes[0].sentence()} (bossctl lint {catalogue} - {plan} names each mistake)")
-    with open(plan, encoding="utf-8") as file:
+    with open(plan, encoding="utf-8-sig") as file:
         tables = _toml.read(file.read())
     assert not isinstance(tables, _toml.Broken)
     return tables
 
 
 def place_of(table: Dict[str, Any], points: Dict[str, Point]) -> Place:
-    function = COIL if "coil" in table else REGISTER
-    return Place(points[table["point"]], table["unit"], function, table[KINDS[function]], table.get("per", 1))
+    kind = "coil" if "coil" in table else "register"
+    return Place(points[table["point"]], table["unit"], kind, table[kind], _forms.scale_of(table))
 
 
 def hosts_of(tables: Dict[str, Any], points: Dict[str, Point], first: Optional[int]) -> Dict[str, Host]:
@@ -351,9 +469,10 @@ def plan_text(source: str, tables: Dict[str, Any], hosts: Dict[str, Host]) -> st
     lines += [f"{key} = []" for key in ("driver", "place") if not tables[key]]
     for driver in tables["driver"]:
         lines += ["", "[[driver]]", f'name = "{driver["name"]}"', f'host = "{hosts[driver["host"]].address}"']
+        lines += [f"wait = {driver['wait']}"] if "wait" in driver else []
     for place in tables["place"]:
         lines += ["", "[[place]]", f'point = "{place["point"]}"']
-        lines += [f"{key} = {place[key]}" for key in ("unit", "coil", "register", "per") if key in place]
+        lines += [f"{key} = {json.dumps(place[key])}" for key in _lint.A_PLACE[1:] if key in place]
     return "\n".join(lines) + "\n"
 
 
@@ -361,7 +480,7 @@ def write_plan(path: str, text: str) -> None:
     """Writes a plan, over one of its own alone."""
     try:
         if os.path.exists(path):
-            with open(path, encoding="utf-8") as file:
+            with open(path, encoding="utf-8-sig") as file:
                 if not file.readline().startswith(MARK):
                     raise Failure(f"{path} is there, and was not made by bossctl field: --to names another file")
         with open(path, "w", encoding="utf-8") as file:

@@ -1,19 +1,23 @@
 """What is wrong in a catalogue, in access rules and in a plan of devices: every mistake, by its line, its table and its key."""
 
 import difflib
-from typing import Any, Callable, Dict, List, NamedTuple, Optional, Sequence, Set, Tuple, Union
+from typing import Any, Callable, Dict, Iterable, List, NamedTuple, Optional, Sequence, Set, Tuple, Union
 
 from .._protocol import is_name
-from . import _toml
+from . import _forms, _toml
 from ._toml import Broken, Failure, Lines, Path
 
 LONGEST_FILE = 1_048_576
-MOST_DRIVERS, MOST_POINTS, MOST_RULES = 16, 4_096, 256
+MOST_DRIVERS, MOST_POINTS, MOST_RULES = 256, 4_096, 256
 BOUND = 10**15
 A_DAY = 86_400_000
 A_NAME = "1 to 64 characters of a-z 0-9 . _ -"
 A_PATTERN = "a name, or up to 63 characters of a name followed by *"
 KINDS = ("analog", "binary", "multi")
+# The headers of tables of which there may be several, with a bracket too few.
+ONE_BRACKET = ("[point]", "[rule]", "[driver]", "[place]")
+# How manuals write the holding registers of the addresses 0 to 9998.
+HOLDING = range(40_001, 50_000)
 
 
 class Finding(NamedTuple):
@@ -78,17 +82,26 @@ class File:
         if len(data) > LONGEST_FILE:
             self.note((), "", f"{len(data)} bytes", f"at most {LONGEST_FILE} bytes")
         try:
-            text = data.decode()
+            # The server passes over a byte order mark too.
+            text = data.decode("utf-8-sig")
         except UnicodeDecodeError as error:
             line = data.count(b"\n", 0, error.start) + 1
             self.findings.append(Finding(self.path, line, "", "", "", "a byte that is no UTF-8", "a file in UTF-8", True))
             return
         tables = _toml.read(text)
         if isinstance(tables, Broken):
-            self.findings.append(Finding(self.path, tables.line, "", "", "", "", f"no TOML: {tables.why}", True))
+            self.findings.append(Finding(self.path, tables.line, "", "", "", *self._broken(text, tables), True))
             return
         self.tables, self.lines, self.is_read = tables, Lines(text), True
         self._whole_numbers((), tables)
+
+    def _broken(self, text: str, tables: Broken) -> Tuple[str, str]:
+        """What is found in a text that is no TOML, and what is wanted."""
+        lines = text.splitlines()
+        line = lines[tables.line - 1].partition("#")[0].strip() if tables.line and tables.line <= len(lines) else ""
+        if line in ONE_BRACKET:
+            return f"{line} again", f"[{line}], with two brackets, since there may be several"
+        return "", f"no TOML: {tables.why}"
 
     def _whole_numbers(self, path: Path, value: Any) -> None:
         items: Sequence[Tuple[Any, Any]] = ()
@@ -128,9 +141,10 @@ class File:
         """Notes keys that are passed over, with the key that may have been meant."""
         for key in table:
             if key not in keys:
-                near = difflib.get_close_matches(key, keys, 1, 0.6)
+                # A key that looks like one that is missing is one that was misspelt.
+                near = difflib.get_close_matches(key.replace("-", "_"), [other for other in keys if other not in table], 1, 0.6)
                 meant = f"is {near[0]} meant?" if near else f"known here are {', '.join(keys)}"
-                self.note(path + (key,), name, "a key that nothing reads", meant, is_mistake=False)
+                self.note(path + (key,), name, "a key that nothing reads", meant, is_mistake=bool(near))
 
     def one(self, path: Path, name: str, table: Dict[str, Any], key: str, test: Callable[[Any], bool], wanted: str, default: Any = None) -> bool:
         """Whether the value of a key passes a test; where it does not, or is missing without a default, that is noted."""
@@ -142,6 +156,12 @@ class File:
             self.note(path + (key,), name, shown(table[key]), wanted)
             return False
         return True
+
+
+def meant(value: object, names: Iterable[str]) -> str:
+    """A question after the name that may have been meant, where there is one that is near."""
+    near = difflib.get_close_matches(value, list(names), 1, 0.6) if isinstance(value, str) else []
+    return f"; is {near[0]} meant?" if near else ""
 
 
 def name_of(table: Dict[str, Any], key: str = "name") -> str:
@@ -191,7 +211,10 @@ class Catalogue(File):
                 self.note(path + ("name",), "", f"{name} again", "a name that no earlier point has")
             self.points.setdefault(point["name"], point)
         drivers = ", ".join(map(shown, self.drivers)) or "a name in drivers"
-        self.one(path, name, point, "driver", lambda value: isinstance(value, str) and value in self.drivers, f"one of drivers: {drivers}")
+        # Where the drivers themselves are missing, that is the one mistake.
+        if isinstance(self.tables.get("drivers"), list) or "driver" not in point:
+            self.one(path, name, point, "driver", lambda value: isinstance(value, str) and value in self.drivers,
+                     f"one of drivers: {drivers}{meant(point.get('driver'), self.drivers)}")
         if self.one(path, name, point, "kind", lambda value: value in KINDS, 'one of "analog", "binary", "multi"'):
             self._bounds(path, name, point)
         for key in ("unit", "note"):
@@ -220,7 +243,19 @@ class Catalogue(File):
                 return
             least, most = 1, point["states"]
         unit = ", in thousandths of the unit" if point["kind"] == "analog" else ""
-        self.one(path, name, point, "default", lambda value: is_whole(value, least, most), f"a whole number of {least} to {most}{unit}")
+        fits = self.one(path, name, point, "default", lambda value: is_whole(value, least, most), f"a whole number of {least} to {most}{unit}")
+        if fits and point["kind"] == "analog":
+            self._thousandths(path, name, point)
+
+    def _thousandths(self, path: Path, name: str, point: Dict[str, Any]) -> None:
+        """Notes values that look like whole units, where they are thousandths."""
+        most, default, unit = point["max"], point["default"], point.get("unit")
+        if isinstance(unit, str) and unit and 0 < most <= 100:
+            self.note(path + ("max",), name, f"{most} with the unit {unit}, which is {most / 1000:g} {unit}",
+                      f"is {most * 1000} meant? Values are thousandths of the unit", is_mistake=False)
+        elif 0 < default < (most - point["min"]) / 100 and default * 1000 <= most:
+            self.note(path + ("default",), name, f"{default}, which is {default / 1000:g} of {most / 1000:g}",
+                      f"is {default * 1000} meant? Values are thousandths of the unit", is_mistake=False)
 
     def _idle_drivers(self) -> None:
         used = {point.get("driver") for point in self.points.values() if isinstance(point.get("driver"), str)}
@@ -309,7 +344,9 @@ def covers(pattern: str, other: str) -> bool:
 
 # ---- a plan of devices
 
-A_PLACE = ("point", "unit", "coil", "register", "per")
+# The keys of a register alone, and of each place.
+OF_REGISTER = ("type", "first", "times", "offset", "round")
+A_PLACE = ("point", "unit", "coil", "register", "per", "function") + OF_REGISTER
 
 
 class Plan(File):
@@ -337,16 +374,19 @@ class Plan(File):
         name = name_of(driver)
         known = ", ".join(map(shown, self.catalogue.drivers))
         is_known = lambda value: isinstance(value, str) and value in self.catalogue.drivers
-        if self.one(path, name, driver, "name", is_known, f"a driver of the catalogue: {known}"):
+        if self.one(path, name, driver, "name", is_known, f"a driver of the catalogue: {known}{meant(driver.get('name'), self.catalogue.drivers)}"):
             if driver["name"] in self.planned:
                 self.note(path + ("name",), "", f"{name} again", "a driver that no earlier table has")
             self.planned.setdefault(driver["name"], int(path[1]))
         fits = lambda value: isinstance(value, str) and 1 <= len(value.encode()) <= 255
         if self.one(path, name, driver, "host", fits, 'a text of 1 to 255 bytes, HOST:PORT, as "192.0.2.7:502"'):
-            port = driver["host"].rpartition(":")[2]
-            if not port.isdigit() or not 1 <= int(port) <= 65_535:
+            host, _, port = driver["host"].rpartition(":")
+            if "/" in host + port:
+                self.note(path + ("host",), name, shown(driver["host"]), 'HOST:PORT and nothing before it or after it, as "192.0.2.7:502"')
+            elif not port.isdigit() or not 1 <= int(port) <= 65_535:
                 self.note(path + ("host",), name, shown(driver["host"]), "it has no port: Modbus TCP has 502", is_mistake=False)
-        self.known(path, name, driver, ("name", "host"))
+        self.one(path, name, driver, "wait", lambda value: is_whole(value, 50, 5_000), "50 to 5000 milliseconds", default=5_000)
+        self.known(path, name, driver, ("name", "host", "wait"))
 
     def _place(self, path: Path, place: Any) -> None:
         if not isinstance(place, dict):
@@ -361,7 +401,15 @@ class Plan(File):
             self.note(path, name, " and ".join(both) or "neither coil nor register", "one of coil and register")
         for key in both:
             self.one(path, name, place, key, lambda value: is_whole(value, 0, 65_535), "an address, 0 to 65535")
-        if self.one(path, name, place, "point", lambda value: isinstance(value, str) and value in self.catalogue.points, "a point of the catalogue"):
+        if both == ["coil"]:
+            self._coil(path, name, place)
+        elif both == ["register"]:
+            self._register(path, name, place)
+        if is_whole(place.get("register"), HOLDING.start, HOLDING.stop - 1):
+            self.note(path + ("register",), name, str(place["register"]), f"is {place['register'] - HOLDING.start} meant? Addresses count from 0, "
+                      f"where manuals count holding registers from {HOLDING.start}", is_mistake=False)
+        wanted = f"a point of the catalogue{meant(place.get('point'), self.catalogue.points)}"
+        if self.one(path, name, place, "point", lambda value: isinstance(value, str) and value in self.catalogue.points, wanted):
             self._known_place(path, name, place, self.catalogue.points[place["point"]])
         self.known(path, name, place, A_PLACE)
 
@@ -374,36 +422,82 @@ class Plan(File):
         is_binary = point.get("kind") == "binary"
         if "coil" in place and not is_binary:
             self.note(path + ("coil",), name, f"a coil for a point of kind {shown(point.get('kind'))}", "a register; coils are for binary points")
-        if "register" in place and is_binary:
-            self.note(path + ("register",), name, "a register for a binary point", "a coil")
-        elif "register" in place:
+        if "register" in place:
             self._range(path, name, place, point)
         elif "per" in place:
             self.note(path + ("per",), name, "per at a coil", "a coil is 0 or 1, and per means nothing there", is_mistake=False)
         self._same_place(path, name, place, point)
 
+    def _coil(self, path: Path, name: str, place: Dict[str, Any]) -> None:
+        for key in OF_REGISTER:
+            if key in place:
+                self.note(path + (key,), name, f"{key} at a coil", "it belongs to a register")
+        self.one(path, name, place, "function", lambda value: value in (5, 15) and is_whole(value, 5, 15), "5 or 15: what writes a coil", default=5)
+
+    def _register(self, path: Path, name: str, place: Dict[str, Any]) -> None:
+        forms = ", ".join(_forms.REGISTERS)
+        is_form = self.one(path, name, place, "type", lambda value: isinstance(value, str) and value in _forms.REGISTERS, f"one of {forms}", default="u16")
+        form = place.get("type", "u16") if is_form else None
+        count = _forms.REGISTERS[form] if form else None
+        self.one(path, name, place, "first", lambda value: value in ("high", "low"), "high or low: the half that stands first", default="high")
+        if count == 1 and "first" in place:
+            self.note(path + ("first",), name, f"first at one register of type {form}", "a type of two registers: u32, i32 or f32")
+        self.one(path, name, place, "times", lambda value: is_whole(value, 1, 1_000), "1 to 1000", default=1)
+        is_offset = self.one(path, name, place, "offset", lambda value: is_whole(value, -10**9, 10**9), "-10^9 to 10^9: what is in the register for 0",
+                             default=0)
+        if is_offset and is_whole(place.get("per", 1), 1, BOUND) and abs(place.get("offset", 0) * place.get("per", 1)) > 10**18:
+            self.note(path + ("offset",), name, f"{place['offset']} times {place.get('per', 1)}", "at most 10^18 together")
+        self.one(path, name, place, "round", lambda value: value in ("down", "nearest"), "down or nearest", default="down")
+        if form == "f32" and "round" in place:
+            self.note(path + ("round",), name, "round at type f32", "it has fractions, and nothing is rounded to a whole number")
+        functions = (16,) if count == 2 else (6, 16)
+        wanted = "16: what writes two registers" if count == 2 else "6 or 16: what writes a register"
+        self.one(path, name, place, "function", lambda value: value in functions and is_whole(value, 6, 16), wanted, default=16)
+        if count == 2 and place["register"] == 65_535:
+            self.note(path + ("register",), name, f"65535 for type {form}", "an address with another after it: 0 to 65534")
+
     def _range(self, path: Path, name: str, place: Dict[str, Any], point: Dict[str, Any]) -> None:
-        least, most = (point.get("min"), point.get("max")) if point.get("kind") == "analog" else (1, point.get("states"))
-        per = place.get("per", 1)
-        if not isinstance(least, int) or not isinstance(most, int) or not is_whole(per, 1, BOUND):
+        ends = _forms.ends(point)
+        if ends is None or not self._has_scale(place):
             return
-        if least < 0:
-            self.note(path + ("register",), name, f"a point with values down to {least}", "a register takes no value below 0")
-        if most // per > 65_535:
-            self.note(path + ("per",), name, f"{most} divided by {per}, which is {most // per}", f"at most 65535: per = {most // 65_536 + 1} or more")
-        if 0 <= least < most and least // per == most // per:
-            found = f"{per}, by which each of {least} to {most} comes to {most // per}"
+        scale, (least, most) = _forms.scale_of(place), ends
+        for end in ends:
+            if not scale.fits(end):
+                self._no_form(path, name, place, scale, end)
+        if scale.form != "f32" and least < most and scale.whole(least) == scale.whole(most):
+            found = f"{scale.per}, by which each of {least} to {most} comes to {scale.whole(most)}"
             self.note(path + ("per",), name, found, f"so many {'states' if point.get('kind') == 'multi' else 'thousandths'} are 1 in the register",
                       is_mistake=False)
+
+    @staticmethod
+    def _has_scale(place: Dict[str, Any]) -> bool:
+        return (place.get("type", "u16") in list(_forms.REGISTERS) and is_whole(place.get("times", 1), 1, 1_000)
+                and is_whole(place.get("per", 1), 1, BOUND) and is_whole(place.get("offset", 0), -10**9, 10**9))
+
+    def _no_form(self, path: Path, name: str, place: Dict[str, Any], scale: _forms.Scale, end: int) -> None:
+        """Notes an end of a point's values that does not stand in the register."""
+        if scale.form == "f32":
+            self.note(path + ("per",), name, f"{end} times {scale.times}, and {scale.offset} times {scale.per}", "a sum that 64 bits hold")
+            return
+        least, most = _forms.BOUNDS[scale.form]
+        if scale == _forms.Scale(per=scale.per) and end < 0:
+            self.note(path + ("register",), name, f"a point with values down to {end}", 'a register takes no value below 0, but with type = "i16" or "i32"')
+        elif scale == _forms.Scale(per=scale.per):
+            self.note(path + ("per",), name, f"{end} divided by {scale.per}, which is {end // scale.per}", f"at most 65535: per = {end // 65_536 + 1} or more")
+        else:
+            self.note(path + ("type" if "type" in place else "register",), name, f"{end}, which comes to {scale.whole(end)}",
+                      f"{least} to {most} for type {scale.form}")
 
     def _same_place(self, path: Path, name: str, place: Dict[str, Any], point: Dict[str, Any]) -> None:
         """Notes a register or coil that an earlier point of the same driver has."""
         for key in ("coil", "register"):
             if key in place and is_whole(place.get("unit"), 0, 255):
-                at = (point.get("driver"), place["unit"], key, str(place[key]))
-                other = self.taken.setdefault(at, name)
-                if other != name:
-                    self.note(path + (key,), name, f"{key} {shown(place[key])} again, which {other} has", "two points would be written to one",
+                count = _forms.REGISTERS.get(str(place.get("type")), 1) if key == "register" else 1
+                addresses = [place[key]] if not is_whole(place[key], 0, 65_535) else range(place[key], place[key] + count)
+                others = {address: self.taken.setdefault((point.get("driver"), place["unit"], key, str(address)), name) for address in addresses}
+                again = next((address for address in addresses if others[address] != name), None)
+                if again is not None:
+                    self.note(path + (key,), name, f"{key} {shown(again)} again, which {others[again]} has", "two points would be written to one",
                               is_mistake=False)
 
     def _missing(self) -> None:

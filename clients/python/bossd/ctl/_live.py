@@ -155,10 +155,10 @@ def following(at: int, basis: str, priority: int, slot: Slot) -> Next:
 def attached(server: str, name: Optional[str], patience: float) -> Client:
     """A client for the process of this name, or, without one, for the first of bossctl's own that nobody has."""
     if name is not None:
-        return Client(server, name, patience)
+        return Client(server, name, patience, at_once=True)
     for own in NAMES:
         try:
-            return Client(server, own, patience)
+            return Client(server, own, patience, at_once=True)
         except Taken:
             pass
     raise Failure(f"all of bossctl's own names are in use, {NAMES[0]} to {NAMES[-1]}: give another one by --as")

@@ -7,6 +7,7 @@ import sys
 import textwrap
 from typing import Callable, Optional, Sequence
 
+from .. import overrides
 from .._protocol import Refused, Unanswered, UnknownHost
 from . import _commands, _field, _journal
 from ._toml import Failure
@@ -53,6 +54,8 @@ def at_every_place(parser: argparse.ArgumentParser, is_top: bool) -> None:
     group.add_argument("--catalogue", metavar="FILE", default=given(environment.get("BOSSD_CATALOGUE") or CATALOGUE),
                        help=f"the server's catalogue (or BOSSD_CATALOGUE in the environment; {CATALOGUE}); its points may have a unit and a note,"
                        " which the server passes over and bossctl shows")
+    group.add_argument("--overrides", metavar="SOCKET", default=given(environment.get("BOSSD_OVERRIDES") or overrides.SOCKET),
+                       help=f"where bossd-overrides is asked (or BOSSD_OVERRIDES in the environment; {overrides.SOCKET})")
     group.add_argument("--json", action="store_true", default=given(False), help="write JSON, for programs: values are whole numbers,"
                        " thousandths of the unit at analog points; moments are milliseconds since 1970")
     group.add_argument("--patience", type=float, metavar="SECONDS", default=given(10.0),
@@ -91,6 +94,9 @@ def sets_a_point(parser: argparse.ArgumentParser) -> None:
     parser.add_argument("value", metavar="VALUE", help="the value, in units at an analog point")
     parser.add_argument("--back", metavar="V,V,..", help="the reversion: up to 8 values that are played one after another when the lease ends,"
                         " unless another transaction took the slot")
+    parser.add_argument("--policy", choices=("keep", "abort"), default="keep", help="what becomes of the lease where the device does not take"
+                        " the value: it is kept, and the device is tried again (keep, for people), or it ends (abort, as a program's does by"
+                        " default)")
     parser.add_argument("--step", metavar="TIME", type=_commands.length_of, default=60_000, help="how long each of these is held (1m)")
 
 
@@ -114,9 +120,13 @@ def parser_of() -> argparse.ArgumentParser:
     point.add_argument("name", metavar="NAME", help="the point's name")
 
     one = add(commands, "set", _commands.set_point, "set a point for a while",
-              "Stays until the time is over, since the server lets go of what a lost connection held. Ctrl-C releases the point before.")
+              "Stays until the time is over, since the server lets go of what a lost connection held. Ctrl-C releases the point before. With\n"
+              "--detach it does not stay: the service bossd-overrides holds the point.")
     sets_a_point(one)
-    one.add_argument("--for", dest="lease", metavar="TIME", type=_commands.length_of, required=True, help="for how long: at most 7d")
+    one.add_argument("--for", dest="lease", metavar="TIME", type=_commands.length_of, help="for how long: at most 7d; with --detach for any time")
+    one.add_argument("--detach", action="store_true", help="do not stay: bossd-overrides holds the point, until somebody releases it, or until"
+                     " the time of --for is over")
+    one.add_argument("--note", metavar="TEXT", help="with --detach, why it was set, for whoever finds it")
     as_a_process(one)
 
     one = add(commands, "hold", _commands.hold_point, "set a point until Ctrl-C",
@@ -124,6 +134,10 @@ def parser_of() -> argparse.ArgumentParser:
     sets_a_point(one)
     one.add_argument("--lease", metavar="TIME", type=_commands.length_of, default=30_000, help="the lease that is renewed (30s)")
     as_a_process(one)
+
+    one = add(commands, "overrides", _commands.overrides, "show overrides that stand by themselves: who set them, when, and why",
+              "They were set by set --detach or from the operator's page, and the service bossd-overrides holds them. The oldest comes first.")
+    one.add_argument("--ended", action="store_true", help="show those that ended lately, and why, instead")
 
     one = add(commands, "release", _commands.release, "release a slot of a point, whoever holds it",
               "Takes the slot by a transaction of its own and lets it go at once. Whoever held it is told that it was superseded, and its\n"
@@ -170,13 +184,16 @@ def parser_of() -> argparse.ArgumentParser:
 
     one = add(commands, "lint", _commands.lint, "look through a catalogue, access rules and a plan of devices, and name every mistake",
               "Each mistake has its line, its table, its key, what was found and what may stand there. Tables count from 0 and rules from 1, as in\n"
-              "what the server prints. Keys that nothing reads are named too, as passed over, and so are rules that no write comes to, patterns that\n"
-              "fit no point, and points that no rule is for. Which processes there are no file says, so none is looked for.\n\n"
+              "what the server prints. A key that nothing reads is a mistake where it looks like one that is missing. What is merely odd is named\n"
+              "too, as passed over: other keys that nothing reads, percent where thousandths are meant, a register of 40001 and more, rules that\n"
+              "no write comes to, patterns that fit no point, and points that no rule is for. Which processes there are no file says, so none is\n"
+              "looked for. It ends with 1 where there is a mistake, and with --strict also where something is passed over.\n\n"
               "RULES has tables [[rule]] with process, point, highest (1) and allow (true). PLAN has tables [[driver]] with name and host, and\n"
               "[[place]] with point, unit, one of coil and register, and per (1).")
     one.add_argument("file", metavar="CATALOGUE", help="the catalogue")
     one.add_argument("rules", metavar="RULES", nargs="?", help="access rules; - for none")
     one.add_argument("plan", metavar="PLAN", nargs="?", help="a plan of Modbus devices; - for none")
+    one.add_argument("--strict", action="store_true", help="end with 1 also where something is passed over")
 
     one = add(commands, "field", _field.field, "serve the Modbus hosts of a plan on this machine: a field to play with",
               "Shows each write as it comes: the moment, the point, its register or coil, the value, and what was answered. Words that are typed\n"
@@ -209,7 +226,7 @@ def main(arguments: Optional[Sequence[str]] = None) -> int:
         return FAULT
     except KeyboardInterrupt:
         return BROKEN
-    except Refused as error:
+    except (Refused, overrides.NotMade) as error:
         return say(f"refused: {error}", FAULT)
     except UnknownHost as error:
         return say(str(error), NO_ANSWER)

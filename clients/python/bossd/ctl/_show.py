@@ -1,5 +1,6 @@
 """Values, moments, lengths of time and tables, as a person reads them."""
 
+import difflib
 import fnmatch
 import functools
 import hashlib
@@ -54,15 +55,30 @@ class Point(NamedTuple):
         return f"{self.number(value)} {self.unit}".rstrip()
 
     def value(self, text: str) -> int:
-        """The value that a person wrote. Failure where it is none, or does not fit."""
+        """The value that a person wrote, with its unit or without, and on or off at a binary point. Failure where it is none, or does not
+        fit."""
         scale = 1000 if self.kind == "analog" else 1
         try:
-            value = Decimal(text) * scale
+            value = Decimal(self._number_in(text)) * scale
         except InvalidOperation:
-            raise Failure(f"{text} is no value of {self.name}: wanted {self.range()}") from None
+            raise Failure(f"{text} is no value of {self.name}: wanted {self.range()}{self._hint(text)}") from None
         if not value.is_finite() or value != value.to_integral_value() or not self.least <= value <= self.most:
             raise Failure(f"{text} is no value of {self.name}: wanted {self.range()}")
         return int(value)
+
+    def _number_in(self, text: str) -> str:
+        word = text.strip()
+        if self.kind == "binary":
+            return {"on": "1", "off": "0"}.get(word.lower(), word)
+        units = [self.unit] + (["%"] if self.unit == "percent" else [])
+        unit = next((one for one in units if one and word.endswith(one)), "")
+        return word[:len(word) - len(unit)].rstrip()
+
+    def _hint(self, text: str) -> str:
+        """What else to say of a text that is no number."""
+        if self.kind == "binary":
+            return ", which are off and on"
+        return f"; a fraction is written {text.replace(',', '.')}" if re.fullmatch(r"-?\d+,\d+", text) else ""
 
     def range(self) -> str:
         """Which values fit."""
@@ -88,7 +104,8 @@ class Catalogue(NamedTuple):
         """The point of a name. Failure where there is none."""
         found = self.points.get(name)
         if found is None:
-            raise Failure(f"{self.path} has no point {name}")
+            near = difflib.get_close_matches(name, list(self.points), 1, 0.6)
+            raise Failure(f"{self.path} has no point {name}" + (f"; is {near[0]} meant?" if near else ""))
         return found
 
     def some(self, pattern: Optional[str]) -> List[Point]:
@@ -102,7 +119,8 @@ class Catalogue(NamedTuple):
 def read_catalogue(path: str) -> Catalogue:
     """The catalogue of a server that took it. Failure where it cannot be read, or is none; `bossctl lint` says more."""
     try:
-        with open(path, encoding="utf-8") as file:
+        # The server passes over a byte order mark too.
+        with open(path, encoding="utf-8-sig") as file:
             text = file.read()
     except FileNotFoundError:
         raise Failure(f"{path}: no such file; --catalogue or BOSSD_CATALOGUE names the server's catalogue") from None
