@@ -15,7 +15,8 @@ class Faulty(Exception):
 
 
 class Change(NamedTuple):
-    """A change: "take", "prolong" or "release". `length` is how long a point is held, in milliseconds, and `way` the steps back."""
+    """A change: "take", "prolong" or "release". `length` is how long a point is held, in milliseconds, `way` the steps back, and `policy`
+    what becomes of it where the device does not take the value: "keep" or "abort". What `stands` has no end but a release."""
     do: str
     id: str
     point: Point
@@ -24,6 +25,8 @@ class Change(NamedTuple):
     length: int
     way: List[List[int]]
     txn: int
+    policy: str = "keep"
+    stands: bool = False
 
 
 def whole(asked: Mapping[str, Any], key: str, least: int, most: int, otherwise: Optional[int] = None) -> int:
@@ -31,6 +34,16 @@ def whole(asked: Mapping[str, Any], key: str, least: int, most: int, otherwise: 
     found = asked.get(key, otherwise)
     if isinstance(found, bool) or not isinstance(found, int) or not least <= found <= most:
         raise Faulty(f"{key} is to be a whole number of {least} to {most}")
+    return found
+
+
+def value_of(point: Point, found: object) -> int:
+    """A value of a point. Faulty, in the point's own units."""
+    if isinstance(found, bool) or not isinstance(found, int):
+        sent = ", sent as a whole number of thousandths" if point.kind == "analog" else ""
+        raise Faulty(f"a value is to be {point.range()}{sent}")
+    if not point.least <= found <= point.most:
+        raise Faulty(f"{point.show(found)} does not fit: a value is to be {point.range()}")
     return found
 
 
@@ -42,28 +55,36 @@ def way_of(point: Point, found: object) -> List[List[int]]:
     for step in found:
         if not isinstance(step, list) or len(step) != 2:
             raise Faulty("a step of revert is to be a value, and for how many milliseconds it is held")
-        pair = {"value": step[0], "hold": step[1]}
-        steps.append([whole(pair, "value", point.least, point.most), whole(pair, "hold", 1, LONGEST_HOLD)])
+        steps.append([value_of(point, step[0]), whole({"hold": step[1]}, "hold", 1, LONGEST_HOLD)])
     return steps
 
 
-def change_of(do: str, asked: object, points: Mapping[str, Point]) -> Change:
+def change_of(do: object, asked: object, points: Mapping[str, Point]) -> Change:
     """The change that was asked. Faulty."""
     if not isinstance(asked, dict):
         raise Faulty("the body is to be a JSON object")
-    point, change = points.get(str(asked.get("point"))), asked.get("id", "")
+    if do not in ("take", "prolong", "release"):
+        raise Faulty("do is to be take, prolong or release")
+    name, change = asked.get("point"), asked.get("id", "")
+    point = points.get(name) if isinstance(name, str) else None
     if point is None:
         raise Faulty("point is to be the name of a point")
     if not is_name(change):
         raise Faulty("id is to be 1 to 64 characters of a-z 0-9 . _ -, and another one for each change")
-    length = whole(asked, "length", 1, LONGEST_LEASE, 1 if do == "release" else None)
+    stands = do == "take" and asked.get("stands", False)
+    if not isinstance(stands, bool):
+        raise Faulty("stands is to be true or false")
+    length = LONGEST_LEASE if stands else whole(asked, "length", 1, LONGEST_LEASE, 1 if do == "release" else None)
     if do != "take":
-        return Change(do, str(change), point, 0, 0, length, [], whole(asked, "txn", 1, 1 << 62))
+        return Change(str(do), str(change), point, 0, 0, length, [], whole(asked, "txn", 1, 1 << 62))
     priority = whole(asked, "priority", 1, 16, 8)
     if priority == 6:
         raise Faulty("priority 6 is kept for minimum on and off times")
-    value, way = whole(asked, "value", point.least, point.most), way_of(point, asked.get("revert", []))
-    return Change(do, str(change), point, value, priority, length, way, 0)
+    policy = asked.get("policy", "keep")
+    if policy not in ("keep", "abort"):
+        raise Faulty('policy is to be "keep" or "abort"')
+    value, way = value_of(point, asked.get("value")), way_of(point, asked.get("revert", []))
+    return Change(str(do), str(change), point, value, priority, length, way, 0, policy, stands)
 
 
 def preview(change: Change, picture: Picture) -> List[Any]:
@@ -79,4 +100,5 @@ def preview(change: Change, picture: Picture) -> List[Any]:
         slots = with_prolonged(slots, change.txn, moment + change.length)
     else:
         slots = with_release(slots, change.txn, ways, moment)
-    return [one.described() for one in what_comes(slots, ways, moment)]
+    coming = what_comes(slots, ways, moment)
+    return [one.described() for one in (coming[:1] if change.stands else coming)]

@@ -40,7 +40,9 @@ class Guard:
     def allows(self, headers: Mapping[str, str]) -> bool:
         """Whether a request brings the token."""
         scheme, _, given = headers.get("Authorization", "").partition(" ")
-        return self.token is not None and scheme == "Bearer" and hmac.compare_digest(given.encode(), self.token.encode())
+        # A header may hold bytes that are no text.
+        sent = given.encode("utf-8", "surrogateescape")
+        return self.token is not None and scheme == "Bearer" and hmac.compare_digest(sent, self.token.encode())
 
 
 def hosts_of(host: str, port: int, more: Iterable[str]) -> FrozenSet[str]:

@@ -9,8 +9,7 @@ import bossd
 import bossd.aio
 
 from .answering import SLOW, Answering
-from .catalogue import now
-from .journal import Following
+from .catalogue import Following, now
 from .picture import Picture
 
 # How many requests are asked at once. The client sends on while the answers come, and the server makes sixteen at a time of those that have
@@ -120,8 +119,7 @@ class Looking:
         return changed
 
     def _read(self, answer: Dict[str, Any]) -> bool:
-        reading = bossd.Reading(answer["point"], answer["value"], answer["from"], answer["mark"], answer.get("priority"), answer.get("txn"))
-        return self.picture.read(reading)
+        return self.picture.read(bossd.reading_of(answer))
 
     async def _see_slots(self, changed: Set[str]) -> None:
         """Asks for the slots of points that may have other ones."""
@@ -129,8 +127,7 @@ class Looking:
         wanted += sorted((self.picture.points_looked.names() & self.picture.readings.keys()) - set(wanted))
         for answer in await self._ask_all([{"op": "array", "point": name} for name in wanted]):
             if isinstance(answer, dict):
-                taken = {place: bossd.Slot(**slot) for place, slot in enumerate(answer["slots"], 1) if slot}
-                self.picture.stands(bossd.Slots(answer["point"], answer["default"], taken))
+                self.picture.stands(bossd.slots_of(answer))
 
     def _is_due(self, name: str, changed: Set[str]) -> bool:
         if self.picture.readings[name].basis == "default":
@@ -180,8 +177,7 @@ class Looking:
             # Another journal, whose process of this name was sent fewer notices.
             process.next = 1
             return
-        listed = [bossd.Notice(**notice) for notice in answer["list"]]
-        self.picture.noticed(name, bossd.Notices(answer["first"], answer["next"], listed))
+        self.picture.noticed(name, bossd.notices_of(answer))
 
     def _asking(self, process: str, first: int) -> Request:
         return {"op": "notices", "process": process, "from": first, "max": MOST_NOTICES}

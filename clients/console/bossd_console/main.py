@@ -3,24 +3,26 @@
 import argparse
 import asyncio
 import contextlib
+import logging
 import secrets
 import signal
 import sys
-from typing import List, Optional, Sequence, Tuple
+from typing import Callable, List, Optional, Sequence, Tuple
 
 import bossd
 from aiohttp import web
 
 from . import __version__
 from .answering import Answering
-from .catalogue import Failure, is_name, read_catalogue
+from .bounds import IDLE, Bounds, is_worth_a_line
+from .catalogue import Failure, Reader, is_name, read_catalogue
 from .guard import Guard, hosts_of, token_in
-from .journal import Reader
 from .looking import Looking
 from .metrics import registry_of
 from .operating import Operator
 from .picture import Picture
-from .streams import Streams
+from .standing import Standing, process_at
+from .streams import MOST_OF_ONE, MOST_STREAMS, Streams
 from .web import Web
 
 # The shortest and the longest time between two looks, in seconds.
@@ -36,11 +38,15 @@ def words() -> argparse.ArgumentParser:
     parser.add_argument("server", metavar="SERVER", help="the server's address, as 127.0.0.1:7000")
     parser.add_argument("--listen", metavar="ADDRESS", default="127.0.0.1:8080", help="where browsers come (%(default)s)")
     parser.add_argument("--operator", metavar="NAME", help="allow changes from the page, as the control process of this name")
+    parser.add_argument("--overrides", metavar="SOCKET", help="with --operator, have changes held by the bossd-overrides at this socket: they "
+                                                                "outlive the console; an empty word is none")
     parser.add_argument("--every", metavar="SECONDS", type=float, default=1.0, help="how often all points are read (%(default)s)")
     parser.add_argument("--token", metavar="FILE", help="the file with the token for changes, made where there is none; without it each "
                                                         "start has a new one")
     parser.add_argument("--host", metavar="HOST[:PORT]", action="append", default=[],
                         help="another name under which browsers come, as that of a proxy before it")
+    parser.add_argument("--streams", metavar="N", type=int, default=MOST_OF_ONE,
+                        help=f"how many pages may listen from one address, as that of a proxy: 1 to {MOST_STREAMS}, {MOST_OF_ONE} where left out")
     parser.add_argument("--journal", metavar="FILE", help="the server's journal, which is read to see what comes after every lease; an empty "
                                                           "word is none")
     parser.add_argument("--version", action="version", version=f"bossd-console {__version__}")
@@ -61,6 +67,8 @@ def checked(given: argparse.Namespace) -> None:
     address(given.server)
     if not LEAST_EVERY <= given.every <= MOST_EVERY:
         raise Failure(f"--every is to be {LEAST_EVERY} to {MOST_EVERY:.0f} seconds")
+    if not 1 <= given.streams <= MOST_STREAMS:
+        raise Failure(f"--streams is to be 1 to {MOST_STREAMS}")
     if given.operator is not None and not is_name(given.operator):
         raise Failure(f"{given.operator} is no name of a process: 1 to 64 characters of a-z 0-9 . _ -")
 
@@ -91,23 +99,41 @@ async def serve(given: argparse.Namespace) -> None:
     catalogue = read_catalogue(given.catalogue)
     picture, answering = Picture(catalogue, Reader(given.journal, catalogue) if given.journal else None), Answering()
     looking = Looking(given.server, picture, answering, given.every)
-    about = {"address": given.server, "every": given.every, "operator": given.operator, "catalogue": given.catalogue}
-    streams = Streams(picture, answering, looking, about)
+    standing = process_at(given.overrides) if given.overrides and given.operator else None
+    about = {"address": given.server, "every": given.every, "operator": standing or given.operator, "catalogue": given.catalogue,
+             "stands": standing is not None}
+    streams, bounds = Streams(picture, answering, looking, about, given.streams), Bounds()
     looking.seen = streams.publish
-    operator = Operator(given.server, given.operator, picture, streams.publish) if given.operator is not None else None
+    operator = operator_of(given, standing, picture, streams.publish)
     token = token_of(given)
     guard = Guard(hosts_of(host, port, given.host), token)
-    answers = Web(picture, looking, streams, guard, registry_of(picture, answering, looking), operator)
-    runner = web.AppRunner(answers.application(), access_log=None)
+    answers = Web(picture, looking, streams, guard, registry_of(picture, answering, looking), operator, bounds)
+    runner = web.AppRunner(answers.application(), access_log=None, keepalive_timeout=IDLE)
     await runner.setup()
+    made = runner.server
+    assert made is not None
     tasks = [asyncio.ensure_future(looking.run())] + ([asyncio.ensure_future(operator.run())] if operator is not None else [])
+    listening = None
     try:
-        await web.TCPSite(runner, host, port, shutdown_timeout=2.0).start()
+        listening = await asyncio.get_running_loop().create_server(bounds.around(made), host, port)
         print(greeting(given, token), flush=True)
         await ended(tasks)
     finally:
         await parted(tasks)
+        if listening is not None:
+            listening.close()
+        await runner.shutdown()
+        await made.shutdown(2.0)
         await runner.cleanup()
+
+
+def operator_of(given: argparse.Namespace, standing: Optional[str], picture: Picture, changed: Callable[[], None]) -> Optional[Operator]:
+    """Who makes changes; `standing` is the process of bossd-overrides, where that holds them."""
+    if given.operator is None:
+        return None
+    if standing is not None:
+        return Standing(given.overrides, standing, given.operator, picture, changed)
+    return Operator(given.server, given.operator, picture, changed)
 
 
 async def ended(tasks: Sequence["asyncio.Future[None]"]) -> None:
@@ -137,6 +163,9 @@ async def parted(tasks: Sequence["asyncio.Future[None]"]) -> None:
 def main(given: Optional[List[str]] = None) -> None:
     """Ends with 0, with 1 where it could not be started, with 2 where the words are none."""
     said = words().parse_args(given)
+    logging.getLogger("aiohttp.server").addFilter(is_worth_a_line)
+    # The page shows whether the server answers; it is tried every second, and each time would be a line.
+    logging.getLogger("bossd").setLevel(logging.ERROR)
     try:
         checked(said)
         asyncio.run(serve(said))

@@ -4,7 +4,7 @@ import asyncio
 import contextlib
 import time
 from collections import OrderedDict
-from typing import Any, Awaitable, Callable, Dict, List, Optional, Set
+from typing import Any, Awaitable, Callable, Coroutine, Dict, List, Optional, Set
 
 import bossd
 import bossd.aio
@@ -80,37 +80,41 @@ class Operator:
             if self._client is not None:
                 await self._client.close()
 
-    async def take(self, change: str, point: str, value: int, priority: int, lease: int, way: List[List[int]]) -> Result:
-        """Holds a value on a point for so many milliseconds, with a way back. Unmade, Open."""
+    async def take(self, change: str, point: str, value: int, priority: int, lease: int, way: List[List[int]], policy: str = "keep",
+                   stands: bool = False) -> Result:
+        """Holds a value on a point for so many milliseconds, with a way back, under this policy. Unmade, Open."""
+        if stands:
+            raise Unmade("no-overrides", "this console was started without --overrides, so nothing stands longer than its lease")
+
         async def ask(client: bossd.aio.Client) -> Result:
-            accepted = await client.submit([bossd.write(point, value, priority=priority, lease=lease, revert=way)])
+            accepted = await client.submit([bossd.write(point, value, priority=priority, lease=lease, revert=way)], policy)
             self._held.add(accepted.txn)
             self.picture.took(accepted.txn, self.name, way)
             return accepted._asdict()
 
-        return await self._once(change, point, ask)
+        return await self._once(change, lambda: self._make(point, ask))
 
     async def prolong(self, change: str, point: str, txn: int, length: int) -> Result:
         """Keeps a transaction's leases for at least so many milliseconds more. Unmade, Open."""
         async def ask(client: bossd.aio.Client) -> Result:
             return {"txn": txn, "until": await client.renew(txn, length)}
 
-        return await self._once(change, point, ask)
+        return await self._once(change, lambda: self._make(point, ask))
 
     async def release(self, change: str, point: str, txn: int) -> Result:
         """Ends a transaction's leases. Unmade, Open."""
         async def ask(client: bossd.aio.Client) -> Result:
             return {"txn": txn, "at": await client.cancel(txn)}
 
-        return await self._once(change, point, ask)
+        return await self._once(change, lambda: self._make(point, ask))
 
     # -- each once
 
-    async def _once(self, change: str, point: str, ask: Ask) -> Result:
+    async def _once(self, change: str, make: Callable[[], Coroutine[Any, Any, Result]]) -> Result:
         """Makes a change, or gives what came of it where its id was made before. Who gives up waiting does not call it back."""
         made = self._made.get(change)
         if made is None:
-            made = self._made[change] = asyncio.ensure_future(self._make(point, ask))
+            made = self._made[change] = asyncio.ensure_future(make())
             while len(self._made) > KEPT:
                 self._made.popitem(last=False)
         try:

@@ -127,7 +127,9 @@ function setPoint(told) {
   say(cells.value, shown(point, told.value));
   say(cells.from, FROM[told.from]);
   say(cells.priority, told.priority ? level(told.priority) : "");
-  if (cells.owner.textContent !== (told.owner || "")) cells.owner.replaceChildren(...(told.owner ? [processLink(told.owner)] : []));
+  const setBy = told.override ? ` ⚑ ${told.override.who}` : "";
+  if (cells.owner.textContent !== (told.owner || "") + setBy) cells.owner.replaceChildren(...(told.owner ? [processLink(told.owner), setBy] : []));
+  cells.owner.title = overrideSentence(told).trim();
   say(cells.left, left(told.until));
   const [sign, word] = MARKS[told.mark];
   say(cells.mark, `${sign} ${word}`);
@@ -140,7 +142,7 @@ function setPoint(told) {
 function processLink(name) { return make("a", {href: "#process/" + name, textContent: name}); }
 
 function sift(point) {
-  const text = [point.name, point.note, point.now.owner].join(" ").toLowerCase();
+  const text = [point.name, point.note, point.now.owner, point.now.override && point.now.override.who].join(" ").toLowerCase();
   const hides = !(FILTERS[filter][1](point.now) && text.includes(search));
   if (point.node.hidden !== hides) point.node.hidden = hides;
 }
@@ -317,7 +319,14 @@ function fill(...children) {
 function whose(now) {
   if (now.from === "default") return "Nobody holds it: this is its default.";
   const what = now.from === "lease" ? "A lease" : "A reversion";
-  return `${what} of ${now.owner || "a process that is not known"}, transaction ${now.txn}, at priority ${level(now.priority)}.`;
+  return `${what} of ${now.owner || "a process that is not known"}, transaction ${now.txn}, at priority ${level(now.priority)}.${overrideSentence(now)}`;
+}
+
+// Who set an override that stands, so that one that was forgotten is found.
+function overrideSentence(now) {
+  if (!now.override) return "";
+  const {who, at, until, note} = now.override;
+  return ` Set by ${who} at ${clock(at)}; it stands until ${until === null ? "somebody releases it" : clock(until)}${note ? ": " + note : ""}.`;
 }
 
 function range(point) {
@@ -509,6 +518,7 @@ function askTake(point) {
   const value = valueInput(point, point.now.value), hold = minutes(30), steps = make("input", {type: "number", min: "0", max: "8", step: "1", value: "0"}), each_ = minutes(5);
   const priority = pick(Array.from({length: 16}, (_, place) => place + 1).filter((it) => it !== 6).map((it) => [String(it), level(it)]), OPERATOR_PRIORITY);
   const way = make("fieldset", {}, make("legend", {textContent: "The way back"}));
+  const stands = about.stands ? make("input", {type: "checkbox"}) : null;
   let inputs = [];
   const later = debounced(() => preview());
   way.append(field("steps", "Steps", steps), field("each", "Minutes each", each_));
@@ -526,8 +536,8 @@ function askTake(point) {
   };
   show({
     do: "take", point, title: `Take ${point.name}`, yes: "Take it",
-    fields: [field("value", `Value (${range(point)})`, value), field("priority", "Priority", priority), field("minutes", "Minutes", hold), make("span"), way],
-    body: () => ({value: valueOf(point, value), priority: Number(priority.value), length: milliseconds(hold), revert: inputs.map(({input}) => [valueOf(point, input), milliseconds(each_)])}),
+    fields: [field("value", `Value (${range(point)})`, value), field("priority", "Priority", priority), field("minutes", "Minutes", hold), stands ? field("stands", "Until somebody releases it", stands) : make("span"), way],
+    body: () => ({value: valueOf(point, value), priority: Number(priority.value), length: milliseconds(hold), ...(stands && stands.checked ? {stands: true} : {}), revert: inputs.map(({input}) => [valueOf(point, input), milliseconds(each_)])}),
     changed: () => { suggest(); later(); },
   });
 }

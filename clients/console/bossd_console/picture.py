@@ -6,15 +6,16 @@ from typing import Any, Deque, Dict, List, Mapping, NamedTuple, Optional, Set, T
 
 import bossd
 
-from .catalogue import Catalogue, described, level, now
+from .catalogue import Catalogue, Reader, described, level, now
 from .coming import Way, steps_to_come, what_comes
-from .journal import Reader
 
 # How many notices of a process are kept here, and how many ways back of transactions.
 KEPT_NOTICES = 256
 KEPT_WAYS = 1_024
 # For how long somebody who looked at a point or a process counts as looking at it, in seconds.
 LOOKED = 25.0
+# So many points, and processes, count as looked at: each point is a request more at each look.
+MOST_LOOKED = 64
 
 
 class Row(NamedTuple):
@@ -28,11 +29,14 @@ class Row(NamedTuple):
     owner: Optional[str]
     until: Optional[int]
     waiting: Optional[int]
+    # Of an override that stands: who set it, when, up to when (None: until it is released), and why.
+    override: Optional[Tuple[str, int, Optional[int], str]] = None
 
     def described(self, name: str) -> Dict[str, Any]:
         """As JSON has it. A key without a value is left out."""
         told = {"name": name, "value": self.value, "from": self.basis, "mark": self.mark, "priority": self.priority, "txn": self.txn,
-                "owner": self.owner, "until": self.until, "waiting": self.waiting}
+                "owner": self.owner, "until": self.until, "waiting": self.waiting,
+                "override": None if self.override is None else dict(zip(("who", "at", "until", "note"), self.override))}
         return {key: one for key, one in told.items() if one is not None}
 
 
@@ -50,14 +54,17 @@ def notice_described(notice: bossd.Notice) -> Dict[str, Any]:
 
 
 class Looked:
-    """Names that somebody looked at a moment ago."""
+    """Names that somebody looked at a moment ago, the last ones."""
 
     def __init__(self) -> None:
         self._at: Dict[str, float] = {}
 
     def look(self, name: str) -> None:
         """Somebody looks at this one now."""
+        self._at.pop(name, None)
         self._at[name] = time.monotonic()
+        if len(self._at) > MOST_LOOKED:
+            del self._at[next(iter(self._at))]
 
     def names(self) -> Set[str]:
         """Those that are looked at."""
@@ -85,6 +92,8 @@ class Picture:
         self.ended: Counter[str] = Counter()
         self.faults = 0
         self.points_looked, self.processes_looked = Looked(), Looked()
+        # What stands by bossd-overrides, by points and priorities.
+        self.overrides: Dict[Tuple[str, int], Dict[str, Any]] = {}
         self._sent: Dict[str, Row] = {}
         self._told: Dict[str, Dict[str, Any]] = {}
         self._fresh: Dict[str, List[bossd.Notice]] = {}
@@ -149,7 +158,17 @@ class Picture:
         if len(self.ways) > KEPT_WAYS:
             del self.ways[min(self.ways)]
 
+    def overridden(self, overrides: List[Dict[str, Any]]) -> bool:
+        """Which overrides stand. Gives whether they are others than before."""
+        before, self.overrides = self.overrides, {(one["point"], one["priority"]): one for one in overrides}
+        return before != self.overrides
+
     # -- what there is to be seen
+
+    def override_of(self, point: str, priority: Optional[int], txn: Optional[int]) -> Optional[Tuple[str, int, Optional[int], str]]:
+        """Who set what this transaction holds, when, up to when and why, where it is an override that stands."""
+        one = self.overrides.get((point, priority or 0))
+        return (one["who"], one["at"], one["until"], one["note"]) if one is not None and one["txn"] == txn else None
 
     def slot_in_force(self, point: str) -> Optional[bossd.Slot]:
         """The slot that decides, where the slots agree with what was read."""
@@ -168,7 +187,8 @@ class Picture:
         slot = self.slot_in_force(point)
         owner = self.owners.get(reading.txn) if reading.txn is not None else None
         until = None if slot is None else slot.end if slot.until is None else slot.until
-        return Row(reading.value, reading.basis, reading.mark, reading.priority, reading.txn, owner, until, self.waiting.get(point))
+        override = self.override_of(point, reading.priority, reading.txn)
+        return Row(reading.value, reading.basis, reading.mark, reading.priority, reading.txn, owner, until, self.waiting.get(point), override)
 
     def rows(self) -> List[Dict[str, Any]]:
         """What is shown of all points, with what the catalogue says of each, in its order."""

@@ -2,15 +2,17 @@
 
 import asyncio
 import json
-from typing import Any, Dict, Optional, Set
+from typing import Any, Dict, Optional
 
 from .answering import Answering
 from .catalogue import now
 from .looking import Looking
 from .picture import Picture
 
-# So many pages may listen at once, and so many events may wait for one of them. A page that is slower is sent all anew.
+# So many pages may listen at once, so many of them from one address, and so many events may wait for one of them. A page that is slower is
+# sent all anew.
 MOST_STREAMS = 64
+MOST_OF_ONE = 8
 MOST_WAITING = 32
 
 
@@ -20,29 +22,33 @@ def event(kind: str, told: Dict[str, Any]) -> bytes:
 
 
 class Streams:
-    """The pages that listen. `about` is what is said to each first, beside the points."""
+    """The pages that listen. `about` is what is said to each first, beside the points; `most` is how many may listen from one address."""
 
-    def __init__(self, picture: Picture, answering: Answering, looking: Looking, about: Dict[str, Any]) -> None:
-        self.picture, self.answering, self.looking, self.about = picture, answering, looking, about
-        self._queues: Set["asyncio.Queue[Optional[bytes]]"] = set()
+    def __init__(self, picture: Picture, answering: Answering, looking: Looking, about: Dict[str, Any], most: int = MOST_OF_ONE) -> None:
+        self.picture, self.answering, self.looking, self.about, self.most = picture, answering, looking, about, most
+        self._queues: Dict["asyncio.Queue[Optional[bytes]]", str] = {}
         self._said = -1
 
     def __len__(self) -> int:
         return len(self._queues)
 
-    def open(self) -> "asyncio.Queue[Optional[bytes]]":
-        """The events for another page. None stands for their end."""
+    def listening(self, address: str) -> int:
+        """How many pages listen from an address."""
+        return sum(one == address for one in self._queues.values())
+
+    def open(self, address: str) -> "asyncio.Queue[Optional[bytes]]":
+        """The events for another page, which listens from this address. None stands for their end."""
         queue: "asyncio.Queue[Optional[bytes]]" = asyncio.Queue(MOST_WAITING)
         if not self._queues:
             # What changed while no page listened stands in what this one is sent.
             self.picture.changed_rows()
         queue.put_nowait(self.all())
-        self._queues.add(queue)
+        self._queues[queue] = address
         return queue
 
     def close(self, queue: "asyncio.Queue[Optional[bytes]]") -> None:
         """A page that listens no more."""
-        self._queues.discard(queue)
+        self._queues.pop(queue, None)
 
     def end(self) -> None:
         """Ends all."""

@@ -6,12 +6,13 @@ import json
 from importlib import resources
 from typing import Any, Callable, Dict, Mapping, Optional
 
-from aiohttp import web
+from aiohttp import web, web_response
 from prometheus_client import CONTENT_TYPE_LATEST, CollectorRegistry, generate_latest
 
 from .asked import Change, Faulty, change_of, preview
+from .bounds import PATIENCE, Bounds
 from .catalogue import described, is_name
-from .guard import Guard, middleware, policy
+from .guard import Guard, Handler, middleware, policy
 from .looking import Looking
 from .operating import Open, Operator, Unmade
 from .picture import Picture, notice_described
@@ -21,6 +22,9 @@ from .streams import MOST_STREAMS, Streams
 LONGEST_BODY = 16_384
 # How often a stream says something, in seconds, where there is nothing to say.
 BREATH = 15.0
+# What answers say of who gives them. aiohttp would tell its version and that of Python, also where no handler of ours is asked.
+NAME = "bossd-console"
+setattr(web_response, "SERVER_SOFTWARE", NAME)
 
 
 def page() -> str:
@@ -41,14 +45,14 @@ class Web:
     """What is answered under each path."""
 
     def __init__(self, picture: Picture, looking: Looking, streams: Streams, guard: Guard, registry: CollectorRegistry,
-                 operator: Optional[Operator]) -> None:
+                 operator: Optional[Operator], bounds: Bounds) -> None:
         self.picture, self.looking, self.streams, self.guard, self.registry = picture, looking, streams, guard, registry
-        self.operator = operator
+        self.operator, self.bounds = operator, bounds
         self._page, self._policy = page(), policy(text_of("page.js"), text_of("page.css"))
 
     def application(self) -> web.Application:
         """All of it."""
-        made = web.Application(middlewares=[middleware(self.guard)], client_max_size=LONGEST_BODY)
+        made = web.Application(middlewares=[self._noted, middleware(self.guard)], client_max_size=LONGEST_BODY)
         made.add_routes([
             web.get("/", self.get_page), web.get("/metrics", self.get_metrics), web.get("/api/points", self.get_points),
             web.get("/api/points/{name}", self.get_point), web.get("/api/processes", self.get_processes),
@@ -58,6 +62,11 @@ class Web:
         ])
         made.on_shutdown.append(self._end)
         return made
+
+    @web.middleware
+    async def _noted(self, request: web.Request, handler: Handler) -> web.StreamResponse:
+        self.bounds.asked(request.transport)
+        return await handler(request)
 
     # -- looking
 
@@ -103,9 +112,12 @@ class Web:
         """The stream of changes."""
         if len(self.streams) >= MOST_STREAMS:
             return refused("too-many", f"{MOST_STREAMS} pages listen already", 503)
+        address = request.remote or ""
+        if self.streams.listening(address) >= self.streams.most:
+            return refused("too-many", f"{self.streams.most} pages of this address listen already", 503)
         response = web.StreamResponse(headers={"Content-Type": "text/event-stream", "Cache-Control": "no-store"})
         await response.prepare(request)
-        queue = self.streams.open()
+        queue = self.streams.open(address)
         try:
             with contextlib.suppress(ConnectionError):
                 await self._send_all(response, queue)
@@ -132,7 +144,7 @@ class Web:
         """What a change would bring. It changes nothing, and wants no token."""
         try:
             asked = await self._body(request)
-            change = change_of(str(asked.get("do")), asked, self.picture.points)
+            change = change_of(asked.get("do"), asked, self.picture.points)
             return web.json_response({"next": preview(change, self.picture)})
         except Faulty as why:
             return refused("faulty", str(why), 400)
@@ -156,7 +168,8 @@ class Web:
     async def _make(self, operator: Operator, change: Change) -> Dict[str, Any]:
         point = change.point.name
         if change.do == "take":
-            return await operator.take(change.id, point, change.value, change.priority, change.length, change.way)
+            return await operator.take(change.id, point, change.value, change.priority, change.length, change.way, change.policy,
+                                       change.stands)
         if change.do == "prolong":
             return await operator.prolong(change.id, point, change.txn, change.length)
         return await operator.release(change.id, point, change.txn)
@@ -166,9 +179,13 @@ class Web:
             raise Faulty("the body is to be application/json")
         decode: Callable[[str], Any] = json.loads
         try:
-            asked = decode(await request.text())
-        except ValueError:
-            raise Faulty("the body is no JSON") from None
+            asked = decode(await asyncio.wait_for(request.text(), PATIENCE))
+        except asyncio.TimeoutError:
+            raise Faulty(f"the body did not come within {PATIENCE:.0f} seconds") from None
+        except LookupError:
+            raise Faulty("the body is in no charset that is known here") from None
+        except (ValueError, RecursionError):
+            raise Faulty("the body is no JSON, or lies too deep") from None
         if not isinstance(asked, dict):
             raise Faulty("the body is to be a JSON object")
         return asked

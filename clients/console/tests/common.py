@@ -116,6 +116,24 @@ class Case(unittest.TestCase):
         self.addCleanup(made.stop)
         return made
 
+    def overrides(self):
+        """A bossd-overrides before the server, once it holds what it is to hold; it has a `socket`."""
+        socket = os.path.join(self.folder, "socket")
+        words = ["/usr/bin/python3", "-m", "bossd.overrides", self.server.address, "--file", os.path.join(self.folder, "overrides.json"),
+                 "--socket", socket]
+        service = subprocess.Popen(words, cwd=os.path.join(TOP, "clients", "python"), stderr=subprocess.PIPE, text=True)
+        service.socket = socket
+
+        def end():
+            if not service.stderr.closed:
+                service.kill()
+                service.communicate()
+        self.addCleanup(end)
+        service.end = end
+        while "overrides stand" not in service.stderr.readline():
+            self.assertIsNone(service.poll())
+        return service
+
     def client(self, process=None):
         made = bossd.Client(self.server.address, process)
         self.addCleanup(made.close)

@@ -1,10 +1,12 @@
 """Tests of what the console answers programs, against the built program: no browser."""
 
+import contextlib
 import http.client
 import json
 import os
 import re
 import signal
+import socket
 import subprocess
 import time
 import unittest
@@ -13,6 +15,7 @@ from tests import journals
 from tests.common import CATALOGUE, CONSOLE, MINUTE, PATIENCE, TOP, Case, Console, bossd
 from tests.stub import Stub
 
+from bossd_console.bounds import MOST_CONNECTIONS
 from bossd_console.catalogue import read_catalogue
 
 DAMPER = "ahu1.damper"
@@ -297,7 +300,8 @@ class Changing(Case):
         self.server.kill()
         self.server.start()
         self.eventually(lambda: console.change("prolong", id="c-2", point=DAMPER, txn=1, length=20 * MINUTE)[0] == 200)
-        self.assertEqual(console.point(DAMPER)["owner"], "operator")
+        # Whose it is is asked anew at the next look.
+        self.eventually(lambda: console.point(DAMPER).get("owner") == "operator")
 
     def test_a_name_that_is_taken(self):
         self.client("operator")
@@ -389,9 +393,113 @@ class ComingAndGoing(Case):
         self.eventually(lambda: console.point(DAMPER).get("owner") == "other")
 
 
+class Strangers(Case):
+    """Whoever reaches the console, without a token."""
+
+    def raw(self, console, *lines, body=b""):
+        """What is answered to these lines, up to the end of the connection."""
+        with socket.create_connection(("127.0.0.1", console.port), timeout=PATIENCE) as link:
+            link.sendall(b"\r\n".join([lines[0], b"Host: " + console.host.encode(), b"Connection: close", *lines[1:], b"", body]))
+            return b"".join(iter(lambda: link.recv(65_536), b""))
+
+    def post(self, console, path, body, *lines):
+        return self.raw(console, b"POST " + path + b" HTTP/1.1", b"Content-Length: " + str(len(body)).encode(), *lines, body=body)
+
+    def test_headers_and_bodies_that_are_none(self):
+        console = self.console("--operator", "operator")
+        kind = b"Content-Type: application/json"
+        for what, status, answer in [
+            ("a header that is no UTF-8", 401, self.post(console, b"/api/take", b"{}", kind, b"Authorization: Bearer \xff\xfe")),
+            ("a body that lies deep", 400, self.post(console, b"/api/preview", b"[" * 8_000, kind)),
+            ("a point that lies deep", 400, self.post(console, b"/api/preview", b'{"do":"take","point":' + b"[" * 900 + b"]" * 900 + b"}", kind)),
+            ("a charset that nobody knows", 400, self.post(console, b"/api/preview", b"{}", kind + b"; charset=nobody-knows")),
+            ("a body that is no UTF-8", 400, self.post(console, b"/api/preview", b'{"do":"\xff"}', kind)),
+            ("nothing that it does", 400, self.post(console, b"/api/preview", b'{"do":["take"],"point":"ahu1.damper"}', kind)),
+        ]:
+            self.assertEqual(answer.split(b" ")[1], str(status).encode(), what)
+
+    def test_no_answer_tells_a_version(self):
+        console = self.console()
+        for line in (b"GET / HTTP/1.1", b"GET /no/such HTTP/1.1", b"no request", b"GET /api/points HTTP/1.1"):
+            answer = self.raw(console, line)
+            self.assertEqual(re.findall(rb"(?i)^server: (.*)\r$", answer, re.M), [b"bossd-console"], answer[:200])
+            self.assertNotIn(b"aiohttp", answer.lower())
+
+    def test_half_a_request_is_not_waited_for(self):
+        console = self.console()
+        begun = [socket.create_connection(("127.0.0.1", console.port), timeout=2 * PATIENCE) for _ in range(20)]
+        head = f"GET /metrics HTTP/1.1\r\nHost: {console.host}\r\n".encode()
+        for place, link in enumerate(begun):
+            self.addCleanup(link.close)
+            # Some say nothing, some half a request, and some half of a second one.
+            link.sendall([b"", head, head + b"\r\n" + head][place % 3])
+        listening = Stream(console)
+        self.addCleanup(listening.close)
+        self.assertEqual(listening.next()[0], "all")
+        for link in begun:
+            with contextlib.suppress(ConnectionError):
+                while link.recv(65_536):
+                    pass
+        # Who listens is not ended with them.
+        self.assertEqual(listening.next()[0], "changes")
+
+    def test_half_a_body_is_not_waited_for(self):
+        console = self.console()
+        answer = self.raw(console, b"POST /api/preview HTTP/1.1", b"Content-Type: application/json", b"Content-Length: 100", body=b"{")
+        self.assertIn(b"did not come within 10 seconds", answer)
+
+    def test_only_so_many_connections(self):
+        console = self.console()
+        held = [socket.create_connection(("127.0.0.1", console.port), timeout=PATIENCE) for _ in range(MOST_CONNECTIONS)]
+        for link in held:
+            self.addCleanup(link.close)
+        with socket.create_connection(("127.0.0.1", console.port), timeout=PATIENCE) as link, contextlib.suppress(ConnectionError):
+            # It is ended before the first ones are, which are given ten seconds.
+            link.settimeout(5)
+            self.assertEqual(link.recv(1), b"")
+        for link in held:
+            link.close()
+        self.eventually(lambda: console.ask("/api/points")[0] == 200)
+
+    def test_only_so_many_pages_from_one_address(self):
+        console = self.console()
+        pages = [Stream(console) for _ in range(8)]
+        for page in pages:
+            self.addCleanup(page.close)
+            self.assertEqual(page.next()[0], "all")
+        self.assertEqual((console.ask("/api/changes")[0], console.ask("/api/changes")[1]["error"]), (503, "too-many"))
+        link = http.client.HTTPConnection("127.0.0.1", console.port, timeout=PATIENCE, source_address=("127.0.0.2", 0))
+        self.addCleanup(link.close)
+        link.request("GET", "/api/changes")
+        self.assertEqual(link.getresponse().status, 200)
+        more = self.console("--streams", "9")
+        for page in [Stream(more) for _ in range(9)]:
+            self.addCleanup(page.close)
+            self.assertEqual(page.next()[0], "all")
+        self.assertEqual(more.ask("/api/changes")[0], 503)
+
+    def test_who_takes_no_byte_of_an_answer(self):
+        console = self.console()
+        asked = f"GET / HTTP/1.1\r\nHost: {console.host}\r\n\r\n".encode()
+        link = socket.socket()
+        self.addCleanup(link.close)
+        link.setsockopt(socket.SOL_SOCKET, socket.SO_RCVBUF, 4_096)
+        link.connect(("127.0.0.1", console.port))
+        link.settimeout(1)
+        with contextlib.suppress(OSError):
+            while True:
+                link.send(asked * 100)
+        self.eventually(lambda: not self.is_connected(console, link.getsockname()[1]), 120)
+
+    def is_connected(self, console, port):
+        with open("/proc/net/tcp", encoding="ascii") as file:
+            ends = [line.split()[1:4] for line in file][1:]
+        return any(here.endswith(f":{console.port:04X}") and there.endswith(f":{port:04X}") and state == "01" for here, there, state in ends)
+
+
 class Words(unittest.TestCase):
     def test_faulty_words(self):
-        for words in [["--every", "0"], ["--operator", "No Name"], ["--listen", "8080"], ["--listen", "127.0.0.1:99999"]]:
+        for words in [["--every", "0"], ["--operator", "No Name"], ["--listen", "8080"], ["--listen", "127.0.0.1:99999"], ["--streams", "0"]]:
             ran = subprocess.run(["/usr/bin/python3", f"{CONSOLE}/bossd-console", CATALOGUE, "127.0.0.1:1", *words], capture_output=True, text=True)
             self.assertEqual((ran.returncode, ran.stderr.count("\n")), (1, 1), ran.stderr)
         ran = subprocess.run(["/usr/bin/python3", f"{CONSOLE}/bossd-console", "/no/such/file", "127.0.0.1:1"], capture_output=True, text=True)

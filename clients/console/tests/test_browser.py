@@ -369,6 +369,30 @@ class WhatIsChanged(Page):
         self.see(lambda: self.text("#ask-said").startswith("Denied: operator may not write this point"))
         self.assertEqual(self.find("#ask-said").get_attribute("class"), "denied")
 
+    def test_an_override_that_stands_says_who_set_it(self):
+        console = self.console("--operator", "alice", "--overrides", self.overrides().socket)
+        self.open(console, f"#token={console.token}")
+        browser.get(console.address + "#point/" + DAMPER)
+        self.click("#take")
+        self.type("value", "80")
+        self.click("#ask [name=stands]")
+        self.see(lambda: self.text("#ask-next").splitlines() == ["at once: 80.0 %, lease at priority 8 Manual Operator"])
+        self.click("#ask [value=yes]")
+        self.see(lambda: not self.find("#ask").is_displayed() and self.row(DAMPER)["value"] == "80.0 %")
+        self.see(lambda: self.row(DAMPER)["owner"].startswith("people ⚑ ") and self.row(DAMPER)["owner"].endswith(" for alice"))
+        self.see(lambda: "for alice at" in self.text("#whose") and "until somebody releases it" in self.text("#whose"))
+        self.click("#pane [id^=release]")
+        self.click("#ask [value=yes]")
+        self.see(lambda: self.row(DAMPER)["owner"] == "" and self.row(DAMPER)["value"] == "20.0 %")
+
+    def test_a_value_that_does_not_fit_is_told_in_units(self):
+        console = self.console("--operator", "operator")
+        self.open(console, f"#token={console.token}")
+        browser.get(console.address + "#point/boiler.flow")
+        self.click("#take")
+        self.type("value", "95")
+        self.see(lambda: "95.0 °C does not fit: a value is to be 20.0 to 75.0 °C" in self.text("#ask-said"))
+
     def test_looking_only(self):
         self.open(self.console(), "#point/" + DAMPER)
         self.see(lambda: "Slots" in self.text("#pane"))

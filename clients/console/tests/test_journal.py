@@ -9,8 +9,7 @@ from tests import common
 from tests import journals as j
 
 import bossd
-from bossd_console.catalogue import read_catalogue
-from bossd_console.journal import Reader
+from bossd_console.catalogue import Reader, read_catalogue
 
 FLOOR = os.path.join(common.TOP, "examples", "floor.toml")
 DAMPER, LAMP, FAN = "ahu1.damper", "lamp", "fan"
@@ -71,6 +70,17 @@ class Reading(Files):
         self.assertEqual(self.reader.names(), ["a", "boiler"])
         self.assertEqual(self.way(LAMP, 3, bossd.Slot(1, 2, until=7_000), "boiler"), [(0, 7_000)])
         self.assertEqual(self.way(FAN, 16, bossd.Slot(3, 2, until=7_000), "boiler"), [])
+
+    def test_points_that_new_records_name(self):
+        both = j.record(j.submit(2_000, 0, j.write(1, 1, 3, 5_000), j.write(2, 3, 16, 5_000)))
+        cancelled, lost = j.record(j.cancel(3_000, 0, 1)), j.record(b"\5" + (4_000).to_bytes(8, "big") + b"\0\0")
+        records, named = [ENROLLED], []
+        for one in (HELD, both, cancelled, j.record(j.time_passed(3_500)), lost):
+            records.append(one)
+            self.follow(j.journal(*records))
+            named.append(self.reader.touched())
+        self.assertEqual(named, [[DAMPER], [LAMP, FAN], [DAMPER], [], [DAMPER, LAMP, FAN]])
+        self.assertEqual(self.reader.touched(), [])
 
     def test_values_below_zero(self):
         self.follow(j.journal(ENROLLED, j.record(j.submit(1_000, 0, j.write(0, -45_000, 8, 60_000, [(-1, 1_000)])))))

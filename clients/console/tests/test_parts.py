@@ -163,14 +163,15 @@ class WhatIsAsked(unittest.TestCase):
         return asked.change_of(do, {key: value for key, value in body.items() if value is not None}, self.points)
 
     def test_what_is_left_out(self):
-        self.assertEqual((self.change().priority, self.change().way), (8, []))
+        self.assertEqual((self.change().priority, self.change().way, self.change().policy), (8, [], "keep"))
+        self.assertEqual(self.change(policy="abort").policy, "abort")
         self.assertEqual(self.change("release", txn=3, length=None).txn, 3)
 
     def test_what_is_none(self):
         faulty = [
             {"point": "no.point"}, {"id": None}, {"id": "Ä"}, {"value": 100_001}, {"value": 1.5}, {"value": True}, {"value": "1"}, {"priority": 6},
             {"priority": 0}, {"length": 0}, {"length": None}, {"length": 604_800_001}, {"revert": [1]}, {"revert": [[1, 0]]}, {"revert": [[0, 1]] * 9},
-            {"revert": {}},
+            {"revert": {}}, {"policy": "always"}, {"value": None},
         ]
         for wrong in faulty:
             with self.assertRaises(asked.Faulty, msg=str(wrong)):
@@ -179,6 +180,19 @@ class WhatIsAsked(unittest.TestCase):
             self.change("prolong")
         with self.assertRaises(asked.Faulty):
             asked.change_of("take", [], self.points)
+
+
+    def test_bounds_are_told_in_the_units_of_the_point(self):
+        for more, why in [
+            ({"point": "boiler.flow", "value": 95_000}, "95.0 °C does not fit: a value is to be 20.0 to 75.0 °C, in steps of 0.001"),
+            ({"point": "boiler.flow", "value": 0}, "0.0 °C does not fit"),
+            ({"point": "boiler.flow", "value": None}, "a value is to be 20.0 to 75.0 °C"),
+            ({"point": "boiler.flow", "value": 30_000, "revert": [[5_000, 1]]}, "5.0 °C does not fit"),
+            ({"point": "boiler.pump", "value": 2}, "2 does not fit: a value is to be 0 or 1"),
+        ]:
+            with self.subTest(why), self.assertRaises(asked.Faulty) as caught:
+                self.change(**more)
+            self.assertIn(why, str(caught.exception))
 
 
 class WhatIsDenied(unittest.IsolatedAsyncioTestCase):
