@@ -111,7 +111,7 @@ def full(points, rounds=1):
         lines.ask("attach", process=f"q{session}", on=session)
     slots = [(point, level) for level in PRIORITIES for point in range(points)] * rounds
     for place in range(0, len(slots), 32):
-        writes = [lines.write(*slot, 600_000_000, 8) for slot in slots[place:place + 32]]
+        writes = [lines.write(point, level, 600_000_000, 8) for point, level in slots[place:place + 32]]
         lines.ask("submit", writes=writes, on=1 + place // 32 % 256)
     return lines.lines
 

@@ -1,8 +1,10 @@
 """A small model of the lease machine, written apart from the program: what a session is answered, what processes are told, and
 what devices are told; and how all that goes on under a changed catalogue. Devices take every command. Moments are milliseconds, values
-thousandths. With access rules it denies writes."""
+thousandths. With access rules it denies writes. Beside it stands where a line is at fault that is no request."""
 
+import hashlib
 import json
+import re
 from dataclasses import dataclass, field
 
 WEEK = 604_800_000
@@ -10,6 +12,8 @@ DAY = 86_400_000
 KEPT_DONE = 1024
 KEPT_NOTICES = 1024
 NUMBERED = ["submit", "renew", "cancel"]
+PROGRAM_VERSION = "0.3.0"
+JOURNAL_VERSION = 2
 
 
 @dataclass(frozen=True)
@@ -32,6 +36,11 @@ class Point:
         }[self.kind]
         return (f'[[point]]\nname = "{self.name}"\ndriver = "{self.driver}"\nkind = "{self.kind}"\n'
                 f"{bounds}default = {self.default}\n")
+
+    def told(self):
+        """The point as the program tells it."""
+        bounds = {"analog": {"min": self.least, "max": self.most}, "binary": {}, "multi": {"states": self.most}}[self.kind]
+        return {"point": self.name, "kind": self.kind, **bounds, "default": self.default, "driver": self.driver}
 
 
 @dataclass(frozen=True)
@@ -59,6 +68,89 @@ def denying_rule(rules, process, write):
         if rule.matches(process, write["point"]):
             return None if rule.allow and write.get("priority", 16) >= rule.highest else number
     return 0
+
+
+def digest(drivers, points):
+    """What a catalogue is known by."""
+    lines = [f"d {name}\n" for name in drivers]
+    lines += [f"p {it.name} {it.driver} {it.kind} {it.least} {it.most} {it.default}\n" for it in points]
+    return hashlib.sha256("".join(lines).encode()).hexdigest()
+
+
+# ---- where a line is at fault, in the order of PROTOCOL
+
+def is_whole(it):
+    return type(it) is int and -2**63 <= it < 2**63
+
+
+def is_number(least=0, most=2**63 - 1):
+    return lambda it: is_whole(it) and least <= it <= most
+
+
+def is_text(it):
+    return isinstance(it, str)
+
+
+def is_name(it):
+    return is_text(it) and re.fullmatch("[a-z0-9._-]{1,64}", it) is not None
+
+
+def is_short(it):
+    return isinstance(it, list) and 1 <= len(it) <= 32
+
+
+SEQ = ("seq", False, is_number(1, 2**62 - 1))
+# The keys of each request, whether each is needed, and what it may be.
+KEYS = {
+    "attach": [("process", True, is_name)],
+    "submit": [("writes", True, is_short), ("policy", False, lambda it: it in ("abort", "keep")), SEQ],
+    "renew": [("txn", True, is_number()), ("length", True, is_whole), ("points", False, is_short), SEQ],
+    "cancel": [("txn", True, is_number()), SEQ],
+    "read": [("point", True, is_text)],
+    "array": [("point", True, is_text)],
+    "status": [("txn", True, is_number())],
+    "notices": [("process", False, is_name), ("from", False, is_number(1)), ("max", False, is_number(1, 64))],
+    "points": [("from", False, is_number(0, 2**62)), ("max", False, is_number(1, 64))],
+    "version": [], "gone": [], "tick": [],
+}
+LINE_KEYS = [("on", False, is_number(1, 65_535)), ("at", False, is_number(0, 2**60))]
+WRITE_KEYS = [("point", True, is_text), ("value", True, is_whole), ("priority", False, is_whole), ("lease", True, is_whole),
+              ("revert", False, lambda it: isinstance(it, list))]
+
+
+def first_fault(keys, found):
+    """The first of these keys that is missing where it is needed, or is not what it may be."""
+    return next((key for key, needed, fits in keys if (not fits(found[key]) if key in found else needed)), None)
+
+
+def fault_in_write(place, write):
+    key = first_fault(WRITE_KEYS, write if isinstance(write, dict) else {})
+    if key:
+        return f"writes[{place}].{key}"
+    for number, step in enumerate(write.get("revert", [])):
+        if not isinstance(step, list) or len(step) != 2:
+            return f"writes[{place}].revert[{number}]"
+        for half, it in enumerate(step):
+            if not is_whole(it):
+                return f"writes[{place}].revert[{number}][{half}]"
+    return None
+
+
+def key_at_fault(line):
+    """The key at fault in what a line writes, or None. Of an `op` that is not known that is None."""
+    if not isinstance(line, dict) or not isinstance(line.get("op"), str):
+        return "op"
+    if line["op"] not in KEYS:
+        return None
+    key = first_fault(LINE_KEYS + KEYS[line["op"]], line)
+    if key:
+        return key
+    if line["op"] == "submit":
+        faults = [fault_in_write(place, write) for place, write in enumerate(line["writes"])]
+        return next((fault for fault in faults if fault), None)
+    if line["op"] == "renew":
+        return next((f"points[{place}]" for place, it in enumerate(line.get("points", [])) if not is_text(it)), None)
+    return None
 
 
 @dataclass
@@ -244,7 +336,7 @@ class Machine:
                 rule = denying_rule(self.rules, self.processes[self.attached[session]], write)
                 if rule is not None:
                     return error("denied", index=place, rule=rule)
-        make = getattr(self, request["op"])
+        make = self.page if request["op"] == "points" else getattr(self, request["op"])
         if "seq" not in request or request["op"] not in NUMBERED or session not in self.attached:
             return make(session, request, n)
         process, number = self.attached[session], request["seq"]
@@ -498,3 +590,14 @@ class Machine:
         end = min(start + request.get("max", 16), len(kept) + 1)
         told = [kept[number - 1].told(number, self.names) for number in range(start, end)]
         return ok("notices", first=first, next=end, list=told)
+
+    def page(self, session, request, n):
+        """Points of the catalogue; with the first of them, of which there are at most 32, its drivers."""
+        start = request.get("from", 0)
+        told = self.points[start:start + min(request.get("max", 64), 64 if start else 32)]
+        return ok("points", digest=digest(self.drivers, self.points), **({} if start else {"drivers": self.drivers}), count=len(self.points),
+                  next=start + len(told), list=[point.told() for point in told])
+
+    def version(self, session, request, n):
+        return ok("version", program=PROGRAM_VERSION, journal=JOURNAL_VERSION, digest=digest(self.drivers, self.points),
+                  points=len(self.points), drivers=len(self.drivers))

@@ -80,11 +80,14 @@ def web_server(connection, frame):
     return False
 
 
-def byte_by_byte(connection, frame):
-    for byte in frame:
-        connection.sendall(bytes([byte]))
-        time.sleep(0.1)
-    return True
+def byte_by_byte(pause):
+    """The frame, and so many seconds after each of its bytes."""
+    def answer(connection, frame):
+        for byte in frame:
+            connection.sendall(bytes([byte]))
+            time.sleep(pause)
+        return True
+    return answer
 
 
 def echo_and_more(connection, frame):
