@@ -18,7 +18,7 @@ STEP = bossd.milliseconds(seconds=10)
 
 
 def sentence(reading):
-    value = f"{reading.point} {bossd.units(reading.value)}"
+    value = f"{reading.point} {bossd.units(reading.value):g}"
     if reading.basis == "default":
         return f"{value}: nobody holds it, this is its default"
     what = "a lease" if reading.basis == "lease" else "the reversion"
