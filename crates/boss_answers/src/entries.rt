@@ -3,14 +3,16 @@
 ghost use Rattle.std.specs.Prelude.{◌≡◌, ◌+◌, ◌*◌, ◌≤◌, ◌<◌, ◌∷◌, [], ◌++◌, length, map, codes, decimal, slice_index_or};
 ghost use Rattle.std.specs.Fmt.{signed_decimal};
 ghost use Rattle.std.specs.List.{flat_map, AllByRecursion};
-ghost use Rattle.boss_model.specs.Limits.{last_number, most_drivers, most_told, newest_version, program_version};
+ghost use Rattle.boss_model.specs.Limits.{last_number, most_drivers, most_told, program_version};
+ghost use Rattle.def_log.specs.Versions.{newest_version};
 ghost use Rattle.boss_points.specs.Seen.{all_seen, seen};
 ghost use Rattle.def_wire.specs.Texts.{digest_text, drivers_text, entry_text, kind_text, list_text, listed, page_size, points_text, quoted, times_text, version_text};
 ghost use Rattle.boss_answers.specs.Room.{HasRoom, PutsAtMost};
 
 use crate::parts::{write_number, write_quoted, write_signed};
-use boss_model::{Buffer, DriverId, Kind, MOST_TOLD, NEWEST_VERSION, Name, PROGRAM_VERSION};
+use boss_model::{Buffer, DriverId, Kind, MOST_TOLD, Name, PROGRAM_VERSION};
 use boss_points::{Catalogue, Point};
+use def_log::NEWEST_VERSION;
 
 /// Points of the catalogue from this place on, and with the first of them the drivers.
 pub(crate) fn put_points(into: &mut Buffer, catalogue: &Catalogue, from: u64, most: u64)

@@ -103,10 +103,6 @@ retry_after = 5000
 
 -- ---- the journal
 
--- the version of a new journal; 1 has no request numbers
-abbrev pub newest_version : ℕ
-newest_version = 2
-
 -- the place of a new journal's first gate, after the mark, the version and the digest, in bytes
 abbrev pub first_gate : ℕ
 first_gate = 41
@@ -134,22 +130,6 @@ program_version = codes "0.3.0"
 -- for connections: each is a thread, of which one that is blocked takes some 45 kB
 abbrev pub most_workers : ℕ
 most_workers = 1024
-
--- between two ticks, in milliseconds: a lease ends so late at most, by the clock
-abbrev pub tick_pause : ℕ
-tick_pause = 100
-
--- where a driver has no want, in milliseconds
-abbrev pub drive_pause : ℕ
-drive_pause = 20
-
--- after a turn of a watch without a notice, in milliseconds
-abbrev pub watch_pause : ℕ
-watch_pause = 100
-
--- turns in a row without a notice, after which a watch ends: a minute, so that a worker does not wait for who is gone
-abbrev pub watch_idle : ℕ
-watch_idle = 600
 
 -- looks at the lock before a caller sleeps, since a turn is mostly passed on sooner than a thread wakes
 abbrev pub lock_looks : ℕ

@@ -1,4 +1,4 @@
-ghost use Rattle.std.specs.Prelude.{◌≡◌, ℕ, ◌+◌, ◌≤◌, ◌<◌, List, [], ◌∷◌, ◌++◌, length, IfOk};
+ghost use Rattle.std.specs.Prelude.{◌≡◌, ℕ, ◌+◌, ◌≤◌, ◌<◌, List, [], ◌∷◌, ◌++◌, length, take, IfOk};
 ghost use Rattle.boss_model.specs.Held.{Held};
 
 use crate::NoMemory;
@@ -49,6 +49,14 @@ impl Buffer {
         let end = self.length + bytes.len();
         self.room[self.length..end].copy_from_slice(bytes);
         self.length = end;
+    }
+
+    /// Keeps the first so many bytes.
+    pub fn cut(&mut self, count: u32)
+        requires { count ≤ length self.old.bytes }
+        ensures { self.new ≡ record self.old { bytes = take count self.old.bytes } }
+    {
+        self.length = count as usize;
     }
 
     /// Takes all bytes out. The room stays.

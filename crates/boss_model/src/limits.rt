@@ -72,9 +72,6 @@ pub const PROGRAM_VERSION: &str = "0.3.0";
 /// How many workers a server may have for connections.
 pub const MOST_WORKERS: u64 = 1_024;
 
-/// The version of a new journal.
-pub const NEWEST_VERSION: u8 = 2;
-
 /// The place of a new journal's first gate, in bytes: after the mark, the version and the digest.
 pub const FIRST_GATE: u64 = 41;
 
@@ -86,18 +83,6 @@ pub const RECORD_ROOM: u32 = 65_536;
 
 /// How many bytes a log may have before a new state is kept: 16 MiB.
 pub const LOG_LIMIT: u64 = 16_777_216;
-
-/// How long the pause between two ticks is, in milliseconds.
-pub const TICK_PAUSE: u64 = 100;
-
-/// How long the pause is where a driver has no want, in milliseconds.
-pub const DRIVE_PAUSE: u64 = 20;
-
-/// How long the pause is after a turn of a watch without a notice, in milliseconds.
-pub const WATCH_PAUSE: u64 = 100;
-
-/// After how many turns in a row without a notice a watch ends: a minute.
-pub const WATCH_IDLE: u32 = 600;
 
 /// How often a caller looks at the lock before it sleeps.
 pub const LOCK_LOOKS: u32 = 1_000;

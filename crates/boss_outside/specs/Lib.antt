@@ -1,7 +1,10 @@
+pub mod Bells
 pub mod Counts
 pub mod Links
 pub mod Notes
 pub mod Plan
+pub mod Sockets
+pub mod Ringing
 pub mod Stores
 pub mod Streams
 pub mod DeviceCall

@@ -38,12 +38,36 @@ pub trait Actuators {
             ≡ calls self.old ++ record { point = point; value = value; ok = true } ∷ [])) }
         ensures cause { HasCause (faults self.old) (faults self.new) result };
 
+    /// Looks after what the devices took: reads one of them, where that is due at this moment, in milliseconds. It commands nothing.
+    fn look(&mut self, now: u64) -> Look
+        ensures calls { tells → calls self.new ≡ calls self.old }
+        ensures whole { tells → (whole self.old → whole self.new) × (whole self.new → whole self.old) }
+        ensures faults { faults self.new ≡ faults self.old };
+
+    /// For how many milliseconds from this moment on no look is due, as far as that is known now; `2 ^ 64 - 1` where none ever is.
+    fn rests(&self, now: u64) -> u64;
+
     /// Tells the devices where their points are. It comes before the first write, or between two, and writes nothing.
     fn assign(&mut self, part: DriverPlan)
         ensures assigned { assigned self.old part self.new }
         ensures calls { tells → calls self.new ≡ calls self.old }
         ensures whole { tells → (whole self.old → whole self.new) × (whole self.new → whole self.old) }
         ensures faults { faults self.new ≡ faults self.old };
+}
+
+/// What came of looking after the devices.
+#[derive(Clone, Copy, Debug, PartialEq, Eq)]
+pub enum Look {
+    /// None was to be looked after.
+    Quiet,
+    /// One was, and nothing is to be done about it.
+    Seen,
+    /// What this point's device has may be another value than the one that it took.
+    Doubt {
+        point: PointId,
+        /// Another one was found there.
+        differs: bool,
+    },
 }
 
 /// One command to a device, and whether the device took it.
@@ -141,6 +165,14 @@ impl Actuators for SimActuators {
         Err(self.plan.fault())
     }
 
+    fn look(&mut self, _now: u64) -> Look {
+        Look::Quiet
+    }
+
+    fn rests(&self, _now: u64) -> u64 {
+        u64::MAX
+    }
+
     fn assign(&mut self, _part: DriverPlan) {}
 }
 
@@ -168,6 +200,14 @@ impl Actuators for IdleActuators {
 
     fn write(&mut self, _point: PointId, _value: i64) -> Result<(), Failed> {
         Ok(())
+    }
+
+    fn look(&mut self, _now: u64) -> Look {
+        Look::Quiet
+    }
+
+    fn rests(&self, _now: u64) -> u64 {
+        u64::MAX
     }
 
     fn assign(&mut self, _part: DriverPlan) {}

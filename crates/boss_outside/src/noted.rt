@@ -1,7 +1,7 @@
 ghost use Rattle.std.specs.Prelude.{◌≡◌, ◌<◌, ◌++◌, ◌∷◌, [], true, is_ok, IfOk, OnOk, vec_len, vec_capacity};
 ghost use Rattle.boss_outside.specs.Counts.{HasCause, one_more};
 
-use crate::{Actuators, DeviceCall, Failed};
+use crate::{Actuators, DeviceCall, Failed, Look};
 use boss_model::{DriverPlan, NoMemory, PointId};
 use std::alloc::Global;
 
@@ -94,6 +94,14 @@ impl<A: Actuators> Actuators for Noted<A> {
             return Ok(());
         }
         Err(self.fault())
+    }
+
+    fn look(&mut self, now: u64) -> Look {
+        self.devices.look(now)
+    }
+
+    fn rests(&self, now: u64) -> u64 {
+        self.devices.rests(now)
     }
 
     fn assign(&mut self, part: DriverPlan) {

@@ -1,11 +1,11 @@
 -- Source: own.
-use Rattle.std.specs.Prelude.{◌≡◌, ℕ, ◌+◌, ◌==◌, min, Bool, true, false, List, [], if◌then◌else◌}
+use Rattle.std.specs.Prelude.{◌≡◌, ℕ, ◌+◌, min, max, Bool, true, false, Option, Some, None, List, []}
 use Rattle.boss_model.specs.Limits.{last_number}
 use Rattle.boss_outside.specs.Counts.{Rose}
 use Rattle.boss_outside_server.specs.declared.waited.Leaving.{Leaving}
 use Rattle.boss_outside_server.specs.declared.waited.Leaving.TheVariants.{NotYet, Once, Often}
 use Rattle.boss_outside_server.specs.declared.waited.Lengths.{Lengths}
-use Rattle.boss_outside_server.specs.declared.waited.Lengths.TheVariants.{NoPause, Each, Various}
+use Rattle.boss_outside_server.specs.declared.waited.Lengths.TheVariants.{NoPause, Within}
 use Rattle.boss_outside_server.specs.declared.waited.Waited.{Waited}
 use Rattle.boss_outside_server.specs.declared.waiter.Woke.{Woke}
 use Rattle.boss_outside_server.specs.declared.waiter.Woke.TheVariants.{Again, Close}
@@ -16,9 +16,8 @@ one_pause_more pauses = min (pauses + 1) last_number
 
 -- how long the pauses were, with one more of so many milliseconds
 abbrev pub lengths_after : Lengths → ℕ → Lengths
-lengths_after NoPause milliseconds = Each milliseconds
-lengths_after (Each all) milliseconds = if all == milliseconds then Each all else Various
-lengths_after Various milliseconds = Various
+lengths_after NoPause milliseconds = Within milliseconds milliseconds
+lengths_after (Within least most) milliseconds = Within (min least milliseconds) (max most milliseconds)
 
 -- a worker leaves once, and any later time is one too many
 abbrev pub leaving_after : Leaving → ℕ → Leaving
@@ -36,13 +35,16 @@ abbrev pub CloseCause : ℕ → ℕ → Woke → Type 0
 CloseCause before now Again = now ≡ before
 CloseCause before now Close = Rose before now
 
--- what is noted of a worker: nothing yet, where so many workers are waited for; that so many are; one pause more, and how it
--- ended; and that the worker leaves, when it has served so many connections
+-- what is noted of a worker: nothing yet, where so many workers are waited for; that so many are; that its pauses end at a bell
+-- from now on; one pause more, and how it ended; and that the worker leaves, when it has served so many connections
 abbrev pub new_waited : ℕ → Waited
-new_waited expected = record { pauses = 0; lengths = NoPause; closed = false; expected = expected; leaving = NotYet }
+new_waited expected = record { pauses = 0; lengths = NoPause; closed = false; expected = expected; leaving = NotYet; bell = None }
 
 abbrev pub expecting : ℕ → Waited → Waited
 expecting workers waited = record waited { expected = workers }
+
+abbrev pub listening : ℕ → Waited → Waited
+listening bell waited = record waited { bell = Some bell }
 
 abbrev pub after_pause : ℕ → Woke → Waited → Waited
 after_pause milliseconds woke waited = record waited {

@@ -17,6 +17,7 @@ mod list_host;
 mod list_spawner;
 mod log;
 mod one_of;
+mod pauses;
 mod running;
 mod spawner;
 mod task;
@@ -30,6 +31,10 @@ pub use list_clock::ListClock;
 pub use list_host::{Ended, ListHost};
 pub use list_spawner::ListSpawner;
 pub use one_of::OneOf;
+pub use pauses::{
+    DRIVE_PAUSE, HELD_PAUSE, TICK_PAUSE, WATCH_IDLE, WATCH_PAUSE,
+    pauses_are_those_of_the_definitions,
+};
 pub use spawner::Spawner;
 pub use task::{Ran, Task};
 pub use turn_waiter::TurnWaiter;

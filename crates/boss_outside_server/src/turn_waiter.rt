@@ -1,10 +1,12 @@
 ghost use Rattle.std.specs.Prelude.{◌≡◌, ◌-◌, ◌==◌, ◌∷◌, ◌++◌, [], map, IfOk};
-ghost use Rattle.boss_outside_server.specs.Waits.{after_leave, after_pause, expecting, is_close, new_turns, CloseCause};
+ghost use Rattle.boss_outside.specs.Ringing.{new_rung};
+ghost use Rattle.boss_outside_server.specs.Waits.{after_leave, after_pause, expecting, is_close, listening, new_turns, CloseCause};
 
 use crate::log::{Log, Room};
 use crate::waited::Waited;
 use crate::{Waiter, Woke};
 use boss_model::NoMemory;
+use boss_outside::ListRinger;
 use std::alloc::Global;
 use std::marker::Model;
 
@@ -66,6 +68,8 @@ impl TurnWaiter {
 }
 
 impl Waiter for TurnWaiter {
+    type Bells = ListRinger;
+
     ghost tells = { Unit {0} };
 
     ghost waited = { λ waiter. waiter.waited };
@@ -81,6 +85,13 @@ impl Waiter for TurnWaiter {
         TurnWaiter::expecting(alloc, self.turns, self.waited.expected)
     }
 
+    fn ringer(&mut self, alloc: Global) -> Result<ListRinger, NoMemory>
+        ensures silent { IfOk result (λ ringer. ringer ≡ new_rung) }
+        ensures same { self.new ≡ self.old }
+    {
+        Ok(ListRinger::new(alloc))
+    }
+
     fn expect(&mut self, workers: u32)
         ensures { self.new ≡ record self.old { waited = expecting workers self.old.waited } }
     {
@@ -91,6 +102,12 @@ impl Waiter for TurnWaiter {
         ensures { self.new ≡ record self.old { waited = after_leave connections self.old.waited } }
     {
         self.waited = self.waited.after_leave(connections);
+    }
+
+    fn listen(&mut self, bell: u32)
+        ensures { self.new ≡ record self.old { waited = listening bell self.old.waited } }
+    {
+        self.waited = self.waited.after_listen(bell);
     }
 
     fn pause(&mut self, milliseconds: u64) -> Woke

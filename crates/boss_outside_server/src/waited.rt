@@ -1,5 +1,5 @@
 ghost use Rattle.std.specs.Prelude.{◌≡◌};
-ghost use Rattle.boss_outside_server.specs.Waits.{after_leave, after_pause, leaving_after, lengths_after, new_waited, one_pause_more};
+ghost use Rattle.boss_outside_server.specs.Waits.{after_leave, after_pause, leaving_after, lengths_after, listening, new_waited, one_pause_more};
 
 use crate::Woke;
 
@@ -11,10 +11,8 @@ const LAST_PAUSE: u64 = 1 << 62;
 pub enum Lengths {
     /// There was none.
     NoPause,
-    /// Each was to be so long, in milliseconds.
-    Each(u64),
-    /// They were not all to be of one length.
-    Various,
+    /// The shortest was to be so long, and the longest so long, in milliseconds.
+    Within(u64, u64),
 }
 
 impl Lengths {
@@ -23,9 +21,10 @@ impl Lengths {
         ensures { result ≡ lengths_after self milliseconds }
     {
         match self {
-            Lengths::NoPause => Lengths::Each(milliseconds),
-            Lengths::Each(all) if all == milliseconds => self,
-            _ => Lengths::Various,
+            Lengths::NoPause => Lengths::Within(milliseconds, milliseconds),
+            Lengths::Within(least, most) => {
+                Lengths::Within(least.min(milliseconds), most.max(milliseconds))
+            }
         }
     }
 }
@@ -66,6 +65,8 @@ pub struct Waited {
     pub expected: u32,
     /// Whether it has left.
     pub leaving: Leaving,
+    /// The bell at which its pauses end since it listened last. None where it never did.
+    pub bell: Option<u32>,
 }
 
 impl Waited {
@@ -79,6 +80,7 @@ impl Waited {
             closed: false,
             expected,
             leaving: Leaving::NotYet,
+            bell: None,
         }
     }
 
@@ -100,6 +102,15 @@ impl Waited {
     {
         Waited {
             leaving: self.leaving.after(connections),
+            ..self
+        }
+    }
+    /// This, and that its pauses end at this bell from now on.
+    pub(crate) fn after_listen(self, bell: u32) -> Waited
+        ensures { result ≡ listening bell self }
+    {
+        Waited {
+            bell: Some(bell),
             ..self
         }
     }

@@ -1,8 +1,9 @@
 ghost use Rattle.std.specs.Prelude.{◌≡◌, ℕ, List, [], ◌∷◌, ◌++◌, IfOk};
 ghost use Rattle.boss_outside_server.specs.declared.waited.Waited.{Waited};
-ghost use Rattle.boss_outside_server.specs.Waits.{after_leave, after_pause, expecting, new_waited, CloseCause};
+ghost use Rattle.boss_outside_server.specs.Waits.{after_leave, after_pause, expecting, listening, new_waited, CloseCause};
 
 use boss_model::NoMemory;
+use boss_outside::Ringer;
 use std::alloc::Global;
 
 /// How a pause ended.
@@ -16,11 +17,14 @@ pub enum Woke {
 
 /// What a worker waits by between two turns, and by which it learns that it is to end.
 pub trait Waiter: Sized + Drop {
+    /// What rings the bells that this waiter and its parts listen at.
+    type Bells: Ringer;
+
     /// That the values of this type tell how they were used. A form in memory does; a real one can't.
     ghost tells: { Type 0 };
 
     /// What it notes of its own worker: the pauses and how long they were asked to be, whether the last one said Close, how many
-    /// workers are waited for, and whether the worker has left.
+    /// workers are waited for, whether the worker has left, and the bell at which it listens.
     ghost waited: { Self → Waited };
 
     /// The number of pauses that said Close, up to `2 ^ 64 - 1`, where it stands still.
@@ -36,6 +40,14 @@ pub trait Waiter: Sized + Drop {
         ensures stays { tells → (waited self.new ≡ waited self.old) × (waits self.new ≡ waits self.old) }
         ensures closes { closes self.new ≡ closes self.old };
 
+    /// What rings the bells, which rang none yet. It is asked for once, before the waiter is split: later there may be none, which is told
+    /// as memory that is wanting.
+    fn ringer(&mut self, alloc: Global) -> Result<Self::Bells, NoMemory>
+        ensures silent { IfOk result (λ ringer. Self.Bells.Ringer.tells →
+            Self.Bells.Ringer.whole ringer × (Self.Bells.Ringer.rung ringer ≡ [])) }
+        ensures stays { (waited self.new ≡ waited self.old) × (waits self.new ≡ waits self.old) }
+        ensures closes { closes self.new ≡ closes self.old };
+
     /// Names the number of workers whose leaving is waited for. It is called before any part is made.
     fn expect(&mut self, workers: u32)
         ensures expects { tells → (waited self.new ≡ expecting workers (waited self.old)) × (waits self.new ≡ waits self.old) }
@@ -44,6 +56,11 @@ pub trait Waiter: Sized + Drop {
     /// The worker, which is one of those that are waited for, has served so many connections and serves no more.
     fn leave(&mut self, connections: u32)
         ensures leaves { tells → (waited self.new ≡ after_leave connections (waited self.old)) × (waits self.new ≡ waits self.old) }
+        ensures closes { closes self.new ≡ closes self.old };
+
+    /// From now on a pause ends when this bell is rung, and does not begin where it was rung since the last pause ended.
+    fn listen(&mut self, bell: u32)
+        ensures listens { tells → (waited self.new ≡ listening bell (waited self.old)) × (waits self.new ≡ waits self.old) }
         ensures closes { closes self.new ≡ closes self.old };
 
     /// Waits for so many milliseconds, or for less.

@@ -1,3 +1,4 @@
 pub mod Log
 pub mod Kinds
 pub mod InForce
+pub mod Versions

@@ -3,6 +3,9 @@ ghost use Rattle.def_log.specs.declared.kind.DiskKind.TheVariants.{State};
 ghost use Rattle.def_log.specs.InForce.{First, Second};
 ghost use Rattle.def_log.specs.Kinds.{in_force};
 ghost use Rattle.def_log.specs.Log.{IsDamaged, IsLog};
+ghost use Rattle.def_log.specs.Versions.{newest_version};
+
+use crate::NEWEST_VERSION;
 
 /// The records of a log are determined by its bytes, and so is where they are damaged; and no log is damaged.
 pub fn a_log_has_its_records_alone()
@@ -17,4 +20,9 @@ pub fn a_log_has_its_records_alone()
 pub fn a_pair_has_one_disk_in_force()
     ensures second { (g : ℕ) → g < 2 ^ 64 → in_force (State g) (State ((g + 1) % 2 ^ 64)) ≡ Second }
     ensures first { (g : ℕ) → g < 2 ^ 64 → in_force (State ((g + 1) % 2 ^ 64)) (State g) ≡ First }
+{}
+
+/// The version that the code writes is the one of the definitions.
+pub fn new_journals_are_of_the_newest_version()
+    ensures { NEWEST_VERSION ≡ newest_version }
 {}

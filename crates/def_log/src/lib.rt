@@ -4,6 +4,11 @@
 
 mod kind;
 mod laws;
+mod versions;
 
 pub use kind::DiskKind;
-pub use laws::{a_log_has_its_records_alone, a_pair_has_one_disk_in_force};
+pub use laws::{
+    a_log_has_its_records_alone, a_pair_has_one_disk_in_force,
+    new_journals_are_of_the_newest_version,
+};
+pub use versions::{NEWEST_VERSION, is_known};

@@ -27,7 +27,8 @@ use Rattle.boss_model.specs.declared.point.Kind.{Kind}
 use Rattle.boss_model.specs.declared.point.Kind.TheVariants.{Analog, Binary, Multi}
 use Rattle.boss_model.specs.declared.spot.Spot.{Spot}
 use Rattle.boss_model.specs.Catalogue.{Catalogue, Point, actuators, default_of, driver_of}
-use Rattle.boss_model.specs.Limits.{most_told, newest_version, program_version}
+use Rattle.boss_model.specs.Limits.{most_told, program_version}
+use Rattle.def_log.specs.Versions.{newest_version}
 use Rattle.def_catalogue.specs.Canonical.{digest_of}
 use Rattle.def_wire.specs.Spots.{spot_text}
 

@@ -3,7 +3,6 @@ ghost use Rattle.boss_model.specs.Limits.{
   answer_room,
   bells,
   done_kept,
-  drive_pause,
   first_gate,
   last_moment,
   last_number,
@@ -28,21 +27,17 @@ ghost use Rattle.boss_model.specs.Limits.{
   most_told,
   most_workers,
   most_writes,
-  newest_version,
   notices_kept,
   record_room,
   retry_after,
-  tick_pause,
-  watch_idle,
-  watch_pause,
 };
 
 use boss_model::{
-    ANSWER_ROOM, BELLS, DONE_KEPT, DRIVE_PAUSE, FIRST_GATE, LAST_MOMENT, LAST_NUMBER, LAST_SESSION,
-    LEVELS, LOCK_LOOKS, LOG_LIMIT, LONGEST_FILE, LONGEST_HOLD, LONGEST_LEASE, LONGEST_LINE,
+    ANSWER_ROOM, BELLS, DONE_KEPT, FIRST_GATE, LAST_MOMENT, LAST_NUMBER, LAST_SESSION, LEVELS,
+    LOCK_LOOKS, LOG_LIMIT, LONGEST_FILE, LONGEST_HOLD, LONGEST_LEASE, LONGEST_LINE,
     LONGEST_MINIMUM, LONGEST_NAME, LONGEST_RECORD, MOST_COUNTERS, MOST_DRIVERS, MOST_HELD,
     MOST_LINES, MOST_POINTS, MOST_PROCESSES, MOST_STEPS, MOST_TOLD, MOST_WORKERS, MOST_WRITES,
-    NEWEST_VERSION, NOTICES_KEPT, RECORD_ROOM, RETRY_AFTER, TICK_PAUSE, WATCH_IDLE, WATCH_PAUSE,
+    NOTICES_KEPT, RECORD_ROOM, RETRY_AFTER,
 };
 
 /// The limits that the code has are those of the definitions.
@@ -55,8 +50,7 @@ pub fn limits_are_those_of_the_definitions()
     ensures numbers { (LAST_MOMENT ≡ last_moment) × (LAST_NUMBER ≡ last_number) × (LAST_SESSION ≡ last_session) }
     ensures lines { (LONGEST_LINE ≡ longest_line) × (MOST_LINES ≡ most_lines) × (MOST_HELD ≡ most_held) × (ANSWER_ROOM ≡ answer_room) }
     ensures devices { RETRY_AFTER ≡ retry_after }
-    ensures journal { (NEWEST_VERSION ≡ newest_version) × (FIRST_GATE ≡ first_gate) × (LONGEST_RECORD ≡ longest_record)
+    ensures journal { (FIRST_GATE ≡ first_gate) × (LONGEST_RECORD ≡ longest_record)
         × (RECORD_ROOM ≡ record_room) × (LOG_LIMIT ≡ log_limit) }
-    ensures workers { (TICK_PAUSE ≡ tick_pause) × (DRIVE_PAUSE ≡ drive_pause) × (WATCH_PAUSE ≡ watch_pause) × (WATCH_IDLE ≡ watch_idle)
-        × (MOST_WORKERS ≡ most_workers) × (LOCK_LOOKS ≡ lock_looks) × (BELLS ≡ bells) × (MOST_COUNTERS ≡ most_counters) }
+    ensures workers { (MOST_WORKERS ≡ most_workers) × (LOCK_LOOKS ≡ lock_looks) × (BELLS ≡ bells) × (MOST_COUNTERS ≡ most_counters) }
 {}
