@@ -1,14 +1,20 @@
 -- The state that an engine is in has what outlasts a stop, whether its points are open or not.
-use Rattle.std.proofs.Common.{◌≡◌, ℕ, suc, ◌+◌, ◌∙◌, Bool, true, false, not, ◌&&◌, Option, Some, None, is_some, List, [], ◌∷◌, length, map, refl, ap, sym, subst, arith}
-use Rattle.std.specs.Prelude.{unwrap_or}
+use Rattle.std.proofs.Common.{◌≡◌, ℕ, suc, ◌+◌, ◌==◌, ◌∙◌, Bool, true, false, not, ◌&&◌, Option, Some, None, is_some, List, [], ◌∷◌, length, map, refl, ap, sym, subst, arith}
+use Rattle.std.specs.Prelude.{find, unwrap_or}
 use Rattle.std.specs.Option.{option_map_or}
-use Rattle.std.specs.List.{range_with_len}
+use Rattle.std.specs.List.{list_any, range_with_len, AllByRecursion}
 use Rattle.boss_model.specs.declared.state.Actuator.{Actuator}
 use Rattle.boss_model.specs.Catalogue.{driver_of}
+use Rattle.boss_model.specs.Lists.{member}
 use Rattle.boss_model.specs.Sound.{IsSound, IsSoundPersistent}
 use Rattle.boss_model.specs.Settle.{opened}
 use Rattle.boss_model.specs.State.{Persistent}
+use Rattle.boss_model.specs.Target.{target}
 use Rattle.law_soundness.proofs.Opened.{opened-sound}
+use Rattle.law_time.proofs.Filters.{any-map}
+use Rattle.boss_marks.specs.Marks.{IsEarly}
+use Rattle.boss_marks.proofs.Early.{early-fresh}
+use Rattle.boss_marks.proofs.Least.{is_some-find}
 use Rattle.boss_engine.specs.declared.machine.Machine.{Machine}
 use Rattle.boss_engine.specs.Inside.{CanAct, HasPlaces, seen_state, state_of}
 use Rattle.boss_persistent.specs.Lasting.{persistent_of}
@@ -34,6 +40,16 @@ drivers-from driver place (x ∷ xs) each =
 
 pub all-drivers : (plant : List Actuator) → map (driver_of plant) (range_with_len 0 (length plant)) ≡ drivers_of plant
 all-drivers plant = drivers-from (driver_of plant) 0 plant (λ k. ap (driver_of plant) (let same : 0 + k ≡ k = omega arith in same))
+
+-- no failed write is tried again before a moment, whether the points are open or not
+pub seen-early : (plant : List Actuator) (m : Machine) (is_open : Bool) (next : ℕ) → AllByRecursion (IsEarly next) m.marks.proxies → AllByRecursion (IsEarly next) (seen_state plant m is_open).proxies
+seen-early plant m true next all = all
+seen-early plant m false next all = early-fresh next (target plant (persistent_of m.lasting)) (range_with_len 0 (length plant))
+
+-- where each point is wanted, each driver that has a point has a want
+pub all-wanted : (plant : List Actuator) (driver : ℕ) → list_any (λ actuator. actuator.driver == driver) plant ≡ is_some (find (λ point. driver_of plant point == driver) (range_with_len 0 (length plant)))
+all-wanted plant driver =
+    sym (is_some-find (driver_of plant) driver (range_with_len 0 (length plant)) ∙ ap (member driver) (all-drivers plant) ∙ any-map (λ other. other == driver) (λ actuator. actuator.driver) plant)
 
 -- ---- an event that is done again
 

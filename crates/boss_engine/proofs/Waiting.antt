@@ -1,5 +1,5 @@
 -- What the marks keep of the machine's state: its commands to devices and reports of them, told of the marks.
-use Rattle.std.proofs.Common.{◌≡◌, ℕ, zero, suc, ◌==◌, List, [], ◌∷◌, length, map, Option, Some, None, refl, sym, ◌∙◌, ap, arith}
+use Rattle.std.proofs.Common.{◌≡◌, ℕ, zero, suc, ◌==◌, List, [], ◌∷◌, length, map, Option, Some, None, is_some, refl, sym, ◌∙◌, ap, arith}
 use Rattle.std.specs.Prelude.{find, slice_index}
 use Rattle.std.specs.Option.{option_map, option_map_or}
 use Rattle.std.proofs.lemmas.Grind.{common_steps}
@@ -50,6 +50,9 @@ module _ (plant : List Actuator) (d : Persistent) (attached : List Attachment) (
       let first : first_want driver marks ≡ find (λ point. driver_of plant point == driver) marks.wants =
       ap (λ drivers. first_of drivers driver marks.wants) (sym served) ∙ first-want plant driver marks.wants in
       rw (is_want, is_after, first) (next_found (find (λ point. driver_of plant point == driver) marks.wants))
+
+  pub has-want-is : drivers_of plant ≡ marks.drivers → (driver : ℕ) → is_some (first_want driver marks) ≡ is_some (find (λ point. driver_of plant point == driver) marks.wants)
+  has-want-is served driver = ap is_some (ap (λ drivers. first_of drivers driver marks.wants) (sym served) ∙ first-want plant driver marks.wants)
 
   pub wanting-is : drivers_of plant ≡ marks.drivers → least_wanting marks.drivers marks.wants ≡ wanting plant (state_of d attached marks)
   wanting-is served =

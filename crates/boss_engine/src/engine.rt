@@ -1,9 +1,10 @@
-ghost use Rattle.std.specs.Prelude.{true, false, Ok, ◌≡◌, ◌+◌, ◌*◌, ◌<◌, ◌≤◌, ◌&&◌, not, length, map, min, is_some, IfErr, IfOk, OnOk, OnErr};
+ghost use Rattle.std.specs.Prelude.{true, false, Ok, ◌≡◌, ℕ, ◌+◌, ◌*◌, ◌<◌, ◌≤◌, ◌==◌, ◌&&◌, not, [], length, map, find, min, is_some, IfErr, IfOk, OnOk, OnErr};
 ghost use Rattle.std.specs.Option.{option_map_or};
+ghost use Rattle.std.specs.List.{list_any, AllByRecursion};
 ghost use Rattle.boss_model.specs.Acts.{replay};
 ghost use Rattle.boss_model.specs.declared.answer.Answer.TheVariants as answer;
 ghost use Rattle.boss_model.specs.declared.command.Command.TheVariants as command;
-ghost use Rattle.boss_model.specs.Catalogue.{actuators};
+ghost use Rattle.boss_model.specs.Catalogue.{actuators, driver_of};
 ghost use Rattle.boss_model.specs.Devices.{wanting};
 ghost use Rattle.boss_model.specs.Effects.{step_effect};
 ghost use Rattle.boss_model.specs.Limits.{done_kept, last_moment, most_points, most_processes};
@@ -11,8 +12,9 @@ ghost use Rattle.boss_model.specs.Machine.{step};
 ghost use Rattle.boss_model.specs.Order.{least};
 ghost use Rattle.boss_model.specs.Processes.{process_named};
 ghost use Rattle.boss_model.specs.Seen.{seen};
-ghost use Rattle.boss_model.specs.Settle.{first_state, opened};
+ghost use Rattle.boss_model.specs.Settle.{first_state, is_failed, opened};
 ghost use Rattle.boss_model.specs.Sound.{IsAllowed, IsSound, IsSoundPersistent};
+ghost use Rattle.boss_model.specs.Time.{due};
 ghost use Rattle.boss_points.specs.Seen.{seen as seen_point};
 ghost use Rattle.def_history.specs.declared.outcome.Outcome.TheVariants as outcome;
 ghost use Rattle.law_spelling.specs.Ranges.{IsSpelled};
@@ -141,6 +143,34 @@ impl Engine {
         } else {
             first_driver(&self.plant)
         }
+    }
+
+    /// Whether the driver has a want.
+    pub fn has_want(&self, driver: DriverId) -> bool
+        ensures { result ≡ is_some (find (λ point. driver_of self.now.plant point == driver) self.now.state.wants) }
+    {
+        if self.is_open {
+            self.machine.marks.has_want(driver)
+        } else {
+            serves(&self.plant, driver)
+        }
+    }
+
+    /// A moment before which nothing changes by time alone, in milliseconds: nothing is due, and no failed write is tried again.
+    pub fn first_due(&self) -> u64
+        ensures due { (n : ℕ) → n < result → due n self.now.state.persistent ≡ [] }
+        ensures retries { AllByRecursion (λ proxy. is_failed proxy.mark ≡ true → result ≤ proxy.retry_at) self.now.state.proxies }
+    {
+        let due = self.machine.lasting.first_due();
+        due.min(self.machine.marks.next_retry())
+    }
+
+    /// The name of a process that was told something since it was given out so. Each is given out once, until it is told more. None
+    /// where there is none. It is no part of what a contract sees.
+    pub fn next_noticed(&mut self) -> Option<Name>
+        ensures { self.new ≡ self.old }
+    {
+        self.machine.lasting.processes.next_noticed()
     }
 
     /// The moment of the last change, in milliseconds.
@@ -544,6 +574,13 @@ fn stays_open(is_open: bool, effective: bool) -> bool
     ensures { result ≡ (is_open && not effective) }
 {
     is_open && !effective
+}
+
+/// Whether one of the points is the driver's.
+fn serves(plant: &[Actuator], driver: DriverId) -> bool
+    ensures { result ≡ list_any (λ actuator. actuator.driver == driver) plant.now }
+{
+    plant.iter().any(|actuator| actuator.driver == driver)
 }
 
 /// The least driver of the points.

@@ -22,7 +22,7 @@ ghost use Rattle.boss_holdings.specs.Putting.{IsUnderWay};
 use crate::counting::count_owned;
 use crate::ending::{end_owned, end_slots};
 use crate::listing::{all_leases, all_pending};
-use crate::passing::pass_to;
+use crate::passing::{first_moment, pass_to};
 use crate::putting::put_reversions;
 use crate::taking::{clear_slots, put_leases};
 use boss_booking::Telling;
@@ -176,6 +176,16 @@ impl Holdings {
     {
         told.clear();
         self.moment = pass_to(&mut self.tables, &mut self.touched, self.moment, n, told);
+    }
+
+    /// A moment before which nothing is due, in milliseconds: no lease ends, and no step of a reversion.
+    pub fn first_due(&self) -> u64
+        requires leases { AllByRecursion IsEndable self.now.leases }
+        requires pending { AllByRecursion IsPlayable self.now.pending }
+        requires started { AllByRecursion (λ reversion. reversion.start ≤ self.now.now) self.now.pending }
+        ensures { (n : ℕ) → self.now.now ≤ n → n < result → fold (last_of_pending n) (fold (last_of_lease n) self.now.now self.now.leases) self.now.pending ≡ self.now.now }
+    {
+        first_moment(&self.tables.timers)
     }
 
     /// New leases of the transaction `by` take their slots at `n`, in milliseconds, up to which nothing more is due. What stood

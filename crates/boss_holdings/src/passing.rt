@@ -66,6 +66,16 @@ pub fn start_reversion(tables: &mut Tables, reversion: Pending, n: u64)
     }
 }
 
+/// The first moment at which a timer goes off; 2^64 - 1 where none is set.
+pub fn first_moment(timers: &Timers) -> u64
+    ensures { (n slot : ℕ) → n < result → is_due n (slice_index_or timers.now slot None) ≡ false }
+{
+    match timers.first() {
+        Some((_, moment)) => moment,
+        None => u64::MAX,
+    }
+}
+
 /// The first timer that goes off by `n`.
 fn first_due(timers: &Timers, n: u64) -> Option<u32>
     ensures some { IfSome result (λ slot. IsBy n (slice_index_or timers.now slot None)) }

@@ -1,4 +1,4 @@
-ghost use Rattle.std.specs.Prelude.{◌≡◌, ◌<◌, ◌≤◌, ◌^◌, length, IfOk};
+ghost use Rattle.std.specs.Prelude.{◌≡◌, ◌<◌, ◌≤◌, ◌^◌, length, is_some, IfOk};
 ghost use Rattle.std.specs.List.{AllByRecursion};
 ghost use Rattle.std.specs.Option.{option_map};
 ghost use Rattle.boss_model.specs.Devices.{is_settled, proxy_of};
@@ -201,6 +201,20 @@ impl Marks {
         ensures { result ≡ (proxy_of self.now.proxies point).mark }
     {
         self.proxies[point.0 as usize].mark
+    }
+
+    /// Whether the driver has a want.
+    pub fn has_want(&self, driver: DriverId) -> bool
+        ensures { result ≡ is_some (first_want driver self.now) }
+    {
+        self.wants.first(driver).is_some()
+    }
+
+    /// A moment before which no failed write is to be tried again, in milliseconds.
+    pub fn next_retry(&self) -> u64
+        ensures { AllByRecursion (IsEarly result) self.now.proxies }
+    {
+        self.next_retry
     }
 
     /// The least driver that has a want.

@@ -1,8 +1,8 @@
 -- Source: own.
-use Rattle.std.specs.Prelude.{ℕ, ◌+◌, ◌==◌, min, max, if◌then◌else◌, List, [], ◌∷◌, ◌++◌, slice_get, unwrap_or}
+use Rattle.std.specs.Prelude.{◌≡◌, ℕ, ◌≤◌, ◌+◌, ◌==◌, min, max, if◌then◌else◌, List, [], ◌∷◌, ◌++◌, slice_get, unwrap_or}
 use Rattle.std.specs.Option.{option_map_or}
 use Rattle.circular_buffer.specs.Buffer.{keep_last}
-use Rattle.boss_model.specs.Limits.{last_number, notices_kept}
+use Rattle.boss_model.specs.Limits.{last_number, most_processes, notices_kept}
 use Rattle.boss_model.specs.Queries.{numbered_from}
 use Rattle.boss_model.specs.declared.notice.Notice.{Notice}
 use Rattle.boss_model.specs.declared.notice.What.{What}
@@ -39,3 +39,10 @@ start ring number = min (max number (first_kept ring)) (ring.count + 1)
 -- what is answered to a question for at most `most` notices from a number on
 abbrev pub notices_from : Ring → ℕ → ℕ → List Notice
 notices_from ring number most = numbered_from (start ring number) most ring.kept
+
+-- so many rings are kept, with a flag for each, in lists that have room for those of all processes
+pub record AreRings (rings flags ring_room flag_room : ℕ) : Type 0 where
+  pub flagged : flags ≡ rings
+  pub few : rings ≤ most_processes
+  pub rings_fit : most_processes ≤ ring_room
+  pub flags_fit : most_processes ≤ flag_room

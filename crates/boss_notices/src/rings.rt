@@ -1,4 +1,4 @@
-ghost use Rattle.std.specs.Prelude.{◌≡◌, ◌+◌, ◌-◌, ◌<◌, ◌≤◌, [], ◌∷◌, ◌++◌, length, slice_set, vec_capacity, IfOk, OnOk, OnErr};
+ghost use Rattle.std.specs.Prelude.{◌≡◌, ◌+◌, ◌-◌, ◌<◌, ◌≤◌, [], ◌∷◌, ◌++◌, length, slice_set, vec_capacity, IfOk, IfSome, OnOk, OnErr};
 ghost use Rattle.boss_model.specs.Limits.{most_processes, notices_kept, last_number};
 ghost use Rattle.boss_model.specs.Sound.{NumberedFrom};
 ghost use Rattle.boss_notices.specs.Rings.{ring_of, no_notices, posted, first_kept, start, notices_from};
@@ -12,18 +12,21 @@ use std::marker::Model;
 #[derive(Drop)]
 pub struct Rings {
     rings: Vec<Ring>,
+    /// Whether each process was told something since it was given out as one that was.
+    noticed: Vec<bool>,
+    /// Where it is not, none was.
+    any_noticed: bool,
 }
 
 impl Model for Rings {
-    ghost use Rattle.std.specs.Prelude.{List, ◌≤◌, vec_len, vec_capacity};
-    ghost use Rattle.boss_model.specs.Limits.{most_processes};
-    ghost use Rattle.boss_notices.specs.Rings.{Ring as Kept};
+    ghost use Rattle.std.specs.Prelude.{List, ◌≤◌, length, vec_capacity};
+    ghost use Rattle.boss_notices.specs.Rings.{Ring as Kept, AreRings};
 
     ghost Value = { List Kept };
 
     ghost view = { λ r. r.rings.items };
 
-    ghost invariant = { λ r. most_processes ≤ vec_capacity r.rings };
+    ghost invariant = { λ r. AreRings (length r.rings.items) (length r.noticed.items) (vec_capacity r.rings) (vec_capacity r.noticed) };
 }
 
 impl Rings {
@@ -33,6 +36,8 @@ impl Rings {
     {
         Ok(Rings {
             rings: Vec::with_capacity(alloc, MOST_PROCESSES)?,
+            noticed: Vec::with_capacity(alloc, MOST_PROCESSES)?,
+            any_noticed: false,
         })
     }
 
@@ -51,6 +56,7 @@ impl Rings {
         ensures { self.new ≡ self.old ++ ring ∷ [] }
     {
         self.rings.push_reserved(ring);
+        self.noticed.push_reserved(false);
     }
 
     /// A process more, which has been told nothing. There may be 256.
@@ -104,6 +110,30 @@ impl Rings {
         ensures { self.new ≡ slice_set self.old owner (posted at txn what (ring_of self.old owner)) }
     {
         self.rings[owner.0 as usize].post(at, txn, what);
+        self.noticed[owner.0 as usize] = true;
+        self.any_noticed = true;
+    }
+
+    /// A process that was told something since it was given out so: each is given out once, until one of its own is told again. None
+    /// where there is none. A contract sees nothing of it.
+    pub fn next_noticed(&mut self) -> Option<ProcId>
+        ensures same { self.new ≡ self.old }
+        ensures known { IfSome result (λ process. process < length self.old) }
+    {
+        if !self.any_noticed {
+            return None;
+        }
+        let found = self.noticed.iter().position(|noticed| *noticed);
+        match found {
+            Some(place) => {
+                self.noticed[place] = false;
+                Some(ProcId(place as u16))
+            }
+            None => {
+                self.any_noticed = false;
+                None
+            }
+        }
     }
 
     /// The notices of this process from this number on, at most `max` of them, are left in `into`, which is emptied

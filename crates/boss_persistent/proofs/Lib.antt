@@ -8,6 +8,7 @@ pub mod Firsts
 pub mod Flagged
 pub mod Granted
 pub mod Holders
+pub mod Idle
 pub mod Lengthening
 pub mod MeantLeases
 pub mod Moved

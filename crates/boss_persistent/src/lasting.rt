@@ -12,7 +12,7 @@ ghost use Rattle.boss_model.specs.Sound.{is_superseded};
 ghost use Rattle.boss_model.specs.State.{first_persistent};
 ghost use Rattle.boss_model.specs.Submit.{submitted};
 ghost use Rattle.boss_model.specs.Target.{in_force, playing};
-ghost use Rattle.boss_model.specs.Time.{live, tick_to, under_way};
+ghost use Rattle.boss_model.specs.Time.{due, live, tick_to, under_way};
 ghost use Rattle.boss_booking.specs.Gathered.{end_tellings, plain};
 ghost use Rattle.boss_booking.specs.Passed.{IsFirstTold, IsPassed};
 ghost use Rattle.law_effects.specs.Early.{slot_lease};
@@ -122,6 +122,14 @@ impl Lasting {
         prove!(most <= told.capacity());
         self.holdings.tick(n, told);
         book_all(&mut self.stages, &mut self.processes, told);
+    }
+
+    /// A moment before which nothing is due, in milliseconds.
+    pub fn first_due(&self) -> u64
+        requires { IsSoundOfSome self.now }
+        ensures { (n : ℕ) → n < result → due n (persistent_of self.now) ≡ [] }
+    {
+        self.holdings.first_due()
     }
 
     /// The leases concerned end at moment `n`, and start their reversions. `told` has what is told beside that. It takes no

@@ -206,6 +206,15 @@ impl Processes {
         self.rings.post(happening.owner, happening.at, happening.txn, happening.what);
     }
 
+    /// The name of a process that was told something since it was given out so. Each is given out once, until it is told more. None
+    /// where there is none. A contract sees nothing of it.
+    pub fn next_noticed(&mut self) -> Option<Name>
+        ensures { self.new ≡ self.old }
+    {
+        let process = self.rings.next_noticed()?;
+        Some(self.name(process))
+    }
+
     /// The notices of a process from a number on, at most `max` of them, are left in `into`. The answer is the least number
     /// that is kept, or the next one where none is, and the number to ask for next.
     pub fn notices(

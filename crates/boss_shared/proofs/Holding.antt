@@ -34,6 +34,12 @@ none_tried [] whole = tt
 none_tried (Did session command moment answer ∷ made) whole = none_tried made whole
 none_tried (Broke session commands others ∷ made) whole = absurd cc
 
+-- what was tried behind a history without a mark
+pub tried_behind : (tried : ℕ) (log made : List Entry) → is_broken log ≡ false → AreTried tried made → AreTried tried (log ++ made)
+tried_behind tried [] made whole are = are
+tried_behind tried (Did session command moment answer ∷ log) made whole are = tried_behind tried log made whole are
+tried_behind tried (Broke session commands others ∷ log) made whole are = absurd cc
+
 module _ {V : Type 0} (plant : V → List Actuator) (state : V → State) (stopped : V → Bool) (faults : V → ℕ)
     (leaves : V → Persistent → Persistent → Type 0) (passes : V → V → Persistent → Persistent → Type 0) (keeps : V → List Event → Type 0) where
   -- a value that stands for nothing yet
@@ -48,7 +54,7 @@ module _ {V : Type 0} (plant : V → List Actuator) (state : V → State) (stopp
     state_is = λ _. refl;
     rose = λ on. let clash : true ≡ false = sym on ∙ off in absurd cc;
     stood = λ _. refl;
-    images = (0, images);
+    images = (0, tt, images);
     through = walks_nowhere (plant v) passes (state v) v;
     gained = λ _ before has. subst (keeps v) (sym (append-nil before)) has;
   }
@@ -68,7 +74,7 @@ module _ {V : Type 0} (plant : V → List Actuator) (state : V → State) (stopp
         state_is = λ off. absurd (never off);
         rose = λ _. subst (λ n. Rose (faults start) n) (sym (k.stood (on ∙ sym s))) (h.rose s);
         stood = λ off. absurd (never off);
-        images = (h.images.0, k.images_stay s _ _ h.images.1);
+        images = (h.images.0, h.images.1, k.images_stay s _ _ h.images.2);
         through = subst (λ value. Walks (plant start) passes (state start) start log value) (sym (k.still s)) h.through;
         gained = λ off. absurd (never off);
       })
@@ -88,7 +94,7 @@ module _ {V : Type 0} (plant : V → List Actuator) (state : V → State) (stopp
       ∙ ap (λ es. run_tried (plant start) es (state start)) (sym (shortened_append n log made whole)) in
       let here : leaves old (state old).persistent (state old).persistent =
       subst (λ (q : State × State). leaves old q.0.persistent q.1.persistent)
-      (λ i. (sym d i, (ap (λ es. run_tried (plant start) es (state start)) (whole_shortened h.images.0 log whole) ∙ tried_whole (plant start) log (state start) whole ∙ sym d) i)) h.images.1 in
+      (λ i. (sym d i, (ap (λ es. run_tried (plant start) es (state start)) (whole_shortened h.images.0 log whole) ∙ tried_whole (plant start) log (state start) whole ∙ sym d) i)) h.images.2 in
       let left = k.images s here (h.known.0 ++ events (plant start) log (state start)) (h.gained s h.known.0 h.known.1) in
       record {
         sound = h.sound;
@@ -99,7 +105,11 @@ module _ {V : Type 0} (plant : V → List Actuator) (state : V → State) (stopp
         state_is = λ off. k.state_is off ∙ ran;
         rose = λ on. subst (λ n. Rose n (faults new)) (h.stood s) (k.rose s on);
         stood = λ off. k.stood (off ∙ sym s) ∙ h.stood s;
-        images = (left.0, subst (λ (q : State × State). leaves new q.0.persistent q.1.persistent) (λ i. (ran i, tried left.0 i)) left.1);
+        images = (
+          left.0,
+          tried_behind left.0 log made whole left.1,
+          subst (λ (q : State × State). leaves new q.0.persistent q.1.persistent) (λ i. (ran i, tried left.0 i)) left.2,
+        );
         through = walks_join (plant start) passes (state start) start old new log made h.through
             (subst (λ (q : List Actuator × State). Walks q.0 passes q.1 old made new) (λ i. (p i, d i))
             (k.through s (h.known.0 ++ events (plant start) log (state start)) (h.gained s h.known.0 h.known.1)));

@@ -8,7 +8,7 @@ use Rattle.boss_model.specs.State.{Persistent, State}
 use Rattle.boss_outside.specs.Counts.{Rose}
 use Rattle.def_history.specs.declared.entry.Entry.{Entry}
 use Rattle.def_history.specs.History.{events, is_broken, IsLegal, run, run_tried}
-use Rattle.boss_shared.specs.Walking.{shortened, Walks}
+use Rattle.boss_shared.specs.Walking.{AreTried, shortened, Walks}
 
 -- What the value tells: its plant, its state, whether its disk has failed, how often, between which two parts that
 -- outlast a stop each image of the disk lies, and lay from one moment to another, and which events the disk has
@@ -29,7 +29,7 @@ module _ {V : Type 0} (plant : V → List Actuator) (state : V → State) (stopp
     -- what a crash would leave has all of the call's changes, or where the disk failed in it those of all commands that were tried,
     -- or none
     pub images : stopped old ≡ false → leaves old (state old).persistent (state old).persistent → (before : List Event) → keeps old before →
-        (tried : ℕ) × leaves new (run (plant old) made (state old)).persistent (run_tried (plant old) (shortened tried made) (state old)).persistent
+        (tried : ℕ) × AreTried tried made × leaves new (run (plant old) made (state old)).persistent (run_tried (plant old) (shortened tried made) (state old)).persistent
     pub images_stay : stopped old ≡ true → (first second : Persistent) → leaves old first second → leaves new first second
     -- and while it ran each image had all of that, or none
     pub through : stopped old ≡ false → (before : List Event) → keeps old before → Walks (plant old) passes (state old) old made new
@@ -46,7 +46,8 @@ module _ {V : Type 0} (plant : V → List Actuator) (state : V → State) (stopp
     pub state_is : stopped now ≡ false → state now ≡ run (plant start) log (state start)
     pub rose : stopped now ≡ true → Rose (faults start) (faults now)
     pub stood : stopped now ≡ false → faults now ≡ faults start
-    pub images : (tried : ℕ) × leaves now (run (plant start) log (state start)).persistent (run_tried (plant start) (shortened tried log) (state start)).persistent
+    pub images : (tried : ℕ) × AreTried tried log
+        × leaves now (run (plant start) log (state start)).persistent (run_tried (plant start) (shortened tried log) (state start)).persistent
     -- and while one of its steps ran each image opened to what those before it had done, or to that with all of the step
     pub through : Walks (plant start) passes (state start) start log now
     pub gained : stopped now ≡ false → (before : List Event) → keeps start before → keeps now (before ++ events (plant start) log (state start))

@@ -1,9 +1,12 @@
-ghost use Rattle.std.specs.Prelude.{◌≡◌, ◌≤◌, ℕ, Bool, List, [], length, None, vec_capacity};
+ghost use Rattle.std.specs.Prelude.{◌≡◌, ◌<◌, ◌≤◌, ◌==◌, ℕ, Bool, true, List, [], length, find, is_some, None, vec_capacity};
 ghost use Rattle.std.specs.List.{AllByRecursion};
 ghost use Rattle.boss_model.specs.declared.event.Event.{Event};
 ghost use Rattle.boss_model.specs.declared.state.Actuator.{Actuator};
+ghost use Rattle.boss_model.specs.Catalogue.{driver_of};
 ghost use Rattle.boss_model.specs.Devices.{wanting};
+ghost use Rattle.boss_model.specs.Settle.{is_failed};
 ghost use Rattle.boss_model.specs.State.{Persistent, State};
+ghost use Rattle.boss_model.specs.Time.{due};
 ghost use Rattle.def_history.specs.History.{MayCall};
 ghost use Rattle.def_history.specs.Made.{made_by, made_by_all};
 ghost use Rattle.boss_shared.specs.Calls.{is_stopped, is_stopped_rest, MayWant, NoneDone, RestFits};
@@ -12,7 +15,7 @@ ghost use Rattle.boss_shared.specs.Keeping.{Keeps};
 ghost use Rattle.boss_shared.specs.Together.{commands_in, made_together, AreSameAsked, AreReplied, MayAsk};
 
 use crate::Asked;
-use boss_model::{Answer, Command, DriverId, Items, SessionId};
+use boss_model::{Answer, Command, DriverId, Items, Name, SessionId};
 use def_history::{Outcome, Outcomes};
 
 /// A machine that keeps what it does, as on a disk. Once its disk has failed it does no more.
@@ -47,6 +50,20 @@ pub trait Keeper {
     /// The least driver that has a want.
     fn wanting(&self) -> Option<DriverId>
         ensures { result ≡ wanting (plant self.now) (state self.now) };
+
+    /// Whether the driver has a want.
+    fn has_want(&self, driver: DriverId) -> bool
+        ensures { result ≡ is_some (find (λ point. driver_of (plant self.now) point == driver) (state self.now).wants) };
+
+    /// A moment before which nothing changes by time alone, in milliseconds: nothing is due, and no failed write is tried again.
+    fn first_due(&self) -> u64
+        ensures due { (n : ℕ) → n < result → due n (state self.now).persistent ≡ [] }
+        ensures retries { AllByRecursion (λ proxy. is_failed proxy.mark ≡ true → result ≤ proxy.retry_at) (state self.now).proxies };
+
+    /// The name of a process that was told something since it was given out so. Each is given out once, until it is told more. None
+    /// where there is none. It is no part of what is seen of the keeper.
+    fn next_noticed(&mut self) -> Option<Name>
+        ensures { self.new ≡ self.old };
 
     /// Whether the disk has failed in an earlier call.
     fn has_stopped(&self) -> bool
