@@ -1,55 +1,126 @@
-ghost use Rattle.std.specs.Prelude.{◌≡◌, [], IfOk};
+ghost use Rattle.std.specs.Prelude.{◌≡◌, ◌≤◌, [], IfOk};
 ghost use Rattle.boss_outside_server.specs.Waits.{new_waited};
 
+use crate::RealClock;
+use crate::real_ringer::RealRinger;
+use crate::shared::Shared;
+use boss_bells::Bells;
 use boss_model::NoMemory;
-use boss_outside_server::{Waiter, Woke};
+use boss_outside::{BELLS, TIME_BELL};
+use boss_outside_server::{Clock, Waiter, Woke};
 use std::alloc::Global;
-use std::sync::Arc;
-use std::sync::atomic::{AtomicU64, Ordering};
+use std::io::Eprint;
+use std::sync::atomic::Ordering;
+use std::sync::{Arc, Wait};
 use std::time::Duration;
 use std::{thread, time};
 
-/// How many workers are waited for, and how many of them have left.
-#[derive(Drop)]
-struct Workers {
-    expected: AtomicU64,
-    left: AtomicU64,
-}
+/// How long one sleep is at most, in milliseconds: a worker that sleeps longer looks in between whether it is to end.
+const LONGEST_SLEEP: u64 = 1_000;
 
-impl Workers {
-    /// Whether as many have left as were expected.
-    fn are_gone(&self) -> bool {
-        self.left.load(Ordering::SeqCst) >= self.expected.load(Ordering::SeqCst)
-    }
-}
+/// How long a sleep is at least behind the alarm's moment, in milliseconds, so that a clock that is drawn back costs little.
+const LEAST_SLEEP: u64 = 10;
 
-/// A waiter that sleeps. All its parts say Close once as many workers have left, by whichever part, as one of them was told
-/// to expect. `R` is what sleeps.
+/// A waiter that sleeps until its time is over, or its bell is rung. One that listens at the bell of time sleeps until the alarm at
+/// most. All its parts say Close once as many workers have left, by whichever part, as one of them was told to expect: within a
+/// second. `R` is what sleeps, and reads the clock that the alarm is of.
 #[derive(Drop)]
-pub struct RealWaiter<R> {
+pub struct RealWaiter<R: Wait> {
     rt: R,
-    workers: Arc<Workers, Global>,
+    clock: RealClock<R>,
+    shared: Arc<Shared, Global>,
+    /// What rings, until it is given out.
+    ringer: Option<RealRinger>,
+    bell: Option<u32>,
+    /// How often the bell had been rung when the last pause ended.
+    heard: u64,
     closes: u64,
 }
 
-impl<R: time::Clock + Copy> RealWaiter<R> {
-    /// A waiter that expects no worker yet, and so says Close.
-    pub fn new(alloc: Global, rt: R) -> Result<RealWaiter<R>, NoMemory>
+impl<R: time::Clock + Eprint + Wait + Copy> RealWaiter<R> {
+    /// A waiter that expects no worker yet, and so says Close. The alarm's moments are this clock's.
+    pub fn new(alloc: Global, rt: R, clock: &mut RealClock<R>) -> Result<RealWaiter<R>, NoMemory>
         ensures { IfOk result (λ waiter. ⟦<RealWaiter<R> as Waiter>⟧.closes waiter ≡ 0) }
     {
-        let workers = Workers {
-            expected: AtomicU64::new(0),
-            left: AtomicU64::new(0),
+        let (bells, right) = Bells::new(alloc, BELLS as usize)?;
+        let shared = Arc::new(alloc, Shared::new(bells))?;
+        let ringer = RealRinger {
+            shared: Arc::try_clone(&shared)?,
+            right,
         };
         Ok(RealWaiter {
             rt,
-            workers: Arc::new(alloc, workers)?,
+            clock: clock.split(alloc)?,
+            shared,
+            ringer: Some(ringer),
+            bell: None,
+            heard: 0,
             closes: 0,
         })
     }
+
+    /// How long the next sleep may be, of so many milliseconds, 1 at least.
+    fn sleep_of(&mut self, left: u64) -> u64
+        requires { 1 ≤ left }
+        ensures least { 1 ≤ result }
+        ensures same { self.new.closes ≡ self.old.closes }
+    {
+        let most = left.min(LONGEST_SLEEP);
+        if self.bell != Some(TIME_BELL) {
+            return most;
+        }
+        let alarm = self.shared.alarm.load(Ordering::SeqCst);
+        match self.clock.now() {
+            Ok(now) if now < alarm => most.min(alarm - now),
+            Ok(_) => most.min(LEAST_SLEEP),
+            Err(_) => most,
+        }
+    }
+
+    /// Sleeps for so many milliseconds, or until the bell is rung. Says whether it was, since the last pause ended.
+    fn is_rung_within(&mut self, milliseconds: u64) -> bool
+        ensures { self.new.closes ≡ self.old.closes }
+    {
+        let most = Duration::from_millis(milliseconds);
+        if let Some(bell) = self.bell {
+            let bell = bell as usize;
+            if bell < self.shared.bells.len() {
+                let mut ear = self.shared.bells.ear();
+                let shown = self
+                    .shared
+                    .bells
+                    .wait(&self.rt, &mut ear, bell, self.heard, most);
+                let rung = shown != self.heard;
+                self.heard = shown;
+                return rung;
+            }
+        }
+        thread::sleep(&self.rt, most);
+        false
+    }
+
+    /// Sleeps for so many milliseconds, or until the bell is rung or the alarm's moment is there, or the workers are gone.
+    fn rest(&mut self, milliseconds: u64)
+        ensures { self.new.closes ≡ self.old.closes }
+    {
+        let mut left = milliseconds;
+        while 0 < left && !self.shared.are_gone() {
+            let sleep = self.sleep_of(left);
+            if self.is_rung_within(sleep) {
+                return;
+            }
+            let is_alarmed = sleep < left && sleep < LONGEST_SLEEP;
+            if is_alarmed {
+                return;
+            }
+            left = left.saturating_sub(sleep);
+        }
+    }
 }
 
-impl<R: time::Clock + Copy> Waiter for RealWaiter<R> {
+impl<R: time::Clock + Eprint + Wait + Copy> Waiter for RealWaiter<R> {
+    type Bells = RealRinger;
+
     ghost tells = { ⊥ };
 
     ghost waited = { λ waiter. new_waited 0 };
@@ -58,30 +129,45 @@ impl<R: time::Clock + Copy> Waiter for RealWaiter<R> {
 
     ghost waits = { λ waiter. [] };
 
-    fn split(&mut self, _alloc: Global) -> Result<Self, NoMemory> {
+    fn split(&mut self, alloc: Global) -> Result<Self, NoMemory> {
         Ok(RealWaiter {
             rt: self.rt,
-            workers: Arc::try_clone(&self.workers)?,
+            clock: self.clock.split(alloc)?,
+            shared: Arc::try_clone(&self.shared)?,
+            ringer: None,
+            bell: None,
+            heard: 0,
             closes: 0,
         })
     }
 
+    /// It is given out once: there is one that rings.
+    fn ringer(&mut self, _alloc: Global) -> Result<RealRinger, NoMemory> {
+        self.ringer.take().ok_or(NoMemory)
+    }
+
     fn expect(&mut self, workers: u32) {
-        self.workers
+        self.shared
             .expected
             .store(u64::from(workers), Ordering::SeqCst);
     }
 
     fn leave(&mut self, _connections: u32) {
-        self.workers.left.fetch_add(1, Ordering::SeqCst);
+        self.shared.left.fetch_add(1, Ordering::SeqCst);
     }
 
-    /// Sleeps for so long, unless the workers are gone already.
-    fn pause(&mut self, milliseconds: u64) -> Woke {
-        if !self.workers.are_gone() {
-            thread::sleep(&self.rt, Duration::from_millis(milliseconds));
+    fn listen(&mut self, bell: u32) {
+        let place = bell as usize;
+        if place < self.shared.bells.len() {
+            let mut ear = self.shared.bells.ear();
+            self.heard = self.shared.bells.hear(&mut ear, place);
         }
-        if self.workers.are_gone() {
+        self.bell = Some(bell);
+    }
+
+    fn pause(&mut self, milliseconds: u64) -> Woke {
+        self.rest(milliseconds);
+        if self.shared.are_gone() {
             self.closes = self.closes.saturating_add(1);
             return Woke::Close;
         }

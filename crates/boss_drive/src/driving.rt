@@ -1,5 +1,5 @@
 ghost use Rattle.std.specs.Prelude.{◌≡◌};
-ghost use Rattle.boss_model.specs.Limits.{drive_pause};
+ghost use Rattle.boss_outside_server.specs.Pauses.{drive_pause};
 ghost use Rattle.boss_lock.specs.Places.{entries_at};
 ghost use Rattle.def_lanes.specs.Waits.{PausedFor};
 ghost use Rattle.boss_expiry.specs.Ends.{ClockCause, EndCause};
@@ -7,14 +7,14 @@ ghost use Rattle.boss_drive.specs.Driving.{Driven};
 
 use crate::turn::turn;
 use boss_expiry::WorkEnd;
-use boss_model::{DRIVE_PAUSE, DriverId};
+use boss_model::DriverId;
 use boss_outside::Actuators;
-use boss_outside_server::{Clock, Waiter, Woke};
+use boss_outside_server::{Clock, DRIVE_PAUSE, Waiter, Woke};
 use boss_shared::Desk;
 
 /// Takes so many turns, or fewer where the clock or the disk fails or a pause says that the worker is to end. In each turn the
 /// clock is read and the driver's next want asked for; where there is one its device is written, the clock is read again and
-/// the outcome reported, else there is a pause of 20 ms. It takes no memory.
+/// the outcome reported, else there is a pause of `DRIVE_PAUSE` at most. It takes no memory.
 pub fn drive<G: Desk, A: Actuators, C: Clock, W: Waiter>(
     desk: &G,
     pass: &mut G::Pass,

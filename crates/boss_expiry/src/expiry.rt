@@ -1,16 +1,16 @@
 ghost use Rattle.std.specs.Prelude.{◌≡◌};
-ghost use Rattle.boss_model.specs.Limits.{tick_pause};
+ghost use Rattle.boss_outside_server.specs.Pauses.{tick_pause};
 ghost use Rattle.boss_lock.specs.Places.{entries_at};
 ghost use Rattle.def_lanes.specs.Waits.{PausedFor};
 ghost use Rattle.boss_expiry.specs.Ticking.{Expired};
 ghost use Rattle.boss_expiry.specs.Ends.{ClockCause, EndCause};
 
 use crate::{WorkEnd, work};
-use boss_model::{Command, TICK_PAUSE};
-use boss_outside_server::{Clock, Waiter, Woke};
+use boss_model::Command;
+use boss_outside_server::{Clock, TICK_PAUSE, Waiter, Woke};
 use boss_shared::Desk;
 
-/// Takes so many turns, each of which is a reading of the clock, a tick at this moment and a pause of 100 ms, or fewer
+/// Takes so many turns, each of which is a reading of the clock, a tick at this moment and a pause of `TICK_PAUSE` at most, or fewer
 /// where the clock or the disk fails or a pause says that the worker is to end. It takes no memory.
 pub fn expire<G: Desk, C: Clock, W: Waiter>(
     desk: &G,

@@ -1,4 +1,5 @@
 pub mod Guarding
 pub mod GuardDrives
 pub mod Making
+pub mod Resting
 pub mod Trying

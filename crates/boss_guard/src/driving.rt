@@ -1,17 +1,18 @@
 ghost use Rattle.std.specs.Prelude.{◌≡◌, ◌≤◌, length};
 ghost use Rattle.boss_model.specs.Catalogue.{actuators};
-ghost use Rattle.boss_model.specs.Limits.{drive_pause, most_points};
+ghost use Rattle.boss_model.specs.Limits.{most_points};
+ghost use Rattle.boss_outside_server.specs.Pauses.{drive_pause, held_pause};
 ghost use Rattle.boss_lock.specs.Places.{entries_at};
 ghost use Rattle.def_guards.specs.Guards.{guards_of};
-ghost use Rattle.def_lanes.specs.Waits.{PausedFor};
+ghost use Rattle.def_lanes.specs.Waits.{PausedWithin};
 ghost use Rattle.boss_expiry.specs.Ends.{ClockCause, EndCause};
 ghost use Rattle.boss_guard.specs.Guarding.{Guarded, GuardCause, GuardClock, Turned};
 
 use crate::GuardEnd;
-use crate::guards::guards_of;
+use crate::guards::{guards_of, rest_of};
 use crate::turn::turn;
 use boss_expiry::WorkEnd;
-use boss_model::{DRIVE_PAUSE, DriverId};
+use boss_model::DriverId;
 use boss_outside::Actuators;
 use boss_outside_server::{Clock, Waiter, Woke};
 use boss_points::Catalogue;
@@ -24,7 +25,7 @@ use std::alloc::Global;
 /// In each turn the clock is read and the driver's next want asked for. That want, and then each one that was held, by rising
 /// point, is written where it may be: the point has this value, or has kept another one for its minimum time, or a reading of the
 /// point shows the value under a lease of the levels 1 to 5. After a write the clock is read again and the outcome reported. Any
-/// other want is held, in place of one that its point held. A turn without a write makes a pause of 20 ms.
+/// other want is held, in place of one that its point held. A turn without a write makes a pause, a short one where a want is held.
 ///
 /// Each call is made at the greatest reading so far. Memory is wanted before the first turn only.
 pub fn guarded_drive<G: Desk, A: Actuators, C: Clock, W: Waiter>(
@@ -46,7 +47,7 @@ pub fn guarded_drive<G: Desk, A: Actuators, C: Clock, W: Waiter>(
         (record { own = entries_at (G.seen pass.old) (G.mine pass.old); given = C.given clock.old; whole = A.whole devices.old; calls = A.calls devices.old })
         (record { own = entries_at (G.seen pass.new) (G.mine pass.new); given = C.given clock.new; whole = A.whole devices.new; calls = A.calls devices.new })
         W.tells (W.waited waiter.old).pauses (W.waited waiter.new).pauses turns result }
-    ensures waited { W.tells → PausedFor drive_pause (W.waited waiter.old) (W.waited waiter.new) }
+    ensures waited { W.tells → PausedWithin held_pause drive_pause (W.waited waiter.old) (W.waited waiter.new) }
     ensures clock { GuardClock (C.faults clock.old) (C.faults clock.new) result }
     ensures cause { GuardCause (G.seen pass.new) W.tells (W.waited waiter.new).closed (W.closes waiter.old) (W.closes waiter.new) result }
 {
@@ -85,7 +86,7 @@ fn take_turns<G: Desk, A: Actuators, C: Clock, W: Waiter>(
         (record { own = entries_at (G.seen pass.old) (G.mine pass.old); given = C.given clock.old; whole = A.whole devices.old; calls = A.calls devices.old })
         (record { own = entries_at (G.seen pass.new) (G.mine pass.new); given = C.given clock.new; whole = A.whole devices.new; calls = A.calls devices.new })
         W.tells (W.waited waiter.old).pauses (W.waited waiter.new).pauses turns result }
-    ensures waited { W.tells → PausedFor drive_pause (W.waited waiter.old) (W.waited waiter.new) }
+    ensures waited { W.tells → PausedWithin held_pause drive_pause (W.waited waiter.old) (W.waited waiter.new) }
     ensures clock { ClockCause (C.faults clock.old) (C.faults clock.new) result }
     ensures cause { EndCause (G.seen pass.new) W.tells (W.waited waiter.new).closed (W.closes waiter.old) (W.closes waiter.new) result }
 {
@@ -96,7 +97,7 @@ fn take_turns<G: Desk, A: Actuators, C: Clock, W: Waiter>(
             Ok(written) => written,
         };
         if !written {
-            if let Woke::Close = waiter.pause(DRIVE_PAUSE) {
+            if let Woke::Close = waiter.pause(rest_of(guards)) {
                 if number + 1 < turns {
                     return WorkEnd::Closed;
                 }

@@ -73,8 +73,8 @@ module _ {H In Out : Type 0} (h : host.Ghosts H In Out) where
   pub same-back : (old new : H) → new ≡ old → CameBack h old new
   same-back old new same = subst (CameBack h old) (sym same) (none-back old old (record { served = λ told. refl; faults = refl; handed = rose-none (h.handed old) }))
 
-module _ {K A H In Out C W P Runtime : Type 0} (k : sink.Ghosts K) (a : actuators_of.Ghosts A) (h : host.Ghosts H In Out) (i : source.Ghosts In) (o : sink.Ghosts Out)
-    (c : clock.Ghosts C) (w : waiter.Ghosts W) (p : spawner.Ghosts P Runtime) (catalogue : Catalogue) (gates : List Gate) (workers connections : ℕ) (old new : Outside K A H C W P) (status : ℕ) where
+module _ {K A H In Out C W Bells P Runtime : Type 0} (k : sink.Ghosts K) (a : actuators_of.Ghosts A) (h : host.Ghosts H In Out) (i : source.Ghosts In) (o : sink.Ghosts Out)
+    (c : clock.Ghosts C) (w : waiter.Ghosts W Bells) (p : spawner.Ghosts P Runtime) (catalogue : Catalogue) (gates : List Gate) (workers connections : ℕ) (old new : Outside K A H C W P) (status : ℕ) where
   from-back : (known : Type 0) (s : State) (number : ℕ) → ServedFrom k a h i o c w p catalogue known s number gates workers connections old new status → CameBack h old.host new.host
   from-back known s number it = elim it.end [
     | inl unbound ↦ record {

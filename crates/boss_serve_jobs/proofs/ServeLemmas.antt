@@ -71,8 +71,8 @@ module _ (was now : Faults) where
   lacks : (status : ℕ) → status ≡ 8 → EndsBy was now status
   lacks status is = inr (inr (inr (inr (inr (inr is)))))
 
-module _ {K A H In Out C W P Runtime : Type 0} (k : sink.Ghosts K) (a : actuators_of.Ghosts A) (h : host.Ghosts H In Out) (i : source.Ghosts In) (o : sink.Ghosts Out)
-    (c : clock.Ghosts C) (w : waiter.Ghosts W) (p : spawner.Ghosts P Runtime) (catalogue : Catalogue) (gates : List Gate) (workers connections : ℕ) (old new : Outside K A H C W P) (status : ℕ) where
+module _ {K A H In Out C W Bells P Runtime : Type 0} (k : sink.Ghosts K) (a : actuators_of.Ghosts A) (h : host.Ghosts H In Out) (i : source.Ghosts In) (o : sink.Ghosts Out)
+    (c : clock.Ghosts C) (w : waiter.Ghosts W Bells) (p : spawner.Ghosts P Runtime) (catalogue : Catalogue) (gates : List Gate) (workers connections : ℕ) (old new : Outside K A H C W P) (status : ℕ) where
   abbrev faults_of : ℕ → Outside K A H C W P → Faults
   faults_of files outside =
       record { files = files; sink = k.faults outside.sink; host = h.faults outside.host; spawner = p.faults outside.spawner; clock = c.faults outside.clock }
@@ -132,8 +132,8 @@ module _ {K A H In Out C W P Runtime : Type 0} (k : sink.Ghosts K) (a : actuator
     | inr (inr ran) ↦ ends-fine _ _ status (from-ends was.tells ran.state ran.number was.faults now.faults ran.served ran.disk_fault ran.no_disk_fault) fine
   ]
 
-module _ {F D S K A H In Out C W P Runtime : Type 0} (f : files.Ghosts F D) (s : source.Ghosts S) (k : sink.Ghosts K) (a : actuators_of.Ghosts A)
-    (h : host.Ghosts H In Out) (i : source.Ghosts In) (o : sink.Ghosts Out) (c : clock.Ghosts C) (w : waiter.Ghosts W) (p : spawner.Ghosts P Runtime)
+module _ {F D S K A H In Out C W Bells P Runtime : Type 0} (f : files.Ghosts F D) (s : source.Ghosts S) (k : sink.Ghosts K) (a : actuators_of.Ghosts A)
+    (h : host.Ghosts H In Out) (i : source.Ghosts In) (o : sink.Ghosts Out) (c : clock.Ghosts C) (w : waiter.Ghosts W Bells) (p : spawner.Ghosts P Runtime)
     (name address : List ℕ) (rules plan : Option (List ℕ)) (count workers connections : ℕ) (old new : ServerWorld F S K A C H W P) (status : ℕ) where
   abbrev was : Faults
   was = faults_at f s k a h i o c w p old

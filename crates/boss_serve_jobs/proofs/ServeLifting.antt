@@ -15,8 +15,8 @@ use Rattle.boss_jobs.specs.Journals.{HoldsAfter, Pair}
 use Rattle.boss_serve_jobs.specs.Serving.{Outside, outside, ServedFrom, ServedJournal, ServesMemory, ServesOver}
 use Rattle.boss_jobs.proofs.Lifting.{Follows, none-so, refused-so, run-carried, same-two, stands-so}
 
-module _ {K A H In Out C W P Runtime : Type 0} (k : sink.Ghosts K) (a : actuators_of.Ghosts A) (h : host.Ghosts H In Out) (i : source.Ghosts In) (o : sink.Ghosts Out)
-    (c : clock.Ghosts C) (w : waiter.Ghosts W) (p : spawner.Ghosts P Runtime) (catalogue : Catalogue) (gates : List Gate) (workers connections : ℕ) (old new : Outside K A H C W P) (status : ℕ) where
+module _ {K A H In Out C W Bells P Runtime : Type 0} (k : sink.Ghosts K) (a : actuators_of.Ghosts A) (h : host.Ghosts H In Out) (i : source.Ghosts In) (o : sink.Ghosts Out)
+    (c : clock.Ghosts C) (w : waiter.Ghosts W Bells) (p : spawner.Ghosts P Runtime) (catalogue : Catalogue) (gates : List Gate) (workers connections : ℕ) (old new : Outside K A H C W P) (status : ℕ) where
   -- where less is known, no more is said of the number of events
   abbrev known-so : (known less : Type 0) (s : State) (number : ℕ) → (less → known) → ServedFrom k a h i o c w p catalogue known s number gates workers connections old new status →
       ServedFrom k a h i o c w p catalogue less s number gates workers connections old new status
@@ -63,8 +63,8 @@ module _ {K A H In Out C W P Runtime : Type 0} (k : sink.Ghosts K) (a : actuator
     ]
 
 -- where nothing was told before, the sink is the one that was handed in
-module _ {K A H In Out C W P Runtime : Type 0} (k : sink.Ghosts K) (a : actuators_of.Ghosts A) (h : host.Ghosts H In Out) (i : source.Ghosts In) (o : sink.Ghosts Out)
-    (c : clock.Ghosts C) (w : waiter.Ghosts W) (p : spawner.Ghosts P Runtime) (catalogue : Catalogue) (gates : List Gate) (workers connections : ℕ)
+module _ {K A H In Out C W Bells P Runtime : Type 0} (k : sink.Ghosts K) (a : actuators_of.Ghosts A) (h : host.Ghosts H In Out) (i : source.Ghosts In) (o : sink.Ghosts Out)
+    (c : clock.Ghosts C) (w : waiter.Ghosts W Bells) (p : spawner.Ghosts P Runtime) (catalogue : Catalogue) (gates : List Gate) (workers connections : ℕ)
     (devices : List A) (clock : C) (host : H) (waiter : W) (spawner : P) (first later : K) (same : later ≡ first) (new : Outside K A H C W P) (status : ℕ) where
   pub over-first-sink : (was now : Pair) → ServesOver k a h i o c w p catalogue was now gates workers connections (outside later devices clock host waiter spawner) new status →
       ServesOver k a h i o c w p catalogue was now gates workers connections (outside first devices clock host waiter spawner) new status

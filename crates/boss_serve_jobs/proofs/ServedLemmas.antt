@@ -61,8 +61,8 @@ pub parts-so : {A H C W P : Type 0} {devices devices' : List A} {clock clock' : 
     parts devices clock host waiter spawner ≡ parts devices' clock' host' waiter' spawner'
 parts-so devices clock host waiter spawner = λ i. parts (devices i) (clock i) (host i) (waiter i) (spawner i)
 
-module _ {K A H In Out C W P Runtime : Type 0} (k : sink.Ghosts K) (a : actuators_of.Ghosts A) (h : host.Ghosts H In Out) (i : source.Ghosts In) (o : sink.Ghosts Out)
-    (c : clock.Ghosts C) (w : waiter.Ghosts W) (p : spawner.Ghosts P Runtime)
+module _ {K A H In Out C W Bells P Runtime : Type 0} (k : sink.Ghosts K) (a : actuators_of.Ghosts A) (h : host.Ghosts H In Out) (i : source.Ghosts In) (o : sink.Ghosts Out)
+    (c : clock.Ghosts C) (w : waiter.Ghosts W Bells) (p : spawner.Ghosts P Runtime)
     (catalogue : Catalogue) (gates : List Gate) (workers connections : ℕ) (old new : Outside K A H C W P) (known : Type 0) (s : State) (number all : ℕ) (line : List ℕ) (status : ℕ) (log : List Entry)
     (line-is : is_broken log ≡ false → line ≡ summary_line all (run (actuators catalogue) log s).persistent.now
     (length (run (actuators catalogue) log s).persistent.leases) (length (run (actuators catalogue) log s).persistent.pending))
@@ -119,8 +119,8 @@ module _ {K A H In Out C W P Runtime : Type 0} (k : sink.Ghosts K) (a : actuator
       (subst (λ it. EndsRun a h i o c w p catalogue gates workers connections log it last result) began ends))
 
 -- a server over an engine in memory that had done nothing
-module _ {K A H In Out C W P Runtime : Type 0} (k : sink.Ghosts K) (a : actuators_of.Ghosts A) (h : host.Ghosts H In Out) (i : source.Ghosts In) (o : sink.Ghosts Out)
-    (c : clock.Ghosts C) (w : waiter.Ghosts W) (p : spawner.Ghosts P Runtime) (catalogue : Catalogue) (start now : Unkept) (gates : List Gate) (workers connections : ℕ) (old new : Outside K A H C W P) (status : ℕ)
+module _ {K A H In Out C W Bells P Runtime : Type 0} (k : sink.Ghosts K) (a : actuators_of.Ghosts A) (h : host.Ghosts H In Out) (i : source.Ghosts In) (o : sink.Ghosts Out)
+    (c : clock.Ghosts C) (w : waiter.Ghosts W Bells) (p : spawner.Ghosts P Runtime) (catalogue : Catalogue) (start now : Unkept) (gates : List Gate) (workers connections : ℕ) (old new : Outside K A H C W P) (status : ℕ)
     (engine : start.engine ≡ record { plant = actuators catalogue; state = first_state (actuators catalogue) }) (none : start.events ≡ 0) where
   pub served-memory : ServesKeeper k a h i o c w p unkept (Unit {0}) catalogue start now gates workers connections old new status
       → ServedMemory k a h i o c w p catalogue gates workers connections old new status

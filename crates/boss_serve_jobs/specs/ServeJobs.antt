@@ -3,7 +3,7 @@
 use denote.Ref.{MutBor}
 use Rattle.std.specs.declared.alloc.Global.{Global}
 use Rattle.std.specs.declared.vec.Vec.{Vec}
-use Rattle.std.specs.Prelude.{◌≡◌, ◌≢◌, ◌⊎◌, ℕ, Bool, true, false, List, [], ◌∷◌, ◌++◌, Option, Some, None, Ok}
+use Rattle.std.specs.Prelude.{◌≡◌, ◌≢◌, ◌⊎◌, ℕ, List, [], ◌∷◌, ◌++◌, Option, Some, Ok}
 use Rattle.boss_model.specs.Catalogue.{Catalogue}
 use Rattle.boss_outside.specs.Counts.{Rose}
 use Rattle.boss_outside.specs.declared.actuators.Actuators as actuators
@@ -16,8 +16,6 @@ use Rattle.boss_outside_server.specs.declared.spawner.Spawner as spawner
 use Rattle.boss_outside_server.specs.declared.waiter.Waiter as waiter
 use Rattle.boss_pair_find.specs.declared.refusal.DurableRefusal.{DurableRefusal}
 use Rattle.boss_files.specs.Names.{second_name}
-use Rattle.boss_words.specs.declared.job.Job.{Job}
-use Rattle.boss_words.specs.declared.job.Job.TheVariants.{Script, Serve, Check, Adopt, Feed, Standby, Load}
 use Rattle.boss_serve_jobs.specs.declared.world.World.{World as Given}
 use Rattle.boss_jobs.specs.Jobs.{World, world}
 use Rattle.boss_jobs.specs.Journals.{AsksFront, in_files, IsRefused}
@@ -26,17 +24,6 @@ use Rattle.boss_server.specs.Sites.{gates_of}
 use Rattle.boss_serve_jobs.specs.Preparing.{AreRuled, AreSet, Comes, listed, Setting, setting, TakesPlan, TakesRules, Unprepared}
 use Rattle.boss_jobs.specs.Programs.{usable}
 use Rattle.boss_serve_jobs.specs.Serving.{CameBack, Listened, Outside, outside, ServesMemory, ServesOver}
-
--- whether the words ask for a server
-abbrev pub is_serve : Option Job → Bool
-is_serve (Some (Serve catalogue journal address workers connections rules plan)) = true
-is_serve (Some (Script catalogue journal)) = false
-is_serve (Some (Check catalogue journal)) = false
-is_serve (Some (Adopt old new journal)) = false
-is_serve (Some (Feed catalogue journal from)) = false
-is_serve (Some (Standby catalogue journal)) = false
-is_serve (Some (Load count seed)) = false
-is_serve None = false
 
 -- all that a server is given, at one moment
 pub record ServerWorld (F S K A C H W P : Type 0) : Type 0 where
@@ -107,8 +94,8 @@ EndsBy was now status =
 
 -- ---- the jobs
 
-module _ {F D S K A H In Out C W P Runtime : Type 0} (f : files.Ghosts F D) (s : source.Ghosts S) (k : sink.Ghosts K) (a : actuators.Ghosts A)
-    (h : host.Ghosts H In Out) (i : source.Ghosts In) (o : sink.Ghosts Out) (c : clock.Ghosts C) (w : waiter.Ghosts W) (p : spawner.Ghosts P Runtime) where
+module _ {F D S K A H In Out C W Bells P Runtime : Type 0} (f : files.Ghosts F D) (s : source.Ghosts S) (k : sink.Ghosts K) (a : actuators.Ghosts A)
+    (h : host.Ghosts H In Out) (i : source.Ghosts In) (o : sink.Ghosts Out) (c : clock.Ghosts C) (w : waiter.Ghosts W Bells) (p : spawner.Ghosts P Runtime) where
   abbrev pub faults_at : ServerWorld F S K A C H W P → Faults
   faults_at all = record {
     files = f.faults all.world.files;

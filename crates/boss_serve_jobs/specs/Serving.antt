@@ -150,7 +150,7 @@ module _ {H In Out : Type 0} (h : host.Ghosts H In Out) where
     pub waiter : new.waiter ≡ old.waiter
     pub spawner : new.spawner ≡ old.spawner
 
-  module _ {C W : Type 0} (c : clock.Ghosts C) (w : waiter.Ghosts W) where
+  module _ {C W Bells : Type 0} (c : clock.Ghosts C) (w : waiter.Ghosts W Bells) where
     -- no memory was to be had before a worker ran: nothing was told, and no device called
     pub record NoneRan {K A P : Type 0} (log : List Entry) (old new : Outside K A H C W P) (status : ℕ) : Type 0 where
       pub nothing : log ≡ []
@@ -162,8 +162,8 @@ module _ {H In Out : Type 0} (h : host.Ghosts H In Out) where
       pub devices : new.devices ≡ old.devices
       pub spawner : new.spawner ≡ old.spawner
 
-module _ {A H In Out C W P Runtime : Type 0} (a : actuators_of.Ghosts A) (h : host.Ghosts H In Out) (i : source.Ghosts In) (o : sink.Ghosts Out)
-    (c : clock.Ghosts C) (w : waiter.Ghosts W) (p : spawner.Ghosts P Runtime) where
+module _ {A H In Out C W Bells P Runtime : Type 0} (a : actuators_of.Ghosts A) (h : host.Ghosts H In Out) (i : source.Ghosts In) (o : sink.Ghosts Out)
+    (c : clock.Ghosts C) (w : waiter.Ghosts W Bells) (p : spawner.Ghosts P Runtime) where
   -- The workers ran: each connection that came back, the worker of time and each driver's worker agree with the entries of their own
   -- lanes.
   pub record Worked {K : Type 0} (catalogue : Catalogue) (gates : List Gate) (workers connections : ℕ) (log : List Entry) (old new : Outside K A H C W P) (flags : Flags) (unstarted : Bool) : Type 0 where
@@ -189,8 +189,8 @@ module _ {A H In Out C W P Runtime : Type 0} (a : actuators_of.Ghosts A) (h : ho
     pub held : IsHeld v.plant v.state v.stopped v.faults v.leaves v.passes v.keeps start now log
     pub end : EndsRun catalogue gates workers connections log old new result
 
-module _ {K A H In Out C W P Runtime : Type 0} (k : sink.Ghosts K) (a : actuators_of.Ghosts A) (h : host.Ghosts H In Out) (i : source.Ghosts In) (o : sink.Ghosts Out)
-    (c : clock.Ghosts C) (w : waiter.Ghosts W) (p : spawner.Ghosts P Runtime) where
+module _ {K A H In Out C W Bells P Runtime : Type 0} (k : sink.Ghosts K) (a : actuators_of.Ghosts A) (h : host.Ghosts H In Out) (i : source.Ghosts In) (o : sink.Ghosts Out)
+    (c : clock.Ghosts C) (w : waiter.Ghosts W Bells) (p : spawner.Ghosts P Runtime) where
   -- The workers ran. Then one line tells what the history leaves, unless a disk failed.
   pub record Served (catalogue : Catalogue) (known : Type 0) (s : State) (number : ℕ) (gates : List Gate) (workers connections : ℕ) (log : List Entry) (old new : Outside K A H C W P) (status : ℕ) : Type 0 where
     pub flags : Flags

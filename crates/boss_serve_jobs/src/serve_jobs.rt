@@ -41,6 +41,7 @@ where
     F::Store: Send,
     H::In: Send,
     H::Out: Send,
+    W::Bells: Send,
     requires sound { H.sound world.host.now }
     requires some { 1 ≤ service.workers }
     requires few { service.workers ≤ most_workers }
@@ -110,6 +111,7 @@ where
     F::Store: Send,
     H::In: Send,
     H::Out: Send,
+    W::Bells: Send,
     requires sound { H.sound surroundings.host.now }
     requires some { 1 ≤ service.workers }
     requires few { service.workers ≤ most_workers }
@@ -166,6 +168,7 @@ pub fn do_memory_serve<
 where
     H::In: Send,
     H::Out: Send,
+    W::Bells: Send,
     requires sound { H.sound world.host.now }
     requires some { 1 ≤ service.workers }
     requires few { service.workers ≤ most_workers }

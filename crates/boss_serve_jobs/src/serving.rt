@@ -33,7 +33,7 @@ use boss_opening::open;
 use boss_outside::{Actuators, Failed, Sink};
 use boss_outside_server::{Announcement, Clock, Host, Spawner, Waiter};
 use boss_points::Catalogue;
-use boss_server::{Ended, Outside, Site, serve_keeper};
+use boss_server::{Ended, Outside, Site, serve_ringing};
 use std::alloc::Global;
 use std::sync::Wait;
 
@@ -71,6 +71,7 @@ pub fn serve_on_disks<
 where
     H::In: Send,
     H::Out: Send,
+    W::Bells: Send,
     requires sound { H.sound surroundings.host.now }
     requires some { 1 ≤ service.workers }
     requires few { service.workers ≤ most_workers }
@@ -123,6 +124,7 @@ pub fn serve_in_memory<
 where
     H::In: Send,
     H::Out: Send,
+    W::Bells: Send,
     requires sound { H.sound surroundings.host.now }
     requires some { 1 ≤ service.workers }
     requires few { service.workers ≤ most_workers }
@@ -166,6 +168,7 @@ fn serve_over<
 where
     H::In: Send,
     H::Out: Send,
+    W::Bells: Send,
     requires running { V.stopped keeper ≡ false }
     requires kept { IsSound (V.plant keeper) (V.state keeper) }
     requires images { V.leaves keeper (V.state keeper).persistent (V.state keeper).persistent }
@@ -219,6 +222,7 @@ fn run_workers<
 where
     H::In: Send,
     H::Out: Send,
+    W::Bells: Send,
     requires running { V.stopped keeper ≡ false }
     requires kept { IsSound (V.plant keeper) (V.state keeper) }
     requires images { V.leaves keeper (V.state keeper).persistent (V.state keeper).persistent }
@@ -241,7 +245,7 @@ where
             outside
                 .host
                 .announce(announcement(site.catalogue, standing));
-            let (keeper, ended) = serve_keeper(
+            let (keeper, ended) = serve_ringing(
                 rt,
                 alloc,
                 keeper,

@@ -43,7 +43,7 @@ module _ {H In Out A : Type 0} (h : host.Ghosts H In Out) (workers number : ℕ)
   fresh-devices Time fresh = refl
   fresh-devices (Devices driver devices was) fresh = ap (λ device. device ∷ []) (sym fresh.1)
 
-module _ {G Pass H In Out C W A : Type 0} (g : desk.Ghosts G Pass) (h : host.Ghosts H In Out) (k : clock.Ghosts C) (w : waiter.Ghosts W) (a : actuators.Ghosts A) where
+module _ {G Pass H In Out C W Bells A : Type 0} (g : desk.Ghosts G Pass) (h : host.Ghosts H In Out) (k : clock.Ghosts C) (w : waiter.Ghosts W Bells) (a : actuators.Ghosts A) where
   -- a worker made of fresh parts is ready
   pub fresh-worker : (catalogue : Catalogue) (it : G) (workers number : ℕ) (pass : Pass) (duty : Duty H A) (tick : C) (wait : W) (flags : Flags) (expected : ℕ) → g.owns it pass → g.parts pass ≡ 1 → g.mine pass ≡ [] → AreFree (g.denies it) (g.held pass) →
       points_of catalogue ≡ g.plant it → IsFreshClock k tick → IsFreshWaiter w expected wait → (w.tells → expected ≡ workers) → workers ≤ most_workers → IsFreshDuty h workers number duty → flags ≡ no_flags →

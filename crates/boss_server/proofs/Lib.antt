@@ -9,3 +9,4 @@ pub mod ReturnedLemmas
 pub mod ShareLemmas
 pub mod TogetherLemmas
 pub mod TurnLemmas
+pub mod WaitsLemmas

@@ -20,7 +20,7 @@ module _ {C : Type 0} (k : clock.Ghosts C) where
     pub given : k.tells → k.given new ≡ k.given old
     pub faults : k.faults new ≡ k.faults old
 
-module _ {W : Type 0} (w : waiter.Ghosts W) where
+module _ {W Bells : Type 0} (w : waiter.Ghosts W Bells) where
   -- it was told that so many workers are waited for, and nothing else came to it
   pub record IsFreshWaiter (expected : ℕ) (waiter : W) : Type 0 where
     pub waited : w.tells → w.waited waiter ≡ new_waited expected

@@ -44,6 +44,7 @@ where
     G::Pass: Send,
     H::In: Send,
     H::Out: Send,
+    W::Bells: Send,
     requires own { G.owns server.desk.now pass }
     requires parts { server.workers + 2 + drives ≤ G.parts pass }
     requires empty { own_of G.Desk pass ≡ [] }
@@ -100,6 +101,7 @@ where
     G::Pass: Send,
     H::In: Send,
     H::Out: Send,
+    W::Bells: Send,
     requires own { G.owns server.desk.now pass }
     requires parts { server.workers + 2 + drives ≤ G.parts pass }
     requires empty { own_of G.Desk pass ≡ [] }
@@ -156,6 +158,7 @@ where
     G::Pass: Send,
     H::In: Send,
     H::Out: Send,
+    W::Bells: Send,
     requires own { G.owns server.desk.now pass }
     requires parts { server.workers + 2 + drives ≤ G.parts pass }
     requires empty { own_of G.Desk pass ≡ [] }

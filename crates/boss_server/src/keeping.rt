@@ -66,6 +66,7 @@ pub fn serve_keeper<
 where
     H::In: Send,
     H::Out: Send,
+    W::Bells: Send,
     requires running { K.stopped keeper ≡ false }
     requires kept { IsSound (K.plant keeper) (K.state keeper) }
     requires images { K.leaves keeper (K.state keeper).persistent (K.state keeper).persistent }

@@ -9,6 +9,7 @@ mod making;
 mod outside;
 mod parts;
 mod returning;
+mod ringing;
 mod running;
 mod serving;
 mod shares;
@@ -16,5 +17,6 @@ mod site;
 
 pub use keeping::{Ended, serve_keeper};
 pub use outside::Outside;
+pub use ringing::serve_ringing;
 pub use serving::serve;
 pub use site::Site;

@@ -37,6 +37,7 @@ where
     G::Pass: Send,
     H::In: Send,
     H::Out: Send,
+    W::Bells: Send,
     requires own { G.owns server.now.desk pass.old }
     requires empty { own_of G.Desk pass.old ≡ [] }
     requires sound { H.sound outside.old.host.now }

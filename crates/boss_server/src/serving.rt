@@ -42,6 +42,7 @@ where
     G::Pass: Send,
     H::In: Send,
     H::Out: Send,
+    W::Bells: Send,
     requires own { G.owns server.now.desk pass.old }
     requires parts { server.now.workers + 2 + drives ≤ G.parts pass.old }
     requires empty { own_of G.Desk pass.old ≡ [] }

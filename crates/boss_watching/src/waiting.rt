@@ -1,5 +1,6 @@
 ghost use Rattle.std.specs.Prelude.{◌≡◌, ◌≤◌, true, false, IfOk, IfErr};
-ghost use Rattle.boss_model.specs.Limits.{answer_room, watch_pause};
+ghost use Rattle.boss_model.specs.Limits.{answer_room};
+ghost use Rattle.boss_outside_server.specs.Pauses.{watch_pause};
 ghost use Rattle.boss_model.specs.Catalogue.{actuators};
 ghost use Rattle.boss_lock.specs.Places.{entries_at};
 ghost use Rattle.def_history.specs.History.{run};
@@ -12,9 +13,9 @@ ghost use Rattle.boss_watching.specs.Turns.{Lasts};
 
 use crate::WatchEnd;
 use crate::turn::take_turn;
-use boss_model::{Buffer, Name, SessionId, WATCH_PAUSE};
+use boss_model::{Buffer, Name, SessionId};
 use boss_outside::Sink;
-use boss_outside_server::{Clock, Waiter, Woke};
+use boss_outside_server::{Clock, WATCH_PAUSE, Waiter, Woke};
 use boss_points::Catalogue;
 use boss_shared::Desk;
 

@@ -1,6 +1,6 @@
 ghost use Rattle.std.specs.Prelude.{◌≡◌, ◌≤◌, false};
 ghost use Rattle.boss_model.specs.Catalogue.{actuators};
-ghost use Rattle.boss_model.specs.Limits.{watch_idle, watch_pause};
+ghost use Rattle.boss_outside_server.specs.Pauses.{watch_idle, watch_pause};
 ghost use Rattle.boss_lock.specs.Places.{entries_at};
 ghost use Rattle.def_lanes.specs.Waits.{PausedFor};
 ghost use Rattle.def_connection.specs.Talks.{standing};
@@ -10,16 +10,16 @@ ghost use Rattle.boss_watching.specs.Notes.{notes};
 
 use crate::WatchEnd;
 use crate::waiting::await_notices;
-use boss_model::{ANSWER_ROOM, Buffer, Name, SessionId, WATCH_IDLE};
+use boss_model::{ANSWER_ROOM, Buffer, Name, SessionId};
 use boss_outside::Sink;
-use boss_outside_server::{Clock, Waiter};
+use boss_outside_server::{Clock, WATCH_IDLE, Waiter};
 use boss_points::Catalogue;
 use boss_shared::Desk;
 use std::alloc::Global;
 
 /// Sends the notices of a process as they come, those from the number `from` on, which is at least 1. In each turn the clock is
 /// read and at most 64 notices are asked for, as a command of the session; each is written as a line, and where there was none
-/// there is a pause of 100 ms. It goes on until 600 turns in a row had none, or a pause says that the worker is to end, or
+/// there is a pause of `WATCH_PAUSE` at most. It goes on until `WATCH_IDLE` turns in a row had none, or a pause says that the worker is to end, or
 /// something fails.
 pub fn watch_connection<G: Desk, K: Sink, C: Clock, W: Waiter>(
     alloc: Global,

@@ -1,49 +1,84 @@
 -- What the waiter of a worker noted that has left.
-use Rattle.std.proofs.Common.{◌≡◌, ℕ, suc, ◌+◌, ◌<◌, ◌≤◌, List, [], ◌∷◌, length, refl, ap, sym, ◌∙◌, subst, arith}
-use Rattle.boss_model.specs.Limits.{drive_pause, tick_pause, watch_pause}
-use Rattle.def_lanes.specs.Waits.{IsSteady, PausedFor, WaitedAt}
+use Rattle.std.proofs.Common.{◌≡◌, ℕ, suc, ◌+◌, ◌<◌, ◌≤◌, List, [], ◌∷◌, length, Option, Some, refl, ap, sym, ◌∙◌, subst, arith}
+use Rattle.boss_outside.specs.Bells.{driver_bell, time_bell}
+use Rattle.boss_outside_server.specs.Pauses.{drive_pause, held_pause, tick_pause, watch_pause}
+use Rattle.def_lanes.specs.Waits.{AreWithin, IsSteady, PausedAround, PausedFor, PausedWithin, WaitedAt}
+use Rattle.def_lanes.proofs.WaitLemmas.{within-wider}
 use Rattle.def_lanes.specs.Works.{Work, visit, beat, drive, owner, AreOf, served_in}
 use Rattle.boss_outside_server.specs.declared.waited.Leaving.TheVariants.{NotYet}
 use Rattle.boss_outside_server.specs.declared.waited.Waited.{Waited}
-use Rattle.boss_outside_server.specs.Waits.{after_leave, leaving_after, new_waited}
+use Rattle.boss_outside_server.specs.Waits.{after_leave, leaving_after, listening, new_waited}
 
--- a fresh waiter that only paused
-fresh-steady : (workers milliseconds : ℕ) (old new : Waited) → old ≡ new_waited workers → PausedFor milliseconds old new → IsSteady milliseconds new
-fresh-steady workers milliseconds old new fresh paused = paused.steady (subst (IsSteady milliseconds) (sym fresh) refl)
+-- pauses behind none, within wider lengths
+pub within-first : (least low high most : ℕ) (old new : Waited) → old.pauses ≡ 0 → least ≤ low → high ≤ most → PausedWithin low high old new → PausedWithin least most old new
+within-first least low high most old new none less more paused = record {
+  steady = λ is. within-wider new.pauses least low high most new.lengths less more
+      (paused.steady (subst (λ pauses. AreWithin pauses low high old.lengths) (sym none) (subst (λ pauses. AreWithin pauses least most old.lengths) none is)));
+  expected = paused.expected;
+  leaving = paused.leaving;
+  bell = paused.bell;
+}
 
-fresh-told : (workers milliseconds : ℕ) (old new : Waited) → old ≡ new_waited workers → PausedFor milliseconds old new → new.expected ≡ workers
-fresh-told workers milliseconds old new fresh paused = paused.expected ∙ ap (λ (it : Waited). it.expected) fresh
+-- a fresh waiter, whose worker may have listened at a bell
+abbrev pub listening_at : ℕ → Option ℕ → Waited
+listening_at workers bell = record (new_waited workers) { bell = bell }
 
-fresh-stays : (workers milliseconds : ℕ) (old new : Waited) → old ≡ new_waited workers → PausedFor milliseconds old new → new.leaving ≡ NotYet
-fresh-stays workers milliseconds old new fresh paused = paused.leaving ∙ ap (λ (it : Waited). it.leaving) fresh
+-- it only paused since
+fresh-steady : (workers least most : ℕ) (bell : Option ℕ) (old new : Waited) → old ≡ listening_at workers bell → PausedWithin least most old new → IsSteady least most new
+fresh-steady workers least most bell old new fresh paused = paused.steady (subst (IsSteady least most) (sym fresh) refl)
 
-module _ (workers number : ℕ) (old new : Waited) (fresh : old ≡ new_waited workers) where
-  pub waited-connections : (connections : ℕ) (left : Waited) → number < workers → PausedFor watch_pause old new → left ≡ after_leave connections new →
-      WaitedAt workers number connections left
-  waited-connections connections left low paused is = subst (WaitedAt workers number connections) (sym is) (record {
-    told = fresh-told workers watch_pause old new fresh paused;
-    serves = λ less. record {
-      steady = fresh-steady workers watch_pause old new fresh paused;
-      left = ap (λ leaving. leaving_after leaving connections) (fresh-stays workers watch_pause old new fresh paused);
-    };
-    ticks = λ here. absurd (omega (arith, low, here));
-    drives = λ beyond. absurd (omega (arith, low, beyond));
-  })
+fresh-told : (workers least most : ℕ) (bell : Option ℕ) (old new : Waited) → old ≡ listening_at workers bell → PausedWithin least most old new → new.expected ≡ workers
+fresh-told workers least most bell old new fresh paused = paused.expected ∙ ap (λ (it : Waited). it.expected) fresh
 
-  pub waited-time : (connections : ℕ) → number ≡ workers → PausedFor tick_pause old new → WaitedAt workers number connections new
-  waited-time connections here paused = record {
-    told = fresh-told workers tick_pause old new fresh paused;
+fresh-stays : (workers least most : ℕ) (bell : Option ℕ) (old new : Waited) → old ≡ listening_at workers bell → PausedWithin least most old new → new.leaving ≡ NotYet
+fresh-stays workers least most bell old new fresh paused = paused.leaving ∙ ap (λ (it : Waited). it.leaving) fresh
+
+fresh-hears : (workers least most : ℕ) (bell : Option ℕ) (old new : Waited) → old ≡ listening_at workers bell → PausedWithin least most old new → new.bell ≡ bell
+fresh-hears workers least most bell old new fresh paused = paused.bell ∙ ap (λ (it : Waited). it.bell) fresh
+
+pub waited-connections : (workers number : ℕ) (old new : Waited) (fresh : old ≡ new_waited workers) (connections : ℕ) (left : Waited) → number < workers →
+    PausedAround watch_pause old new → left ≡ after_leave connections new → WaitedAt workers number connections left
+waited-connections workers number old new fresh connections left low paused is =
+    let behind : record old { bell = new.bell } ≡ listening_at workers new.bell = ap (λ (it : Waited). record it { bell = new.bell }) fresh in
+    subst (WaitedAt workers number connections) (sym is) (record {
+      told = fresh-told workers watch_pause watch_pause new.bell (record old { bell = new.bell }) new behind paused;
+      serves = λ less. record {
+        steady = fresh-steady workers watch_pause watch_pause new.bell (record old { bell = new.bell }) new behind paused;
+        left = ap (λ leaving. leaving_after leaving connections) (fresh-stays workers watch_pause watch_pause new.bell (record old { bell = new.bell }) new behind paused);
+      };
+      ticks = λ here. absurd (omega (arith, low, here));
+      drives = λ beyond. absurd (omega (arith, low, beyond));
+      hears_time = λ here. absurd (omega (arith, low, here));
+      hears_driver = λ driver here. absurd (omega (arith, low, here));
+    })
+
+module _ (workers number : ℕ) (old new : Waited) where
+  pub waited-time : old ≡ listening time_bell (new_waited workers) → (connections : ℕ) → number ≡ workers → PausedFor tick_pause old new → WaitedAt workers number connections new
+  waited-time fresh connections here paused = record {
+    told = fresh-told workers tick_pause tick_pause (Some time_bell) old new fresh paused;
     serves = λ less. absurd (omega (arith, here, less));
-    ticks = λ is. record { steady = fresh-steady workers tick_pause old new fresh paused; left = fresh-stays workers tick_pause old new fresh paused };
+    ticks = λ is. record {
+      steady = fresh-steady workers tick_pause tick_pause (Some time_bell) old new fresh paused;
+      left = fresh-stays workers tick_pause tick_pause (Some time_bell) old new fresh paused;
+    };
     drives = λ beyond. absurd (omega (arith, here, beyond));
+    hears_time = λ is some. fresh-hears workers tick_pause tick_pause (Some time_bell) old new fresh paused;
+    hears_driver = λ driver is. absurd (omega (arith, here, is));
   }
 
-  pub waited-drive : (connections driver : ℕ) → number ≡ workers + 1 + driver → PausedFor drive_pause old new → WaitedAt workers number connections new
-  waited-drive connections driver here paused = record {
-    told = fresh-told workers drive_pause old new fresh paused;
+  pub waited-drive : (connections driver : ℕ) → old ≡ listening (driver_bell driver) (new_waited workers) → number ≡ workers + 1 + driver →
+      PausedWithin held_pause drive_pause old new → WaitedAt workers number connections new
+  waited-drive connections driver fresh here paused = record {
+    told = fresh-told workers held_pause drive_pause (Some (driver_bell driver)) old new fresh paused;
     serves = λ less. absurd (omega (arith, here, less));
     ticks = λ is. absurd (omega (arith, here, is));
-    drives = λ beyond. record { steady = fresh-steady workers drive_pause old new fresh paused; left = fresh-stays workers drive_pause old new fresh paused };
+    drives = λ beyond. record {
+      steady = fresh-steady workers held_pause drive_pause (Some (driver_bell driver)) old new fresh paused;
+      left = fresh-stays workers held_pause drive_pause (Some (driver_bell driver)) old new fresh paused;
+    };
+    hears_time = λ is. absurd (omega (arith, here, is));
+    hears_driver = λ other is some. fresh-hears workers held_pause drive_pause (Some (driver_bell driver)) old new fresh paused
+        ∙ ap (λ (it : ℕ). Some (driver_bell it)) (let same : driver ≡ other = omega (arith, here, is) in same);
   }
 
 -- a worker that serves no connection, before its first pause
@@ -53,6 +88,8 @@ waited-unrun workers number old fresh behind = subst (WaitedAt workers number 0)
   serves = λ less. absurd (omega (arith, behind, less));
   ticks = λ is. record { steady = refl; left = refl };
   drives = λ beyond. record { steady = refl; left = refl };
+  hears_time = λ is some. absurd (omega (arith, some));
+  hears_driver = λ driver is some. absurd (omega (arith, some));
 })
 
 -- a worker for connections did nothing else

@@ -2,11 +2,14 @@
 use Rattle.std.proofs.Common.{arith, ◌≡◌, ℕ, ◌≤◌, true, false, [], ◌∷◌, refl, ap, sym, ◌∙◌, subst, append-nil}
 use Rattle.std.specs.declared.snapshot.Snapshot.{Snapshot}
 use Rattle.boss_model.specs.Catalogue.{actuators as points_of, Catalogue}
-use Rattle.boss_model.specs.Limits.{drive_pause, last_number, tick_pause}
+use Rattle.boss_model.specs.Limits.{last_number}
+use Rattle.boss_outside_server.specs.Pauses.{drive_pause, held_pause, tick_pause}
 use Rattle.def_history.specs.History.{deeds, is_broken}
-use Rattle.def_lanes.specs.Waits.{PausedFor, WaitedAt}
+use Rattle.def_lanes.specs.Waits.{PausedFor, PausedWithin, WaitedAt}
 use Rattle.def_lanes.specs.Works.{beat, drive}
 use Rattle.boss_outside_server.specs.declared.waited.Waited.{Waited}
+use Rattle.boss_outside.specs.Bells.{driver_bell, time_bell}
+use Rattle.boss_outside_server.specs.Waits.{listening, new_waited}
 use Rattle.boss_outside.specs.declared.actuators.Actuators as actuators
 use Rattle.boss_shared.specs.declared.desk.Desk as desk
 use Rattle.boss_outside_server.specs.declared.clock.Clock as clock
@@ -63,10 +66,15 @@ module _ {H In Out A : Type 0} (h : host.Ghosts H In Out) (workers number : ℕ)
   fresh-calls a Time fresh = tt
   fresh-calls a (Devices driver devices was) fresh = λ told whole. ap a.calls (sym fresh.1) ∙ sym (append-nil (a.calls was.value))
 
-module _ {G Pass H In Out C W A : Type 0} (g : desk.Ghosts G Pass) (h : host.Ghosts H In Out) (k : clock.Ghosts C) (w : waiter.Ghosts W) (a : actuators.Ghosts A) (catalogue : Catalogue) (heeds tells : Type 0)
+module _ {G Pass H In Out C W Bells A : Type 0} (g : desk.Ghosts G Pass) (h : host.Ghosts H In Out) (k : clock.Ghosts C) (w : waiter.Ghosts W Bells) (a : actuators.Ghosts A) (catalogue : Catalogue) (heeds tells : Type 0)
     (it : G) (workers number : ℕ) (pass : Pass) (duty : Duty H A) (tick : C) (wait : W) (flags : Flags) (ready : IsReady g h k w a catalogue it workers number pass duty tick wait flags) where
-  no-pause : w.tells → (w.waited wait).pauses ≡ 0
-  no-pause told = ap (λ (it : Waited). it.pauses) (ready.waited told)
+  -- a worker that listens at a bell, and has not paused yet
+  module _ (bell : ℕ) (tuned : W) (listened : w.tells → w.waited tuned ≡ listening bell (w.waited wait)) where
+    tuned-fresh : w.tells → w.waited tuned ≡ listening bell (new_waited workers)
+    tuned-fresh told = listened told ∙ ap (listening bell) (ready.waited told)
+
+    pub no-pause : w.tells → (w.waited tuned).pauses ≡ 0
+    no-pause told = ap (λ (it : Waited). it.pauses) (tuned-fresh told)
 
   pub has-left-nothing : (wait' : W) → (w.tells → WaitedAt workers number 0 (w.waited wait')) → HasLeft g h k w a false (terms_of catalogue (g.denies it) workers heeds tells h.tells k.tells w.tells) it number pass duty tick wait' flags
   has-left-nothing wait' waits = record {
@@ -84,13 +92,13 @@ module _ {G Pass H In Out C W A : Type 0} (g : desk.Ghosts G Pass) (h : host.Gho
     ended = tt;
   }
 
-  module _ (pass' : Pass) (tick' : C) (wait' : W) (most : ℕ) (enough : last_number ≤ most) (end : WorkEnd) (own : g.owns it pass') (parts : g.parts pass' ≡ g.parts pass) (clock : ClockCause (k.faults tick) (k.faults tick') end)
-      (cause : EndCause (g.seen pass') w.tells (w.waited wait').closed (w.closes wait) (w.closes wait') end) (paused : w.tells → PausedFor tick_pause (w.waited wait) (w.waited wait')) where
-    pub has-left-time : duty ≡ Time → Expired (own_of g pass) (own_of g pass') k.tells (k.given tick) (k.given tick') w.tells (w.waited wait).pauses (w.waited wait').pauses most end →
+  module _ (pass' : Pass) (tick' : C) (tuned wait' : W) (listened : w.tells → w.waited tuned ≡ listening time_bell (w.waited wait)) (most : ℕ) (enough : last_number ≤ most) (end : WorkEnd) (own : g.owns it pass') (parts : g.parts pass' ≡ g.parts pass) (clock : ClockCause (k.faults tick) (k.faults tick') end)
+      (cause : EndCause (g.seen pass') w.tells (w.waited wait').closed (w.closes tuned) (w.closes wait') end) (paused : w.tells → PausedFor tick_pause (w.waited tuned) (w.waited wait')) where
+    pub has-left-time : duty ≡ Time → Expired (own_of g pass) (own_of g pass') k.tells (k.given tick) (k.given tick') w.tells (w.waited tuned).pauses (w.waited wait').pauses most end →
         HasLeft g h k w a true (terms_of catalogue (g.denies it) workers heeds tells h.tells k.tells w.tells) it number pass' duty tick' wait' (flags_after (trouble_of_work end) flags)
     has-left-time is expired =
         let left = left-time catalogue (g.denies it) workers number heeds tells h.tells k.tells w.tells (own_of g pass) (own_of g pass') (g.seen pass') (k.given tick) (k.given tick') (k.faults tick) (k.faults tick')
-        (w.waited wait).pauses most (w.closes wait) (w.closes wait') (w.waited wait') end flags ready.empty ready.given no-pause ready.clock_faults ready.unmarked clock cause
+        (w.waited tuned).pauses most (w.closes tuned) (w.closes wait') (w.waited wait') end flags ready.empty ready.given (no-pause time_bell tuned listened) ready.clock_faults ready.unmarked clock cause
         (subst (IsFreshDuty h workers number) is ready.fresh) expired in
         subst (λ d. HasLeft g h k w a true (terms_of catalogue (g.denies it) workers heeds tells h.tells k.tells w.tells) it number pass' d tick' wait' (flags_after (trouble_of_work end) flags)) (sym is)
         (record {
@@ -100,24 +108,25 @@ module _ {G Pass H In Out C W A : Type 0} (g : desk.Ghosts G Pass) (h : host.Gho
           left = left.2;
           called = tt;
           noted = (refl, tt);
-          waits = λ told. waited-time workers number (w.waited wait) (w.waited wait') (ready.waited told) 1 (subst (IsFreshDuty h workers number) is ready.fresh) (paused told);
+          waits = λ told. waited-time workers number (w.waited tuned) (w.waited wait') (tuned-fresh time_bell tuned listened told) 1 (subst (IsFreshDuty h workers number) is ready.fresh) (paused told);
           placed = subst (IsFreshDuty h workers number) is ready.fresh;
           worked = λ ran low. worked-one workers number (beat (w.waited wait') left.0) (subst (IsFreshDuty h workers number) is ready.fresh);
           ended = (
             (λ told few uncut. time-ended (points_of catalogue) k.tells w.tells (own_of g pass) (own_of g pass') (g.seen pass') (k.given tick) (k.given tick')
-                (w.waited wait).pauses (w.waited wait').pauses most (w.closes wait) (w.closes wait') (w.waited wait').closed end ready.empty no-pause cause enough told expired few (sym left.1 ∙ uncut)),
+                (w.waited tuned).pauses (w.waited wait').pauses most (w.closes tuned) (w.closes wait') (w.waited wait').closed end ready.empty (no-pause time_bell tuned listened) cause enough told expired few (sym left.1 ∙ uncut)),
             tt,
           );
         })
 
-  module _ (pass' : Pass) (tick' : C) (wait' : W) (most : ℕ) (enough : last_number ≤ most) (trouble : Trouble) (own : g.owns it pass') (parts : g.parts pass' ≡ g.parts pass)
+  module _ (pass' : Pass) (tick' : C) (tuned wait' : W) (most : ℕ) (enough : last_number ≤ most) (trouble : Trouble) (own : g.owns it pass') (parts : g.parts pass' ≡ g.parts pass)
       (clock : ClockTrouble (k.faults tick) (k.faults tick') trouble) (broken : trouble ≡ Disk → is_broken (g.seen pass') ≡ true)
-      (was_told : WasTold (own_of g pass) (own_of g pass') w.tells (w.waited wait').closed most trouble) (paused : w.tells → PausedFor drive_pause (w.waited wait) (w.waited wait')) where
-    pub has-left-devices : (driver : ℕ) (devices devices' : A) (was : Snapshot A) → duty ≡ Devices driver devices was →
+      (was_told : WasTold (own_of g pass) (own_of g pass') w.tells (w.waited wait').closed most trouble) (paused : w.tells → PausedWithin held_pause drive_pause (w.waited tuned) (w.waited wait')) where
+    pub has-left-devices : (driver : ℕ) (devices devices' : A) (was : Snapshot A) →
+        (w.tells → w.waited tuned ≡ listening (driver_bell driver) (w.waited wait)) → duty ≡ Devices driver devices was →
         Drove catalogue driver k.tells a.tells (record { own = own_of g pass; given = k.given tick; whole = a.whole devices; calls = a.calls devices })
         (record { own = own_of g pass'; given = k.given tick'; whole = a.whole devices'; calls = a.calls devices' }) w.tells (w.waited wait').pauses trouble →
         HasLeft g h k w a true (terms_of catalogue (g.denies it) workers heeds tells h.tells k.tells w.tells) it number pass' (Devices driver devices' was) tick' wait' (flags_after trouble flags)
-    has-left-devices driver devices devices' was is drove =
+    has-left-devices driver devices devices' was listened is drove =
         let fresh = subst (IsFreshDuty h workers number) is ready.fresh in
         let old : Stand = record { own = own_of g pass; given = k.given tick; whole = a.whole devices; calls = a.calls devices } in
         let new : Stand = record { own = own_of g pass'; given = k.given tick'; whole = a.whole devices'; calls = a.calls devices' } in
@@ -129,7 +138,7 @@ module _ {G Pass H In Out C W A : Type 0} (g : desk.Ghosts G Pass) (h : host.Gho
               ready.empty ready.given ready.clock_faults ready.unmarked clock broken driver drove fresh.0;
           called = λ told whole. calls-driven driver (w.waited wait') drove.course (a.calls was.value) (a.calls devices) (a.calls devices') drove.calls (ap a.calls fresh.1) (drove.wrote told whole).1;
           noted = (refl, tt);
-          waits = λ told. waited-drive workers number (w.waited wait) (w.waited wait') (ready.waited told) 1 driver fresh.0 (paused told);
+          waits = λ told. waited-drive workers number (w.waited tuned) (w.waited wait') 1 driver (tuned-fresh (driver_bell driver) tuned listened told) fresh.0 (paused told);
           placed = fresh.0;
           worked = λ ran low. worked-one workers number (drive driver drove.calls (w.waited wait') drove.course) fresh.0;
           ended = (

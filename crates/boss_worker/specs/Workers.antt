@@ -77,7 +77,7 @@ HasCalls a works (Connections part) = Unit {0}
 HasCalls a works Time = Unit {0}
 HasCalls a works (Devices driver devices was) = a.tells → a.whole devices → a.calls devices ≡ a.calls was.value ++ calls_in driver works
 
-module _ {G Pass H In Out C W A : Type 0} (g : desk.Ghosts G Pass) (h : host.Ghosts H In Out) (k : clock.Ghosts C) (w : waiter.Ghosts W) (a : actuators.Ghosts A) where
+module _ {G Pass H In Out C W Bells A : Type 0} (g : desk.Ghosts G Pass) (h : host.Ghosts H In Out) (k : clock.Ghosts C) (w : waiter.Ghosts W Bells) (a : actuators.Ghosts A) where
   -- a worker that has not begun: its parts are fresh, and its waiter was told how many workers are waited for
   pub record IsReady (catalogue : Catalogue) (desk : G) (workers number : ℕ) (pass : Pass) (duty : Duty H A) (clock : C) (waiter : W) (flags : Flags) : Type 0 where
     pub own : g.owns desk pass

@@ -1,9 +1,9 @@
 ghost use Rattle.std.specs.Prelude.{◌≡◌, true};
 ghost use Rattle.boss_model.specs.Catalogue.{actuators};
-ghost use Rattle.boss_model.specs.Limits.{drive_pause};
+ghost use Rattle.boss_outside_server.specs.Pauses.{drive_pause, held_pause};
 ghost use Rattle.boss_lock.specs.Places.{entries_at};
 ghost use Rattle.def_history.specs.History.{is_broken};
-ghost use Rattle.def_lanes.specs.Waits.{PausedFor};
+ghost use Rattle.def_lanes.specs.Waits.{PausedWithin};
 ghost use Rattle.boss_worker.specs.declared.trouble.Trouble.TheVariants.{Disk};
 ghost use Rattle.boss_worker.specs.Drove.{Drove, WasTold};
 ghost use Rattle.boss_worker.specs.Troubles.{ClockTrouble};
@@ -41,7 +41,7 @@ pub(crate) fn drive_devices<G: Desk, A: Actuators, C: Clock, W: Waiter>(
         (record { own = entries_at (G.seen pass.old) (G.mine pass.old); given = C.given clock.old; whole = A.whole devices.old; calls = A.calls devices.old })
         (record { own = entries_at (G.seen pass.new) (G.mine pass.new); given = C.given clock.new; whole = A.whole devices.new; calls = A.calls devices.new })
         W.tells (W.waited waiter.new).pauses result }
-    ensures waited { W.tells → PausedFor drive_pause (W.waited waiter.old) (W.waited waiter.new) }
+    ensures waited { W.tells → PausedWithin held_pause drive_pause (W.waited waiter.old) (W.waited waiter.new) }
     ensures clock { ClockTrouble (C.faults clock.old) (C.faults clock.new) result }
     ensures disk { result ≡ Disk → is_broken (G.seen pass.new) ≡ true }
     ensures told { WasTold (entries_at (G.seen pass.old) (G.mine pass.old)) (entries_at (G.seen pass.new) (G.mine pass.new)) W.tells (W.waited waiter.new).closed turns result }

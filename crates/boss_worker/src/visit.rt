@@ -1,10 +1,10 @@
 ghost use Rattle.std.specs.Prelude.{◌≡◌, ◌<◌, ℕ, List, true, None};
 ghost use Rattle.boss_model.specs.Catalogue.{actuators};
-ghost use Rattle.boss_model.specs.Limits.{watch_pause};
+ghost use Rattle.boss_outside_server.specs.Pauses.{watch_pause};
 ghost use Rattle.def_history.specs.History.{is_broken};
 ghost use Rattle.def_lanes.specs.Lanes.{of_session};
 ghost use Rattle.def_lanes.specs.Parts.{Added};
-ghost use Rattle.def_lanes.specs.Waits.{PausedFor};
+ghost use Rattle.def_lanes.specs.Waits.{PausedAround};
 ghost use Rattle.boss_outside_server.specs.Hosts.{IsUntouched, served_of};
 ghost use Rattle.boss_sessions.specs.Holding.{Holds, LeavesOthers};
 ghost use Rattle.boss_worker.specs.declared.trouble.Trouble.TheVariants.{Disk};
@@ -15,7 +15,7 @@ ghost use Rattle.boss_worker.specs.Troubles.{course_by, ClockTrouble};
 use crate::Trouble;
 use crate::trouble::{session_trouble, watch_trouble};
 use boss_model::SessionId;
-use boss_outside::{Hears, Sink};
+use boss_outside::{Hears, Sink, name_bell};
 use boss_outside_server::{Clock, Waiter};
 use boss_points::Catalogue;
 use boss_sessions::{SessionEnd, serve_connection};
@@ -23,7 +23,7 @@ use boss_shared::Desk;
 use boss_watching::watch_connection;
 use std::alloc::Global;
 
-/// Serves a connection that was handed out, which watches a process where its first line asks for it, and tells what of its end
+/// Serves a connection that was handed out, which watches a process where its first line asks for it, woken by the process's bell, and tells what of its end
 /// concerns the server. The connection agrees with all that was done for it.
 pub(crate) fn attend<G: Desk, S: Hears<K>, K: Sink, C: Clock, W: Waiter>(
     alloc: Global,
@@ -47,14 +47,17 @@ pub(crate) fn attend<G: Desk, S: Hears<K>, K: Sink, C: Clock, W: Waiter>(
         (λ entries. S.tells → IsVisit catalogue.now (G.denies desk.now) K.tells (served_of S.Source K.Sink session input.new output.new) (course_by moments result) entries)
         C.tells moments (own_of G.Desk pass.old) (own_of G.Desk pass.new) (C.given clock.old) (C.given clock.new) }
     ensures others { LeavesOthers (G.denies desk.now) session (G.held pass.old) (G.held pass.new) }
-    ensures waited { W.tells → PausedFor watch_pause (W.waited waiter.old) (W.waited waiter.new) }
+    ensures waited { W.tells → PausedAround watch_pause (W.waited waiter.old) (W.waited waiter.new) }
     ensures clocked { ClockTrouble (C.faults clock.old) (C.faults clock.new) result }
     ensures broken { result ≡ Disk → is_broken (G.seen pass.new) ≡ true }
 {
     match serve_connection(alloc, desk, pass, catalogue, session, input, output, clock) {
-        SessionEnd::Watch { name, from } => watch_trouble(watch_connection(
-            alloc, desk, pass, catalogue, session, &name, from, output, clock, waiter,
-        )),
+        SessionEnd::Watch { name, from } => {
+            waiter.listen(name_bell(&name));
+            watch_trouble(watch_connection(
+                alloc, desk, pass, catalogue, session, &name, from, output, clock, waiter,
+            ))
+        }
         end => session_trouble(&end),
     }
 }

@@ -1,8 +1,9 @@
 ghost use Rattle.std.specs.Prelude.{◌≡◌, ◌<◌, ◌≤◌, [], List, true};
 ghost use Rattle.boss_model.specs.Catalogue.{actuators};
-ghost use Rattle.boss_model.specs.Limits.{most_workers, watch_pause};
+ghost use Rattle.boss_model.specs.Limits.{most_workers};
+ghost use Rattle.boss_outside_server.specs.Pauses.{watch_pause};
 ghost use Rattle.def_history.specs.History.{deeds};
-ghost use Rattle.def_lanes.specs.Waits.{PausedFor};
+ghost use Rattle.def_lanes.specs.Waits.{PausedAround};
 ghost use Rattle.def_lanes.specs.Works.{Work};
 ghost use Rattle.boss_shared.specs.Gates.{AreFree};
 ghost use Rattle.boss_worker.specs.Desks.{own_of};
@@ -43,7 +44,7 @@ pub(crate) fn attend_all<G: Desk, H: Host, C: Clock, W: Waiter>(
         (own_of G.Desk pass.new) (G.seen pass.new) (H.served host.old) (H.served host.new) (C.given clock.old) (C.given clock.new)
         (H.handed host.new) (H.faults host.new) (C.faults clock.new) result.0 }
     ensures count { result.1 ≡ H.handed host.new }
-    ensures waited { W.tells → PausedFor watch_pause (W.waited waiter.old) (W.waited waiter.new) }
+    ensures waited { W.tells → PausedAround watch_pause (W.waited waiter.old) (W.waited waiter.new) }
 {
     let mut flags = Flags::none();
     let mut next = 1 + u64::from(number);

@@ -7,7 +7,7 @@ use crate::trouble::work_trouble;
 use crate::visits::attend_all;
 use crate::{Duty, Flags, Server};
 use boss_expiry::expire;
-use boss_outside::Actuators;
+use boss_outside::{Actuators, TIME_BELL, driver_bell};
 use boss_outside_server::{Clock, Host, Task, Waiter};
 use boss_shared::Desk;
 use std::alloc::Global;
@@ -61,6 +61,7 @@ impl<'a, G: Desk, H: Host, C: Clock, W: Waiter, A: Actuators + Drop> Task
                 self.waiter.leave(connections);
             }
             Duty::Time => {
+                self.waiter.listen(TIME_BELL);
                 let end = expire(
                     &self.server.desk,
                     &mut self.pass,
@@ -71,6 +72,7 @@ impl<'a, G: Desk, H: Host, C: Clock, W: Waiter, A: Actuators + Drop> Task
                 self.flags = self.flags.after(work_trouble(end));
             }
             Duty::Devices(driver, devices, _) => {
+                self.waiter.listen(driver_bell(*driver));
                 let trouble = drive_devices(
                     self.alloc,
                     &self.server.desk,

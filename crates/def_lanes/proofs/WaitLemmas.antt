@@ -1,5 +1,5 @@
--- What waiters noted stands at the places of their workers; and pauses are counted, and keep their length.
-use Rattle.std.proofs.Common.{◌≡◌, ◌⊎◌, inl, inr, ℕ, zero, suc, ◌+◌, ◌<◌, ◌≤◌, ◌==◌, Bool, List, [], ◌∷◌, ◌++◌, length, cond, true, false, Some, refl, sym, ap, ◌∙◌, subst, arith}
+-- What waiters noted stands at the places of their workers; and pauses are counted, and keep their lengths.
+use Rattle.std.proofs.Common.{◌≡◌, ◌⊎◌, inl, inr, ℕ, zero, suc, ◌+◌, ◌<◌, ◌≤◌, ◌==◌, min, max, Bool, List, [], ◌∷◌, ◌++◌, length, cond, true, false, Some, refl, sym, ap, ◌∙◌, subst, arith}
 use Rattle.std.proofs.lemmas.Bool.{cond-true, cond-false}
 use Rattle.std.proofs.lemmas.Bool.Decides.{nat_tests}
 use Rattle.std.specs.List.{AllByRecursion, filter, slice_get}
@@ -7,12 +7,13 @@ use Rattle.boss_model.specs.Limits.{last_number}
 use Rattle.def_history.specs.declared.entry.Entry.{Entry}
 use Rattle.def_history.specs.declared.entry.Entry.TheVariants.{Did, Broke}
 use Rattle.def_history.specs.History.{deeds}
-use Rattle.boss_outside_server.specs.declared.waited.Lengths.TheVariants.{Each, Various}
+use Rattle.boss_outside_server.specs.declared.waited.Lengths.{Lengths}
+use Rattle.boss_outside_server.specs.declared.waited.Lengths.TheVariants.{Within}
 use Rattle.boss_outside_server.specs.declared.waited.Waited.{Waited}
 use Rattle.boss_outside_server.specs.declared.waiter.Woke.{Woke}
-use Rattle.boss_outside_server.specs.Waits.{after_pause, lengths_after, one_pause_more}
+use Rattle.boss_outside_server.specs.Waits.{after_pause, lengths_after, listening, one_pause_more}
 use Rattle.def_lanes.specs.Lanes.{only}
-use Rattle.def_lanes.specs.Waits.{AreWaited, AreWaitedAt, IsNoteOf, IsSteady, IsWaited, PausedFor, WaitedAt, lengths_of, paused}
+use Rattle.def_lanes.specs.Waits.{AreWaited, AreWaitedAt, AreWithin, IsNoteOf, IsWaited, PausedAround, PausedFor, PausedWithin, WaitedAt, paused}
 use Rattle.def_lanes.specs.Works.{Work, visit, beat, drive, owner, count_of, AreOf}
 use Rattle.def_lanes.proofs.Lists.{each-append, each-map, each-both}
 
@@ -118,36 +119,75 @@ waited-at-next workers notes note xs ys before of_first of_next last number wait
         (subst (WaitedAt workers (length notes) (count_of workers (length notes) (xs ++ ys))) here.1
         (subst (λ count. WaitedAt workers (length notes) count note) same last))
 
--- ---- pauses of one length
+-- ---- pauses of a length from a least to a most
 
-some-lengths : (pauses milliseconds : ℕ) → 0 < pauses → lengths_of pauses milliseconds ≡ Each milliseconds
-some-lengths zero milliseconds some = absurd (omega arith)
-some-lengths (suc pauses) milliseconds some = refl
+some-within : (pauses least most low high : ℕ) → 0 < pauses → least ≤ low → low ≤ high → high ≤ most → AreWithin pauses least most (Within low high)
+some-within zero least most low high some less ordered more = absurd (omega arith)
+some-within (suc pauses) least most low high some less ordered more = (low, high, refl, less, ordered, more)
 
-one-more : (pauses milliseconds : ℕ) → lengths_after (lengths_of pauses milliseconds) milliseconds ≡ Each milliseconds
-one-more zero milliseconds = refl
-one-more (suc pauses) milliseconds =
-    let same : (milliseconds == milliseconds) ≡ true = grind (arith, nat_tests) in
-    cond-true (milliseconds == milliseconds) (Each milliseconds) Various same
+within-more : (pauses least most milliseconds : ℕ) (lengths : Lengths) → least ≤ milliseconds → milliseconds ≤ most → AreWithin pauses least most lengths →
+    AreWithin (one_pause_more pauses) least most (lengths_after lengths milliseconds)
+within-more zero least most milliseconds lengths less more is =
+    subst (λ (before : Lengths). AreWithin (one_pause_more zero) least most (lengths_after before milliseconds)) (sym is)
+    (some-within (one_pause_more zero) least most milliseconds milliseconds (omega arith) less (omega arith) more)
+within-more (suc pauses) least most milliseconds lengths less more (low, high, is, fits, ordered, ends) =
+    subst (λ (before : Lengths). AreWithin (one_pause_more (suc pauses)) least most (lengths_after before milliseconds)) (sym is)
+    (some-within (one_pause_more (suc pauses)) least most (min low milliseconds) (max high milliseconds)
+    (omega arith) (omega arith) (omega arith) (omega arith))
 
-steady-more : (milliseconds : ℕ) (old : Waited) → IsSteady milliseconds old → lengths_after old.lengths milliseconds ≡ lengths_of (one_pause_more old.pauses) milliseconds
-steady-more milliseconds old is =
-    ap (λ lengths. lengths_after lengths milliseconds) is ∙ one-more old.pauses milliseconds
-    ∙ sym (some-lengths (one_pause_more old.pauses) milliseconds (omega arith))
+pub within-wider : (pauses least low high most : ℕ) (lengths : Lengths) → least ≤ low → high ≤ most → AreWithin pauses low high lengths →
+    AreWithin pauses least most lengths
+within-wider zero least low high most lengths less more is = is
+within-wider (suc pauses) least low high most lengths less more (from, to, is, fits, ordered, ends) =
+    (from, to, is, omega arith, ordered, omega arith)
 
-pub paused-none : (milliseconds : ℕ) (waited : Waited) → PausedFor milliseconds waited waited
-paused-none milliseconds waited = record { steady = λ is. is; expected = refl; leaving = refl }
+pub none-within : (least most : ℕ) (waited : Waited) → PausedWithin least most waited waited
+none-within least most waited = record { steady = λ is. is; expected = refl; leaving = refl; bell = refl }
 
-pub paused-one : (milliseconds : ℕ) (woke : Woke) (old new : Waited) → new ≡ after_pause milliseconds woke old → PausedFor milliseconds old new
-paused-one milliseconds woke old new is =
-    subst (PausedFor milliseconds old) (sym is) (record { steady = steady-more milliseconds old; expected = refl; leaving = refl })
+pub one-within : (least most milliseconds : ℕ) (woke : Woke) (old new : Waited) → least ≤ milliseconds → milliseconds ≤ most →
+    new ≡ after_pause milliseconds woke old → PausedWithin least most old new
+one-within least most milliseconds woke old new less more is =
+    subst (PausedWithin least most old) (sym is)
+    (record { steady = within-more old.pauses least most milliseconds old.lengths less more; expected = refl; leaving = refl; bell = refl })
 
-pub paused-both : (milliseconds : ℕ) (old between new : Waited) → PausedFor milliseconds old between → PausedFor milliseconds between new →
-    PausedFor milliseconds old new
-paused-both milliseconds old between new first then = record {
+pub both-within : (least most : ℕ) (old between new : Waited) → PausedWithin least most old between → PausedWithin least most between new →
+    PausedWithin least most old new
+both-within least most old between new first then = record {
   steady = λ is. then.steady (first.steady is);
   expected = then.expected ∙ first.expected;
   leaving = then.leaving ∙ first.leaving;
+  bell = then.bell ∙ first.bell;
+}
+
+-- of one length
+
+pub paused-none : (milliseconds : ℕ) (waited : Waited) → PausedFor milliseconds waited waited
+paused-none milliseconds waited = none-within milliseconds milliseconds waited
+
+pub paused-one : (milliseconds : ℕ) (woke : Woke) (old new : Waited) → new ≡ after_pause milliseconds woke old → PausedFor milliseconds old new
+paused-one milliseconds woke old new is = one-within milliseconds milliseconds milliseconds woke old new (omega arith) (omega arith) is
+
+pub paused-both : (milliseconds : ℕ) (old between new : Waited) → PausedFor milliseconds old between → PausedFor milliseconds between new →
+    PausedFor milliseconds old new
+paused-both milliseconds old between new first then = both-within milliseconds milliseconds old between new first then
+
+-- where bells are listened at
+
+pub around-none : (milliseconds : ℕ) (waited : Waited) → PausedAround milliseconds waited waited
+around-none milliseconds waited = record { steady = λ is. is; expected = refl; leaving = refl; bell = refl }
+
+pub around-at : (milliseconds bell : ℕ) (old between new : Waited) → between ≡ listening bell old → PausedFor milliseconds between new → PausedAround milliseconds old new
+around-at milliseconds bell old between new heard paused =
+    let after : PausedFor milliseconds (listening bell old) new = subst (λ at. PausedFor milliseconds at new) heard paused in
+    record { steady = after.steady; expected = after.expected; leaving = after.leaving; bell = refl }
+
+pub around-both : (milliseconds : ℕ) (old between new : Waited) → PausedAround milliseconds old between → PausedAround milliseconds between new →
+    PausedAround milliseconds old new
+around-both milliseconds old between new first then = record {
+  steady = λ is. then.steady (first.steady is);
+  expected = then.expected ∙ first.expected;
+  leaving = then.leaving ∙ first.leaving;
+  bell = refl;
 }
 
 -- ---- counts

@@ -1,12 +1,13 @@
 -- Source: own.
 -- How workers waited, as their waiters noted it.
-use Rattle.std.specs.Prelude.{◌≡◌, ℕ, zero, suc, ◌+◌, ◌<◌, List, Some, slice_get}
+use Rattle.std.specs.Prelude.{◌≡◌, ℕ, zero, suc, ◌+◌, ◌<◌, ◌≤◌, List, Some, slice_get}
 use Rattle.std.specs.List.{AllByRecursion}
-use Rattle.boss_model.specs.Limits.{drive_pause, tick_pause, watch_pause}
+use Rattle.boss_outside.specs.Bells.{driver_bell, time_bell}
+use Rattle.boss_outside_server.specs.Pauses.{drive_pause, held_pause, tick_pause, watch_pause}
 use Rattle.boss_outside_server.specs.declared.waited.Leaving.{Leaving}
 use Rattle.boss_outside_server.specs.declared.waited.Leaving.TheVariants.{NotYet, Once}
 use Rattle.boss_outside_server.specs.declared.waited.Lengths.{Lengths}
-use Rattle.boss_outside_server.specs.declared.waited.Lengths.TheVariants.{NoPause, Each}
+use Rattle.boss_outside_server.specs.declared.waited.Lengths.TheVariants.{NoPause, Within}
 use Rattle.boss_outside_server.specs.declared.waited.Waited.{Waited}
 use Rattle.boss_outside_server.specs.Waits.{one_pause_more}
 use Rattle.def_lanes.specs.Works.{Work, visit, beat, drive, count_of}
@@ -18,19 +19,32 @@ abbrev pub paused : ℕ → ℕ → ℕ
 paused zero pauses = pauses
 paused (suc turns) pauses = one_pause_more (paused turns pauses)
 
--- how long so many pauses are, if each is so long, in milliseconds
-abbrev pub lengths_of : ℕ → ℕ → Lengths
-lengths_of zero milliseconds = NoPause
-lengths_of (suc pauses) milliseconds = Each milliseconds
+-- of so many pauses each was so long at least, and so long at most, in milliseconds
+abbrev pub AreWithin : ℕ → ℕ → ℕ → Lengths → Type 0
+AreWithin zero least most lengths = lengths ≡ NoPause
+AreWithin (suc pauses) least most lengths = (low : ℕ) × (high : ℕ) × (lengths ≡ Within low high) × (least ≤ low) × (low ≤ high) × (high ≤ most)
 
-abbrev pub IsSteady : ℕ → Waited → Type 0
-IsSteady milliseconds waited = waited.lengths ≡ lengths_of waited.pauses milliseconds
+abbrev pub IsSteady : ℕ → ℕ → Waited → Type 0
+IsSteady least most waited = AreWithin waited.pauses least most waited.lengths
 
--- A call did no more with a waiter than to make pauses, each of this length
-pub record PausedFor (milliseconds : ℕ) (old new : Waited) : Type 0 where
-  pub steady : IsSteady milliseconds old → IsSteady milliseconds new
+-- A call did no more with a waiter than to make pauses, each of which was so long at least and so long at most
+pub record PausedWithin (least most : ℕ) (old new : Waited) : Type 0 where
+  pub steady : IsSteady least most old → IsSteady least most new
   pub expected : new.expected ≡ old.expected
   pub leaving : new.leaving ≡ old.leaving
+  pub bell : new.bell ≡ old.bell
+
+-- each of one length
+abbrev pub PausedFor : ℕ → Waited → Waited → Type 0
+PausedFor milliseconds old new = PausedWithin milliseconds milliseconds old new
+
+-- the same, where it listened at bells too
+abbrev pub PausedAround : ℕ → Waited → Waited → Type 0
+PausedAround milliseconds old new = PausedFor milliseconds (record old { bell = new.bell }) new
+
+-- where there was a pause, the worker had listened at this bell
+abbrev pub Listened : ℕ → Waited → Type 0
+Listened bell waited = 0 < waited.pauses → waited.bell ≡ Some bell
 
 -- ---- workers at their places
 
@@ -49,18 +63,21 @@ IsWaited workers notes (drive driver calls waited course) = slice_get notes (wor
 abbrev pub AreWaited : ℕ → List Waited → List Work → Type 0
 AreWaited workers notes works = AllByRecursion (IsWaited workers notes) works
 
--- all pauses were so long, and the worker left so
-pub record WaitedSo (milliseconds : ℕ) (leaving : Leaving) (waited : Waited) : Type 0 where
-  pub steady : IsSteady milliseconds waited
+-- all pauses were so long at least and at most, and the worker left so
+pub record WaitedSo (least most : ℕ) (leaving : Leaving) (waited : Waited) : Type 0 where
+  pub steady : IsSteady least most waited
   pub left : waited.leaving ≡ leaving
 
 -- A worker of a server, with this number, that has so many workers for connections. Before it began it was told how many of
--- them are waited for. One that serves connections, here so many, leaves once, behind the last; no other ever leaves
+-- them are waited for. One that serves connections, here so many, leaves once, behind the last; no other ever leaves. The workers for
+-- time and for a driver listen at bells of their own
 pub record WaitedAt (workers number connections : ℕ) (waited : Waited) : Type 0 where
   pub told : waited.expected ≡ workers
-  pub serves : number < workers → WaitedSo watch_pause (Once connections) waited
-  pub ticks : number ≡ workers → WaitedSo tick_pause NotYet waited
-  pub drives : workers < number → WaitedSo drive_pause NotYet waited
+  pub serves : number < workers → WaitedSo watch_pause watch_pause (Once connections) waited
+  pub ticks : number ≡ workers → WaitedSo tick_pause tick_pause NotYet waited
+  pub drives : workers < number → WaitedSo held_pause drive_pause NotYet waited
+  pub hears_time : number ≡ workers → Listened time_bell waited
+  pub hears_driver : (driver : ℕ) → number ≡ workers + 1 + driver → Listened (driver_bell driver) waited
 
 -- the same of each worker, and of what it did
 abbrev pub AreWaitedAt : ℕ → List Waited → List Work → Type 0

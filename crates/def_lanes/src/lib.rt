@@ -42,4 +42,7 @@ pub use lanes::{
 };
 pub use parts::parts_come_together;
 pub use server::Server;
-pub use waits::{notes_stand_at_their_places, pauses_are_counted, pauses_keep_their_length};
+pub use waits::{
+    notes_stand_at_their_places, pauses_are_counted, pauses_keep_their_length,
+    pauses_keep_their_length_at_any_bell,
+};

@@ -1,5 +1,5 @@
 use Rattle.std.proofs.Common.{◌+◌, refl, sym, ap, subst, arith, ◌∙◌}
-use Rattle.boss_model.specs.Limits.{drive_pause}
+use Rattle.boss_outside_server.specs.Pauses.{drive_pause}
 use Rattle.boss_outside_server.specs.declared.waited.Waited.{Waited}
 use Rattle.def_lanes.specs.Waits.{PausedFor}
 use Rattle.def_lanes.proofs.WaitLemmas.{paused-none, paused-one, paused-both}

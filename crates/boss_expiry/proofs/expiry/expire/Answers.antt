@@ -1,5 +1,5 @@
 use Rattle.std.proofs.Common.{◌+◌, refl, ap, arith, ◌∙◌}
-use Rattle.boss_model.specs.Limits.{tick_pause}
+use Rattle.boss_outside_server.specs.Pauses.{tick_pause}
 use Rattle.boss_lock.specs.Places.{entries_at}
 use Rattle.boss_outside_server.specs.declared.waited.Waited.{Waited}
 use Rattle.def_lanes.proofs.WaitLemmas.{paused-none, paused-one, paused-both}

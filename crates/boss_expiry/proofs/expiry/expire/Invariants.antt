@@ -1,5 +1,5 @@
 use Rattle.std.proofs.Common.{◌≡◌, ◌<◌}
-use Rattle.boss_model.specs.Limits.{tick_pause}
+use Rattle.boss_outside_server.specs.Pauses.{tick_pause}
 use Rattle.boss_lock.specs.Places.{entries_at}
 use Rattle.def_lanes.specs.Waits.{PausedFor}
 use Rattle.boss_expiry.proofs.Turns.{TookSome}

@@ -1,8 +1,8 @@
 use Rattle.std.proofs.Common.{◌+◌, refl, sym, ap, subst, arith, ◌∙◌}
-use Rattle.boss_model.specs.Limits.{drive_pause}
+use Rattle.boss_outside_server.specs.Pauses.{drive_pause, held_pause}
 use Rattle.boss_outside_server.specs.declared.waited.Waited.{Waited}
-use Rattle.def_lanes.specs.Waits.{PausedFor}
-use Rattle.def_lanes.proofs.WaitLemmas.{paused-none, paused-one, paused-both}
+use Rattle.def_lanes.specs.Waits.{PausedWithin}
+use Rattle.def_lanes.proofs.WaitLemmas.{both-within, none-within, one-within}
 use Rattle.boss_lock.specs.Places.{entries_at}
 use Rattle.boss_expiry.specs.declared.end.WorkEnd.TheVariants.{Closed}
 use Rattle.boss_drive.specs.Driving.{Stand}
@@ -23,7 +23,7 @@ loop-number-init g c = record {
       g.W.Waiter.tells (g.W.Waiter.waited c.args.waiter.now).pauses;
   long = refl;
   soon = omega arith;
-  waited = λ tells. paused-none drive_pause (g.W.Waiter.waited c.args.waiter.now);
+  waited = λ tells. none-within held_pause drive_pause (g.W.Waiter.waited c.args.waiter.now);
   clock = refl;
   closes = λ _. refl;
 }
@@ -57,8 +57,8 @@ returns-then-number-turns-clause-turned g c =
     (omega (arith, c.if-number-turns.true))
 
 pub returns-then-number-turns-clause-waited : goal.returns-then-number-turns-clause-waited
-returns-then-number-turns-clause-waited g c = λ tells. paused-both drive_pause (g.W.Waiter.waited c.args.waiter.now) (g.W.Waiter.waited c.loop-number.waiter) (g.W.Waiter.waited c.pause.new.self)
-    (c.loop-number.invariant.waited tells) (paused-one drive_pause c.pause.result (g.W.Waiter.waited c.loop-number.waiter) (g.W.Waiter.waited c.pause.new.self) (c.pause.ensures.counted tells).0)
+returns-then-number-turns-clause-waited g c = λ tells. both-within held_pause drive_pause (g.W.Waiter.waited c.args.waiter.now) (g.W.Waiter.waited c.loop-number.waiter) (g.W.Waiter.waited c.pause.new.self)
+    (c.loop-number.invariant.waited tells) (one-within held_pause drive_pause c.rest_of.result c.pause.result (g.W.Waiter.waited c.loop-number.waiter) (g.W.Waiter.waited c.pause.new.self) c.rest_of.ensures.least c.rest_of.ensures.most (c.pause.ensures.counted tells).0)
 
 -- one turn more was whole
 pub loop-number-preserved : goal.loop-number-preserved
@@ -84,13 +84,13 @@ loop-number-preserved g c =
       long = c.turn.ensures.long ∙ c.loop-number.invariant.long;
       soon = c.in-Ok.ensures.soon;
       waited = λ tells. elim c.if-not-written.branch [
-        | then-not-written+in-Close+else-number-turns w ↦ subst (PausedFor drive_pause (g.W.Waiter.waited c.args.waiter.now)) (sym (ap g.W.Waiter.waited w.waiter-is))
-            (paused-both drive_pause (g.W.Waiter.waited c.args.waiter.now) (g.W.Waiter.waited c.loop-number.waiter) (g.W.Waiter.waited w.pause.new.self)
-            (c.loop-number.invariant.waited tells) (paused-one drive_pause w.pause.result (g.W.Waiter.waited c.loop-number.waiter) (g.W.Waiter.waited w.pause.new.self) (w.pause.ensures.counted tells).0))
-        | then-not-written+in_default w ↦ subst (PausedFor drive_pause (g.W.Waiter.waited c.args.waiter.now)) (sym (ap g.W.Waiter.waited w.waiter-is))
-            (paused-both drive_pause (g.W.Waiter.waited c.args.waiter.now) (g.W.Waiter.waited c.loop-number.waiter) (g.W.Waiter.waited w.pause.new.self)
-            (c.loop-number.invariant.waited tells) (paused-one drive_pause w.pause.result (g.W.Waiter.waited c.loop-number.waiter) (g.W.Waiter.waited w.pause.new.self) (w.pause.ensures.counted tells).0))
-        | else-not-written w ↦ subst (PausedFor drive_pause (g.W.Waiter.waited c.args.waiter.now)) (sym (ap g.W.Waiter.waited w.waiter-is)) (c.loop-number.invariant.waited tells)
+        | then-not-written+in-Close+else-number-turns w ↦ subst (PausedWithin held_pause drive_pause (g.W.Waiter.waited c.args.waiter.now)) (sym (ap g.W.Waiter.waited w.waiter-is))
+            (both-within held_pause drive_pause (g.W.Waiter.waited c.args.waiter.now) (g.W.Waiter.waited c.loop-number.waiter) (g.W.Waiter.waited w.pause.new.self)
+            (c.loop-number.invariant.waited tells) (one-within held_pause drive_pause w.rest_of.result w.pause.result (g.W.Waiter.waited c.loop-number.waiter) (g.W.Waiter.waited w.pause.new.self) w.rest_of.ensures.least w.rest_of.ensures.most (w.pause.ensures.counted tells).0))
+        | then-not-written+in_default w ↦ subst (PausedWithin held_pause drive_pause (g.W.Waiter.waited c.args.waiter.now)) (sym (ap g.W.Waiter.waited w.waiter-is))
+            (both-within held_pause drive_pause (g.W.Waiter.waited c.args.waiter.now) (g.W.Waiter.waited c.loop-number.waiter) (g.W.Waiter.waited w.pause.new.self)
+            (c.loop-number.invariant.waited tells) (one-within held_pause drive_pause w.rest_of.result w.pause.result (g.W.Waiter.waited c.loop-number.waiter) (g.W.Waiter.waited w.pause.new.self) w.rest_of.ensures.least w.rest_of.ensures.most (w.pause.ensures.counted tells).0))
+        | else-not-written w ↦ subst (PausedWithin held_pause drive_pause (g.W.Waiter.waited c.args.waiter.now)) (sym (ap g.W.Waiter.waited w.waiter-is)) (c.loop-number.invariant.waited tells)
       ];
       clock = c.in-Ok.ensures.clock ∙ c.loop-number.invariant.clock;
       closes = λ less. elim c.if-not-written.branch [

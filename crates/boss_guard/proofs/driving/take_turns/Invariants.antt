@@ -1,7 +1,8 @@
 use Rattle.std.proofs.Common.{◌≡◌, ◌<◌, ◌≤◌, length}
-use Rattle.boss_model.specs.Limits.{drive_pause, last_moment}
+use Rattle.boss_model.specs.Limits.{last_moment}
+use Rattle.boss_outside_server.specs.Pauses.{drive_pause, held_pause}
 use Rattle.boss_lock.specs.Places.{entries_at}
-use Rattle.def_lanes.specs.Waits.{PausedFor}
+use Rattle.def_lanes.specs.Waits.{PausedWithin}
 use Rattle.boss_guard.proofs.Turned.{TookSome}
 use Rattle.boss_guard.proofs.driving.take_turns.Given as goal
 
@@ -16,7 +17,7 @@ invariant-loop-number g l = record {
       g.W.Waiter.tells (g.W.Waiter.waited l.fn.waiter).pauses (g.W.Waiter.waited l.waiter).pauses l.number (record { now = l.now; guards = l.guards });
   long : length l.guards ≡ length l.fn.guards;
   soon : l.now ≤ last_moment;
-  waited : g.W.Waiter.tells → PausedFor drive_pause (g.W.Waiter.waited l.fn.waiter) (g.W.Waiter.waited l.waiter);
+  waited : g.W.Waiter.tells → PausedWithin held_pause drive_pause (g.W.Waiter.waited l.fn.waiter) (g.W.Waiter.waited l.waiter);
   clock : g.C.Clock.faults l.clock ≡ g.C.Clock.faults l.fn.clock;
   closes : l.number < l.turns → g.W.Waiter.closes l.waiter ≡ g.W.Waiter.closes l.fn.waiter;
 }

@@ -10,7 +10,7 @@ returns-in-Ok-ended-clause-ran g c =
     let h = g.H.Host in
     let was = c.args.outside.now.host.now in
     let bound = c.announce.new.self in
-    let ran = rw c.in-Ok-ended.is at c.serve_keeper-keeper.ensures.ran in
+    let ran = rw c.in-Ok-ended.is at c.serve_ringing-keeper.ensures.ran in
     let handed : h.handed bound ≡ h.handed was = c.announce.ensures.counts.0 ∙ c.in-Ok.ensures.counts.0 in
     record {
       log = ran.log;
@@ -23,7 +23,7 @@ returns-in-Ok-ended-clause-ran g c =
           handed = subst (RoseBy 0 (h.handed was)) (sym handed) (rose-none (h.handed was));
         };
         account = from-before _ _ _ _ _ _ _ _ _ _ _ _ _ _ _ _ _ _ _ _ _ _ _ _ _ c.begin.ensures.moments c.begin.ensures.faults ran.account;
-        started = rw c.in-Ok-ended.is at c.serve_keeper-keeper.ensures.started;
+        started = rw c.in-Ok-ended.is at c.serve_ringing-keeper.ensures.started;
         disk = ran.disk;
       };
     }
@@ -31,8 +31,8 @@ returns-in-Ok-ended-clause-ran g c =
 -- it listens at the address, and went on to do so while the workers ran
 pub returns-in-Ok-ended-clause-listens : goal.returns-in-Ok-ended-clause-listens
 returns-in-Ok-ended-clause-listens g c told =
-    c.serve_keeper-keeper.ensures.listens told ∙ c.announce.ensures.address told ∙ c.in-Ok.ensures.address told
+    c.serve_ringing-keeper.ensures.listens told ∙ c.announce.ensures.address told ∙ c.in-Ok.ensures.address told
 
 pub returns-in-Err-ended-clause-listens : goal.returns-in-Err-ended-clause-listens
 returns-in-Err-ended-clause-listens g c told =
-    c.serve_keeper-keeper.ensures.listens told ∙ c.announce.ensures.address told ∙ c.in-Ok.ensures.address told
+    c.serve_ringing-keeper.ensures.listens told ∙ c.announce.ensures.address told ∙ c.in-Ok.ensures.address told

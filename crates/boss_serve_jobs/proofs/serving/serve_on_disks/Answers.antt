@@ -76,10 +76,11 @@ returns-in-Ok-clause-serves g c =
           (c.close.ensures.opens told (before ++ more) (gained fine before held) (subst (λ n. n < last_number) (sym (length-append before more)) few)))
           (λ told before held left. (
             it.held.images.0,
+            it.held.images.1,
             one-as _ plant _ start.disks.digest _ (run plant log s).persistent _ (run_tried plant (shortened it.held.images.0 log) s).persistent (d.reads disks.0) (d.reads disks.1)
                 same c.serve_over-durable.ensures.under
                 (ap (λ p. (run p log s).persistent) c.in-Ok.ensures.plant) (ap (λ p. (run_tried p (shortened it.held.images.0 log) s).persistent) c.in-Ok.ensures.plant)
-                (c.close.ensures.left told (run start.engine.plant log s).persistent (run_tried start.engine.plant (shortened it.held.images.0 log) s).persistent it.held.images.1),
+                (c.close.ensures.left told (run start.engine.plant log s).persistent (run_tried start.engine.plant (shortened it.held.images.0 log) s).persistent it.held.images.2),
           ));
       images = λ told _.
           run-so d c.args.site.catalogue.now c.args.first c.args.second start c.in-Ok.ensures.keeps c.in-Ok.ensures.leaves c.in-Ok.ensures.digest c.in-Ok.ensures.plant

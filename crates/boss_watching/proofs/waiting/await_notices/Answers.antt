@@ -1,5 +1,5 @@
 use Rattle.std.proofs.Common.{◌+◌, ◌∙◌, ap, refl, subst, arith, false}
-use Rattle.boss_model.specs.Limits.{watch_pause}
+use Rattle.boss_outside_server.specs.Pauses.{watch_pause}
 use Rattle.boss_outside_server.specs.declared.waited.Waited.{Waited}
 use Rattle.boss_lock.specs.Places.{entries_at}
 use Rattle.def_lanes.proofs.WaitLemmas.{paused-none, paused-one, paused-both}

@@ -1,6 +1,6 @@
 use Rattle.std.proofs.Common.{◌≡◌, ◌∙◌, ap, refl, subst, arith, false, true}
 use Rattle.boss_model.specs.Held.{Held}
-use Rattle.boss_model.specs.Limits.{watch_idle, watch_pause}
+use Rattle.boss_outside_server.specs.Pauses.{watch_idle, watch_pause}
 use Rattle.boss_lock.specs.Places.{entries_at}
 use Rattle.def_lanes.proofs.WaitLemmas.{paused-none, paused-both}
 use Rattle.def_history.specs.History.{run}

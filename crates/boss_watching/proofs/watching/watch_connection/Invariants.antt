@@ -1,5 +1,5 @@
 use Rattle.std.proofs.Common.{◌≡◌, ◌≤◌, false}
-use Rattle.boss_model.specs.Limits.{watch_idle, watch_pause}
+use Rattle.boss_outside_server.specs.Pauses.{watch_idle, watch_pause}
 use Rattle.boss_lock.specs.Places.{entries_at}
 use Rattle.def_lanes.specs.Waits.{PausedFor}
 use Rattle.def_history.specs.History.{run}

@@ -1,4 +1,5 @@
-use Rattle.std.proofs.Common.{refl, sym, subst, ◌∙◌}
+use Rattle.std.proofs.Common.{refl, sym, subst, ◌∙◌, arith}
+use Rattle.boss_outside_server.specs.Pauses.{drive_pause, held_pause}
 use Rattle.boss_lock.specs.Places.{entries_at}
 use Rattle.boss_shared.specs.Passes.{IsPassOf}
 use Rattle.def_guards.specs.Guards.{guards_of}
@@ -7,6 +8,7 @@ use Rattle.boss_worker.specs.Drove.{Drove, WasTold}
 use Rattle.boss_worker.specs.Troubles.{ClockTrouble}
 use Rattle.boss_worker.proofs.CauseLemmas.{broken-worked, clock-worked}
 use Rattle.boss_worker.proofs.DroveLemmas.{drove-plain, drove-guarded, clock-guarded, broken-guarded, told-plain, told-guarded}
+use Rattle.boss_worker.proofs.WaitedLemmas.{within-first}
 use Rattle.boss_worker.proofs.devices.drive_devices.Goals as goal
 
 pub returns-then-is_guarded-clause-drove : goal.returns-then-is_guarded-clause-drove
@@ -60,3 +62,8 @@ returns-else-is_guarded-clause-told g c =
     subst (WasTold old.own new.own g.W.Waiter.tells (g.W.Waiter.waited c.drive.new.waiter).closed c.args.turns) (sym c.work_trouble.ensures)
     (told-plain c.args.driver g.C.Clock.tells g.A.Actuators.tells old new g.W.Waiter.tells (g.W.Waiter.waited c.args.waiter.now).pauses (g.W.Waiter.waited c.drive.new.waiter).pauses c.args.turns
     (g.G.Desk.seen c.drive.new.pass) (g.W.Waiter.waited c.drive.new.waiter).closed (g.W.Waiter.closes c.args.waiter.now) (g.W.Waiter.closes c.drive.new.waiter) c.drive.result c.drive.ensures.driven c.drive.ensures.cause)
+
+pub returns-else-is_guarded-clause-waited : goal.returns-else-is_guarded-clause-waited
+returns-else-is_guarded-clause-waited g c = λ tells.
+    within-first held_pause drive_pause drive_pause drive_pause (g.W.Waiter.waited c.args.waiter.now) (g.W.Waiter.waited c.drive.new.waiter) (c.requires.paused tells)
+    (omega arith) (omega arith) (c.drive.ensures.waited tells)

@@ -1,8 +1,8 @@
 use Rattle.std.proofs.Common.{ℕ, List, sym, ◌∙◌, subst, None, lit<}
 use Rattle.def_lanes.specs.Lanes.{of_session}
-use Rattle.boss_model.specs.Limits.{watch_pause}
+use Rattle.boss_outside_server.specs.Pauses.{watch_idle, watch_pause}
 use Rattle.def_lanes.specs.Parts.{Added}
-use Rattle.def_lanes.proofs.WaitLemmas.{paused-none}
+use Rattle.def_lanes.proofs.WaitLemmas.{around-at, around-none}
 use Rattle.def_history.specs.History.{is_broken}
 use Rattle.boss_model.specs.Catalogue.{actuators}
 use Rattle.boss_outside_server.specs.Hosts.{served_of}
@@ -27,7 +27,7 @@ returns-in-Watch-clause-added g c =
           c.requires.fresh.empty c.requires.fresh.no_write_failed (g.C.Clock.given c.args.clock.now) (g.C.Clock.given c.watch_connection.new.clock)
           (g.S.Source.reads c.args.input.now) (g.S.Source.reads c.serve_connection.new.source)
           (own_of g.G.Desk c.serve_connection.new.pass) (g.K.Sink.taken c.serve_connection.new.sink) (g.K.Sink.faults c.serve_connection.new.sink) (g.C.Clock.given c.serve_connection.new.clock)
-          c.in-Watch.name c.in-Watch.from 600 c.watch_connection.result c.in-Watch.ensures.connected c.in-Watch.ensures.written c.watch_connection.ensures.watched (lit< tt) c.watch_connection.ensures.called,
+          c.in-Watch.name c.in-Watch.from watch_idle c.watch_connection.result c.in-Watch.ensures.connected c.in-Watch.ensures.written c.watch_connection.ensures.watched (lit< tt) c.watch_connection.ensures.called,
     )
 
 pub returns-in-Watch-clause-clocked : goal.returns-in-Watch-clause-clocked
@@ -65,5 +65,9 @@ pub returns-in-Watch-clause-others : goal.returns-in-Watch-clause-others
 returns-in-Watch-clause-others g c = λ other apart holds.
     subst (Holds (g.G.Desk.denies c.args.desk.now) other None) (sym c.watch_connection.ensures.held) (c.in-Watch.ensures.others other apart holds)
 
+pub returns-in-Watch-clause-waited : goal.returns-in-Watch-clause-waited
+returns-in-Watch-clause-waited g c = λ tells. around-at watch_pause c.name_bell.result (g.W.Waiter.waited c.args.waiter.now) (g.W.Waiter.waited c.listen.new.self)
+    (g.W.Waiter.waited c.watch_connection.new.waiter) (c.listen.ensures.listens tells).0 (c.watch_connection.ensures.waited tells)
+
 pub returns-in_default-clause-waited : goal.returns-in_default-clause-waited
-returns-in_default-clause-waited g c = λ tells. paused-none watch_pause (g.W.Waiter.waited c.args.waiter.now)
+returns-in_default-clause-waited g c = λ tells. around-none watch_pause (g.W.Waiter.waited c.args.waiter.now)

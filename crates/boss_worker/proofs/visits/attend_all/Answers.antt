@@ -1,6 +1,6 @@
 use Rattle.std.proofs.Common.{◌+◌, [], ◌++◌, true, ◌∷◌, refl, sym, ap, ◌∙◌, subst, arith}
-use Rattle.boss_model.specs.Limits.{watch_pause}
-use Rattle.def_lanes.proofs.WaitLemmas.{paused-both, paused-none}
+use Rattle.boss_outside_server.specs.Pauses.{watch_pause}
+use Rattle.def_lanes.proofs.WaitLemmas.{around-both, around-none}
 use Rattle.def_lanes.specs.Works.{visit}
 use Rattle.boss_outside_server.specs.Hosts.{served_of}
 use Rattle.boss_worker.specs.declared.flags.Flags.{Flags}
@@ -28,7 +28,7 @@ connections-init g c = record {
       (own_of g.G.Desk c.args.pass.now) (g.H.Host.served c.args.host.now) (g.C.Clock.given c.args.clock.now) (g.H.Host.handed c.args.host.now) _ _ c.requires.empty c.requires.fresh.handed (ap (λ n. 1 + n) c.from-next.ensures);
   small = omega (arith, c.from-next.ensures, c.requires.number, c.requires.few);
   counted = sym c.requires.fresh.handed;
-  waited = λ tells. paused-none watch_pause (g.W.Waiter.waited c.args.waiter.now);
+  waited = λ tells. around-none watch_pause (g.W.Waiter.waited c.args.waiter.now);
   hosted = c.requires.fresh.faults;
   no_host = ap (λ (f : Flags). f.host) c.none-flags.ensures;
   no_disk = ap (λ (f : Flags). f.disk) c.none-flags.ensures;
@@ -63,7 +63,7 @@ connections-preserved g c =
           (c.give_back.ensures.counts.0 ∙ c.in-Conn.ensures.count.1) (ap (λ n. c.connections.next + n) c.from-next-in-Conn.ensures));
       small = omega (arith, inv.small, c.requires.few, c.give_back.ensures.counts.0, c.in-Conn.ensures.count.1, c.from-next-in-Conn.ensures);
       counted = omega (arith, inv.counted, c.give_back.ensures.counts.0, c.in-Conn.ensures.count.1);
-      waited = λ tells. paused-both watch_pause (g.W.Waiter.waited c.args.waiter.now) (g.W.Waiter.waited c.connections.waiter) (g.W.Waiter.waited c.attend-trouble.new.waiter) (inv.waited tells) (c.attend-trouble.ensures.waited tells);
+      waited = λ tells. around-both watch_pause (g.W.Waiter.waited c.args.waiter.now) (g.W.Waiter.waited c.connections.waiter) (g.W.Waiter.waited c.attend-trouble.new.waiter) (inv.waited tells) (c.attend-trouble.ensures.waited tells);
       hosted = c.give_back.ensures.counts.3 ∙ c.in-Conn.ensures.cause ∙ inv.hosted;
       no_host = ap (λ (f : Flags). f.host) c.after-flags.ensures ∙ host-after c.attend-trouble.result c.connections.flags ∙ inv.no_host;
       no_disk = ap (λ (f : Flags). f.disk) c.after-flags.ensures ∙ disk-after c.attend-trouble.result c.connections.flags (λ is. c.in_default.not-Disk is) ∙ inv.no_disk;
@@ -78,7 +78,7 @@ pub returns-in-Disk-clause-count : goal.returns-in-Disk-clause-count
 returns-in-Disk-clause-count g c = omega (arith, c.connections.invariant.counted, c.give_back.ensures.counts.0, c.in-Conn.ensures.count.1)
 
 pub returns-in-Disk-clause-waited : goal.returns-in-Disk-clause-waited
-returns-in-Disk-clause-waited g c = λ tells. paused-both watch_pause (g.W.Waiter.waited c.args.waiter.now) (g.W.Waiter.waited c.connections.waiter) (g.W.Waiter.waited c.attend-trouble.new.waiter)
+returns-in-Disk-clause-waited g c = λ tells. around-both watch_pause (g.W.Waiter.waited c.args.waiter.now) (g.W.Waiter.waited c.connections.waiter) (g.W.Waiter.waited c.attend-trouble.new.waiter)
     (c.connections.invariant.waited tells) (c.attend-trouble.ensures.waited tells)
 
 pub returns-in-Disk-clause-left : goal.returns-in-Disk-clause-left

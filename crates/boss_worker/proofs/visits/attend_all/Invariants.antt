@@ -1,6 +1,7 @@
 use Rattle.std.proofs.Common.{◌≡◌, ℕ, ◌+◌, ◌*◌, ◌-◌, ◌^◌, ◌≤◌, min, false, List, None}
-use Rattle.boss_model.specs.Limits.{most_workers, watch_pause}
-use Rattle.def_lanes.specs.Waits.{PausedFor}
+use Rattle.boss_model.specs.Limits.{most_workers}
+use Rattle.boss_outside_server.specs.Pauses.{watch_pause}
+use Rattle.def_lanes.specs.Waits.{PausedAround}
 use Rattle.def_lanes.specs.Works.{Work, clock_cuts}
 use Rattle.boss_sessions.specs.Holding.{Holds}
 use Rattle.boss_worker.specs.Desks.{own_of}
@@ -25,7 +26,7 @@ invariant-connections g l = record {
       (g.H.Host.handed l.host) l.next l.flags;
   small : l.next ≤ most_workers + most_workers * g.H.Host.handed l.host;
   counted : l.count ≡ g.H.Host.handed l.host;
-  waited : g.W.Waiter.tells → PausedFor watch_pause (g.W.Waiter.waited l.fn.waiter) (g.W.Waiter.waited l.waiter);
+  waited : g.W.Waiter.tells → PausedAround watch_pause (g.W.Waiter.waited l.fn.waiter) (g.W.Waiter.waited l.waiter);
   hosted : g.H.Host.faults l.host ≡ 0;
   no_host : l.flags.host ≡ false;
   no_disk : l.flags.disk ≡ false;

@@ -12,6 +12,7 @@ use Rattle.boss_worker.proofs.LeftLemmas.{left-fresh}
 use Rattle.boss_worker.proofs.WorkerLemmas.{has-left-devices, has-left-time}
 use Rattle.def_lanes.specs.Waits.{WaitedAt}
 use Rattle.boss_outside_server.specs.declared.waited.Waited.{Waited}
+use Rattle.boss_outside_server.specs.Waits.{listening}
 use Rattle.boss_worker.proofs.WaitedLemmas.{visits-counted, waited-connections}
 use Rattle.boss_worker.proofs.worker.WorkerTask.run.Goals as goal
 
@@ -58,7 +59,7 @@ returns-in-Time g c = (
       c.expire-end.new.pass c.args.self.now.duty c.expire-end.new.clock c.expire-end.new.waiter flags)
       (sym (c.after-self.ensures ∙ ap (λ trouble. flags_after trouble c.args.self.now.flags) c.work_trouble.ensures))
       (has-left-time g.G.Desk g.H.Host g.C.Clock g.W.Waiter g.A.Actuators c.args.self.now.server.now.catalogue.now g.H.In.Source.tells g.H.Out.Sink.tells c.args.self.now.server.now.desk c.args.self.now.server.now.workers c.args.self.now.number c.args.self.now.pass c.args.self.now.duty c.args.self.now.clock c.args.self.now.waiter c.args.self.now.flags c.requires
-      c.expire-end.new.pass c.expire-end.new.clock c.expire-end.new.waiter (2 ^ 62) (omega arith) c.expire-end.result c.expire-end.ensures.own c.expire-end.ensures.parts c.expire-end.ensures.clock
+      c.expire-end.new.pass c.expire-end.new.clock c.listen.new.self c.expire-end.new.waiter (λ told. (c.listen.ensures.listens told).0) (2 ^ 62) (omega arith) c.expire-end.result c.expire-end.ensures.own c.expire-end.ensures.parts c.expire-end.ensures.clock
       c.expire-end.ensures.cause c.expire-end.ensures.waited c.in-Time.is c.expire-end.ensures.ticks),
 )
 
@@ -72,9 +73,10 @@ returns-in-Devices g c = (
       c.drive_devices-trouble.new.pass (Devices c.in-Devices.driver c.drive_devices-trouble.new.devices c.in-Devices.field-2) c.drive_devices-trouble.new.clock c.drive_devices-trouble.new.waiter flags)
       (sym c.after-self-in-Devices.ensures)
       (has-left-devices g.G.Desk g.H.Host g.C.Clock g.W.Waiter g.A.Actuators c.args.self.now.server.now.catalogue.now g.H.In.Source.tells g.H.Out.Sink.tells c.args.self.now.server.now.desk c.args.self.now.server.now.workers c.args.self.now.number c.args.self.now.pass c.args.self.now.duty c.args.self.now.clock c.args.self.now.waiter c.args.self.now.flags c.requires
-      c.drive_devices-trouble.new.pass c.drive_devices-trouble.new.clock c.drive_devices-trouble.new.waiter (2 ^ 62) (omega arith) c.drive_devices-trouble.result c.drive_devices-trouble.ensures.own c.drive_devices-trouble.ensures.parts c.drive_devices-trouble.ensures.clock
-      c.drive_devices-trouble.ensures.disk c.drive_devices-trouble.ensures.told c.drive_devices-trouble.ensures.waited c.in-Devices.driver c.in-Devices.devices c.drive_devices-trouble.new.devices c.in-Devices.field-2 c.in-Devices.is c.drive_devices-trouble.ensures.drove),
+      c.drive_devices-trouble.new.pass c.drive_devices-trouble.new.clock c.listen-in-Devices.new.self c.drive_devices-trouble.new.waiter (2 ^ 62) (omega arith) c.drive_devices-trouble.result c.drive_devices-trouble.ensures.own c.drive_devices-trouble.ensures.parts c.drive_devices-trouble.ensures.clock
+      c.drive_devices-trouble.ensures.disk c.drive_devices-trouble.ensures.told c.drive_devices-trouble.ensures.waited c.in-Devices.driver c.in-Devices.devices c.drive_devices-trouble.new.devices c.in-Devices.field-2
+      (λ told. (c.listen-in-Devices.ensures.listens told).0 ∙ ap (λ bell. listening bell (g.W.Waiter.waited c.args.self.now.waiter)) c.driver_bell.ensures) c.in-Devices.is c.drive_devices-trouble.ensures.drove),
 )
 
 pub drive_devices-trouble-requires-clause-paused : goal.drive_devices-trouble-requires-clause-paused
-drive_devices-trouble-requires-clause-paused g c = λ told. ap (λ (it : Waited). it.pauses) (c.requires.waited told)
+drive_devices-trouble-requires-clause-paused g c = λ told. ap (λ (it : Waited). it.pauses) ((c.listen-in-Devices.ensures.listens told).0 ∙ ap (listening c.driver_bell.result) (c.requires.waited told))
