@@ -1,5 +1,6 @@
 -- Where the log of a pair begins.
-use Rattle.std.proofs.Common.{◌≡◌, inl, inr, ℕ, ◌^◌, ◌<◌, ◌≤◌, min, Bool, List, [], ◌∷◌, ◌++◌, length, take, drop, refl, sym, ap, subst, ◌∙◌, append-nil, length-drop, arith}
+use Rattle.std.proofs.Common.{◌≡◌, inl, inr, ℕ, ◌^◌, ◌<◌, ◌≤◌, min, Bool, true, List, [], ◌∷◌, ◌++◌, length, take, drop, refl, sym, ap, subst, ◌∙◌, append-nil, length-drop, arith}
+use Rattle.std.proofs.lemmas.Bool.Decides.{nat_tests}
 use Rattle.std.proofs.lemmas.List.{length-take-le, take-append-drop}
 use Rattle.def_log.specs.declared.kind.DiskKind.TheVariants.{Plain, State}
 use Rattle.def_log.specs.Kinds.{kind_of}
@@ -8,7 +9,9 @@ use Rattle.boss_model.specs.Limits.{last_number}
 use Rattle.boss_model.specs.Sound.{IsSoundPersistent}
 use Rattle.boss_model.specs.State.{Persistent, first_persistent}
 use Rattle.boss_journal.specs.Places.{IsAt}
-use Rattle.boss_snapshot.specs.Fronts.{IsKnown, version_of, digest_of}
+use Rattle.def_seal.specs.Seals.{has_sums}
+use Rattle.boss_snapshot.specs.Fronts.{version_of, digest_of}
+use Rattle.def_log.specs.Versions.{IsKnown}
 use Rattle.boss_snapshot.specs.Refusals.{IsKeptState}
 use Rattle.boss_snapshot.proofs.KeptFronts.{read_front}
 use Rattle.boss_disk_pair.specs.Orders.{InOrder}
@@ -31,20 +34,25 @@ at_gate bytes place inside =
       each = tt;
     }
 
+-- no version that is known has sums
+pub no_sums : (version : ℕ) → IsKnown version → has_sums version ≡ true → ⊥
+no_sums version known sums = let few = known.1 in grind (arith, nat_tests, few, sums)
+
 all_counted : (number : ℕ) → number ≤ last_number → number ≡ min number last_number
 all_counted number few = omega (arith, few)
 
-module _ (plant : List Actuator) (digest : List ℕ) (whole : length digest ≡ 32) (second : Bool) (generation : ℕ) (reads other : List ℕ)
+module _ (plant : List Actuator) (digest seed : List ℕ) (whole : length digest ≡ 32) (second : Bool) (generation : ℕ) (reads other : List ℕ)
     (here : InOrder (IsInForce second) second reads other) where
   pub begins_kept : (v events place : ℕ) (d : Persistent) → v ≡ version_of reads → kind_of reads ≡ State generation → generation < 2 ^ 64 →
-      IsKeptState digest reads d events place → IsSoundPersistent plant d → AtGate plant digest v second generation events reads other place d events [] d
+      IsKeptState digest reads d events place → IsSoundPersistent plant d → AtGate plant digest seed v second generation events reads other place d events [] d
   begins_kept v events place d kept_version kind small kept sound =
-      subst (λ x. AtGate plant digest x second generation events reads other place d events [] d) (sym kept_version)
+      subst (λ x. AtGate plant digest seed x second generation events reads other place d events [] d) (sym kept_version)
       (record {
         coming = record {
           front = take place reads;
           batches = [];
           course = record { is_front = inr (generation, read_front digest reads generation events place d kept plant kind sound); each = tt; of_version = λ first. tt; leads = refl };
+          seeded = λ sums. absurd (no_sums (version_of reads) kept.known sums);
           are = refl;
           whole = whole;
           kind = inr (kind, small);
@@ -55,16 +63,17 @@ module _ (plant : List Actuator) (digest : List ℕ) (whole : length digest ≡ 
       })
 
   pub begins_plain : (v events place : ℕ) → v ≡ version_of reads → kind_of reads ≡ Plain → IsKnown v → digest_of reads ≡ digest → place ≡ 41 → events ≡ 0 →
-      AtGate plant digest v second generation events reads other place first_persistent 0 [] first_persistent
+      AtGate plant digest seed v second generation events reads other place first_persistent 0 [] first_persistent
   begins_plain v events place kept_version kind known same gate none =
       let long = plain_long reads kind in
-      subst (λ x. AtGate plant digest x second generation events reads other place first_persistent 0 [] first_persistent) (sym kept_version)
-      (subst (λ p. AtGate plant digest (version_of reads) second generation events reads other p first_persistent 0 [] first_persistent) (sym gate)
+      subst (λ x. AtGate plant digest seed x second generation events reads other place first_persistent 0 [] first_persistent) (sym kept_version)
+      (subst (λ p. AtGate plant digest seed (version_of reads) second generation events reads other p first_persistent 0 [] first_persistent) (sym gate)
       (record {
         coming = record {
           front = take 41 reads;
           batches = [];
           course = record { is_front = inl (plain_front reads kind digest (subst IsKnown kept_version known) same); each = tt; of_version = λ first. tt; leads = refl };
+          seeded = λ sums. absurd (no_sums (version_of reads) (subst IsKnown kept_version known) sums);
           are = refl;
           whole = whole;
           kind = inl kind;

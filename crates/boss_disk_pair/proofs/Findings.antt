@@ -11,7 +11,8 @@ use Rattle.def_log.specs.Kinds.{kind_of, is_idle, mark_is, plain_mark, state_mar
 use Rattle.boss_model.specs.State.{first_persistent}
 use Rattle.def_disk_pair.specs.Fronts.{IsPlainFront}
 use Rattle.def_disk_pair.specs.Pairs.{IsNew}
-use Rattle.boss_snapshot.specs.Fronts.{IsKnown, version_of, digest_of}
+use Rattle.boss_snapshot.specs.Fronts.{version_of, digest_of}
+use Rattle.def_log.specs.Versions.{IsKnown}
 
 -- ---- an idle disk
 

@@ -17,6 +17,7 @@ use Rattle.boss_disk.specs.Runs.{Since}
 use Rattle.boss_disk.specs.Story.{Story}
 use Rattle.boss_disk.specs.Window.{Window, IsImage}
 use Rattle.boss_disk.proofs.Torn.{synced_image}
+use Rattle.def_seal.specs.Seals.{has_sums, seed_of}
 use Rattle.def_disk_pair.specs.Contents.{HoldsCleanly}
 use Rattle.def_disk_pair.specs.Fronts.{IsStateFront}
 use Rattle.def_disk_pair.specs.Pairs.{OpensCleanly}
@@ -123,14 +124,16 @@ not_none same = omega (arith, same)
 no_more : (number : ℕ) → number ≤ last_number → number ≡ min (number + 0) last_number
 no_more number few = omega (arith, few)
 
-module _ (plant : List Actuator) (digest : List ℕ) (version : ℕ) (second : Bool) (generation number place : ℕ) (reads : List ℕ) (window : Window)
+module _ (plant : List Actuator) (digest seed : List ℕ) (version : ℕ) (second : Bool) (generation number place : ℕ) (reads : List ℕ) (window : Window)
     (other : List ℕ) (beside : Window) (stopped : Bool) (d : Persistent) (count : ℕ)
-    (rest : Resting plant digest version second generation number place reads window other beside stopped d count)
+    (rest : Resting plant digest seed version second generation number place reads window other beside stopped d count)
     (new_plant : List Actuator) (new_digest : List ℕ) (whole : length new_digest ≡ 32) (e : Persistent)
     (events : ℕ) (few : events ≤ last_number) (fits : (state 2).fits e ≡ true) (sound : IsSoundPersistent new_plant e) where
-  pub changed_rests : (many : ℕ) → counted many ≡ events → (gate : ℕ) (now : List ℕ) (last : Window) → IsWritten new_digest ((generation + 1) % 2 ^ 64) events e gate now last →
-      Resting new_plant new_digest 2 (not second) ((generation + 1) % 2 ^ 64) events gate now last reads window stopped e many
-  changed_rests many counts gate now last written =
+  pub changed_rests : (many : ℕ) → counted many ≡ events → (new_seed : List ℕ) →
+      (has_sums 2 ≡ true → new_seed ≡ seed_of (state_front 66 new_digest ((generation + 1) % 2 ^ 64) events e)) →
+      (gate : ℕ) (now : List ℕ) (last : Window) → IsWritten new_digest ((generation + 1) % 2 ^ 64) events e gate now last →
+      Resting new_plant new_digest new_seed 2 (not second) ((generation + 1) % 2 ^ 64) events gate now last reads window stopped e many
+  changed_rests many counts new_seed seeded gate now last written =
       let small : (generation + 1) % 2 ^ 64 < 2 ^ 64 = omega arith in
       let some : ◌≢◌ {A = ℕ} 66 0 = not_none in
       let none : events ≡ min (events + 0) last_number = no_more events few in
@@ -148,6 +151,7 @@ module _ (plant : List Actuator) (digest : List ℕ) (version : ℕ) (second : B
           of_version = λ first. tt;
           leads = refl;
         };
+        seeded = seeded;
         log = record { tail = []; is = written.is; here = written.gate ∙ ap length (sym (append-nil front)); each = tt; synced = written.synced };
         synced = rest.log.synced;
         going = rest.going;
@@ -189,10 +193,10 @@ written_inside digest generation events place d bytes window written =
 
 -- ---- the disks exchanged
 
-module _ {D : Type 0} (g : disk.Ghosts D) (plant : List Actuator) (digest : List ℕ) (number : ℕ) (stopped : Bool) (d : Persistent) (count : ℕ) where
+module _ {D : Type 0} (g : disk.Ghosts D) (plant : List Actuator) (digest seed : List ℕ) (number : ℕ) (stopped : Bool) (d : Persistent) (count : ℕ) where
   abbrev Rests : ℕ → Bool → ℕ → ℕ → D → D → Type 0
   Rests version second generation place one other =
-      Resting plant digest version second generation number place (g.reads one) (g.story one).window (g.reads other) (g.story other).window stopped d count
+      Resting plant digest seed version second generation number place (g.reads one) (g.story one).window (g.reads other) (g.story other).window stopped d count
 
   pub exchanged_rests : (v w : ℕ) (b c : Bool) (m n place gate : ℕ) (one other mine beside : D) → v ≡ w → b ≡ c → m ≡ n → place ≡ gate → one ≡ mine → other ≡ beside →
       Rests w c n gate mine beside → Rests v b m place one other

@@ -1,5 +1,6 @@
 pub mod Orders
 pub mod Forced
+pub mod Sums
 pub mod Appends
 pub mod Generations
 pub mod Words

@@ -62,9 +62,9 @@ synced_leaves plant digest second reads window other beside d after count synced
     (subst (λ y. InOrder (OpensToOne plant digest d after) second reads y) (sym (synced_image beside other b too two))
     (in_order (OpensCleanly plant digest d count) (OpensToOne plant digest d after) second reads other (λ x y opens. inl (count, opens)) opens)))
 
-module _ (plant : List Actuator) (digest : List ℕ) (version : ℕ) (second : Bool) (generation number place : ℕ) (reads : List ℕ) (window : Window)
+module _ (plant : List Actuator) (digest seed : List ℕ) (version : ℕ) (second : Bool) (generation number place : ℕ) (reads : List ℕ) (window : Window)
     (other : List ℕ) (beside : Window) (stopped : Bool) (d : Persistent) (count : ℕ)
-    (rest : Resting plant digest version second generation number place reads window other beside stopped d count) where
+    (rest : Resting plant digest seed version second generation number place reads window other beside stopped d count) where
   pub held_opens : InOrder (OpensCleanly plant digest d (rest.before + length (joined rest.batches))) second reads other
   held_opens =
       opens_in plant digest second reads other d _ (from_order second reads other rest.is_in_force)
@@ -85,14 +85,14 @@ module _ (plant : List Actuator) (digest : List ℕ) (version : ℕ) (second : B
 module _ {D : Type 0} {g : disk.Ghosts D} where
   pub rests_leaves : (pair : TwoDisks D g) (plant : List Actuator) (d : Persistent) (count : ℕ) → rests pair plant d count → leaves pair plant d d
   unfolding rests leaves
-  rests_leaves pair plant d count at_rest = λ told. at_rest_leaves _ _ _ _ _ _ _ _ _ _ _ _ _ _ (at_rest told)
+  rests_leaves pair plant d count at_rest = λ told. at_rest_leaves _ _ _ _ _ _ _ _ _ _ _ _ _ _ _ (at_rest told)
 
   pub rests_passes : (pair : TwoDisks D g) (plant : List Actuator) (d : Persistent) (count : ℕ) → rests pair plant d count → passes pair pair plant d d
   unfolding rests passes
   rests_passes pair plant d count at_rest = λ told. (
     refl,
     both_stand (LeaveBoth (OpensToOne plant pair.digest d d)) pair.second (g.story pair.journal.disk) (g.story pair.spare)
-        (at_rest_leaves _ _ _ _ _ _ _ _ _ _ _ _ _ _ (at_rest told)),
+        (at_rest_leaves _ _ _ _ _ _ _ _ _ _ _ _ _ _ _ (at_rest told)),
   )
 
   -- ---- runs
@@ -153,7 +153,7 @@ module _ {D : Type 0} {g : disk.Ghosts D} where
       (in_order (LeaveBoth (OpensToOne plant pair.digest d d)) (LeaveBoth (OpensEither plant pair.digest d new_plant digest e)) pair.second
       (g.story pair.journal.disk).window (g.story pair.spare).window
       (λ x y leave a b one other. either_wider plant pair.digest d new_plant digest e a b (leave a b one other))
-      (at_rest_leaves _ _ _ _ _ _ _ _ _ _ _ _ _ _ (at_rest told)))
+      (at_rest_leaves _ _ _ _ _ _ _ _ _ _ _ _ _ _ _ (at_rest told)))
 
   -- what the disks hold in the end
   pub changes_left : (old new : TwoDisks D g) (plant : List Actuator) (d : Persistent) (new_plant : List Actuator) (digest : List ℕ) (e : Persistent) → g.tells →

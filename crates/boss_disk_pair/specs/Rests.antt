@@ -1,11 +1,10 @@
 -- Source: own.
 -- What is said of a pair, and of a call of it, where its disks tell what they hold. Nothing above looks into these words.
-use Rattle.std.specs.Prelude.{◌≡◌, ◌⊎◌, ℕ, ◌+◌, ◌^◌, ◌<◌, min, Bool, true, false, List, length, map}
+use Rattle.std.specs.Prelude.{◌≡◌, ◌⊎◌, ℕ, ◌+◌, ◌^◌, ◌<◌, min, Bool, true, false, List, length}
 use Rattle.boss_model.specs.declared.event.Event.{Event}
 use Rattle.boss_model.specs.declared.state.Actuator.{Actuator}
 use Rattle.boss_model.specs.Limits.{last_number}
 use Rattle.boss_model.specs.State.{Persistent}
-use Rattle.def_bytes.specs.Batches.{batch_text}
 use Rattle.boss_disk.specs.declared.disk.Disk as disk
 use Rattle.boss_disk.specs.Legs.{Two, Legs, LeaveBoth}
 use Rattle.boss_disk.specs.Window.{Window, settled}
@@ -13,7 +12,8 @@ use Rattle.boss_journal.specs.Places.{IsAtRest}
 use Rattle.def_log.specs.declared.kind.DiskKind.TheVariants.{Plain, State}
 use Rattle.def_log.specs.InForce.{InForce, First, Second}
 use Rattle.def_log.specs.Kinds.{kind_of, in_force}
-use Rattle.def_disk_pair.specs.Contents.{joined, IsCourse}
+use Rattle.def_seal.specs.Seals.{has_sums, seed_of}
+use Rattle.def_disk_pair.specs.Contents.{joined, records_of, IsCourse}
 use Rattle.boss_disk_pair.specs.declared.two_disks.TwoDisks.{TwoDisks}
 use Rattle.boss_disk_pair.specs.Images.{OpensEither, OpensToOne}
 use Rattle.boss_disk_pair.specs.Orders.{InOrder, stories_of}
@@ -30,16 +30,17 @@ forced true = Second
 abbrev pub IsInForce : Bool → List ℕ → List ℕ → Type 0
 IsInForce second one other = in_force (kind_of one) (kind_of other) ≡ forced second
 
--- Of a pair with this digest, version, generation and number of events: behind a front stand records that lead to the state, and
--- a gate that is 0, at the place; all that was written is synced; the disk is in force, and the pair is not stopped.
-pub record Resting (plant : List Actuator) (digest : List ℕ) (version : ℕ) (second : Bool) (generation number place : ℕ) (reads : List ℕ) (window : Window)
+-- Of a pair with this digest, seed, version, generation and number of events: behind a front stand records that lead to the state,
+-- and a gate that is 0, at the place; all that was written is synced; the disk is in force, and the pair is not stopped.
+pub record Resting (plant : List Actuator) (digest seed : List ℕ) (version : ℕ) (second : Bool) (generation number place : ℕ) (reads : List ℕ) (window : Window)
     (other : List ℕ) (beside : Window) (stopped : Bool) (d : Persistent) (count : ℕ) : Type 0 where
   pub front : List ℕ
   pub from : Persistent
   pub before : ℕ
   pub batches : List (List Event)
   pub course : IsCourse plant digest version front from before batches d
-  pub log : IsAtRest front (map batch_text batches) place reads window
+  pub seeded : has_sums version ≡ true → seed ≡ seed_of front
+  pub log : IsAtRest front (records_of version front batches) place reads window
   pub synced : beside ≡ settled other
   pub going : stopped ≡ false
   pub whole : length digest ≡ 32
@@ -51,7 +52,7 @@ pub record Resting (plant : List Actuator) (digest : List ℕ) (version : ℕ) (
 module _ {D : Type 0} {g : disk.Ghosts D} where
   -- The pair is at rest: it stands for this state, after so many events as far as they are counted, and can be added to.
   unfoldable pub rests : TwoDisks D g → List Actuator → Persistent → ℕ → Type 0
-  rests pair plant d count = g.tells → Resting plant pair.digest pair.journal.version pair.second pair.generation pair.events pair.journal.place
+  rests pair plant d count = g.tells → Resting plant pair.digest pair.seed pair.journal.version pair.second pair.generation pair.events pair.journal.place
       (g.reads pair.journal.disk) (g.story pair.journal.disk).window (g.reads pair.spare) (g.story pair.spare).window pair.stopped d count
 
   -- Each image that a crash may leave of the pair is clean, and opens to one of these states.

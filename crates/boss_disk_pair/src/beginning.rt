@@ -5,7 +5,8 @@ ghost use Rattle.def_log.specs.Kinds.{kind_of};
 ghost use Rattle.boss_model.specs.declared.state.Actuator.{Actuator};
 ghost use Rattle.boss_model.specs.Sound.{IsSoundPersistent};
 ghost use Rattle.boss_model.specs.State.{Persistent, first_persistent};
-ghost use Rattle.boss_snapshot.specs.Fronts.{IsKnown, version_of, digest_of};
+ghost use Rattle.boss_snapshot.specs.Fronts.{version_of, digest_of};
+ghost use Rattle.def_log.specs.Versions.{IsKnown};
 ghost use Rattle.boss_snapshot.specs.Refusals.{IsKeptState};
 ghost use Rattle.boss_disk_pair.specs.Orders.{InOrder};
 ghost use Rattle.boss_disk_pair.specs.Reads.{reads_to};
@@ -52,6 +53,7 @@ impl<D: Disk> TwoDisks<D> {
             generation,
             events,
             digest: *digest,
+            seed: [0; 8],
         }
     }
 }

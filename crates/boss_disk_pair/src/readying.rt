@@ -21,7 +21,7 @@ impl<D: Disk> TwoDisks<D> {
         // Where the pair is clean.
         ensures passes { D.tells → (plant : List Actuator) (from d : Persistent) (before count : ℕ) (found : List Event) → ends_at self.old plant from before found d
             → is_settled self.old → is_clean self.old plant d count
-            → (after : Persistent) × MayCome plant self.old.journal.version self.old.journal.place (D.reads self.old.journal.disk) d after
+            → (after : Persistent) × MayCome plant self.old.journal.version self.old.seed self.old.journal.place (D.reads self.old.journal.disk) d after
             × passes self.old self.new plant d after }
         ensures cause { CallCause self.old.stopped (counts_of self.old) (counts_of self.new) result }
         ensures fine { OnOk result (self.new.stopped ≡ false) }

@@ -6,6 +6,7 @@ ghost use Rattle.boss_model.specs.Sound.{IsSoundPersistent};
 ghost use Rattle.boss_model.specs.State.{Persistent};
 ghost use Rattle.boss_disk_pair.specs.Causes.{CallCause, counts_of};
 ghost use Rattle.boss_disk_pair.specs.Rests.{changes, counted, rests, leaves, passes};
+ghost use Rattle.def_log.specs.Versions.{newest_version};
 
 use crate::TwoDisks;
 use boss_disk::Disk;
@@ -30,7 +31,7 @@ impl<D: Disk> TwoDisks<D> {
         ensures stops { OnErr result (self.new.stopped ≡ true) }
         ensures still { self.old.stopped ≡ true → self.new ≡ self.old }
         ensures log { OnOk result (self.new.journal.place ≡ self.new.journal.first) }
-        ensures version { OnOk result (self.new.journal.version ≡ 2) }
+        ensures version { OnOk result (self.new.journal.version ≡ newest_version) }
         ensures generation { OnOk result (self.new.generation ≡ (self.old.generation + 1) % 2 ^ 64) }
         ensures order { OnOk result (self.new.second ≡ not self.old.second) }
         ensures events { self.new.events ≡ self.old.events }
@@ -57,7 +58,7 @@ impl<D: Disk> TwoDisks<D> {
         ensures stops { OnErr result (self.new.stopped ≡ true) }
         ensures still { self.old.stopped ≡ true → self.new ≡ self.old }
         ensures log { OnOk result (self.new.journal.place ≡ self.new.journal.first) }
-        ensures version { OnOk result (self.new.journal.version ≡ 2) }
+        ensures version { OnOk result (self.new.journal.version ≡ newest_version) }
         ensures generation { OnOk result (self.new.generation ≡ (self.old.generation + 1) % 2 ^ 64) }
         ensures order { OnOk result (self.new.second ≡ not self.old.second) }
         ensures events { OnOk result (self.new.events ≡ events) }
@@ -82,7 +83,7 @@ impl<D: Disk> TwoDisks<D> {
         ensures stops { OnErr result (self.new.stopped ≡ true) }
         ensures still { self.old.stopped ≡ true → self.new ≡ self.old }
         ensures log { OnOk result (self.new.journal.place ≡ self.new.journal.first) }
-        ensures version { OnOk result (self.new.journal.version ≡ 2) }
+        ensures version { OnOk result (self.new.journal.version ≡ newest_version) }
         ensures generation { OnOk result (self.new.generation ≡ (self.old.generation + 1) % 2 ^ 64) }
         ensures order { OnOk result (self.new.second ≡ not self.old.second) }
         ensures events { self.new.events ≡ self.old.events }
@@ -107,7 +108,7 @@ impl<D: Disk> TwoDisks<D> {
         ensures stops { OnErr result (self.new.stopped ≡ true) }
         ensures still { self.old.stopped ≡ true → self.new ≡ self.old }
         ensures log { OnOk result (self.new.journal.place ≡ self.new.journal.first) }
-        ensures version { OnOk result (self.new.journal.version ≡ 2) }
+        ensures version { OnOk result (self.new.journal.version ≡ newest_version) }
         ensures generation { OnOk result (self.new.generation ≡ (self.old.generation + 1) % 2 ^ 64) }
         ensures order { OnOk result (self.new.second ≡ not self.old.second) }
         ensures events { OnOk result (self.new.events ≡ events) }

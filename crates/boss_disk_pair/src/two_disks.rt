@@ -14,6 +14,8 @@ pub struct TwoDisks<D: Disk> {
     pub(crate) generation: u64,
     pub(crate) events: u64,
     pub(crate) digest: [u8; 32],
+    // That of the sums on the disk in force, where it has sums.
+    pub(crate) seed: [u8; 8],
     ghost few: { events ≤ 2 ^ 62 },
     ghost going: { stopped ≡ false → journal.stopped ≡ false },
 }

@@ -8,6 +8,7 @@ use Rattle.boss_model.specs.declared.event.Event.{Event}
 use Rattle.boss_model.specs.declared.state.Actuator.{Actuator}
 use Rattle.boss_model.specs.State.{Persistent}
 use Rattle.boss_durable.proofs.Events.{events_short, no_bytes}
+use Rattle.def_log.specs.Versions.{newest_version}
 
 pub alone_text : (bytes before : List ℕ) (e : Event) → before ≡ [] → bytes ≡ before ++ event.text e → bytes ≡ batch_text (e ∷ [])
 alone_text bytes before e none is = is ∙ ap (λ b. b ++ event.text e) none ∙ sym (append-nil (event.text e))
@@ -22,7 +23,7 @@ alone_long e bytes fits is = some_byte bytes (λ none. let clash : e ∷ [] ≡ 
 pub alone_short : (e : Event) (bytes : List ℕ) → event.fits e ≡ true → bytes ≡ batch_text (e ∷ []) → length bytes ≤ 3669
 alone_short e bytes fits is = omega (arith, ap length is, events_short (e ∷ []) (fits, tt))
 
-pub alone_leads : (plant : List Actuator) (version : ℕ) (e : Event) (d to : Persistent) → version ≡ 2 → event.fits e ≡ true → replay plant e d ≡ Some to →
+pub alone_leads : (plant : List Actuator) (version : ℕ) (e : Event) (d to : Persistent) → version ≡ newest_version → event.fits e ≡ true → replay plant e d ≡ Some to →
     IsNext plant version d (e ∷ []) to
 alone_leads plant version e d to newest fits leads = record {
   batch = record { some_event = omega arith; few = omega arith; fitting = (fits, tt) };

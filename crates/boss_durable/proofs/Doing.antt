@@ -126,6 +126,7 @@ module _ {D : Type 0} {g : disk.Ghosts D} where
         stood = λ _. ap (λ counts. counts.first + counts.second) stood;
         images = λ _ _ before held. (
           0,
+          none_tried made taken.whole,
           subst (λ (q : State × State). leaves new q.0.persistent q.1.persistent)
               (λ i. (taken.state_is i, (taken.state_is ∙ sym (tried_same old.engine.plant made old.engine.state taken.whole)) i))
               (keeps_leaves new _ (gains before held)),
@@ -140,8 +141,8 @@ module _ {D : Type 0} {g : disk.Ghosts D} where
       new.engine.plant ≡ old.engine.plant → OneRose (counts_of old.disks) (counts_of new.disks) → AllByRecursion (MayCall old.engine.plant) calls →
       AllByRecursion (MayTry old.engine.plant) others →
       ((before : List Event) → keeps old before → leaves new (lasting old) (all_stepped old.engine.plant others (stepped old.engine.plant session (take tried calls) old.engine.state)).persistent) →
-      RunsThrough old new (Broke session calls others ∷ []) → Does old new (Broke session calls others ∷ [])
-  fault_does old new session tried calls others off on same rose may more there runs = record {
+      (tried ≡ length calls) ⊎ (is_growing_at calls tried ≡ true) → RunsThrough old new (Broke session calls others ∷ []) → Does old new (Broke session calls others ∷ [])
+  fault_does old new session tried calls others off on same rose may more there all runs = record {
     legal = ((may, more), refl, tt);
     same_plant = same;
     marked = on ∙ sym (ap (λ b. b || true) off);
@@ -150,7 +151,7 @@ module _ {D : Type 0} {g : disk.Ghosts D} where
     state_is = λ not. absurd (never new.disks.stopped on not);
     rose = λ _ _. rose_sum (counts_of old.disks) (counts_of new.disks) rose;
     stood = λ equal. absurd (never new.disks.stopped on (equal ∙ off));
-    images = λ _ _ before held. (tried, there before held);
+    images = λ _ _ before held. (tried, (all, tt), there before held);
     images_stay = λ was. absurd (never old.disks.stopped was off);
     through = λ _. one_call old new (Broke session calls others ∷ []) same runs;
     gained = λ not. absurd (never new.disks.stopped on not);
@@ -171,7 +172,7 @@ module _ {D : Type 0} {g : disk.Ghosts D} where
     stood = λ equal. k.stood (equal ∙ off ∙ sym begun) ∙ ap (λ counts. counts.first + counts.second) stood;
     images = λ _ _ before held.
         let left = k.images begun (keeps_leaves mid before (stays before held)) before (stays before held) in
-        (left.0, subst (λ (e : Running). leaves new (run e.plant made e.state).persistent (run_tried e.plant (shortened left.0 made) e.state).persistent) same left.1);
+        (left.0, left.1, subst (λ (e : Running). leaves new (run e.plant made e.state).persistent (run_tried e.plant (shortened left.0 made) e.state).persistent) same left.2);
     images_stay = λ was. absurd (never old.disks.stopped was off);
     through = λ _. one_call old new made (k.same_plant ∙ ap (λ e. e.plant) same) runs;
     gained = λ on before held. subst (λ (e : Running). keeps new (before ++ events e.plant made e.state)) same (k.gained on before (stays before held));
@@ -200,7 +201,7 @@ module _ {D : Type 0} {g : disk.Ghosts D} where
     state_is = λ _. refl;
     rose = λ _ stops. absurd (never durable.disks.stopped stops off);
     stood = λ _. refl;
-    images = λ _ left before held. (0, left);
+    images = λ _ left before held. (0, tt, left);
     images_stay = λ _ first second there. there;
     through = λ _. one_call durable durable [] refl (idle_runs durable);
     gained = λ _ before held. subst (keeps durable) (sym (append-nil before)) held;
@@ -265,7 +266,7 @@ module _ {D : Type 0} {g : disk.Ghosts D} where
       (tried ≡ length calls) ⊎ (is_growing_at calls tried ≡ true) → Does old new (Broke session calls others ∷ [])
   failed_does old new session tried calls others off on same rose may more came runs all =
       fault_does old new session tried calls others off on same rose may more
-      (failed_leaves old new (all_stepped old.engine.plant others (stepped old.engine.plant session (take tried calls) old.engine.state)) same came runs)
+      (failed_leaves old new (all_stepped old.engine.plant others (stepped old.engine.plant session (take tried calls) old.engine.state)) same came runs) all
       (failed_runs old new session tried calls others all came runs)
 
   pub unbegun_runs : (old new : Durable D g) (session : ℕ) (calls : List (Command × ℕ)) (others : List Tried) →
@@ -277,14 +278,6 @@ module _ {D : Type 0} {g : disk.Ghosts D} where
     words.passes_wider old.disks new.disks old.engine.plant (lasting old) _ (runs before held),
   )
 
-  -- a disk failed before any step
-  pub unbegun_does : (old new : Durable D g) (session : ℕ) (calls : List (Command × ℕ)) → old.disks.stopped ≡ false → new.disks.stopped ≡ true →
-      new.engine ≡ old.engine → OneRose (counts_of old.disks) (counts_of new.disks) → AllByRecursion (MayCall old.engine.plant) calls →
-      ((before : List Event) → keeps old before → leaves new (lasting old) (lasting old)) →
-      ((before : List Event) → keeps old before → passes old new (lasting old) (lasting old)) → Does old new (Broke session calls [] ∷ [])
-  unbegun_does old new session calls off on same rose may left runs =
-      fault_does old new session 0 calls [] off on (ap (λ e. e.plant) same) rose may tt left (unbegun_runs old new session calls [] runs)
-
   widened_leaves : (old new : Durable D g) (to : Persistent) → new.engine.plant ≡ old.engine.plant →
       ((before : List Event) → keeps old before → passes old new (lasting old) (lasting old)) → (before : List Event) → keeps old before → leaves new (lasting old) to
   unfolding leaves passes
@@ -292,11 +285,11 @@ module _ {D : Type 0} {g : disk.Ghosts D} where
       subst (λ (p : List Actuator). pair.leaves new.disks p (lasting old) to) (sym same)
       (words.passes_leaves old.disks new.disks old.engine.plant (lasting old) to (words.passes_wider old.disks new.disks old.engine.plant (lasting old) to (runs before held)))
 
-  -- the same of a call of several callers
-  pub unbegun_others : (old new : Durable D g) (session : ℕ) (calls : List (Command × ℕ)) (others : List Tried) → old.disks.stopped ≡ false → new.disks.stopped ≡ true →
+  -- a disk failed before any step
+  pub unbegun_does : (old new : Durable D g) (session : ℕ) (calls : List (Command × ℕ)) (others : List Tried) → old.disks.stopped ≡ false → new.disks.stopped ≡ true →
       new.engine ≡ old.engine → OneRose (counts_of old.disks) (counts_of new.disks) → AllByRecursion (MayCall old.engine.plant) calls → AllByRecursion (MayTry old.engine.plant) others →
       ((before : List Event) → keeps old before → passes old new (lasting old) (lasting old)) → Does old new (Broke session calls others ∷ [])
-  unbegun_others old new session calls others off on same rose may more runs =
+  unbegun_does old new session calls others off on same rose may more runs =
       fault_does old new session (length calls) calls others off on (ap (λ e. e.plant) same) rose may more
-      (widened_leaves old new (all_stepped old.engine.plant others (stepped old.engine.plant session (take (length calls) calls) old.engine.state)).persistent (ap (λ e. e.plant) same) runs)
+      (widened_leaves old new (all_stepped old.engine.plant others (stepped old.engine.plant session (take (length calls) calls) old.engine.state)).persistent (ap (λ e. e.plant) same) runs) (inl refl)
       (unbegun_runs old new session calls others runs)

@@ -25,7 +25,7 @@ use Rattle.boss_durable.specs.declared.batch.Batch.{Batch}
 use Rattle.boss_durable.specs.declared.durable.Durable.{Durable}
 use Rattle.boss_durable.specs.Taken.{Taken}
 use Rattle.boss_durable.specs.Words.{lasting, keeps, passes, Does, RunsThrough}
-use Rattle.boss_durable.proofs.Doing.{done_does, done_runs, failed_does, failed_runs, unbegun_others}
+use Rattle.boss_durable.proofs.Doing.{done_does, done_runs, failed_does, failed_runs, unbegun_does}
 use Rattle.boss_durable.proofs.ManyDone.{run_done}
 use Rattle.boss_durable.proofs.Takings.{nothing_taken}
 
@@ -132,7 +132,7 @@ pub unbegun_together : {D : Type 0} {g : disk.Ghosts D} (old new : Durable D g) 
     OneRose (counts_of old.disks) (counts_of new.disks) → AllByRecursion (MayAsk old.engine.plant) (first ∷ others) → new.engine ≡ old.engine →
     ((before : List Event) → keeps old before → passes old new (lasting old) (lasting old)) → Does old new (Broke first.session first.commands (map tried_of others) ∷ [])
 unbegun_together old new first others off on rose may same runs =
-    unbegun_others old new first.session first.commands (map tried_of others) off on same rose may.0.may (may_try old.engine.plant others may.1) runs
+    unbegun_does old new first.session first.commands (map tried_of others) off on same rose may.0.may (may_try old.engine.plant others may.1) runs
 
 -- behind the steps
 module _ {D : Type 0} {g : disk.Ghosts D} (old new : Durable D g) (disks : TwoDisks D g) (over : disks ≡ old.disks) (batch : Batch) (group : List Asked)

@@ -19,7 +19,7 @@ use Rattle.boss_durable.specs.declared.batch.Batch.{Batch}
 use Rattle.boss_durable.specs.declared.durable.Durable.{Durable}
 use Rattle.boss_durable.specs.Begun.{WantNone}
 use Rattle.boss_durable.specs.Taken.{Taken}
-use Rattle.boss_durable.specs.Words.{lasting, keeps, leaves, passes, Does, RunsThrough}
+use Rattle.boss_durable.specs.Words.{lasting, keeps, passes, Does, RunsThrough}
 use Rattle.boss_durable.proofs.Doing.{done_does, done_runs, failed_does, failed_runs, idle_does, idle_runs, unbegun_does, unbegun_runs}
 use Rattle.boss_durable.proofs.Takings.{done_none}
 
@@ -147,10 +147,9 @@ module _ {D : Type 0} {g : disk.Ghosts D} where
   -- a disk failed before any step
   pub all_unbegun : (old new : Durable D g) (session : ℕ) (calls : List (Command × ℕ)) (answers : List Answer) → answers ≡ [] → old.disks.stopped ≡ false →
       new.disks.stopped ≡ true → new.engine ≡ old.engine → OneRose (counts_of old.disks) (counts_of new.disks) → AllByRecursion (MayCall old.engine.plant) calls →
-      ((before : List Event) → keeps old before → leaves new (lasting old) (lasting old)) →
       ((before : List Event) → keeps old before → passes old new (lasting old) (lasting old)) → Does old new (made_by_all [] session calls answers (Some DiskFault))
-  all_unbegun old new session calls answers none off on same rose may left runs =
-      subst (Does old new) (sym (broke_alone session calls answers none)) (unbegun_does old new session calls off on same rose may left runs)
+  all_unbegun old new session calls answers none off on same rose may runs =
+      subst (Does old new) (sym (broke_alone session calls answers none)) (unbegun_does old new session calls [] off on same rose may tt runs)
 
   pub all_unbegun_runs : (old new : Durable D g) (session : ℕ) (calls : List (Command × ℕ)) (answers : List Answer) → answers ≡ [] →
       ((before : List Event) → keeps old before → passes old new (lasting old) (lasting old)) → RunsThrough old new (made_by_all [] session calls answers (Some DiskFault))

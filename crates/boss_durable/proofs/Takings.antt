@@ -93,7 +93,7 @@ taken_short plant made start now batch taken =
     omega (arith, ap length taken.text, events_short (events plant made start) taken.fitting, taken.few)
 
 -- what sixteen commands add to the log
-pub short_log : (after before bytes : ℕ) → after ≤ before + bytes + 5 → bytes ≤ 58704 → after ≤ before + 65536
+pub short_log : (after before bytes : ℕ) → after ≤ before + bytes + 13 → bytes ≤ 58704 → after ≤ before + 65536
 short_log after before bytes added short = omega arith
 
 pub taken_few : (plant : List Actuator) (made : List Entry) (start now : State) (batch : Batch) → Taken plant made start now batch → batch.events ≤ length made

@@ -9,6 +9,7 @@ ghost use Rattle.def_disk_pair.specs.Pairs.{OpensCleanly};
 ghost use Rattle.boss_disk_pair.specs.Causes.{first_disk, second_disk};
 ghost use Rattle.boss_disk_pair.specs.Images.{OpensToOne};
 ghost use Rattle.boss_disk_pair.specs.Rests.{rests};
+ghost use Rattle.def_log.specs.Versions.{newest_version};
 
 use crate::Durable;
 use crate::batch::Batch;
@@ -31,7 +32,7 @@ impl<D: Disk> Durable<D> {
     ) -> Durable<D>
         requires plant { IsPlant engine.plant }
         requires sound { IsSound engine.plant engine.state }
-        requires version { disks.journal.version ≡ 2 }
+        requires version { disks.journal.version ≡ newest_version }
         requires room { buffer.capacity ≡ record_room }
         requires limit { 131072 ≤ log_limit }
         ensures keeps { (events : List Event) → rests disks engine.plant engine.state.persistent (length events) → keeps result events }

@@ -1,5 +1,6 @@
 ghost use Rattle.std.specs.Prelude.{◌≡◌, ◌≤◌, false, length};
 ghost use Rattle.boss_model.specs.Devices.{wanting};
+ghost use Rattle.def_log.specs.Versions.{newest_version};
 
 use crate::batch::Batch;
 use crate::sound_engine::SoundEngine;
@@ -19,7 +20,7 @@ pub struct Durable<D: Disk> {
     pub(crate) batch: Batch,
     /// How many bytes a log may have.
     pub(crate) log_limit: u64,
-    ghost version: { disks.stopped ≡ false → disks.journal.version ≡ 2 },
+    ghost version: { disks.stopped ≡ false → disks.journal.version ≡ newest_version },
     ghost room: { batch.bytes.capacity ≡ 65536 },
     ghost limit: { 131072 ≤ log_limit },
 }

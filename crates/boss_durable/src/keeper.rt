@@ -2,7 +2,7 @@ ghost use Rattle.boss_durable.specs.Words.{faults, keeps, leaves, passes_in_plan
 
 use crate::Durable;
 use boss_disk::Disk;
-use boss_model::{Answer, Command, DriverId, Items, SessionId};
+use boss_model::{Answer, Command, DriverId, Items, Name, SessionId};
 use boss_shared::{Asked, Keeper};
 use def_history::{Outcome, Outcomes};
 
@@ -42,6 +42,18 @@ impl<D: Disk> Keeper for Durable<D> {
 
     fn wanting(&self) -> Option<DriverId> {
         Durable::wanting(self)
+    }
+
+    fn has_want(&self, driver: DriverId) -> bool {
+        self.engine.engine().has_want(driver)
+    }
+
+    fn first_due(&self) -> u64 {
+        self.engine.engine().first_due()
+    }
+
+    fn next_noticed(&mut self) -> Option<Name> {
+        self.engine.next_noticed()
     }
 
     fn has_stopped(&self) -> bool {

@@ -16,7 +16,7 @@ ghost use Rattle.boss_model.specs.Sound.{IsSound, IsSoundPersistent};
 
 use boss_bounds::is_modest;
 use boss_engine::{Engine, RestoreRefusal};
-use boss_model::{Answer, Command, Effect, Event, Kept, NoMemory, SessionId};
+use boss_model::{Answer, Command, Effect, Event, Kept, Name, NoMemory, SessionId};
 use boss_points::Catalogue;
 use std::alloc::Global;
 use std::marker::Model;
@@ -75,6 +75,13 @@ impl SoundEngine {
         ensures reached { IsReached self.now }
     {
         &self.engine
+    }
+
+    /// The name of a process that was told something since it was given out so. None where there is none.
+    pub fn next_noticed(&mut self) -> Option<Name>
+        ensures { self.new ≡ self.old }
+    {
+        self.engine.next_noticed()
     }
 
     /// All that outlasts a stop, as plain lists. It is sound, and has a spelling.

@@ -9,6 +9,7 @@ ghost use Rattle.boss_model.specs.State.{Persistent, State};
 ghost use Rattle.def_bytes.specs.Events.{event as spelling};
 ghost use Rattle.boss_disk_pair.specs.Causes.{CallCause, counts_of};
 ghost use Rattle.boss_disk_pair.specs.Rests.{leaves, passes, rests};
+ghost use Rattle.def_log.specs.Versions.{newest_version};
 
 use crate::batch::Batch;
 use boss_disk::Disk;
@@ -20,27 +21,29 @@ use boss_writing::put_event;
 
 impl Batch {
     /// Appends the events to the log, as one record. Where there is none no disk is called.
-    pub fn append_to<D: Disk>(&self, disks: &mut TwoDisks<D>) -> Result<(), Failed>
+    pub fn append_to<D: Disk>(&mut self, disks: &mut TwoDisks<D>) -> Result<(), Failed>
         requires going { disks.old.stopped ≡ false }
-        requires version { disks.old.journal.version ≡ 2 }
-        requires within { length self.now.bytes.bytes ≤ longest_record }
+        requires version { disks.old.journal.version ≡ newest_version }
+        requires room { self.old.bytes.capacity ≡ record_room }
+        requires within { length self.old.bytes.bytes + 8 ≤ longest_record }
         // The events lead on from the state that the disks stand for.
         ensures rests { (plant : List Actuator) (made : List Entry) (start now : State) (count : ℕ) → rests disks.old plant start.persistent count →
-            Taken plant made start now self.now → length made ≤ most_held → OnOk result (rests disks.new plant now.persistent (count + length (events plant made start))) }
+            Taken plant made start now self.old → length made ≤ most_held → OnOk result (rests disks.new plant now.persistent (count + length (events plant made start))) }
         ensures passes { (plant : List Actuator) (made : List Entry) (start now : State) (count : ℕ) → rests disks.old plant start.persistent count →
-            Taken plant made start now self.now → length made ≤ most_held → passes disks.old disks.new plant start.persistent now.persistent }
+            Taken plant made start now self.old → length made ≤ most_held → passes disks.old disks.new plant start.persistent now.persistent }
         ensures cause { CallCause false (counts_of disks.old) (counts_of disks.new) result }
         ensures fine { OnOk result (disks.new.stopped ≡ false) }
         ensures stops { OnErr result (disks.new.stopped ≡ true) }
-        ensures log { OnOk result (disks.new.journal.place - disks.new.journal.first ≤ disks.old.journal.place - disks.old.journal.first + length self.now.bytes.bytes + 5) }
-        ensures version { disks.new.journal.version ≡ 2 }
+        ensures log { OnOk result (disks.new.journal.place - disks.new.journal.first ≤ disks.old.journal.place - disks.old.journal.first + length self.old.bytes.bytes + 13) }
+        ensures version { disks.new.journal.version ≡ newest_version }
         ensures generation { disks.new.generation ≡ disks.old.generation }
         ensures digest { disks.new.digest ≡ disks.old.digest }
+        ensures capacity { self.new.bytes.capacity ≡ self.old.bytes.capacity }
     {
         if self.bytes.bytes().is_empty() {
             return Ok(());
         }
-        match disks.append(self.bytes.bytes(), self.events) {
+        match disks.append(&mut self.bytes, self.events) {
             Appended::Done => Ok(()),
             Appended::DiskFault | Appended::Stopped => Err(Failed),
         }
@@ -53,7 +56,7 @@ impl Batch {
         disks: &mut TwoDisks<D>,
     ) -> Result<(), Failed>
         requires going { disks.old.stopped ≡ false }
-        requires version { disks.old.journal.version ≡ 2 }
+        requires version { disks.old.journal.version ≡ newest_version }
         requires room { self.old.bytes.capacity ≡ record_room }
         requires fits { spelling.fits event.now ≡ true }
         // The event leads on from the state that the disks stand for.
@@ -66,13 +69,13 @@ impl Batch {
         ensures stops { OnErr result (disks.new.stopped ≡ true) }
         ensures log { OnOk result (disks.new.journal.place - disks.new.journal.first ≤ disks.old.journal.place - disks.old.journal.first + record_room) }
         ensures events { OnOk result (disks.new.events ≡ min (disks.old.events + 1) last_number) }
-        ensures version { disks.new.journal.version ≡ 2 }
+        ensures version { disks.new.journal.version ≡ newest_version }
         ensures digest { disks.new.digest ≡ disks.old.digest }
         ensures capacity { self.new.bytes.capacity ≡ self.old.bytes.capacity }
     {
         self.clear();
         put_event(&mut self.bytes, event);
-        match disks.append(self.bytes.bytes(), 1) {
+        match disks.append(&mut self.bytes, 1) {
             Appended::Done => Ok(()),
             Appended::DiskFault | Appended::Stopped => Err(Failed),
         }

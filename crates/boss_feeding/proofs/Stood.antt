@@ -1,13 +1,13 @@
 -- What the disk in force holds of what its pair stands for.
-use Rattle.std.proofs.Common.{◌≡◌, inl, inr, ⊎_elim, ℕ, ◌+◌, ◌<◌, ◌≤◌, true, false, List, [], ◌∷◌, ◌++◌, length, take, drop, refl, sym, ap, subst, ◌∙◌, arith, length-take, length-drop, take-append-drop}
+use Rattle.std.proofs.Common.{◌≡◌, ◌⊎◌, inl, inr, ⊎_elim, ℕ, ◌+◌, ◌<◌, ◌≤◌, true, false, List, [], ◌∷◌, ◌++◌, length, take, drop, refl, sym, ap, subst, ◌∙◌, arith, length-take, length-drop, take-append-drop}
 use Rattle.std.specs.Prelude.{map, nat_lt}
 use Rattle.std.proofs.lemmas.Bool.Decides.{nat_tests}
-use Rattle.std.proofs.lemmas.Bool.{cond-true, cond-false}
+use Rattle.std.proofs.lemmas.Bool.{cases_lt, cond-true, cond-false}
 use Rattle.std.proofs.lemmas.List.{length-take-le}
 use Rattle.boss_disk.specs.Window.{Window}
 use Rattle.boss_feeding.specs.Held.{HasLog, HasText}
 use Rattle.boss_feeding.specs.Lines.{lines_text}
-use Rattle.boss_feeding.proofs.FirstRecords.{at_batches}
+use Rattle.boss_feeding.proofs.FirstRecords.{at_records}
 use Rattle.boss_feeding.proofs.Items.{lines_join}
 use Rattle.boss_model.specs.declared.event.Event.{Event}
 use Rattle.boss_model.specs.declared.state.Actuator.{Actuator}
@@ -21,6 +21,8 @@ use Rattle.boss_snapshot.proofs.Again.{written_kept}
 use Rattle.boss_snapshot.proofs.KeptFronts.{read_front}
 use Rattle.def_bytes.specs.Batches.{batch_text}
 use Rattle.def_bytes.specs.States.{state}
+use Rattle.def_seal.specs.Seals.{seed_of, all_sealed}
+use Rattle.def_disk_pair.specs.Contents.{records_of}
 use Rattle.def_disk_pair.specs.Fronts.{IsFront}
 use Rattle.def_disk_pair.specs.Pairs.{HasEvents, IsNew, OfThatInForce, StandsFor}
 use Rattle.def_disk_pair.proofs.OfKinds.{state_front}
@@ -30,7 +32,8 @@ use Rattle.def_log.specs.declared.kind.DiskKind.{DiskKind}
 use Rattle.def_log.specs.declared.kind.DiskKind.TheVariants.{Idle, Plain, State, Other}
 use Rattle.def_log.specs.InForce.{InForce, Foreign, Neither, First, Second}
 use Rattle.def_log.specs.Kinds.{in_force, kind_of}
-use Rattle.def_log.specs.Log.{spelled}
+use Rattle.def_log.specs.Log.{spelled, IsLog}
+use Rattle.def_log.specs.Versions.{IsKnown}
 
 -- ---- the disk in force
 
@@ -89,26 +92,39 @@ feed_same from base other before many events one two = ap (λ d. feed_text from 
 -- ---- a journal from the first state on
 
 module _ (plant : List Actuator) (digest : List ℕ) (base : Persistent) (before : ℕ) (events : List Event) (bytes : List ℕ)
-    (has : HasEvents plant digest base before events bytes) (len : length digest ≡ 32) where
+    (has : HasEvents plant digest base before events bytes) where
+  -- byte 8 is the version
+  front_version : IsFront plant digest has.2.version base before has.2.front → has.2.version ≡ version_of bytes
+  front_version (inl plain) =
+      sym (ap version_of (has.2.log.is ∙ ap (λ f. f ++ (spelled (records_of has.2.version has.2.front has.0) ++ has.2.log.gate ∷ has.2.log.tail)) plain.is))
+  front_version (inr kept) =
+      let state = kept.1 in
+      sym (ap version_of (has.2.log.is ∙ ap (λ f. f ++ (spelled (records_of has.2.version has.2.front has.0) ++ has.2.log.gate ∷ has.2.log.tail)) state.is))
+
   -- a log behind a front
-  log_behind : (gate : ℕ) → gate ≡ length has.2.front → HasLog gate events bytes
+  pub log_behind : (gate : ℕ) → gate ≡ length has.2.front → HasLog gate events bytes
   log_behind gate here = record {
+    version = has.2.version;
+    version_is = front_version has.2.course.is_front;
+    seed = seed_of has.2.front;
     front = has.2.front;
     batches = has.0;
-    log = has.2.log;
+    log = subst (λ p. IsLog has.2.front (all_sealed has.2.version (seed_of has.2.front) p (map batch_text has.0)) bytes) (sym here) has.2.log;
     placed = here;
     each = has.2.course.each;
     are = has.3;
   }
 
+module _ (plant : List Actuator) (digest : List ℕ) (base : Persistent) (before : ℕ) (events : List Event) (bytes : List ℕ)
+    (has : HasEvents plant digest base before events bytes) (len : length digest ≡ 32) where
   abbrev PlainLog : Type 0
   PlainLog = HasLog 41 events bytes × (before ≡ 0)
 
   plain_behind : IsFront plant digest has.2.version base before has.2.front → kind_of bytes ≡ Plain → PlainLog
   plain_behind (inl plain) kind =
-      let long : 41 ≡ length has.2.front = omega (arith, ap length plain.is, len) in (log_behind 41 long, plain.none_before)
+      let long : 41 ≡ length has.2.front = omega (arith, ap length plain.is, len) in (log_behind plant digest base before events bytes has 41 long, plain.none_before)
   plain_behind (inr kept) kind =
-      let at = at_batches (length has.2.front) events bytes has.2.front has.0 has.2.log refl in
+      let at = at_records (length has.2.front) bytes has.2.front (records_of has.2.version has.2.front has.0) has.2.log refl in
       let other : kind_of bytes ≡ State kept.0 = ap kind_of at.is ∙ state_front plant digest len has.2.version kept.0 base before has.2.front at.gate at.tail kept.1 in
       let bad : Plain ≡ State kept.0 = sym kind ∙ other in absurd cc
 
@@ -136,26 +152,24 @@ kept_log plant digest base before events bytes d many gate has state kept sound 
     let generation = generation_of_kind (kind_of bytes) state in
     let mine = read_front digest bytes generation.0 many gate d kept plant generation.1 sound in
     let inside = kept.gate in
-    let same = same_front plant digest (version_of bytes) has.2.version d base many before (take gate bytes) has.2.front (drop gate bytes) (spelled (map batch_text has.0) ++ has.2.log.gate ∷ has.2.log.tail)
+    let same = same_front plant digest (version_of bytes) has.2.version d base many before (take gate bytes) has.2.front (drop gate bytes) (spelled (records_of has.2.version has.2.front has.0) ++ has.2.log.gate ∷ has.2.log.tail)
     (inr (generation.0, mine)) has.2.course.is_front (take-append-drop gate bytes ∙ has.2.log.is) in
     record {
       base_is = sym same.from_same;
       before_is = sym same.before_same;
-      log = record {
-        front = has.2.front;
-        batches = has.0;
-        log = has.2.log;
-        placed = sym (length-take-le gate bytes (omega (arith, inside))) ∙ ap length same.front_same;
-        each = has.2.course.each;
-        are = has.3;
-      };
+      log = log_behind plant digest base before events bytes has gate (sym (length-take-le gate bytes (omega (arith, inside))) ∙ ap length same.front_same);
     }
 
 -- ---- the text of a state
 
+one_or_two : (version : ℕ) → IsKnown version → (version ≡ 1) ⊎ (version ≡ 2)
+one_or_two version known =
+    ⊎_elim (λ below. inl (omega (arith, below, known.0))) (λ up. inr (omega (arith, up, known.1))) (cases_lt version 2)
+
 module _ (digest bytes : List ℕ) (d : Persistent) (many gate : ℕ) (kept : IsKeptState digest bytes d many gate) where
   pub second_version : (version_of bytes ≡ 1 → ⊥) → version_of bytes ≡ 2
-  second_version other = ⊎_elim (λ one. absurd (other one)) (λ two. two) kept.known
+  second_version other =
+      let known = kept.known in ⊎_elim (λ one. absurd (other one)) (λ two. two) (one_or_two (version_of bytes) known)
 
   pub text_there : version_of bytes ≡ 2 → HasText gate ((state 2).text d) bytes
   text_there two =

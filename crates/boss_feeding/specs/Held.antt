@@ -9,6 +9,8 @@ use Rattle.def_bytes.specs.Batches.{batch_text, IsBatch}
 use Rattle.def_disk_pair.specs.Contents.{joined}
 use Rattle.def_disk_pair.specs.Pairs.{StandsFor}
 use Rattle.def_log.specs.Log.{IsLog}
+use Rattle.def_seal.specs.Seals.{all_sealed}
+use Rattle.boss_snapshot.specs.Fronts.{version_of}
 
 -- the pair stands for events behind a state
 abbrev pub Stands : List Actuator → List ℕ → List ℕ → List ℕ → Type 0
@@ -19,11 +21,14 @@ pub record HasText (gate : ℕ) (text bytes : List ℕ) : Type 0 where
   pub size : gate ≡ 65 + length text
   pub is : take (length text) (drop 65 bytes) ≡ text
 
--- From a gate on stand records of these events.
+-- From a gate on stand records of these events, with their sums where the disk has some.
 pub record HasLog (gate : ℕ) (events : List Event) (bytes : List ℕ) : Type 0 where
+  pub version : ℕ
+  pub version_is : version ≡ version_of bytes
+  pub seed : List ℕ
   pub front : List ℕ
   pub batches : List (List Event)
-  pub log : IsLog front (map batch_text batches) bytes
+  pub log : IsLog front (all_sealed version seed gate (map batch_text batches)) bytes
   pub placed : gate ≡ length front
   pub each : AllByRecursion IsBatch batches
   pub are : events ≡ joined batches

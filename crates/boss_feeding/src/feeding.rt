@@ -282,6 +282,7 @@ fn feed_log<D: Disk, K: Sink>(
     sink: &mut K,
 ) -> (D, Result<(), FeedFault>)
     requires inside { D.tells → gate < length (D.reads disk) }
+    requires past { D.tells → 8 ≤ gate }
     requires few { before ≤ last_number }
     ensures told { D.tells → K.tells → (events : List Event) → HasLog gate events (D.reads disk)
         → Writes (K.taken sink.old) (K.taken sink.new) (lines_text (event_items from (before + 1) events)) result.1 }

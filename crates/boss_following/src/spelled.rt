@@ -6,9 +6,10 @@ ghost use Rattle.boss_snapshot.specs.Spells.{SpellsState};
 ghost use Rattle.def_bytes.specs.Events.{event};
 
 use crate::stop::Stop;
-use boss_model::{Event, Kept, NEWEST_VERSION, NoMemory};
+use boss_model::{Event, Kept, NoMemory};
 use boss_records::read_event;
 use boss_snapshot::read_kept;
+use def_log::NEWEST_VERSION;
 use std::alloc::Global;
 
 /// The event that these bytes are, to the last of them.

@@ -4,7 +4,8 @@ use Rattle.std.specs.Prelude.{codes, Bool, true, false, IsTrue, ◌==◌}
 use Rattle.std.proofs.lemmas.List.{take_all, take-take, take-append-drop, get_or-take, drop-take, drop-drop, drop_more}
 use Rattle.boss_journal.specs.declared.refusal.OpenRefusal.{OpenRefusal}
 use Rattle.boss_journal.specs.declared.refusal.OpenRefusal.TheVariants.{NotAJournal, Version, Catalogue, DiskFault}
-use Rattle.boss_journal.specs.Fronts.{IsKnown, journal_front, fresh_rest, IsFresh, IsBegun, IsNew}
+use Rattle.boss_journal.specs.Fronts.{journal_front, fresh_rest, IsFresh, IsBegun, IsNew}
+use Rattle.def_log.specs.Versions.{IsKnown}
 use Rattle.boss_journal.specs.Opens.{IsMarked, HasNoFront, Refuses, IsFound}
 
 -- fewer than 43 are all

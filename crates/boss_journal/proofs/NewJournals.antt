@@ -7,6 +7,7 @@ use Rattle.boss_disk.specs.Story.{Story}
 use Rattle.boss_disk.specs.Window.{Window, IsImage, settled, after_write, overwritten}
 use Rattle.boss_disk.proofs.Runs.{write_leaves}
 use Rattle.boss_disk.proofs.Torn.{write_behind, write_over, overwritten_behind, overwritten_parts}
+use Rattle.def_log.specs.Versions.{newest_version}
 use Rattle.boss_journal.specs.Fronts.{journal_front, fresh_rest, IsFresh, IsBegun, IsNew}
 use Rattle.boss_journal.specs.Opens.{IsBare, Opens}
 use Rattle.boss_journal.specs.Places.{IsAtRest}
@@ -50,20 +51,20 @@ head_over version digest rest held size is short =
     ∙ ap (λ l. 0 ∷ l) (append-nil (fresh_rest version digest))
 
 pub head_images : {T E : Type 0} (digest held : List ℕ) (old new : Story) (result : Result T E) → length digest ≡ 32 → IsBegun held
-    → old.window ≡ settled held → WritesThrough 1 (fresh_rest 2 digest) held old new result → Since (IsNew digest) old new
+    → old.window ≡ settled held → WritesThrough 1 (fresh_rest newest_version digest) held old new result → Since (IsNew digest) old new
 head_images digest held old new result size begun synced run =
     let long : length (digest ++ 0 ∷ []) ≡ length digest + 1 = length-append digest (0 ∷ []) in
     let short = begun.short in
-    write_leaves (IsNew digest) 1 (fresh_rest 2 digest) held old new result run
+    write_leaves (IsNew digest) 1 (fresh_rest newest_version digest) held old new result run
     (λ image torn.
-    let found = write_behind (0 ∷ []) begun.rest held 1 (length (fresh_rest 2 digest)) old.window image synced begun.is refl torn in
-    let few = torn_length 1 (length (fresh_rest 2 digest)) old.window held image synced torn in
+    let found = write_behind (0 ∷ []) begun.rest held 1 (length (fresh_rest newest_version digest)) old.window image synced begun.is refl torn in
+    let few = torn_length 1 (length (fresh_rest newest_version digest)) old.window held image synced torn in
     inr (inl (record { rest = found.0; is = found.1; short = omega arith })))
-    (inr (inr (2, record { known = inr refl; first = 0; is = head_over 2 digest begun.rest held size begun.is short })))
+    (inr (inr (newest_version, record { known = (omega arith, omega arith); first = 0; is = head_over newest_version digest begun.rest held size begun.is short })))
 
-pub head_fresh : (digest held now : List ℕ) → length digest ≡ 32 → IsBegun held → now ≡ overwritten 1 (fresh_rest 2 digest) held → IsFresh 2 digest now
+pub head_fresh : (digest held now : List ℕ) → length digest ≡ 32 → IsBegun held → now ≡ overwritten 1 (fresh_rest newest_version digest) held → IsFresh newest_version digest now
 head_fresh digest held now size begun over =
-    record { known = inr refl; first = 0; is = over ∙ head_over 2 digest begun.rest held size begun.is begun.short }
+    record { known = (omega arith, omega arith); first = 0; is = over ∙ head_over newest_version digest begun.rest held size begun.is begun.short }
 
 -- a disk that was written through is settled
 pub settled_now : (window : Window) (written now : List ℕ) → window ≡ settled written → now ≡ written → window ≡ settled now
@@ -115,13 +116,13 @@ same_version v w digest bytes one other =
 
 -- of bytes that had no version
 pub made_newest : (digest old bytes : List ℕ) (window : Window) → length digest ≡ 32 → IsNew digest old → ((v : ℕ) → IsFresh v digest old → ⊥)
-    → IsBare 2 digest bytes window → Opens digest old 2 41 bytes window
+    → IsBare newest_version digest bytes window → Opens digest old newest_version 41 bytes window
 made_newest digest old bytes window size new none bare =
     inr (record {
       new = new;
       kept = λ v fresh. absurd (none v fresh);
       newest = λ _. refl;
-      rests = bare_rests 2 digest bytes window size bare;
+      rests = bare_rests newest_version digest bytes window size bare;
       bare = bare;
     })
 

@@ -1,10 +1,7 @@
 -- Source: own.
 -- The front of a journal, and which bytes are a new one.
 use Rattle.std.specs.Prelude.{◌≡◌, ℕ, ◌≤◌, ◌⊎◌, List, [], ◌∷◌, ◌++◌, length, codes}
-
--- the versions that are known
-abbrev pub IsKnown : ℕ → Type 0
-IsKnown version = (version ≡ 1) ⊎ (version ≡ 2)
+use Rattle.def_log.specs.Versions.{IsKnown}
 
 -- bytes 0 to 40: the mark, the version, and the digest of the catalogue
 abbrev pub journal_front : ℕ → List ℕ → List ℕ

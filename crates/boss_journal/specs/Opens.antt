@@ -7,7 +7,8 @@ use Rattle.boss_journal.specs.declared.refusal.OpenRefusal.{OpenRefusal}
 use Rattle.boss_journal.specs.declared.refusal.OpenRefusal.TheVariants.{NotAJournal, Version, Catalogue, DiskFault}
 use Rattle.boss_journal.specs.declared.start.Start.{Start}
 use Rattle.boss_journal.specs.declared.start.Start.TheVariants.{Short, Begun, Fresh, Old}
-use Rattle.boss_journal.specs.Fronts.{IsKnown, journal_front, IsFresh, IsBegun, IsNew}
+use Rattle.boss_journal.specs.Fronts.{journal_front, IsFresh, IsBegun, IsNew}
+use Rattle.def_log.specs.Versions.{newest_version, IsKnown}
 use Rattle.boss_journal.specs.Places.{IsAt, IsAtRest}
 
 -- the mark of a journal stands in bytes 0 to 7, and there are as many bytes as a journal has
@@ -59,7 +60,7 @@ pub record IsBare (version : ℕ) (digest bytes : List ℕ) (window : Window) : 
 pub record IsMade (digest old : List ℕ) (version place : ℕ) (bytes : List ℕ) (window : Window) : Type 0 where
   pub new : IsNew digest old
   pub kept : (v : ℕ) → IsFresh v digest old → version ≡ v
-  pub newest : ((v : ℕ) → IsFresh v digest old → ⊥) → version ≡ 2
+  pub newest : ((v : ℕ) → IsFresh v digest old → ⊥) → version ≡ newest_version
   pub rests : IsAtRest (journal_front version digest) [] place bytes window
   pub bare : IsBare version digest bytes window
 

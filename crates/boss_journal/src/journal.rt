@@ -24,6 +24,13 @@ impl<D: Disk> Journal<D> {
         self.place - self.first
     }
 
+    /// The place of the gate that it is at.
+    pub fn place(&self) -> u64
+        ensures { result ≡ self.now.place }
+    {
+        self.place
+    }
+
     /// The version of the disk's bytes, where the journal was opened with `open` or `look`.
     pub fn version(&self) -> u8
         ensures { result ≡ self.now.version }

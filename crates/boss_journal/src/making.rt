@@ -5,11 +5,12 @@ ghost use Rattle.boss_disk.specs.Runs.{Since, WritesThrough};
 ghost use Rattle.boss_disk.specs.Window.{settled, overwritten};
 ghost use Rattle.boss_journal.specs.Fronts.{journal_front, fresh_rest, IsFresh, IsBegun, IsNew};
 ghost use Rattle.boss_journal.specs.Opens.{IsStart, IsBare, Opens};
+ghost use Rattle.def_log.specs.Versions.{newest_version};
 
 use crate::start::{Start, fresh_head};
 use boss_disk::{Disk, write_through};
-use boss_model::NEWEST_VERSION;
 use boss_outside::Failed;
+use def_log::NEWEST_VERSION;
 
 /// Makes a journal of bytes that are new, and tells its version. A journal that was found is left as it is.
 pub fn make<D: Disk>(disk: &mut D, start: Start, digest: &[u8; 32]) -> Result<u8, Failed>
@@ -41,7 +42,7 @@ pub fn make<D: Disk>(disk: &mut D, start: Start, digest: &[u8; 32]) -> Result<u8
 /// Makes a journal of at most one byte, which is written as 0 first.
 fn put_first<D: Disk>(disk: &mut D, digest: &[u8; 32]) -> Result<(), Failed>
     requires { D.tells → length (D.reads disk.old) ≤ 1 }
-    ensures made { D.tells → OnOk result (IsBare 2 digest.now (D.reads disk.new) (D.story disk.new).window) }
+    ensures made { D.tells → OnOk result (IsBare newest_version digest.now (D.reads disk.new) (D.story disk.new).window) }
     ensures images { D.tells → (D.story disk.old).window ≡ settled (D.reads disk.old)
         → Since (IsNew digest.now) (D.story disk.old) (D.story disk.new) }
     ensures cause { HasCause (D.faults disk.old) (D.faults disk.new) result }
@@ -53,7 +54,7 @@ fn put_first<D: Disk>(disk: &mut D, digest: &[u8; 32]) -> Result<(), Failed>
 /// Makes a journal of at most 42 bytes that begin with 0. The rest is written and synced before the first byte.
 fn put_head<D: Disk>(disk: &mut D, digest: &[u8; 32]) -> Result<(), Failed>
     requires { D.tells → IsBegun (D.reads disk.old) }
-    ensures made { D.tells → OnOk result (IsBare 2 digest.now (D.reads disk.new) (D.story disk.new).window) }
+    ensures made { D.tells → OnOk result (IsBare newest_version digest.now (D.reads disk.new) (D.story disk.new).window) }
     ensures images { D.tells → (D.story disk.old).window ≡ settled (D.reads disk.old)
         → Since (IsNew digest.now) (D.story disk.old) (D.story disk.new) }
     ensures cause { HasCause (D.faults disk.old) (D.faults disk.new) result }
@@ -65,8 +66,8 @@ fn put_head<D: Disk>(disk: &mut D, digest: &[u8; 32]) -> Result<(), Failed>
 /// Writes all bytes of a journal without records but for the first, and syncs the disk.
 fn put_rest<D: Disk>(disk: &mut D, digest: &[u8; 32]) -> Result<(), Failed>
     requires { D.tells → 1 ≤ length (D.reads disk.old) }
-    ensures reads { D.tells → OnOk result (D.reads disk.new ≡ overwritten 1 (fresh_rest 2 digest.now) (D.reads disk.old)) }
-    ensures windows { D.tells → WritesThrough 1 (fresh_rest 2 digest.now) (D.reads disk.old) (D.story disk.old) (D.story disk.new) result }
+    ensures reads { D.tells → OnOk result (D.reads disk.new ≡ overwritten 1 (fresh_rest newest_version digest.now) (D.reads disk.old)) }
+    ensures windows { D.tells → WritesThrough 1 (fresh_rest newest_version digest.now) (D.reads disk.old) (D.story disk.old) (D.story disk.new) result }
     ensures cause { HasCause (D.faults disk.old) (D.faults disk.new) result }
 {
     let rest = fresh_head(NEWEST_VERSION, digest);

@@ -35,6 +35,7 @@ impl<D: Disk> Journal<D> {
         ensures tells { D.tells → (front : List ℕ) (records : List (List ℕ))
             → IsAt front records self.old.place (D.reads self.old.disk)
             → Tells front records self.new.place (D.reads self.old.disk) into.new.bytes result }
+        ensures short { (place : ℕ) → result ≡ NextRecord.Bytes place → length into.new.bytes ≤ longest_record }
         ensures passes { Passes self.old.place self.new.place into.new.bytes result }
         ensures room { into.new.capacity ≡ into.old.capacity }
         ensures reads { D.tells → D.reads self.new.disk ≡ D.reads self.old.disk }

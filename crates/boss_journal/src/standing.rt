@@ -3,12 +3,13 @@ ghost use Rattle.boss_outside.specs.Counts.{Rose, HasCause};
 ghost use Rattle.boss_disk.specs.Window.{settled};
 ghost use Rattle.boss_journal.specs.declared.refusal.OpenRefusal.TheVariants.{DiskFault};
 ghost use Rattle.boss_journal.specs.Places.{IsAt, IsAtRest};
+ghost use Rattle.def_log.specs.Versions.{newest_version};
 
 use crate::heading::read_some;
 use crate::{Journal, OpenRefusal};
 use boss_disk::Disk;
-use boss_model::NEWEST_VERSION;
 use boss_outside::Failed;
+use def_log::NEWEST_VERSION;
 use std::mem;
 
 impl<D: Disk> Journal<D> {
@@ -45,7 +46,7 @@ impl<D: Disk> Journal<D> {
         requires there { D.tells → place < length (D.reads disk) }
         requires low { place ≤ 2 ^ 62 }
         ensures disk { result.disk ≡ disk }
-        ensures start { (result.place ≡ place) × (result.first ≡ place) × (result.version ≡ 2) × (result.stopped ≡ false) }
+        ensures start { (result.place ≡ place) × (result.first ≡ place) × (result.version ≡ newest_version) × (result.stopped ≡ false) }
         ensures rests { D.tells → (front : List ℕ) → D.reads disk ≡ front ++ 0 ∷ [] → place ≡ length front
             → (D.story disk).window ≡ settled (D.reads disk)
             → IsAtRest front [] result.place (D.reads result.disk) (D.story result.disk).window }
@@ -65,7 +66,7 @@ impl<D: Disk> Journal<D> {
         requires low { place ≤ 2 ^ 62 }
         ensures disk { self.new.disk ≡ other.old }
         ensures other { other.new ≡ self.old.disk }
-        ensures start { (self.new.place ≡ place) × (self.new.first ≡ place) × (self.new.version ≡ 2) × (self.new.stopped ≡ self.old.stopped) }
+        ensures start { (self.new.place ≡ place) × (self.new.first ≡ place) × (self.new.version ≡ newest_version) × (self.new.stopped ≡ self.old.stopped) }
         ensures rests { D.tells → (front : List ℕ) → D.reads other.old ≡ front ++ 0 ∷ [] → place ≡ length front
             → (D.story other.old).window ≡ settled (D.reads other.old)
             → IsAtRest front [] self.new.place (D.reads self.new.disk) (D.story self.new.disk).window }

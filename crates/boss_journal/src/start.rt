@@ -1,11 +1,12 @@
 ghost use Rattle.std.specs.Prelude.{◌≡◌, ◌↔◌, ℕ, ◌+◌, ◌≤◌, List, length, take, slice_index, codes, IsTrue, MatchOption, MatchResult, IfErr, IfOk};
-ghost use Rattle.boss_journal.specs.Fronts.{IsKnown, fresh_rest, IsFresh};
+ghost use Rattle.boss_journal.specs.Fronts.{fresh_rest, IsFresh};
+ghost use Rattle.def_log.specs.Versions.{IsKnown};
 ghost use Rattle.boss_journal.specs.Opens.{IsFront, Refuses, OpenCause, IsStart};
 
 use crate::OpenRefusal;
 use crate::heading::read_some;
 use boss_disk::Disk;
-use boss_model::NEWEST_VERSION;
+use def_log::is_known;
 
 /// The first bytes of a journal but for the first of all.
 const MARK: [u8; 8] = *b"BOSSJRNL";
@@ -122,13 +123,6 @@ fn are_same(some: &[u8], other: &[u8]) -> bool
     ensures { IsTrue result ↔ (some.now ≡ other.now) }
 {
     some == other
-}
-
-/// Whether this version is known.
-fn is_known(version: u8) -> bool
-    ensures { IsTrue result ↔ IsKnown version }
-{
-    version == 1 || version == NEWEST_VERSION
 }
 
 /// Bytes 1 to 41 of a journal without records.

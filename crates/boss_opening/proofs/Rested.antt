@@ -20,6 +20,7 @@ module _ {D : Type 0} {g : disk.Ghosts D} where
         before = rest.before;
         batches = rest.batches;
         course = rest.course;
+        seeded = rest.seeded;
         log = rest.log;
         synced = rest.synced;
         going = rest.going;

@@ -12,15 +12,17 @@ ghost use Rattle.boss_opening.specs.Reading.{GoesOn, IsOfLog, IsOfNoBytes, Shuts
 ghost use Rattle.boss_disk_pair.specs.Causes.{counts_of, first_disk, second_disk};
 ghost use Rattle.boss_disk_pair.specs.Reads.{is_clean, is_damaged_at, is_settled, reads_to};
 ghost use Rattle.boss_disk_pair.specs.Rests.{passes, rests};
+ghost use Rattle.def_log.specs.Versions.{newest_version};
 
 use crate::reading::read_log;
 use boss_disk::Disk;
 use boss_disk_pair::TwoDisks;
 use boss_durable::Durable;
 use boss_engine::Engine;
-use boss_model::{Buffer, Kept, NEWEST_VERSION, NoMemory, RECORD_ROOM};
+use boss_model::{Buffer, Kept, NoMemory, RECORD_ROOM};
 use boss_outside::Failed;
 use boss_pair_find::DurableRefusal;
+use def_log::NEWEST_VERSION;
 use std::alloc::Global;
 
 /// The log of a pair is done again by the engine of the state that it begins with, and its last gate is shut.
@@ -120,7 +122,7 @@ fn renew<D: Disk>(
     requires rest { rests pair.old engine.now.plant engine.now.state.persistent pair.old.events }
     ensures rest { IfOk result (λ _. rests pair.new engine.now.plant engine.now.state.persistent pair.new.events) }
     ensures passes { passes pair.old pair.new engine.now.plant engine.now.state.persistent engine.now.state.persistent }
-    ensures version { IfOk result (λ _. pair.new.journal.version ≡ 2) }
+    ensures version { IfOk result (λ _. pair.new.journal.version ≡ newest_version) }
     ensures going { IfOk result (λ _. pair.new.stopped ≡ false) }
     ensures events { pair.new.events ≡ pair.old.events }
     ensures digest { pair.new.digest ≡ pair.old.digest }
@@ -138,7 +140,7 @@ fn renew<D: Disk>(
     }
 }
 
-/// A pair of version 1 goes on in the newest, behind a kept state.
+/// A pair of an older version goes on in the newest, behind a kept state.
 fn migrate<D: Disk>(
     alloc: Global,
     pair: &mut TwoDisks<D>,
@@ -150,7 +152,7 @@ fn migrate<D: Disk>(
     requires rest { rests pair.old engine.now.plant engine.now.state.persistent pair.old.events }
     ensures rest { OnOk result (rests pair.new engine.now.plant engine.now.state.persistent pair.new.events) }
     ensures passes { passes pair.old pair.new engine.now.plant engine.now.state.persistent engine.now.state.persistent }
-    ensures version { OnOk result (pair.new.journal.version ≡ 2) }
+    ensures version { OnOk result (pair.new.journal.version ≡ newest_version) }
     ensures going { OnOk result (pair.new.stopped ≡ false) }
     ensures events { pair.new.events ≡ pair.old.events }
     ensures digest { pair.new.digest ≡ pair.old.digest }
@@ -180,7 +182,7 @@ fn go_on_behind<D: Disk>(
     requires rest { rests pair.old engine.now.plant engine.now.state.persistent pair.old.events }
     ensures rest { OnOk result (rests pair.new engine.now.plant engine.now.state.persistent pair.new.events) }
     ensures passes { passes pair.old pair.new engine.now.plant engine.now.state.persistent engine.now.state.persistent }
-    ensures version { OnOk result (pair.new.journal.version ≡ 2) }
+    ensures version { OnOk result (pair.new.journal.version ≡ newest_version) }
     ensures going { OnOk result (pair.new.stopped ≡ false) }
     ensures events { pair.new.events ≡ pair.old.events }
     ensures digest { pair.new.digest ≡ pair.old.digest }

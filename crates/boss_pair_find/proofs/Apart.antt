@@ -10,7 +10,8 @@ use Rattle.boss_pair_find.specs.declared.refusal.DurableRefusal.{DurableRefusal}
 use Rattle.boss_pair_find.specs.declared.refusal.DurableRefusal.TheVariants.{NotAJournal, Version, Catalogue, Damaged, DiskFault, NoMemory}
 use Rattle.boss_pair_find.specs.Holds.{OfOneInForce, IsNewPair, IsNoPair, IsPlain, IsPlainPair, IsStatePair}
 use Rattle.boss_pair_find.specs.Refusals.{FindRefuses, IsOfBytes}
-use Rattle.boss_snapshot.specs.Fronts.{IsKnown, version_of, digest_of}
+use Rattle.boss_snapshot.specs.Fronts.{version_of, digest_of}
+use Rattle.def_log.specs.Versions.{IsKnown}
 use Rattle.boss_snapshot.specs.declared.refusal.SnapshotRefusal.TheVariants as reading
 use Rattle.boss_snapshot.specs.Refusals.{IsKeptState, IsState, Refuses, DamagedAt}
 use Rattle.boss_snapshot.proofs.Again.{kept_alone, kept_taken}

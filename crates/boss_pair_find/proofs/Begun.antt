@@ -6,7 +6,8 @@ use Rattle.def_log.specs.declared.kind.DiskKind.TheVariants.{Plain, State}
 use Rattle.def_log.specs.Kinds.{kind_of}
 use Rattle.boss_model.specs.Limits.{last_number}
 use Rattle.boss_model.specs.State.{Persistent}
-use Rattle.boss_snapshot.specs.Fronts.{IsKnown, version_of, digest_of}
+use Rattle.boss_snapshot.specs.Fronts.{version_of, digest_of}
+use Rattle.def_log.specs.Versions.{IsKnown}
 use Rattle.boss_snapshot.specs.Refusals.{IsKeptState, IsState}
 use Rattle.boss_snapshot.proofs.OfFronts.{long_state}
 use Rattle.boss_disk_pair.specs.Orders.{InOrder}

@@ -1,5 +1,5 @@
 -- A journal that is made on a pair that holds nothing that counts.
-use Rattle.std.proofs.Common.{◌≡◌, ◌≢◌, ◌⊎◌, inl, inr, ⊎_elim, ℕ, ◌+◌, ◌≤◌, Bool, true, false, cond, List, [], ◌∷◌, ◌++◌, length, drop, refl, sym, ap, subst, ◌∙◌, length-append, arith}
+use Rattle.std.proofs.Common.{◌≡◌, ◌≢◌, ◌⊎◌, inl, inr, ⊎_elim, ℕ, ◌+◌, ◌≤◌, Bool, true, false, cond, List, [], ◌∷◌, ◌++◌, length, get_or, drop, refl, sym, ap, subst, ◌∙◌, length-append, arith}
 use Rattle.std.specs.Prelude.{bytes_eq, nat_le, IsTrue, ◌↔◌}
 use Rattle.std.proofs.lemmas.Bool.{cases_eq, cases_lt, le-leb}
 use Rattle.std.proofs.lemmas.Bool.Decides.{nat_tests}
@@ -25,7 +25,9 @@ use Rattle.def_log.specs.Kinds.{kind_of, in_force, follows, plain_mark}
 use Rattle.boss_model.specs.declared.state.Actuator.{Actuator}
 use Rattle.boss_model.specs.State.{Persistent, first_persistent}
 use Rattle.def_disk_pair.specs.Contents.{IsCourse, HoldsCleanly}
-use Rattle.def_disk_pair.specs.Fronts.{IsKnown, heading}
+use Rattle.def_disk_pair.specs.Fronts.{heading}
+use Rattle.def_log.specs.Versions.{newest_version, IsKnown}
+use Rattle.def_seal.specs.Seals.{has_sums, seed_of}
 use Rattle.def_disk_pair.specs.Pairs.{IsNew, OfThatInForce, OpensCleanly}
 use Rattle.def_disk_pair.proofs.Disks.{shut_holds, opens_first}
 use Rattle.def_disk_pair.proofs.OfKinds.{plain_front}
@@ -146,10 +148,11 @@ module _ (plant : List Actuator) (digest : List ℕ) (whole : length digest ≡ 
 
   -- ---- at rest
 
-  pub made_rests : (version place : ℕ) (first second reads : List ℕ) (window beside : Window) → IsKnown version → Opens digest first version place reads window →
-      IsNewPair first second → beside ≡ settled second → Resting plant digest version false 0 0 place reads window second beside false first_persistent 0
-  made_rests version place first second reads window beside known (inl found) new synced = absurd (found.0.not_new (journal_new digest first new.1))
-  made_rests version place first second reads window beside known (inr made) new synced =
+  pub made_rests : (version place : ℕ) (seed first second reads : List ℕ) (window beside : Window) → IsKnown version →
+      (has_sums version ≡ true → seed ≡ seed_of (journal_front version digest)) → Opens digest first version place reads window →
+      IsNewPair first second → beside ≡ settled second → Resting plant digest seed version false 0 0 place reads window second beside false first_persistent 0
+  made_rests version place seed first second reads window beside known seeded (inl found) new synced = absurd (found.0.not_new (journal_new digest first new.1))
+  made_rests version place seed first second reads window beside known seeded (inr made) new synced =
       let plain = plain_is version 66 (journal_front version digest) reads made.rests.tail 0 (λ no. omega (arith, no)) known refl made.rests.is in
       let idle = (both_idle (kind_of first) (kind_of second) new.0).1 in
       record {
@@ -158,6 +161,7 @@ module _ (plant : List Actuator) (digest : List ℕ) (whole : length digest ≡ 
         before = 0;
         batches = [];
         course = empty_course version 66 (journal_front version digest) (λ no. omega (arith, no)) known refl;
+        seeded = seeded;
         log = made.rests;
         synced = synced;
         going = refl;
@@ -184,18 +188,24 @@ fresh_by version digest (x ∷ bytes) known same = record { known = known; first
 rest_of : (version : ℕ) (digest bytes : List ℕ) → IsFresh version digest bytes → drop 1 bytes ≡ fresh_rest version digest
 rest_of version digest bytes fresh = ap (drop 1) fresh.is
 
-neither_fresh : (digest bytes : List ℕ) → (drop 1 bytes ≡ fresh_rest 1 digest → ⊥) → (drop 1 bytes ≡ fresh_rest 2 digest → ⊥) →
-    (v : ℕ) → IsFresh v digest bytes → ⊥
-neither_fresh digest bytes not_one not_two v fresh =
-    ⊎_elim (λ one. not_one (rest_of v digest bytes fresh ∙ ap (λ w. fresh_rest w digest) one))
-    (λ two. not_two (rest_of v digest bytes fresh ∙ ap (λ w. fresh_rest w digest) two)) fresh.known
+-- byte 8 is its version
+version_there : (v : ℕ) (digest bytes : List ℕ) → IsFresh v digest bytes → v ≡ get_or bytes 8 0
+version_there v digest bytes fresh = sym (ap (λ b. get_or b 8 0) fresh.is)
+
+known_or_not : (version : ℕ) → IsKnown version ⊎ (IsKnown version → ⊥)
+known_or_not version =
+    ⊎_elim (λ none. inr (λ known. omega (arith, none, known.0)))
+    (λ some. ⊎_elim (λ past. inr (λ known. omega (arith, past, known.1))) (λ within. inl (some, within)) (cases_lt newest_version version)) (cases_lt version 1)
 
 fresh_or_not : (digest bytes : List ℕ) → ((v : ℕ) × IsFresh v digest bytes) ⊎ ((v : ℕ) → IsFresh v digest bytes → ⊥)
 fresh_or_not digest bytes =
-    ⊎_elim (λ one. inl (1, fresh_by 1 digest bytes (inl refl) one))
-    (λ not_one. ⊎_elim (λ two. inl (2, fresh_by 2 digest bytes (inr refl) two)) (λ not_two. inr (neither_fresh digest bytes not_one not_two))
-    (same_or_not (drop 1 bytes) (fresh_rest 2 digest)))
-    (same_or_not (drop 1 bytes) (fresh_rest 1 digest))
+    let here : ℕ = get_or bytes 8 0 in
+    ⊎_elim
+    (λ known. ⊎_elim (λ same. inl (here, fresh_by here digest bytes known same))
+    (λ other. inr (λ v fresh. other (rest_of v digest bytes fresh ∙ ap (λ w. fresh_rest w digest) (version_there v digest bytes fresh))))
+    (same_or_not (drop 1 bytes) (fresh_rest here digest)))
+    (λ unknown. inr (λ v fresh. unknown (subst IsKnown (version_there v digest bytes fresh) fresh.known)))
+    (known_or_not here)
 
 pub has_version : (digest first reads : List ℕ) (version place : ℕ) (window : Window) → IsNew first → Opens digest first version place reads window →
     HasVersion digest first version
@@ -204,7 +214,7 @@ has_version digest first reads version place window new (inr made) = record { ke
 
 pub version_known : (digest first : List ℕ) (version : ℕ) → HasVersion digest first version → IsKnown version
 version_known digest first version of =
-    ⊎_elim (λ (fresh : (v : ℕ) × IsFresh v digest first). subst IsKnown (sym (of.kept fresh.0 fresh.1)) fresh.1.known) (λ none. inr (of.newest none))
+    ⊎_elim (λ (fresh : (v : ℕ) × IsFresh v digest first). subst IsKnown (sym (of.kept fresh.0 fresh.1)) fresh.1.known) (λ none. let newest = of.newest none in (omega (arith, newest), omega (arith, newest)))
     (fresh_or_not digest first)
 
 -- ---- the pair
@@ -213,7 +223,7 @@ module _ {D : Type 0} {g : disk.Ghosts D} (pair : TwoDisks D g) (journal : Journ
     (other : pair.spare ≡ spare) where
   abbrev Rests : List Actuator → List ℕ → Bool → ℕ → ℕ → Bool → Journal D g → D → Type 0
   Rests plant digest second generation number stopped held beside =
-      Resting plant digest held.version second generation number held.place (g.reads held.disk) (g.story held.disk).window (g.reads beside) (g.story beside).window
+      Resting plant digest pair.seed held.version second generation number held.place (g.reads held.disk) (g.story held.disk).window (g.reads beside) (g.story beside).window
       stopped first_persistent 0
 
   pub begun_rests : (plant : List Actuator) (digest : List ℕ) → pair.digest ≡ digest → pair.generation ≡ 0 → pair.events ≡ 0 → pair.stopped ≡ false →

@@ -6,7 +6,8 @@ use Rattle.def_log.specs.declared.kind.DiskKind.TheVariants.{Plain}
 use Rattle.def_log.specs.Kinds.{kind_of, in_force}
 use Rattle.boss_model.specs.State.{Persistent}
 use Rattle.def_disk_pair.specs.Pairs.{IsNew, OfPair}
-use Rattle.boss_snapshot.specs.Fronts.{IsKnown, version_of, digest_of}
+use Rattle.boss_snapshot.specs.Fronts.{version_of, digest_of}
+use Rattle.def_log.specs.Versions.{IsKnown}
 use Rattle.boss_snapshot.specs.Refusals.{IsKeptState, IsState}
 
 -- something said of the disk in force

@@ -1,11 +1,12 @@
 ghost use Rattle.std.specs.Prelude.{◌≡◌, ◌↔◌, IsTrue, ℕ, ◌≤◌, List, length, OnOk, IfErr, MatchResult};
 ghost use Rattle.boss_model.specs.Limits.{first_gate};
 ghost use Rattle.boss_pair_find.specs.Refusals.{FrontRefuses, DiskCause};
-ghost use Rattle.boss_snapshot.specs.Fronts.{IsKnown, version_of, digest_of};
+ghost use Rattle.boss_snapshot.specs.Fronts.{version_of, digest_of};
+ghost use Rattle.def_log.specs.Versions.{IsKnown};
 
 use crate::DurableRefusal;
 use boss_disk::Disk;
-use boss_model::NEWEST_VERSION;
+use def_log::is_known;
 
 /// Tests whether the journal of a disk is of a known version and of the catalogue with this digest. The disk stays as it is.
 pub fn check_front<D: Disk>(disk: &mut D, digest: &[u8; 32]) -> Result<(), DurableRefusal>
@@ -40,13 +41,6 @@ fn check_version(version: u8, kept: &[u8; 32], digest: &[u8; 32]) -> Result<(), 
         });
     }
     Ok(())
-}
-
-/// Whether this version is known.
-fn is_known(version: u8) -> bool
-    ensures { IsTrue result ↔ IsKnown version }
-{
-    version == 1 || version == NEWEST_VERSION
 }
 
 /// Whether these are the same bytes.

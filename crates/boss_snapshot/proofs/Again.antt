@@ -14,6 +14,7 @@ use Rattle.boss_model.specs.Limits.{last_number}
 use Rattle.boss_model.specs.State.{Persistent}
 use Rattle.def_disk_pair.proofs.OfKinds.{state_kind}
 use Rattle.def_disk_pair.specs.Fronts.{heading, kept_state}
+use Rattle.def_log.specs.Versions.{IsKnown}
 use Rattle.boss_snapshot.specs.declared.refusal.SnapshotRefusal.{SnapshotRefusal}
 use Rattle.boss_snapshot.specs.declared.refusal.SnapshotRefusal.TheVariants.{Version, Catalogue, Damaged, DiskFault, NoMemory}
 use Rattle.boss_snapshot.specs.Fronts.{version_of, digest_of, events_of, size_of, text_of, HasCounts}
@@ -136,7 +137,7 @@ module _ (digest bytes : List ℕ) (generation events : ℕ) (d : Persistent) (l
         let all : length bytes ≡ length (state_front 66 digest generation events d) + 1 = ap length is ∙ length-append (state_front 66 digest generation events d) (0 ∷ []) in
         let size = size_is in
         record {
-          known = inr version_is;
+          known = let two = version_is in (omega (arith, two), omega (arith, two));
           same = digest_is;
           events_are = sym (events_is few);
           few = few;
@@ -156,7 +157,7 @@ module _ (digest bytes : List ℕ) (d : Persistent) (events place : ℕ) (kept :
       (ap (λ (p : Persistent × List ℕ). p.0) (some-is _ _ states), kept.events_are ∙ sym next.events_are, kept.behind ∙ sym next.behind)
 
   pub kept_taken : (refusal : SnapshotRefusal) → Refuses digest bytes refusal → (refusal ≡ DiskFault) ⊎ (refusal ≡ NoMemory)
-  kept_taken (Version found) told = absurd (told.1 (subst (λ v. (v ≡ 1) ⊎ (v ≡ 2)) (sym told.0) kept.known))
+  kept_taken (Version found) told = absurd (told.1 (subst IsKnown (sym told.0) kept.known))
   kept_taken (Catalogue was found) told = absurd (told.3 (told.1 ∙ kept.same))
   kept_taken (Damaged at) (known, same, inl why) = let events_are = kept.events_are in let few = kept.few in absurd (omega (arith, why.1, events_are, few))
   kept_taken (Damaged at) (known, same, inr (inl why)) = let behind = kept.behind in let gate = kept.gate in absurd (omega (arith, why.2, behind, gate))

@@ -27,7 +27,7 @@ unfolding state_text
 written_front plant digest generation events first d marked counted few fits sound = record {
   first = first;
   written = marked;
-  known = inr refl;
+  known = (omega arith, omega arith);
   is = refl;
   counted = counted;
   few = few;

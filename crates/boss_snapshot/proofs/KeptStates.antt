@@ -1,7 +1,8 @@
 -- A state that was read, or that the bytes do not spell.
 use Rattle.std.proofs.Common.{◌≡◌, ℕ, ◌+◌, List, take, drop, refl, sym, ap, subst, ◌∙◌, inr, arith}
 use Rattle.boss_model.specs.State.{Persistent}
-use Rattle.boss_snapshot.specs.Fronts.{version_of, digest_of, text_of, IsKnown, IsStateHead}
+use Rattle.boss_snapshot.specs.Fronts.{version_of, digest_of, text_of, IsStateHead}
+use Rattle.def_log.specs.Versions.{IsKnown}
 use Rattle.boss_snapshot.specs.Refusals.{DamagedAt, IsKeptState}
 use Rattle.boss_snapshot.specs.Spells.{SpellsState}
 

@@ -1,6 +1,7 @@
 -- Source: own.
 -- What stands before a kept state, by the bytes of its disk.
 use Rattle.std.specs.Prelude.{◌≡◌, ℕ, ◌+◌, ◌^◌, ◌<◌, ◌≤◌, ◌⊎◌, List, ◌++◌, length, take, drop, slice_index_or}
+use Rattle.def_log.specs.Versions.{IsKnown}
 use Rattle.std.specs.Int.{w64, from_be_bytes}
 use Rattle.def_bytes.specs.Fields.{number_text}
 use Rattle.def_log.specs.Kinds.{generation_of}
@@ -30,10 +31,6 @@ text_of bytes = take (size_of bytes) (drop 65 bytes)
 pub record HasCounts (bytes : List ℕ) : Type 0 where
   pub spelled : take 24 (drop 41 bytes) ≡ number_text w64 (generation_of bytes) ++ (number_text w64 (events_of bytes) ++ number_text w64 (size_of bytes))
   pub counted : generation_of bytes < 2 ^ 64
-
--- the versions that are known
-abbrev pub IsKnown : ℕ → Type 0
-IsKnown version = (version ≡ 1) ⊎ (version ≡ 2)
 
 -- a known version, the catalogue with this digest, few events enough, and a place for a gate behind the state
 pub record IsStateHead (digest bytes : List ℕ) (version events size : ℕ) : Type 0 where

@@ -9,7 +9,8 @@ use Rattle.boss_model.specs.State.{Persistent}
 use Rattle.boss_snapshot.specs.declared.fronts.StateHead.{StateHead}
 use Rattle.boss_snapshot.specs.declared.refusal.SnapshotRefusal.{SnapshotRefusal}
 use Rattle.boss_snapshot.specs.declared.refusal.SnapshotRefusal.TheVariants.{Version, Catalogue, Damaged, DiskFault, NoMemory}
-use Rattle.boss_snapshot.specs.Fronts.{version_of, digest_of, events_of, size_of, text_of, HasCounts, IsKnown, IsStateHead}
+use Rattle.boss_snapshot.specs.Fronts.{version_of, digest_of, events_of, size_of, text_of, HasCounts, IsStateHead}
+use Rattle.def_log.specs.Versions.{IsKnown}
 use Rattle.boss_snapshot.specs.Spells.{SpellsState}
 
 -- this kind is that of a kept state

@@ -1,11 +1,12 @@
 ghost use Rattle.std.specs.Prelude.{◌≡◌, ◌↔◌, IsTrue, ℕ, ◌+◌, ◌≤◌, ◌<◌, List, length, take, drop, IfOk, IfErr};
 ghost use Rattle.std.specs.Int.{w64, from_be_bytes};
-ghost use Rattle.boss_snapshot.specs.Fronts.{IsKnown};
+ghost use Rattle.def_log.specs.Versions.{IsKnown};
 ghost use Rattle.boss_snapshot.specs.Refusals.{ReadCause, TellsHead};
 
 use crate::SnapshotRefusal;
 use crate::kinds::is_same;
-use boss_model::{LAST_NUMBER, NEWEST_VERSION};
+use boss_model::LAST_NUMBER;
+use def_log::is_known;
 
 /// How many bytes stand before a state.
 pub const HEAD: u64 = 65;
@@ -60,13 +61,6 @@ fn has_place(size: u64, end: u64) -> bool
     ensures { IsTrue result ↔ (65 + size < end) }
 {
     end > HEAD && size < end - HEAD
-}
-
-/// Whether this version is known.
-fn is_known(version: u8) -> bool
-    ensures { IsTrue result ↔ IsKnown version }
-{
-    version == 1 || version == NEWEST_VERSION
 }
 
 /// The number of 64 bits at this place, the highest byte first.

@@ -20,9 +20,10 @@ use crate::fronts::HEAD;
 use crate::keeping::spill_kept;
 use crate::kinds::STATE_MARK;
 use boss_disk::{Disk, write_through};
-use boss_model::{Kept, NEWEST_VERSION};
+use boss_model::Kept;
 use boss_outside::Failed;
 use boss_records::{Room, put_u64};
+use def_log::NEWEST_VERSION;
 
 /// Where the length of a state stands.
 const SIZE: u64 = 57;

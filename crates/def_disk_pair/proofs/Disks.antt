@@ -1,6 +1,5 @@
 -- What one disk holds, and what a pair stands for.
 use Rattle.std.proofs.Common.{◌≡◌, ◌⊎◌, inl, inr, ℕ, ◌+◌, ◌^◌, ◌%◌, ◌<◌, ◌==◌, false, cond, List, [], ◌∷◌, ◌++◌, length, Some, refl, sym, ap, subst, ◌∙◌, arith}
-use Rattle.std.specs.Prelude.{map}
 use Rattle.std.specs.List.{AllByRecursion}
 use Rattle.std.proofs.lemmas.Bool.{eq-eqb}
 use Rattle.std.proofs.lemmas.Bool.Decides.{nat_tests}
@@ -8,23 +7,39 @@ use Rattle.boss_model.specs.declared.event.Event.{Event}
 use Rattle.boss_model.specs.declared.state.Actuator.{Actuator}
 use Rattle.boss_model.specs.Run.{replay_all}
 use Rattle.boss_model.specs.State.{Persistent, first_persistent}
-use Rattle.def_bytes.specs.Batches.{batch_text, IsBatch, act_number, IsOfVersion}
+use Rattle.def_bytes.specs.Batches.{IsBatch, act_number, IsOfVersion}
 use Rattle.def_log.specs.declared.kind.DiskKind.TheVariants.{Plain, State}
 use Rattle.def_log.specs.InForce.{InForce, Foreign, Neither, First, Second}
 use Rattle.def_log.specs.Kinds.{kind_of, in_force}
 use Rattle.def_log.specs.Log.{spelled, IsLog}
 use Rattle.def_log.proofs.Records.{records-of-log}
 use Rattle.def_disk_pair.specs.Fronts.{IsStateFront}
-use Rattle.def_disk_pair.specs.Contents.{joined, IsNext, IsCourse, Holds, HoldsCleanly, EndsCleanly}
+use Rattle.def_seal.specs.Seals.{seed_of}
+use Rattle.def_disk_pair.specs.Contents.{joined, records_of, last_gate, IsNext, IsCourse, Holds, HoldsCleanly, EndsCleanly}
 use Rattle.def_disk_pair.specs.Damage.{LeadsNowhere, IsDamagedAt}
 use Rattle.def_disk_pair.specs.Pairs.{IsNew, OfThatInForce, HasEvents, StandsFor, Opens, OpensCleanly, DamagedAt}
 use Rattle.def_disk_pair.proofs.OfKinds.{state_front}
-use Rattle.def_disk_pair.proofs.OfRecords.{are_records, same_batches, never_both, one_damage}
+use Rattle.def_disk_pair.proofs.OfRecords.{are_records, same_batches, ends_of, at_last_gate, never_both, one_damage}
 use Rattle.def_disk_pair.proofs.Prefixes.{same_front}
 use Rattle.def_disk_pair.proofs.Replays.{some-is, replay_join, all_join, joined_more}
 
+-- records behind one front, where versions and fronts are the same
+moved : (version other : ℕ) (front ahead : List ℕ) (cs : List (List Event)) (x y : List ℕ) → version ≡ other → front ≡ ahead
+    → x ≡ spelled (records_of other ahead cs) ++ y → x ≡ spelled (records_of version front cs) ++ y
+moved version other front ahead cs x y same one is =
+    subst (λ f. x ≡ spelled (records_of version f cs) ++ y) (sym one) (subst (λ v. x ≡ spelled (records_of v ahead cs) ++ y) (sym same) is)
+
 module _ (plant : List Actuator) (digest : List ℕ) where
   -- ---- one disk
+
+  -- what leads nowhere behind one front leads nowhere behind the same one, at the place where its records end
+  nowhere_in : (version other place : ℕ) (front ahead : List ℕ) (cs : List (List Event)) (d : Persistent) (u : List ℕ) → version ≡ other → front ≡ ahead
+      → place ≡ last_gate other ahead cs → LeadsNowhere plant other ahead place d u
+      → LeadsNowhere plant version front (ends_of plant version front (length front) cs) d u
+  nowhere_in version other place front ahead cs d u same one here nowhere =
+      let at_gate = subst (λ p. LeadsNowhere plant other ahead p d u) (here ∙ at_last_gate other ahead cs) nowhere in
+      subst (λ f. LeadsNowhere plant version f (ends_of plant version f (length f) cs) d u) (sym one)
+      (subst (λ v. LeadsNowhere plant v ahead (ends_of plant v ahead (length ahead) cs) d u) (sym same) at_gate)
 
   record OneThing (from other : Persistent) (before many : ℕ) (bs cs : List (List Event)) (to until : Persistent) : Type 0 where
     from_same : from ≡ other
@@ -36,8 +51,10 @@ module _ (plant : List Actuator) (digest : List ℕ) where
       Holds plant digest from before bs to bytes → Holds plant digest other many cs until bytes → OneThing from other before many bs cs to until
   holds_one from other before many bs cs to until bytes p q =
       let same = same_front plant digest p.version q.version from other before many p.front q.front _ _ p.course.is_front q.course.is_front (sym p.log.is ∙ q.log.is) in
-      let theirs : IsLog p.front (map batch_text cs) bytes = subst (λ f. IsLog f (map batch_text cs) bytes) (sym same.front_same) q.log in
-      let batches = same_batches bs cs p.course.each q.course.each (records-of-log p.front bytes (map batch_text bs) (map batch_text cs) p.log theirs) in
+      let theirs : IsLog p.front (records_of p.version p.front cs) bytes =
+      subst (λ f. IsLog f (records_of p.version f cs) bytes) (sym same.front_same) (subst (λ v. IsLog q.front (records_of v q.front cs) bytes) (sym same.version_same) q.log) in
+      let batches = same_batches p.version (length p.front) (seed_of p.front) bs cs p.course.each q.course.each
+      (records-of-log p.front bytes (records_of p.version p.front bs) (records_of p.version p.front cs) p.log theirs) in
       record {
         from_same = same.from_same;
         before_same = same.before_same;
@@ -56,25 +73,28 @@ module _ (plant : List Actuator) (digest : List ℕ) where
   not_damaged from before place events bytes p q =
       let h = p.2 in
       let same = same_front plant digest h.version q.version from q.from before q.before h.front q.front _ _ h.course.is_front q.course.is_front (sym h.log.is ∙ q.is) in
-      never_both plant h.version p.0 q.batches from p.1 q.to h.log.gate h.log.tail q.tail h.log.shut h.course.each q.course.each h.course.of_version h.course.leads
+      never_both plant h.version h.front (length h.front) p.0 q.batches from p.1 q.to h.log.gate h.log.tail q.tail h.log.shut h.course.each q.course.each h.course.of_version h.course.leads
       (ap (λ d. replay_all plant d (joined q.batches)) same.from_same ∙ q.course.leads)
-      (subst (λ v. LeadsNowhere plant v q.to q.tail) (sym same.version_same) q.broken) same.rest_same
+      (nowhere_in h.version q.version place h.front q.front q.batches q.to q.tail same.version_same same.front_same q.place_is q.broken)
+      (moved h.version q.version h.front q.front q.batches _ _ same.version_same same.front_same same.rest_same)
 
   one_place : (place other : ℕ) (bytes : List ℕ) → IsDamagedAt plant digest place bytes → IsDamagedAt plant digest other bytes → place ≡ other
   one_place place other bytes p q =
       let same = same_front plant digest p.version q.version p.from q.from p.before q.before p.front q.front _ _ p.course.is_front q.course.is_front (sym p.is ∙ q.is) in
-      let batches = one_damage plant p.version p.batches q.batches p.from p.to q.to p.tail q.tail p.course.each q.course.each p.course.of_version
+      let batches = one_damage plant p.version p.front (length p.front) p.batches q.batches p.from p.to q.to p.tail q.tail p.course.each q.course.each p.course.of_version
       (subst (λ v. IsOfVersion v (joined q.batches)) (sym same.version_same) q.course.of_version) p.course.leads
-      (ap (λ d. replay_all plant d (joined q.batches)) same.from_same ∙ q.course.leads) p.broken
-      (subst (λ v. LeadsNowhere plant v q.to q.tail) (sym same.version_same) q.broken) same.rest_same in
-      p.place_is ∙ ap (λ f. length (f ++ spelled (map batch_text p.batches))) same.front_same
-      ∙ ap (λ b. length (q.front ++ spelled (map batch_text b))) batches ∙ sym q.place_is
+      (ap (λ d. replay_all plant d (joined q.batches)) same.from_same ∙ q.course.leads)
+      (nowhere_in p.version p.version place p.front p.front p.batches p.to p.tail refl refl p.place_is p.broken)
+      (nowhere_in p.version q.version other p.front q.front q.batches q.to q.tail same.version_same same.front_same q.place_is q.broken)
+      (moved p.version q.version p.front q.front q.batches _ _ same.version_same same.front_same same.rest_same) in
+      p.place_is ∙ ap (λ v. last_gate v p.front p.batches) same.version_same ∙ ap (λ f. last_gate q.version f p.batches) same.front_same
+      ∙ ap (λ b. last_gate q.version q.front b) batches ∙ sym q.place_is
 
   -- ---- what an append leaves
 
   pub shut_holds : (front : List ℕ) (version before : ℕ) (from : Persistent) (batches : List (List Event)) (to : Persistent) →
-      IsCourse plant digest version front from before batches to → (bytes tail : List ℕ) (gate : ℕ) → (gate ≡ 1 → ⊥) → EndsCleanly plant version to gate tail →
-      bytes ≡ front ++ (spelled (map batch_text batches) ++ gate ∷ tail) → HoldsCleanly plant digest to (before + length (joined batches)) bytes
+      IsCourse plant digest version front from before batches to → (bytes tail : List ℕ) (gate : ℕ) → (gate ≡ 1 → ⊥) → EndsCleanly plant version front (last_gate version front batches) to gate tail →
+      bytes ≡ front ++ (spelled (records_of version front batches) ++ gate ∷ tail) → HoldsCleanly plant digest to (before + length (joined batches)) bytes
   shut_holds front version before from batches to course bytes tail gate shut clean is = record {
     from = from;
     before = before;
@@ -83,7 +103,7 @@ module _ (plant : List Actuator) (digest : List ℕ) where
       version = version;
       front = front;
       course = course;
-      log = record { gate = gate; tail = tail; is = is; shut = shut; each = are_records batches course.each };
+      log = record { gate = gate; tail = tail; is = is; shut = shut; each = are_records version (length front) (seed_of front) batches course.each };
     };
     clean = clean;
     counted = refl;

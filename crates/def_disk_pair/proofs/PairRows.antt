@@ -21,12 +21,13 @@ use Rattle.def_log.specs.declared.kind.DiskKind.TheVariants.{Other}
 use Rattle.def_log.specs.Kinds.{kind_of, state_mark}
 use Rattle.def_log.specs.Log.{framed, spelled}
 use Rattle.def_disk_pair.specs.Fronts.{heading, IsPlainFront, kept_state, IsStateFront}
-use Rattle.def_disk_pair.specs.Contents.{IsNext, IsCourse}
+use Rattle.def_seal.specs.Seals.{seed_of}
+use Rattle.def_disk_pair.specs.Contents.{record_of, IsNext, IsCourse}
 use Rattle.def_disk_pair.specs.Damage.{LeadsNowhere}
 use Rattle.def_disk_pair.specs.Pairs.{IsNew, OpensCleanly, DamagedAt}
 use Rattle.def_disk_pair.proofs.Disks.{shut_holds, second_written, first_written}
 use Rattle.def_disk_pair.proofs.OfKinds.{state_front}
-use Rattle.def_disk_pair.proofs.OfRecords.{batch_short}
+use Rattle.def_disk_pair.proofs.OfRecords.{sealed_batch_short}
 
 -- some digest: the bytes 1 to 32
 abbrev digest : List ℕ
@@ -57,7 +58,7 @@ unfolding framed number_text
 spelled_so = refl
 
 front : IsPlainFront digest 2 first_persistent 0 header
-front = record { first = 66; written = λ no. omega (arith, no); known = inr refl; is = refl; first_state = refl; none_before = refl }
+front = record { first = 66; written = λ no. omega (arith, no); known = (omega arith, omega arith); is = refl; first_state = refl; none_before = refl }
 
 course : IsCourse building digest 2 header first_persistent 0 (attach ∷ submit ∷ []) one_lease
 course = record {
@@ -104,9 +105,9 @@ too_short tail r size gate more small few sized long is =
     omega (arith, same, whole, long, length-append r (gate ∷ more))
 
 nothing_follows : (version : ℕ) (from : Persistent) (tail : List ℕ) (size : ℕ) → size < 2 ^ 32 → take 4 tail ≡ to_be_bytes w32 size → length tail ≤ size + 4 →
-    LeadsNowhere building version from tail
-nothing_follows version from tail size few sized long events after gate more next is =
-    too_short tail (batch_text events) size gate more (batch_short events next.batch) few sized long is
+    (front : List ℕ) (place : ℕ) → LeadsNowhere building version front place from tail
+nothing_follows version from tail size few sized long front place events after gate more next is =
+    too_short tail (record_of version front place events) size gate more (sealed_batch_short version place (seed_of front) events next.batch) few sized long is
 
 -- the last gate is missing: the second record is damaged, at 57
 without_last_gate : DamagedAt building digest 57 (take 93 journal) []
@@ -121,7 +122,7 @@ without_last_gate = record {
   course = record { is_front = inl front; each = search rules; of_version = λ first. absurd (omega (arith, first)); leads = attached };
   tail = drop 58 (take 93 journal);
   is = refl;
-  broken = nothing_follows 2 _ (drop 58 (take 93 journal)) 31 (omega arith) refl (omega arith);
+  broken = nothing_follows 2 _ (drop 58 (take 93 journal)) 31 (omega arith) refl (omega arith) header 57;
   place_is = refl;
 }
 
@@ -138,7 +139,7 @@ without_second_gate = record {
   course = record { is_front = inl front; each = tt; of_version = λ first. tt; leads = refl };
   tail = drop 42 (take 57 journal);
   is = refl;
-  broken = nothing_follows 2 _ (drop 42 (take 57 journal)) 11 (omega arith) refl (omega arith);
+  broken = nothing_follows 2 _ (drop 42 (take 57 journal)) 11 (omega arith) refl (omega arith) header 41;
   place_is = refl;
 }
 
@@ -154,7 +155,7 @@ only_a_gate = record {
   course = record { is_front = inl front; each = tt; of_version = λ first. tt; leads = refl };
   tail = [];
   is = refl;
-  broken = λ events after gate more next is. no_frame (batch_text events) gate more is;
+  broken = λ events after gate more next is. no_frame (record_of 2 header 41 events) gate more is;
   place_is = refl;
 }
   where
@@ -270,7 +271,7 @@ kept_front : (generation before : ℕ) (d : Persistent) → generation < 2 ^ 64 
 kept_front generation before d counted few fits are = record {
   first = 66;
   written = λ no. omega (arith, no);
-  known = inr refl;
+  known = (omega arith, omega arith);
   is = refl;
   counted = counted;
   few = few;

@@ -7,12 +7,24 @@ use Rattle.boss_model.specs.declared.state.Actuator.{Actuator}
 use Rattle.boss_model.specs.Run.{replay_all}
 use Rattle.boss_model.specs.State.{Persistent}
 use Rattle.def_bytes.specs.Batches.{batch_text, IsBatch, IsOfVersion}
-use Rattle.def_log.specs.Log.{framed, IsLog}
+use Rattle.def_log.specs.Log.{framed, spelled, IsLog}
+use Rattle.def_seal.specs.Seals.{seed_of, sealed, all_sealed}
 use Rattle.def_disk_pair.specs.Fronts.{IsFront}
 
 -- the events of all records, in order
 abbrev pub joined : List (List Event) → List Event
 joined batches = flat_map (λ events. events) batches
+
+-- what stands behind a front for the events of its records, and for those of one whose gate is at this place
+abbrev pub records_of : ℕ → List ℕ → List (List Event) → List (List ℕ)
+records_of version front batches = all_sealed version (seed_of front) (length front) (map batch_text batches)
+
+abbrev pub record_of : ℕ → List ℕ → ℕ → List Event → List ℕ
+record_of version front place events = sealed version (seed_of front) place (batch_text events)
+
+-- the place of the gate behind them
+abbrev pub last_gate : ℕ → List ℕ → List (List Event) → ℕ
+last_gate version front batches = length (front ++ spelled (records_of version front batches))
 
 -- one record more: one to sixteen events that a disk of the version knows, and that lead from one state to another
 pub record IsNext (plant : List Actuator) (version : ℕ) (from : Persistent) (events : List Event) (to : Persistent) : Type 0 where
@@ -32,12 +44,12 @@ pub record Holds (plant : List Actuator) (digest : List ℕ) (from : Persistent)
   pub version : ℕ
   pub front : List ℕ
   pub course : IsCourse plant digest version front from before batches to
-  pub log : IsLog front (map batch_text batches) bytes
+  pub log : IsLog front (records_of version front batches) bytes
 
 -- The last gate is 0, or a stop came while it was opened: a whole record that leads on stands behind it then, with a next gate 0.
-abbrev pub EndsCleanly : List Actuator → ℕ → Persistent → ℕ → List ℕ → Type 0
-EndsCleanly plant version to gate tail = (gate ≡ 0) ⊎
-    ((events : List Event) × (after : Persistent) × (more : List ℕ) × IsNext plant version to events after × (tail ≡ framed (batch_text events) ++ 0 ∷ more))
+abbrev pub EndsCleanly : List Actuator → ℕ → List ℕ → ℕ → Persistent → ℕ → List ℕ → Type 0
+EndsCleanly plant version front place to gate tail = (gate ≡ 0) ⊎
+    ((events : List Event) × (after : Persistent) × (more : List ℕ) × IsNext plant version to events after × (tail ≡ framed (record_of version front place events) ++ 0 ∷ more))
 
 -- The bytes are clean, and come to this state after so many events.
 pub record HoldsCleanly (plant : List Actuator) (digest : List ℕ) (d : Persistent) (count : ℕ) (bytes : List ℕ) : Type 0 where
@@ -45,5 +57,5 @@ pub record HoldsCleanly (plant : List Actuator) (digest : List ℕ) (d : Persist
   pub before : ℕ
   pub batches : List (List Event)
   pub held : Holds plant digest from before batches d bytes
-  pub clean : EndsCleanly plant held.version d held.log.gate held.log.tail
+  pub clean : EndsCleanly plant held.version held.front (last_gate held.version held.front batches) d held.log.gate held.log.tail
   pub counted : count ≡ before + length (joined batches)

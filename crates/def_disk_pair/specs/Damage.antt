@@ -1,17 +1,16 @@
 -- Source: own.
 -- Where a disk in force is damaged.
-use Rattle.std.specs.Prelude.{◌≡◌, ℕ, List, ◌∷◌, ◌++◌, length, map}
+use Rattle.std.specs.Prelude.{◌≡◌, ℕ, List, ◌∷◌, ◌++◌}
 use Rattle.boss_model.specs.declared.event.Event.{Event}
 use Rattle.boss_model.specs.declared.state.Actuator.{Actuator}
 use Rattle.boss_model.specs.State.{Persistent}
-use Rattle.def_bytes.specs.Batches.{batch_text}
 use Rattle.def_log.specs.Log.{framed, spelled}
-use Rattle.def_disk_pair.specs.Contents.{IsNext, IsCourse}
+use Rattle.def_disk_pair.specs.Contents.{records_of, record_of, last_gate, IsNext, IsCourse}
 
--- no record that leads on from this state, with a next gate
-abbrev pub LeadsNowhere : List Actuator → ℕ → Persistent → List ℕ → Type 0
-LeadsNowhere plant version to tail = (events : List Event) (after : Persistent) (gate : ℕ) (more : List ℕ) →
-    IsNext plant version to events after → tail ≡ framed (batch_text events) ++ gate ∷ more → ⊥
+-- no record that leads on from this state, with a next gate; from version 3 on, none whose sum is right
+abbrev pub LeadsNowhere : List Actuator → ℕ → List ℕ → ℕ → Persistent → List ℕ → Type 0
+LeadsNowhere plant version front place to tail = (events : List Event) (after : Persistent) (gate : ℕ) (more : List ℕ) →
+    IsNext plant version to events after → tail ≡ framed (record_of version front place events) ++ gate ∷ more → ⊥
 
 -- The first gate that is open without such a record behind it is at this place.
 pub record IsDamagedAt (plant : List Actuator) (digest : List ℕ) (place : ℕ) (bytes : List ℕ) : Type 0 where
@@ -23,6 +22,6 @@ pub record IsDamagedAt (plant : List Actuator) (digest : List ℕ) (place : ℕ)
   pub to : Persistent
   pub course : IsCourse plant digest version front from before batches to
   pub tail : List ℕ
-  pub is : bytes ≡ front ++ (spelled (map batch_text batches) ++ 1 ∷ tail)
-  pub broken : LeadsNowhere plant version to tail
-  pub place_is : place ≡ length (front ++ spelled (map batch_text batches))
+  pub is : bytes ≡ front ++ (spelled (records_of version front batches) ++ 1 ∷ tail)
+  pub broken : LeadsNowhere plant version front place to tail
+  pub place_is : place ≡ last_gate version front batches

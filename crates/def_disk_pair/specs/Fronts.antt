@@ -1,6 +1,7 @@
 -- Source: own.
 -- What stands on a disk before its first gate.
 use Rattle.std.specs.Prelude.{◌≡◌, ◌≢◌, ◌⊎◌, ℕ, ◌^◌, ◌<◌, ◌≤◌, true, List, ◌∷◌, ◌++◌, length}
+use Rattle.def_log.specs.Versions.{IsKnown}
 use Rattle.std.specs.Int.{w64}
 use Rattle.def_bytes.specs.Fields.{number_text}
 use Rattle.boss_model.specs.declared.state.Actuator.{Actuator}
@@ -9,10 +10,6 @@ use Rattle.boss_model.specs.Sound.{IsSoundPersistent}
 use Rattle.boss_model.specs.State.{Persistent, first_persistent}
 use Rattle.def_bytes.specs.States.{state}
 use Rattle.def_log.specs.Kinds.{plain_mark, state_mark}
-
--- the versions that are known
-abbrev pub IsKnown : ℕ → Type 0
-IsKnown version = (version ≡ 1) ⊎ (version ≡ 2)
 
 -- byte 0, which is any but 0; the mark; the version; the digest of the catalogue
 abbrev pub heading : ℕ → List ℕ → ℕ → List ℕ → List ℕ

@@ -1,12 +1,11 @@
-ghost use Rattle.std.specs.Prelude.{◌≡◌, ◌≢◌, ◌⊎◌, ℕ, ◌+◌, ◌^◌, ◌%◌, ◌<◌, List, [], ◌∷◌, ◌++◌, length, map};
+ghost use Rattle.std.specs.Prelude.{◌≡◌, ◌≢◌, ◌⊎◌, ℕ, ◌+◌, ◌^◌, ◌%◌, ◌<◌, List, [], ◌∷◌, ◌++◌, length};
 ghost use Rattle.boss_model.specs.declared.event.Event.{Event};
 ghost use Rattle.boss_model.specs.declared.state.Actuator.{Actuator};
 ghost use Rattle.boss_model.specs.State.{Persistent};
-ghost use Rattle.def_bytes.specs.Batches.{batch_text};
 ghost use Rattle.def_log.specs.declared.kind.DiskKind.TheVariants.{Idle, Plain, State};
 ghost use Rattle.def_log.specs.Kinds.{kind_of};
 ghost use Rattle.def_log.specs.Log.{framed, spelled};
-ghost use Rattle.def_disk_pair.specs.Contents.{joined, IsNext, IsCourse, HoldsCleanly};
+ghost use Rattle.def_disk_pair.specs.Contents.{joined, records_of, record_of, last_gate, IsNext, IsCourse, HoldsCleanly};
 ghost use Rattle.def_disk_pair.specs.Fronts.{IsPlainFront, IsStateFront};
 ghost use Rattle.def_disk_pair.specs.Pairs.{StandsFor, Opens, OpensCleanly, DamagedAt};
 
@@ -24,16 +23,18 @@ pub fn a_front_tells_the_kind()
 pub fn an_append_is_missing_or_whole()
     ensures shut { (plant : List Actuator) (digest front : List ℕ) (version before : ℕ) (from : Persistent) (batches : List (List Event)) (to : Persistent) →
         IsCourse plant digest version front from before batches to → (bytes tail : List ℕ) →
-        bytes ≡ front ++ (spelled (map batch_text batches) ++ 0 ∷ tail) →
+        bytes ≡ front ++ (spelled (records_of version front batches) ++ 0 ∷ tail) →
         HoldsCleanly plant digest to (before + length (joined batches)) bytes }
     ensures opening { (plant : List Actuator) (digest front : List ℕ) (version before : ℕ) (from : Persistent) (batches : List (List Event)) (to : Persistent) →
         IsCourse plant digest version front from before batches to → (events : List Event) (after : Persistent) →
         IsNext plant version to events after → (bytes tail : List ℕ) (gate : ℕ) → gate ≢ 1 →
-        bytes ≡ front ++ (spelled (map batch_text batches) ++ gate ∷ (framed (batch_text events) ++ 0 ∷ tail)) →
+        bytes ≡ front ++ (spelled (records_of version front batches) ++ gate ∷ (framed (record_of version front (last_gate version front batches) events) ++ 0 ∷ tail)) →
         HoldsCleanly plant digest to (before + length (joined batches)) bytes }
     ensures opened { (plant : List Actuator) (digest front : List ℕ) (version before : ℕ) (from : Persistent) (batches : List (List Event)) (to : Persistent) →
         IsCourse plant digest version front from before batches to → (events : List Event) (after : Persistent) →
         IsNext plant version to events after → IsCourse plant digest version front from before (batches ++ events ∷ []) after }
+    ensures records { (front : List ℕ) (version : ℕ) (batches : List (List Event)) (events : List Event) → records_of version front (batches ++ events ∷ [])
+        ≡ records_of version front batches ++ record_of version front (last_gate version front batches) events ∷ [] }
 {}
 
 /// A kept state that is written as the next generation is in force as soon as it is written, and the pair opens to it. The other

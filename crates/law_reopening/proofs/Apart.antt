@@ -1,14 +1,13 @@
 -- A pair that stands for something is refused for nothing that it holds.
-use Rattle.std.proofs.Common.{◌≡◌, ◌⊎◌, inl, inr, ℕ, ◌+◌, ◌^◌, ◌<◌, ◌≤◌, nat_lt, true, List, [], ◌∷◌, ◌++◌, length, take, drop, refl, sym, ap, subst, ◌∙◌, append_assoc, length-append, arith}
-use Rattle.std.specs.Prelude.{map}
+use Rattle.std.proofs.Common.{◌≡◌, ◌⊎◌, inl, inr, ℕ, ◌+◌, ◌^◌, ◌<◌, ◌≤◌, nat_lt, true, List, [], ◌∷◌, ◌++◌, length, take, drop, refl, sym, ap, subst, ◌∙◌, append_assoc, length-append, arith, ⊎_elim, ◌==◌, false}
 use Rattle.std.specs.Int.{w64, from_be_bytes}
+use Rattle.std.proofs.lemmas.Bool.{cases_lt}
 use Rattle.std.proofs.lemmas.Bool.Decides.{nat_tests}
 use Rattle.std.proofs.lemmas.List.{take_at, drop_at, drop-drop}
 use Rattle.std.proofs.lemmas.Nat.{from_be_bytes-to_be_bytes_8}
-use Rattle.def_bytes.specs.Batches.{batch_text}
 use Rattle.def_bytes.specs.States.{state}
 use Rattle.def_bytes.proofs.OfStates.{state_spelled}
-use Rattle.def_bytes.specs.Fields.{number_text}
+use Rattle.def_bytes.specs.Fields.{Field, number_text}
 use Rattle.boss_pair_find.specs.declared.refusal.DurableRefusal.{DurableRefusal}
 use Rattle.boss_pair_find.specs.declared.refusal.DurableRefusal.TheVariants.{NotAJournal, Version, Catalogue, Damaged, DiskFault, NoMemory}
 use Rattle.boss_pair_find.specs.Holds.{OfOneInForce}
@@ -27,6 +26,7 @@ use Rattle.boss_model.specs.Settle.{opened}
 use Rattle.boss_model.specs.Sound.{IsSoundPersistent}
 use Rattle.boss_model.specs.State.{Persistent, State, first_persistent}
 use Rattle.boss_opening.specs.Opens.{IsUnsound, OpenedAt, OpenRefuses}
+use Rattle.def_disk_pair.specs.Contents.{records_of}
 use Rattle.def_disk_pair.specs.Damage.{IsDamagedAt}
 use Rattle.def_disk_pair.specs.Fronts.{heading, kept_state, IsFront, IsPlainFront, IsStateFront}
 use Rattle.def_disk_pair.specs.Pairs.{DamagedAt, HasEvents, IsNew, OfPair, OfThatInForce, StandsFor}
@@ -34,7 +34,8 @@ use Rattle.def_disk_pair.proofs.Disks.{damaged_at_one, of_that, stands_for_one, 
 use Rattle.def_disk_pair.proofs.OfKinds.{plain_front}
 use Rattle.def_disk_pair.proofs.Replays.{some-is}
 use Rattle.boss_snapshot.specs.declared.refusal.SnapshotRefusal.TheVariants as reading
-use Rattle.boss_snapshot.specs.Fronts.{version_of, digest_of, events_of, size_of, text_of, HasCounts, IsKnown}
+use Rattle.boss_snapshot.specs.Fronts.{version_of, digest_of, events_of, size_of, text_of, HasCounts}
+use Rattle.def_log.specs.Versions.{IsKnown}
 use Rattle.boss_snapshot.specs.Refusals.{IsKeptState, IsState, Refuses}
 use Rattle.boss_snapshot.specs.Spells.{SpellsState}
 use Rattle.boss_snapshot.proofs.Again.{kept_alone, kept_taken}
@@ -56,11 +57,18 @@ short_of version d most fits =
     let least : (state version).most < 2 ^ 64 = below (state version).most most in
     omega (arith, short, least)
 
+-- from version 2 on a state has one spelling
+later : (version : ℕ) → 2 ≤ version → state version ≡ state 2
+later version many = let no : (version == 1) ≡ false = grind (arith, nat_tests, many) in rw no refl
+
 short_text : (version : ℕ) (d : Persistent) → IsKnown version → (state version).fits d ≡ true → length ((state version).text d) < 2 ^ 64
-short_text version d (inl one) fits =
-    subst (λ v. (state v).fits d ≡ true → length ((state v).text d) < 2 ^ 64) (sym one) (short_of 1 d refl) fits
-short_text version d (inr two) fits =
-    subst (λ v. (state v).fits d ≡ true → length ((state v).text d) < 2 ^ 64) (sym two) (short_of 2 d refl) fits
+short_text version d known fits =
+    ⊎_elim
+    (λ below.
+    let one : version ≡ 1 = omega (arith, below, known.0) in
+    subst (λ v. (state v).fits d ≡ true → length ((state v).text d) < 2 ^ 64) (sym one) (short_of 1 d refl) fits)
+    (λ up. subst (λ (s : Field Persistent). s.fits d ≡ true → length (s.text d) < 2 ^ 64) (sym (later version up)) (short_of 2 d refl) fits)
+    (cases_lt version 2)
 
 regroup : (g e n text z : List ℕ) → (g ++ (e ++ (n ++ text))) ++ z ≡ g ++ (e ++ (n ++ (text ++ z)))
 regroup g e n text z =
@@ -215,10 +223,10 @@ module _ (plant : List Actuator) (digest : List ℕ) (len : length digest ≡ 32
         from = from;
         before = before;
         front = held.front;
-        rest = spelled (map batch_text has.0) ++ held.log.gate ∷ held.log.tail;
+        rest = spelled (records_of held.version held.front has.0) ++ held.log.gate ∷ held.log.tail;
         is_front = held.course.is_front;
         is = held.log.is;
-        some = omega (arith, length-append (spelled (map batch_text has.0)) (held.log.gate ∷ held.log.tail));
+        some = omega (arith, length-append (spelled (records_of held.version held.front has.0)) (held.log.gate ∷ held.log.tail));
       }
 
   front_of_damage : (place : ℕ) (bytes : List ℕ) → IsDamagedAt plant digest place bytes → HasFront bytes
@@ -227,10 +235,10 @@ module _ (plant : List Actuator) (digest : List ℕ) (len : length digest ≡ 32
     from = damaged.from;
     before = damaged.before;
     front = damaged.front;
-    rest = spelled (map batch_text damaged.batches) ++ 1 ∷ damaged.tail;
+    rest = spelled (records_of damaged.version damaged.front damaged.batches) ++ 1 ∷ damaged.tail;
     is_front = damaged.course.is_front;
     is = damaged.is;
-    some = omega (arith, length-append (spelled (map batch_text damaged.batches)) (1 ∷ damaged.tail));
+    some = omega (arith, length-append (spelled (records_of damaged.version damaged.front damaged.batches)) (1 ∷ damaged.tail));
   }
 
   tells_known : (version : ℕ) (from : Persistent) (before : ℕ) (front rest bytes : List ℕ) → IsFront plant digest version from before front → bytes ≡ front ++ rest →

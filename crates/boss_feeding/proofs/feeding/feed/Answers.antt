@@ -1,4 +1,4 @@
-use Rattle.std.proofs.Common.{◌≡◌, inl, List, [], ℕ, refl, sym, subst}
+use Rattle.std.proofs.Common.{◌≡◌, inl, [], refl, sym, subst}
 use Rattle.std.specs.Prelude.{IfErr}
 use Rattle.boss_disk_pair.specs.Causes.{Counts}
 use Rattle.boss_feeding.specs.Faults.{DisksCause}

@@ -1,11 +1,18 @@
-use Rattle.std.proofs.Common.{◌+◌, sym, ap, subst, ◌∙◌}
+use Rattle.std.proofs.Common.{◌+◌, sym, ap, subst, ◌∙◌, arith}
 use Rattle.boss_feeding.specs.Faults.{ActiveCause}
 use Rattle.boss_feeding.specs.Held.{HasLog}
 use Rattle.boss_feeding.specs.Lines.{lines_text}
 use Rattle.boss_feeding.proofs.Writing.{nothing_told}
 use Rattle.boss_pair_find.proofs.Orders.{at_both}
+use Rattle.boss_snapshot.specs.Fronts.{version_of}
 use Rattle.def_feed.specs.Feeds.{event_items}
 use Rattle.boss_feeding.proofs.feeding.feed_log.Goals as goal
+
+pub tell_log-told-requires-clause-version : goal.tell_log-told-requires-clause-version
+tell_log-told-requires-clause-version g c tells =
+    let inside = c.requires.inside tells in
+    let past = c.requires.past tells in
+    c.in-Ok.ensures.version tells (omega (arith, inside, past)) ∙ ap version_of (sym (c.in-Ok.ensures.reads tells))
 
 pub returns-in-Ok-clause-told : goal.returns-in-Ok-clause-told
 returns-in-Ok-clause-told g c tells takes events has =

@@ -15,6 +15,12 @@ returns-then-from-base-clause-told g c tells takes events has =
     subst (λ text. Writes (g.K.Sink.taken c.args.sink.now) (g.K.Sink.taken c.feed_log.new.sink) text c.feed_log.result.1)
     (sym (feed_without c.args.from (seen c.args.base.now.kept) c.args.base.now.before events c.if-from-base.true)) (c.feed_log.ensures.told tells takes events has)
 
+pub feed_log-requires-clause-past : goal.feed_log-requires-clause-past
+feed_log-requires-clause-past g c tells = let behind = (c.requires.kept tells).1.behind in omega (arith, behind)
+
+pub feed_log-requires-in-Ok-clause-past : goal.feed_log-requires-in-Ok-clause-past
+feed_log-requires-in-Ok-clause-past g c tells = let behind = (c.requires.kept tells).1.behind in omega (arith, behind)
+
 pub feed_log-requires-in-Ok-clause-inside : goal.feed_log-requires-in-Ok-clause-inside
 feed_log-requires-in-Ok-clause-inside g c tells =
     let gate = (c.requires.kept tells).1.gate in

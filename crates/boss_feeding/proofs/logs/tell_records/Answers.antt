@@ -1,12 +1,14 @@
-use Rattle.std.proofs.Common.{refl, sym, subst, ◌∙◌, arith}
+use Rattle.std.proofs.Common.{refl, sym, ap, subst, ◌∙◌, arith}
 use Rattle.boss_feeding.specs.Held.{HasLog}
 use Rattle.boss_feeding.specs.Nexts.{TellsSome}
 use Rattle.boss_feeding.proofs.LogSteps.{log_broken, log_told, none_told, record_told}
+use Rattle.boss_snapshot.specs.Fronts.{version_of}
 use Rattle.boss_feeding.proofs.logs.tell_records.Goals as goal
 
 pub loop-more-init : goal.loop-more-init
 loop-more-init g c = record {
   far = omega arith;
+  version = refl;
   room = refl;
   reads = λ tells. refl;
   windows = λ tells. refl;
@@ -15,6 +17,10 @@ loop-more-init g c = record {
   told = λ tells takes events has.
       none_told c.args.from c.args.before events (g.D.Disk.reads c.args.journal.now.disk) (g.K.Sink.taken c.args.sink.now) c.args.journal.now.place has;
 }
+
+pub tell_next-requires-clause-version : goal.tell_next-requires-clause-version
+tell_next-requires-clause-version g c told =
+    let so = c.loop-more.invariant in so.version ∙ c.requires.version told ∙ ap version_of (sym (so.reads told))
 
 pub loop-more-preserved : goal.loop-more-preserved
 loop-more-preserved g c =
@@ -31,6 +37,7 @@ loop-more-preserved g c =
     let after = c.tell_next.new.journal.place in
     record {
       far = let before = so.far in omega (arith, moves.0, before);
+      version = c.tell_next.ensures.version ∙ so.version;
       room = c.tell_next.ensures.room ∙ so.room;
       reads = λ tells. c.tell_next.ensures.reads tells ∙ so.reads tells;
       windows = λ tells. c.tell_next.ensures.windows tells ∙ so.windows tells;

@@ -7,6 +7,7 @@ use Rattle.boss_feeding.proofs.logs.tell_records.Given as goal
 abbrev pub invariant-loop-more : goal.invariant-loop-more
 invariant-loop-more g l = record {
   far : l.number + l.initial.journal.place ≤ l.before + l.journal.place;
+  version : l.journal.version ≡ l.initial.journal.version;
   room : l.buffer.capacity ≡ l.initial.buffer.capacity;
   reads : g.D.Disk.tells → g.D.Disk.reads l.journal.disk ≡ g.D.Disk.reads l.initial.journal.disk;
   windows : g.D.Disk.tells → g.D.Disk.story l.journal.disk ≡ g.D.Disk.story l.initial.journal.disk;

@@ -1,5 +1,5 @@
 use Rattle.std.proofs.Common.{◌∙◌, sym, subst, refl}
-use Rattle.boss_journal.specs.Fronts.{IsKnown}
+use Rattle.def_log.specs.Versions.{IsKnown}
 use Rattle.boss_journal.proofs.FirstBytes.{not_marked, is_marked, version_of, digest_of, front_parts, denied}
 use Rattle.boss_journal.proofs.start.front_version.Goals as goal
 

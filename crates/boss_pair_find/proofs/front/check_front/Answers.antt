@@ -2,7 +2,8 @@ use Rattle.std.proofs.Common.{◌≡◌, take, drop, ap, subst, ◌∙◌}
 use Rattle.std.specs.Prelude.{IfErr}
 use Rattle.boss_pair_find.specs.Refusals.{FrontRefuses, DiskCause}
 use Rattle.boss_pair_find.proofs.Told.{ok_of, err_of, version_read}
-use Rattle.boss_snapshot.specs.Fronts.{IsKnown, version_of, digest_of}
+use Rattle.boss_snapshot.specs.Fronts.{version_of, digest_of}
+use Rattle.def_log.specs.Versions.{IsKnown}
 use Rattle.boss_pair_find.proofs.front.check_front.Goals as goal
 
 pub returns-clause-known : goal.returns-clause-known

@@ -1,5 +1,5 @@
 use Rattle.std.proofs.Common.{refl, sym, subst, ◌∙◌}
-use Rattle.boss_snapshot.specs.Fronts.{IsKnown}
+use Rattle.def_log.specs.Versions.{IsKnown}
 use Rattle.boss_snapshot.proofs.OfFronts.{denied}
 use Rattle.boss_pair_find.proofs.front.check_version.Goals as goal
 

@@ -8,6 +8,7 @@ use Rattle.boss_pair_find.proofs.Orders.{at_both, begun_first, begun_second, beg
 use Rattle.boss_pair_find.proofs.Told.{journal_cause, only_fault}
 use Rattle.boss_model.specs.State.{first_persistent}
 use Rattle.def_disk_pair.specs.Pairs.{OpensCleanly}
+use Rattle.boss_disk_pair.proofs.Beginnings.{no_sums}
 use Rattle.boss_pair_find.proofs.making.make.Goals as goal
 
 pub returns-in-Ok-clause-rests : goal.returns-in-Ok-clause-rests
@@ -16,7 +17,8 @@ returns-in-Ok-clause-rests g c told synced plant =
     let of = has_version c.args.digest.now _ _ _ _ _ (c.requires told).1 opened in
     begun_rests c.begin.result c.in-Ok.journal c.args.second c.begin.ensures.order c.begin.ensures.journal c.begin.ensures.spare plant c.args.digest.now
     c.begin.ensures.digest c.begin.ensures.generation c.begin.ensures.events c.begin.ensures.going
-    (λ again. made_rests plant c.args.digest.now c.told-digest _ _ _ _ _ _ _ (version_known c.args.digest.now _ _ of) opened (c.requires told) synced)
+    (λ again. made_rests plant c.args.digest.now c.told-digest _ _ _ _ _ _ _ _ (version_known c.args.digest.now _ _ of)
+    (λ on. absurd (no_sums _ (version_known c.args.digest.now _ _ of) on)) opened (c.requires told) synced)
 
 pub returns-in-Ok-clause-images : goal.returns-in-Ok-clause-images
 returns-in-Ok-clause-images g c told one other plant =

@@ -1,5 +1,5 @@
 use Rattle.std.proofs.Common.{◌∙◌, sym, subst, refl, inl, inr, arith}
-use Rattle.boss_snapshot.specs.Fronts.{IsKnown}
+use Rattle.def_log.specs.Versions.{IsKnown}
 use Rattle.boss_snapshot.proofs.Counts.{has_counts}
 use Rattle.boss_snapshot.proofs.OfFronts.{same_version, same_digest, same_events, same_size, denied, no_place}
 use Rattle.boss_snapshot.proofs.fronts.front_of.Goals as goal

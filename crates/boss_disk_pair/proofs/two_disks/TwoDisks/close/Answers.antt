@@ -10,7 +10,7 @@ pub returns-then-self-clause-opens : goal.returns-then-self-clause-opens
 unfolding rests
 returns-then-self-clause-opens g c told plant d count at few =
     subst (λ x. OpensCleanly plant c.args.self.digest d count (g.D.Disk.reads c.args.self.spare) (g.D.Disk.reads x)) (sym c.close-disk.ensures)
-    (is_second (OpensCleanly plant c.args.self.digest d count) c.args.self.second _ _ c.if-self.true (count_opens _ _ _ _ _ _ _ _ _ _ _ _ _ _ (at told) few))
+    (is_second (OpensCleanly plant c.args.self.digest d count) c.args.self.second _ _ c.if-self.true (count_opens _ _ _ _ _ _ _ _ _ _ _ _ _ _ _ (at told) few))
 
 pub returns-then-self-clause-left : goal.returns-then-self-clause-left
 unfolding leaves
@@ -24,7 +24,7 @@ pub returns-else-self-clause-opens : goal.returns-else-self-clause-opens
 unfolding rests
 returns-else-self-clause-opens g c told plant d count at few =
     subst (λ x. OpensCleanly plant c.args.self.digest d count (g.D.Disk.reads x) (g.D.Disk.reads c.args.self.spare)) (sym c.close-disk.ensures)
-    (is_first (OpensCleanly plant c.args.self.digest d count) c.args.self.second _ _ c.if-self.false (count_opens _ _ _ _ _ _ _ _ _ _ _ _ _ _ (at told) few))
+    (is_first (OpensCleanly plant c.args.self.digest d count) c.args.self.second _ _ c.if-self.false (count_opens _ _ _ _ _ _ _ _ _ _ _ _ _ _ _ (at told) few))
 
 pub returns-else-self-clause-left : goal.returns-else-self-clause-left
 unfolding leaves

@@ -14,9 +14,9 @@ returns-then-self-clause-changes g c plant new_plant d e count at are sound = λ
 pub returns-in-Ok-clause-rests : goal.returns-in-Ok-clause-rests
 unfolding rests
 returns-in-Ok-clause-rests g c plant new_plant d e count many at are sound counts = λ told.
-    exchanged_rests g.D.Disk new_plant c.args.digest.now c.args.events c.args.self.now.stopped e many _ 2 _ _ _ _ _ _ _ _ c.write_state.new.disk c.args.self.now.journal.disk
+    exchanged_rests g.D.Disk new_plant c.args.digest.now c.args.self.now.seed c.args.events c.args.self.now.stopped e many _ 2 _ _ _ _ _ _ _ _ c.write_state.new.disk c.args.self.now.journal.disk
     c.go_on_in.ensures.start.2 refl refl c.go_on_in.ensures.start.0 c.go_on_in.ensures.disk c.go_on_in.ensures.other
-    (changed_rests _ _ _ _ _ _ _ _ _ _ _ _ _ _ (at told) new_plant c.args.digest.now c.told-digest e c.args.events c.requires.few (subst (λ x. (state 2).fits x ≡ true) are c.requires.fits) sound many (counts told) _ _ _
+    (changed_rests _ _ _ _ _ _ _ _ _ _ _ _ _ _ _ (at told) new_plant c.args.digest.now c.told-digest e c.args.events c.requires.few (subst (λ x. (state 2).fits x ≡ true) are c.requires.fits) sound many (counts told) c.args.self.now.seed (λ on. absurd cc) _ _ _
     (written_now _ c.args.self.now.generation _ _ _ e _ _ _ refl are (c.in-Ok.ensures.done told)))
 
 pub returns-in-Ok-clause-changes : goal.returns-in-Ok-clause-changes
@@ -24,12 +24,12 @@ unfolding rests changes
 returns-in-Ok-clause-changes g c plant new_plant d e count at are sound = λ told.
     other_passes g.D.Disk (OpensEither plant c.args.self.now.digest d new_plant c.args.digest.now e) _ c.args.self.now.second _ c.args.self.now.journal.disk c.args.self.now.spare _ _ _ refl
     c.go_on_in.ensures.disk c.go_on_in.ensures.other
-    (changing_leaves _ _ _ _ _ _ _ _ _ _ _ _ _ _ (at told) new_plant c.args.digest.now c.told-digest e c.args.events c.requires.few (subst (λ x. (state 2).fits x ≡ true) are c.requires.fits) sound)
+    (changing_leaves _ _ _ _ _ _ _ _ _ _ _ _ _ _ _ (at told) new_plant c.args.digest.now c.told-digest e c.args.events c.requires.few (subst (λ x. (state 2).fits x ≡ true) are c.requires.fits) sound)
     (written_run _ _ c.args.self.now.generation _ _ e _ _ _ refl are (c.write_state.ensures.images told (at told).synced))
 
 pub returns-in-Err-clause-changes : goal.returns-in-Err-clause-changes
 unfolding rests changes
 returns-in-Err-clause-changes g c plant new_plant d e count at are sound = λ told.
     other_moves (OpensEither plant c.args.self.now.digest d new_plant c.args.digest.now e) _ c.args.self.now.second _ _ _
-    (changing_leaves _ _ _ _ _ _ _ _ _ _ _ _ _ _ (at told) new_plant c.args.digest.now c.told-digest e c.args.events c.requires.few (subst (λ x. (state 2).fits x ≡ true) are c.requires.fits) sound)
+    (changing_leaves _ _ _ _ _ _ _ _ _ _ _ _ _ _ _ (at told) new_plant c.args.digest.now c.told-digest e c.args.events c.requires.few (subst (λ x. (state 2).fits x ≡ true) are c.requires.fits) sound)
     (written_run _ _ c.args.self.now.generation _ _ e _ _ _ refl are (c.write_state.ensures.images told (at told).synced))

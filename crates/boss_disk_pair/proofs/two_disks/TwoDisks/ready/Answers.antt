@@ -23,13 +23,13 @@ returns-then-self-clause-passes g c told plant from d before count found end set
 pub returns-in-Ok-clause-rests : goal.returns-in-Ok-clause-rests
 unfolding ends_at is_settled rests
 returns-in-Ok-clause-rests g c plant from d before found end settled many = λ told.
-    readied_rests _ _ _ _ _ _ _ _ _ _ _ _ _ (end told) _ _ _ _ _ _ _ _ c.ready.ensures.version many (settled told).1 c.if-self.false
+    readied_rests _ _ _ _ _ _ _ _ _ _ _ _ _ _ (end told) _ _ _ _ _ _ _ _ c.ready.ensures.version many (settled told).1 c.if-self.false
     (c.in-Ok.ensures.rests told _ _ (end told).at (settled told).0 (c.args.self.now.going c.if-self.false)) (omega (arith, c.saturating_add.ensures, c.min-self.ensures, c.ranges.events.fits))
 
 pub returns-in-Ok-clause-passes : goal.returns-in-Ok-clause-passes
 unfolding ends_at is_settled is_clean passes
 returns-in-Ok-clause-passes g c told plant from d before count found end settled clean =
-    let shut = shutting _ _ _ _ _ _ _ _ _ _ _ _ _ (end told) _ count (settled told).1 (clean told) in (
+    let shut = shutting _ _ _ _ _ _ _ _ _ _ _ _ _ _ (end told) _ count (settled told).1 (clean told) in (
       shut.0,
       shut.1,
       λ again. (
@@ -42,7 +42,7 @@ returns-in-Ok-clause-passes g c told plant from d before count found end settled
 pub returns-in-Err-clause-passes : goal.returns-in-Err-clause-passes
 unfolding ends_at is_settled is_clean passes
 returns-in-Err-clause-passes g c told plant from d before count found end settled clean =
-    let shut = shutting _ _ _ _ _ _ _ _ _ _ _ _ _ (end told) _ count (settled told).1 (clean told) in (
+    let shut = shutting _ _ _ _ _ _ _ _ _ _ _ _ _ _ (end told) _ count (settled told).1 (clean told) in (
       shut.0,
       shut.1,
       λ again. (

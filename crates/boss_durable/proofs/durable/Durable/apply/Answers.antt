@@ -37,8 +37,8 @@ returns-in-NoMemory-clause-kept g c =
 
 pub returns-in-DiskFault-clause-kept : goal.returns-in-DiskFault-clause-kept
 returns-in-DiskFault-clause-kept g c =
-    unbegun_does c.args.self.now c.begin_for.new.self c.args.session ((c.args.command.now, c.args.moment) ∷ []) (sym c.stopped.ensures ∙ c.if-stopped.false)
-    c.in-DiskFault.ensures.stops c.in-DiskFault.ensures.engine c.in-DiskFault.ensures.cause (c.requires.may, tt) c.in-DiskFault.ensures.leaves c.in-DiskFault.ensures.passes
+    unbegun_does c.args.self.now c.begin_for.new.self c.args.session ((c.args.command.now, c.args.moment) ∷ []) [] (sym c.stopped.ensures ∙ c.if-stopped.false)
+    c.in-DiskFault.ensures.stops c.in-DiskFault.ensures.engine c.in-DiskFault.ensures.cause (c.requires.may, tt) tt c.in-DiskFault.ensures.passes
 
 pub returns-in-DiskFault-clause-images : goal.returns-in-DiskFault-clause-images
 returns-in-DiskFault-clause-images g c =

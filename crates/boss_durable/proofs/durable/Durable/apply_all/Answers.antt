@@ -28,7 +28,7 @@ returns-in-Ok-clause-kept g c =
 pub returns-in-Err-clause-kept : goal.returns-in-Err-clause-kept
 returns-in-Err-clause-kept g c =
     all_unbegun c.args.self.now c.begin_all.new.self c.args.session c.args.commands.now _ c.clear.ensures.items (sym c.stopped.ensures ∙ c.if-stopped.false)
-    c.in-Err.ensures.stops c.in-Err.ensures.engine c.in-Err.ensures.cause c.requires.may c.in-Err.ensures.leaves c.in-Err.ensures.passes
+    c.in-Err.ensures.stops c.in-Err.ensures.engine c.in-Err.ensures.cause c.requires.may c.in-Err.ensures.passes
 
 pub returns-in-Err-clause-images : goal.returns-in-Err-clause-images
 returns-in-Err-clause-images g c =
