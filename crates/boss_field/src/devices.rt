@@ -1,12 +1,17 @@
-ghost use Rattle.std.specs.Prelude.{◌≡◌, [], None, Some, IsSome, IfOk, IsOk, vec_len};
+ghost use Rattle.std.specs.Prelude.{◌≡◌, [], None, Some, IfOk, IsOk, vec_len};
 ghost use Rattle.boss_outside.specs.Counts.{HasCause};
+ghost use Rattle.boss_model.specs.declared.places.Protocol.TheVariants.{Bacnet, Modbus};
+ghost use Rattle.boss_bacnet.specs.Devices as bacnet;
 ghost use Rattle.boss_modbus.specs.Fates.{Answers};
 ghost use Rattle.boss_modbus.specs.Writes.{Wrote};
 
-use crate::{FateLine, RealLink};
-use boss_modbus::{Fate, ModbusDevice};
-use boss_model::{DriverPlan, PointId};
-use boss_outside::{Actuators, Failed, Link};
+use crate::fate_line::place_of;
+use crate::numbers::{found_in_datagram, found_in_response, wanted_at};
+use crate::{FateLine, Outcome, Raw, RealDatagrams, RealLink};
+use boss_bacnet::BacnetDevice;
+use boss_modbus::ModbusDevice;
+use boss_model::{DriverPlan, PointId, Protocol};
+use boss_outside::{Actuators, Datagrams, Failed, Link, Look};
 use std::alloc::{AllocError, Global};
 use std::io::Eprint;
 use std::net::{Net, TcpListener, TcpStream};
@@ -16,70 +21,160 @@ use std::time::Clock;
 const FIRST_WAIT: u64 = 5_000;
 
 /// The devices of one driver. They are simulated, and take every command, until they are assigned a part; from then on
-/// they are those of a Modbus TCP host.
+/// they are those of a host, over Modbus TCP or over BACnet/IP as the part says.
 ///
-/// Where a write to a point comes to something else than the write before it, a line on the standard error says so: a
-/// device that is off is reported once and not at each try, and once more when it takes a value again.
+/// Where what a device is asked comes to something else than what was asked before, a line on the standard error says so: a
+/// device that is off is reported once and not at each try, and once more when it takes a value again. One that is found with another
+/// value is reported once until it is found with its own.
 #[derive(Drop)]
 pub struct FieldDevices<R> {
     rt: R,
+    /// What is spoken; nothing as long as the devices are simulated.
+    speaks: Option<Protocol>,
     modbus: ModbusDevice<RealLink<R>>,
+    bacnet: BacnetDevice<RealDatagrams<R>>,
     troubles: Vec<Trouble>,
+    faults: u64,
 }
 
-/// A point whose last write was not taken, and what came of it.
+/// A point whose device did not take its last value, or was found with another one, and what came of it.
 #[derive(Clone, Copy, Debug, PartialEq, Eq)]
 struct Trouble {
     point: PointId,
-    fate: Fate,
+    outcome: Outcome,
 }
 
 impl<R: Net<Listener = TcpListener, Stream = TcpStream> + Clock + Eprint + Copy> FieldDevices<R> {
     /// Simulated devices. `rt` is what connects them once they are assigned a part, and what lines are written by.
     pub fn new(alloc: Global, rt: R) -> FieldDevices<R>
-        ensures part { result.modbus.part ≡ None }
-        ensures faults { result.modbus.faults ≡ 0 }
+        ensures speaks { result.speaks ≡ None }
+        ensures faults { result.faults ≡ 0 }
     {
         FieldDevices {
             rt,
-            modbus: ModbusDevice::new(RealLink::new(rt, FIRST_WAIT)),
+            speaks: None,
+            modbus: ModbusDevice::new(alloc, RealLink::new(rt, FIRST_WAIT)),
+            bacnet: BacnetDevice::new(alloc, RealDatagrams::new(rt, FIRST_WAIT)),
             troubles: Vec::new(alloc),
+            faults: 0,
         }
     }
 
-    /// What came of the last write to a point, as far as it was not taken.
-    fn fate_before(&self, point: PointId) -> Fate {
+    /// What came before of what a point's device was asked, as far as it was a trouble.
+    fn trouble_of(&self, point: PointId) -> Option<Outcome> {
         for trouble in &self.troubles {
             if trouble.point == point {
-                return trouble.fate;
+                return Some(trouble.outcome);
             }
         }
-        Fate::Taken
+        None
     }
 
-    /// Keeps what came of a write. Without memory it is forgotten, and the next try is reported anew.
-    fn note(&mut self, point: PointId, fate: Fate)
-        ensures { self.new.modbus ≡ self.old.modbus }
+    /// Keeps what came of what a point's device was asked. Without memory it is forgotten, and reported anew.
+    fn note(&mut self, point: PointId, outcome: Outcome)
+        ensures modbus { self.new.modbus ≡ self.old.modbus }
+        ensures bacnet { self.new.bacnet ≡ self.old.bacnet }
+        ensures speaks { self.new.speaks ≡ self.old.speaks }
+        ensures faults { self.new.faults ≡ self.old.faults }
     {
         self.troubles.retain(|trouble| trouble.point != point);
-        if fate != Fate::Taken {
-            let _ = self.troubles.push(Trouble { point, fate });
+        if !outcome.is_taken() && !outcome.has() {
+            let _ = self.troubles.push(Trouble { point, outcome });
         }
     }
 
-    /// Writes a line where the last write, to this point, came to something else than the one before it.
-    fn report(&mut self, point: PointId)
-        ensures { self.new.modbus ≡ self.old.modbus }
+    /// Writes a Modbus device.
+    fn write_over_modbus(&mut self, point: PointId, value: i64) -> Result<(), Failed>
+        ensures cause { HasCause self.old.faults self.new.faults result }
+        ensures wrote { Wrote ⟦<RealLink<R> as Link>⟧ point value self.old.modbus self.new.modbus }
+        ensures answers { Answers self.new.modbus.fate result }
     {
-        let fate = self.modbus.fate();
-        if fate == self.fate_before(point) {
+        let answer = self.modbus.write(point, value);
+        self.report(Protocol::Modbus, point, None);
+        if answer.is_ok() {
+            return Ok(());
+        }
+        self.faults = self.faults.saturating_add(1);
+        Err(Failed)
+    }
+
+    /// Writes a BACnet device.
+    fn write_over_bacnet(&mut self, point: PointId, value: i64) -> Result<(), Failed>
+        ensures cause { HasCause self.old.faults self.new.faults result }
+        ensures wrote { bacnet.Wrote ⟦<RealDatagrams<R> as Datagrams>⟧ point value self.old.bacnet self.new.bacnet }
+        ensures answers { bacnet.Answers self.new.bacnet.fate result }
+    {
+        let answer = self.bacnet.write(point, value);
+        self.report(Protocol::Bacnet, point, None);
+        if answer.is_ok() {
+            return Ok(());
+        }
+        self.faults = self.faults.saturating_add(1);
+        Err(Failed)
+    }
+
+    /// Writes a line where what a point's device was asked came to something else than before. `wanted` is the value that a look asked
+    /// after.
+    fn report(&mut self, protocol: Protocol, point: PointId, wanted: Option<i64>)
+        ensures modbus { self.new.modbus ≡ self.old.modbus }
+        ensures bacnet { self.new.bacnet ≡ self.old.bacnet }
+        ensures speaks { self.new.speaks ≡ self.old.speaks }
+        ensures faults { self.new.faults ≡ self.old.faults }
+    {
+        let outcome = match protocol {
+            Protocol::Modbus => Outcome::Modbus {
+                fate: self.modbus.fate(),
+            },
+            Protocol::Bacnet => Outcome::Bacnet {
+                fate: self.bacnet.fate(),
+            },
+        };
+        if !is_news(self.trouble_of(point), outcome) {
             return;
         }
-        if let Some(part) = self.modbus.part() {
-            let line = FateLine { part, point, fate };
-            let _ = eprintln!(&self.rt; "bossd: {line}");
+        self.tell(protocol, point, outcome, wanted);
+        self.note(point, outcome);
+    }
+
+    /// Writes a line.
+    fn tell(&self, protocol: Protocol, point: PointId, outcome: Outcome, wanted: Option<i64>) {
+        let part = match protocol {
+            Protocol::Modbus => self.modbus.part(),
+            Protocol::Bacnet => self.bacnet.part(),
+        };
+        let Some(part) = part else {
+            return;
+        };
+        let line = FateLine {
+            part,
+            point,
+            outcome,
+            found: self.found_at(protocol, part, point),
+            wanted: raw_at(part, point, wanted),
+        };
+        let _ = eprintln!(&self.rt; "bossd: {line}");
+    }
+
+    /// What the last answer says that a point's device has.
+    fn found_at(&self, protocol: Protocol, part: &DriverPlan, point: PointId) -> Option<Raw> {
+        match protocol {
+            Protocol::Modbus => found_in_response(place_of(part, point)?, self.modbus.response()),
+            Protocol::Bacnet => found_in_datagram(self.bacnet.link().last()),
         }
-        self.note(point, fate);
+    }
+}
+
+/// What a point's device has for a value.
+fn raw_at(part: &DriverPlan, point: PointId, value: Option<i64>) -> Option<Raw> {
+    wanted_at(place_of(part, point)?, value?)
+}
+
+/// Whether it is to be told what came of something, by what came before. What was found with another value is no news again until it is
+/// found with its own.
+fn is_news(before: Option<Outcome>, outcome: Outcome) -> bool {
+    match before {
+        None => !outcome.is_taken() && !outcome.has(),
+        Some(before) => before != outcome && !(before.differs() && outcome.is_taken()),
     }
 }
 
@@ -91,30 +186,63 @@ impl<R: Net<Listener = TcpListener, Stream = TcpStream> + Clock + Eprint + Copy>
 
     ghost whole = { λ devices. Unit {0} };
 
-    ghost faults = { λ devices. devices.modbus.faults };
+    ghost faults = { λ devices. devices.faults };
 
-    ghost assigned = { λ old part new. new.modbus.part ≡ Some part };
+    ghost assigned = { λ old part new. (new.speaks ≡ Some part.speaks)
+        × (part.speaks ≡ Modbus → new.modbus.part ≡ Some part) × (part.speaks ≡ Bacnet → new.bacnet.part ≡ Some part) };
 
     fn write(&mut self, point: PointId, value: i64) -> Result<(), Failed>
-        ensures cause { HasCause self.old.modbus.faults self.new.modbus.faults result }
+        ensures cause { HasCause self.old.faults self.new.faults result }
         // Simulated devices take every command.
-        ensures simulated { self.old.modbus.part ≡ None → IsOk result × (self.new.modbus ≡ self.old.modbus) }
-        // Those with a part write what a Modbus device writes.
-        ensures driven { IsSome self.old.modbus.part → Wrote ⟦<RealLink<R> as Link>⟧ point value self.old.modbus self.new.modbus
+        ensures simulated { self.old.speaks ≡ None → IsOk result × (self.new ≡ self.old) }
+        // Those with a part write what a device of its protocol writes.
+        ensures modbus { self.old.speaks ≡ Some Modbus → Wrote ⟦<RealLink<R> as Link>⟧ point value self.old.modbus self.new.modbus
             × Answers self.new.modbus.fate result }
+        ensures bacnet { self.old.speaks ≡ Some Bacnet → bacnet.Wrote ⟦<RealDatagrams<R> as Datagrams>⟧ point value self.old.bacnet self.new.bacnet
+            × bacnet.Answers self.new.bacnet.fate result }
     {
-        if self.modbus.part().is_none() {
-            return Ok(());
+        match self.speaks {
+            None => Ok(()),
+            Some(Protocol::Modbus) => self.write_over_modbus(point, value),
+            Some(Protocol::Bacnet) => self.write_over_bacnet(point, value),
         }
-        let answer = self.modbus.write(point, value);
-        self.report(point);
-        answer
+    }
+
+    fn look(&mut self, now: u64) -> Look {
+        let Some(protocol) = self.speaks else {
+            return Look::Quiet;
+        };
+        let (look, looked) = match protocol {
+            Protocol::Modbus => (self.modbus.look(now), self.modbus.looked()),
+            Protocol::Bacnet => (self.bacnet.look(now), self.bacnet.looked()),
+        };
+        if let Some(kept) = looked {
+            self.report(protocol, kept.point, Some(kept.value));
+        }
+        look
+    }
+
+    fn rests(&self, now: u64) -> u64 {
+        match self.speaks {
+            Some(Protocol::Modbus) => self.modbus.rests(now),
+            Some(Protocol::Bacnet) => self.bacnet.rests(now),
+            None => u64::MAX,
+        }
     }
 
     fn assign(&mut self, part: DriverPlan) {
         self.troubles.clear();
-        self.modbus.use_link(RealLink::new(self.rt, part.wait));
-        self.modbus.assign(part);
+        self.speaks = Some(part.speaks);
+        match part.speaks {
+            Protocol::Modbus => {
+                self.modbus.use_link(RealLink::new(self.rt, part.wait));
+                self.modbus.assign(part);
+            }
+            Protocol::Bacnet => {
+                self.bacnet.use_link(RealDatagrams::new(self.rt, part.wait));
+                self.bacnet.assign(part);
+            }
+        }
     }
 }
 

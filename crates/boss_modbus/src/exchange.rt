@@ -7,12 +7,12 @@ ghost use Rattle.boss_modbus.specs.Writes.{Reaches, Exchanged};
 
 use crate::Fate;
 use crate::fate::goes_on;
-use crate::frames::frame;
+use crate::frames::{answer_size, frame};
 use crate::request::Asked;
 use crate::response::{Filled, Response, hear, judge};
 use boss_outside::{Failed, Link};
 
-/// Sends one frame and hears its response. The connection is kept after the device's answer and its exception alone.
+/// Sends one frame and hears its response. The connection is kept after an answer of the device and its exception alone.
 pub fn exchange<L: Link>(
     link: &mut L,
     is_connected: &mut bool,
@@ -60,7 +60,7 @@ fn ask<L: Link>(
     let Ok(()) = link.send(frame(number, asked).as_slice()) else {
         return Fate::LinkFault;
     };
-    match hear(link, response, number) {
+    match hear(link, response, number, answer_size(asked.request)) {
         Filled::Whole => judge(number, asked, response.as_slice()),
         Filled::Finished => Fate::Ended,
         Filled::Failed => Fate::LinkFault,

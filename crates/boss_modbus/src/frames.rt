@@ -1,11 +1,11 @@
 ghost use Rattle.std.specs.Prelude.{◌≡◌, ◌+◌, ◌≤◌, ◌++◌, [], length};
-ghost use Rattle.boss_modbus.specs.Frames.{answer, asked_bytes, exception, frame, header, words_bytes, written_bytes};
+ghost use Rattle.boss_modbus.specs.Frames.{answer, answer_size, answered_bytes, asked_bytes, exception, frame, header, words_bytes};
 
 use crate::request::{Asked, Request, count, function_code};
 use arrayvec::ArrayVec;
 use boss_numbers::Words;
 
-/// The bytes of a frame that asks, of which there are at most 17.
+/// The bytes of a frame, of which there are at most 17.
 pub type Frame = ArrayVec<u8, 17>;
 
 /// The frame that asks, under the number of its transaction.
@@ -22,17 +22,20 @@ pub fn frame(number: u16, asked: &Asked) -> Frame
     frame
 }
 
-/// The one that answers where the value was written.
-pub fn answer(number: u16, asked: &Asked) -> [u8; 12]
-    ensures { result ≡ answer number asked.now }
+/// The one that answers where the value was written, or where the unit has it.
+pub fn answer(number: u16, asked: &Asked) -> Frame
+    ensures { result.items ≡ answer number asked.now }
 {
-    let [n1, n0] = number.to_be_bytes();
-    let function = function_code(asked.request);
-    let [b3, b2, b1, b0] = written_bytes(asked.request);
-    [n1, n0, 0, 0, 0, 6, asked.unit, function, b3, b2, b1, b0]
+    let mut body = Frame::new();
+    put_answered(&mut body, asked.request);
+    let mut frame = Frame::new();
+    put(&mut frame, &header(number, answer_size(asked.request)));
+    put(&mut frame, &[asked.unit, function_code(asked.request)]);
+    put(&mut frame, body.as_slice());
+    frame
 }
 
-/// The one that answers where it was not.
+/// The one that refuses.
 pub fn exception(number: u16, asked: &Asked, code: u8) -> [u8; 9]
     ensures { result ≡ exception number asked.now code }
 {
@@ -49,19 +52,51 @@ pub fn header(number: u16, size: u8) -> [u8; 6]
     [n1, n0, 0, 0, 0, size]
 }
 
-/// Behind the unit and the function: what is answered where it was written.
-fn written_bytes(request: Request) -> [u8; 4]
-    ensures { result ≡ written_bytes request }
+/// How many bytes of the answer follow its header.
+pub fn answer_size(request: Request) -> u8
+    ensures size { result ≡ answer_size request }
+    ensures least { 4 ≤ result }
+    ensures most { result ≤ 7 }
 {
-    let (address, last) = match request {
-        Request::WriteCoil { address, on } => (address, [if on { 255 } else { 0 }, 0]),
-        Request::WriteRegister { address, word } => (address, word.to_be_bytes()),
-        Request::WriteCoils { address, .. } => (address, [0, 1]),
-        Request::WriteRegisters { address, words } => (address, [0, count(words)]),
-    };
-    let [a1, a0] = address.to_be_bytes();
-    let [b1, b0] = last;
-    [a1, a0, b1, b0]
+    match request {
+        Request::WriteCoil { .. }
+        | Request::WriteRegister { .. }
+        | Request::WriteCoils { .. }
+        | Request::WriteRegisters { .. } => 6,
+        Request::CheckCoil { .. } => 4,
+        Request::CheckRegisters { words, .. } => 3 + 2 * count(words),
+    }
+}
+
+/// Behind the unit and the function: what is answered.
+fn put_answered(frame: &mut Frame, request: Request)
+    requires { frame.old.items ≡ [] }
+    ensures bytes { frame.new.items ≡ answered_bytes request }
+    ensures short { length frame.new.items ≤ 5 }
+{
+    match request {
+        Request::WriteCoil { address, on } => {
+            put(frame, &address.to_be_bytes());
+            put(frame, &[if on { 255 } else { 0 }, 0]);
+        }
+        Request::WriteRegister { address, word } => {
+            put(frame, &address.to_be_bytes());
+            put(frame, &word.to_be_bytes());
+        }
+        Request::WriteCoils { address, .. } => {
+            put(frame, &address.to_be_bytes());
+            put(frame, &[0, 1]);
+        }
+        Request::WriteRegisters { address, words } => {
+            put(frame, &address.to_be_bytes());
+            put(frame, &[0, count(words)]);
+        }
+        Request::CheckCoil { on, .. } => put(frame, &[1, if on { 1 } else { 0 }]),
+        Request::CheckRegisters { words, .. } => {
+            put(frame, &[2 * count(words)]);
+            put_words(frame, words);
+        }
+    }
 }
 
 /// Behind the unit and the function: what is asked.
@@ -87,6 +122,14 @@ fn put_asked(frame: &mut Frame, request: Request)
             put(frame, &address.to_be_bytes());
             put(frame, &[0, count(words), 2 * count(words)]);
             put_words(frame, words);
+        }
+        Request::CheckCoil { address, .. } => {
+            put(frame, &address.to_be_bytes());
+            put(frame, &[0, 1]);
+        }
+        Request::CheckRegisters { address, words } => {
+            put(frame, &address.to_be_bytes());
+            put(frame, &[0, count(words)]);
         }
     }
 }

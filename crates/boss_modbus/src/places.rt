@@ -1,19 +1,35 @@
 ghost use Rattle.std.specs.Prelude.{◌≡◌};
-ghost use Rattle.boss_modbus.specs.Places.{AsksAt, AsksFor, coil, coil_state, place_of, registers};
+ghost use Rattle.boss_modbus.specs.Places.{AsksAt, AsksFor, coil, coil_state, find_place, place_of, registers, write_coil, write_registers};
 
 use crate::request::{Asked, Request};
 use boss_model::{DriverPlan, Function, Place, PointId, Where};
 use boss_numbers::{Words, words_of};
 
+/// What a unit is asked for.
+#[derive(Clone, Copy, Debug, PartialEq, Eq)]
+pub enum What {
+    /// To take a value.
+    Write,
+    /// Whether it has the value.
+    Check,
+}
+
 /// What is asked for a value of a point, where the point has a place and the value a form there.
-pub fn asked_of(part: &Option<DriverPlan>, point: PointId, value: i64) -> Option<Asked>
-    ensures { AsksFor part.now point value result }
+pub fn asked_of(part: &Option<DriverPlan>, what: What, point: PointId, value: i64) -> Option<Asked>
+    ensures { AsksFor part.now what point value result }
 {
-    let Some(part) = part else {
-        return None;
-    };
-    let place = place_of(part.places.slice(), point)?;
-    asked_at(place.unit, place.at, value)
+    let place = find_place(part, point)?;
+    asked_at(what, place.unit, place.at, value)
+}
+
+/// The place of a point, where a part was assigned and it has one in it.
+pub fn find_place(part: &Option<DriverPlan>, point: PointId) -> Option<Place>
+    ensures { result ≡ find_place part.now point }
+{
+    match part {
+        Some(part) => place_of(part.places.slice(), point),
+        None => None,
+    }
 }
 
 /// The place of a point among these.
@@ -24,17 +40,18 @@ fn place_of(places: &[Place], point: PointId) -> Option<Place>
 }
 
 /// What is asked for a value at this place of this unit.
-fn asked_at(unit: u8, at: Where, value: i64) -> Option<Asked>
-    ensures { AsksAt unit at value result }
+fn asked_at(what: What, unit: u8, at: Where, value: i64) -> Option<Asked>
+    ensures { AsksAt what unit at value result }
 {
     let request = match at {
-        Where::Coil { address, function } => coil(function, address, coil_state(value)?),
+        Where::Coil { address, function } => coil(what, function, address, coil_state(value)?),
         Where::Register {
             address,
             form,
             scale,
             function,
-        } => registers(function, address, words_of(form, scale, value)?),
+        } => registers(what, function, address, words_of(form, scale, value)?),
+        Where::Object { .. } => return None,
     };
     Some(Asked { unit, request })
 }
@@ -50,9 +67,19 @@ fn coil_state(value: i64) -> Option<bool>
     }
 }
 
+/// What is asked of a coil.
+fn coil(what: What, function: Function, address: u16, on: bool) -> Request
+    ensures { result ≡ coil what function address on }
+{
+    match what {
+        What::Write => write_coil(function, address, on),
+        What::Check => Request::CheckCoil { address, on },
+    }
+}
+
 /// What writes a coil.
-fn coil(function: Function, address: u16, on: bool) -> Request
-    ensures { result ≡ coil function address on }
+fn write_coil(function: Function, address: u16, on: bool) -> Request
+    ensures { result ≡ write_coil function address on }
 {
     match function {
         Function::WriteSingle => Request::WriteCoil { address, on },
@@ -60,9 +87,19 @@ fn coil(function: Function, address: u16, on: bool) -> Request
     }
 }
 
+/// What is asked of one register, or two.
+fn registers(what: What, function: Function, address: u16, words: Words) -> Request
+    ensures { result ≡ registers what function address words }
+{
+    match what {
+        What::Write => write_registers(function, address, words),
+        What::Check => Request::CheckRegisters { address, words },
+    }
+}
+
 /// What writes one register, or two.
-fn registers(function: Function, address: u16, words: Words) -> Request
-    ensures { result ≡ registers function address words }
+fn write_registers(function: Function, address: u16, words: Words) -> Request
+    ensures { result ≡ write_registers function address words }
 {
     match (function, words) {
         (Function::WriteSingle, Words::One { word }) => Request::WriteRegister { address, word },

@@ -7,17 +7,20 @@ use Rattle.boss_model.specs.declared.places.Form.{Form}
 use Rattle.boss_model.specs.declared.places.Form.TheVariants.{Unsigned16, Signed16, Unsigned32, Signed32, Single}
 use Rattle.boss_model.specs.declared.places.Function.TheVariants.{WriteSingle, WriteMultiple}
 use Rattle.boss_model.specs.declared.places.Half.TheVariants.{High, Low}
+use Rattle.boss_model.specs.declared.places.ObjectKind.TheVariants.{AnalogOutput, BinaryValue, MultiStateValue}
+use Rattle.boss_model.specs.declared.places.Protocol.TheVariants.{Modbus, Bacnet}
 use Rattle.boss_model.specs.declared.places.Round.TheVariants.{Down, Nearest}
 use Rattle.boss_model.specs.declared.places.Scale.{Scale}
 use Rattle.boss_model.specs.declared.places.Where.{Where}
-use Rattle.boss_model.specs.declared.places.Where.TheVariants.{Coil, Register}
+use Rattle.boss_model.specs.declared.places.Where.TheVariants.{Coil, Register, Object}
 use Rattle.boss_model.specs.declared.point.Kind.{Kind}
 use Rattle.boss_model.specs.declared.point.Kind.TheVariants.{Analog, Binary, Multi}
 use Rattle.boss_plans.specs.declared.plan.Part.{Part}
 use Rattle.boss_plans.specs.declared.refusal.PlanRefusal.{PlanRefusal}
 use Rattle.boss_plans.specs.declared.refusal.PlanRefusal.TheVariants.{TooLong, Missing, BadDriver, BadPlace, NoPlace}
 use Rattle.boss_plans.specs.declared.refusal.PlanKey.TheVariants.{Driver, Place}
-use Rattle.boss_plans.specs.Keys.{natural_up_to, wait_of}
+use Rattle.boss_plans.specs.Keys.{interval_in, natural_up_to, tries_of, wait_of}
+use Rattle.boss_plans.specs.Objects.{object_in, where_at}
 use Rattle.boss_plans.specs.Wheres.{suits, where_of}
 use Rattle.boss_plans.specs.Lines.{refusal_line}
 use Rattle.boss_plans.specs.Plans.{plan_in}
@@ -74,11 +77,13 @@ pub all-placed : for_field (item damper (item lamp (item fan no_items))) ≡ Ok 
   driver = 0;
   plan = record {
     host = codes "127.0.0.1:1502";
+    speaks = Modbus;
     wait = 5000;
+    tries = 1;
     places =
-        record { point = 0; unit = 1; at = plain 2 1000 }
-        ∷ record { point = 1; unit = 1; at = Coil 19 WriteSingle }
-        ∷ record { point = 2; unit = 1; at = plain 3 1 }
+        record { point = 0; unit = 1; at = plain 2 1000; check = 0; again = 0 }
+        ∷ record { point = 1; unit = 1; at = Coil 19 WriteSingle; check = 0; again = 0 }
+        ∷ record { point = 2; unit = 1; at = plain 3 1; check = 0; again = 0 }
         ∷ [];
   };
 } ∷ [])
@@ -157,13 +162,13 @@ unit-last = refl
 pub unit-past : natural_up_to 255 (pos 256) ≡ None
 unit-past = refl
 
-pub waits-left_out : wait_of (table no_members) ≡ Some 5000
+pub waits-left_out : wait_of Modbus (table no_members) ≡ Some 5000
 waits-left_out = refl
 
-pub waits-half_a_second : wait_of (table (member (codes "wait") (integer (pos 500)) no_members)) ≡ Some 500
+pub waits-half_a_second : wait_of Modbus (table (member (codes "wait") (integer (pos 500)) no_members)) ≡ Some 500
 waits-half_a_second = refl
 
-pub waits-too_short : wait_of (table (member (codes "wait") (integer (pos 49)) no_members)) ≡ None
+pub waits-too_short : wait_of Modbus (table (member (codes "wait") (integer (pos 49)) no_members)) ≡ None
 waits-too_short = refl
 
 -- ---- forms
@@ -250,6 +255,113 @@ times-nothing = refl
 -- 10^9 times 10^10 thousandths are too much
 pub shifted-past : where_of (spelled (λ m. member (codes "offset") (integer (pos 1000000000)) (member (codes "per") (integer (pos 10000000000)) m)) (pos 10) nothing) ≡ None
 shifted-past = refl
+
+-- ---- BACnet
+
+-- analog output 3 of station 12 of network 2001, in percent
+abbrev damper_of_roof : Members → Data
+damper_of_roof rest =
+    table (member (codes "bacnet") (string (codes "analog-output,3")) (member (codes "level") (integer (pos 10))
+    (member (codes "network") (integer (pos 2001)) (member (codes "per") (integer (pos 1000)) rest))))
+
+pub roof-station : where_at Bacnet (damper_of_roof (member (codes "station") (integer (pos 12)) no_members))
+    ≡ Some (Object (record { kind = AnalogOutput; instance = 3 }) 10 (Some (record { network = 2001; address = 12 })) (by 1000))
+roof-station = refl
+
+-- a network alone is no station
+pub roof-network : where_at Bacnet (damper_of_roof no_members) ≡ None
+roof-network = refl
+
+-- an object has no unit, and a coil no level
+pub roof-unit : where_at Bacnet (damper_of_roof (member (codes "station") (integer (pos 12)) (member (codes "unit") (integer (pos 1)) no_members))) ≡ None
+roof-unit = refl
+
+pub coil-level : where_at Modbus (table (member (codes "coil") (integer (pos 19)) (member (codes "level") (integer (pos 8)) no_members))) ≡ None
+coil-level = refl
+
+abbrev of_object : List ℕ → ℤ → Data
+of_object name level = table (member (codes "bacnet") (string name) (member (codes "level") (integer level) no_members))
+
+pub switch-here : where_at Bacnet (of_object (codes "binary-value,0") (pos 16)) ≡ Some (Object (record { kind = BinaryValue; instance = 0 }) 16 None (by 1))
+switch-here = refl
+
+pub level-six : where_at Bacnet (of_object (codes "binary-value,0") (pos 6)) ≡ None
+level-six = refl
+
+pub level-past : where_at Bacnet (of_object (codes "binary-value,0") (pos 17)) ≡ None
+level-past = refl
+
+-- a state is written as it is
+pub switch-per : where_at Bacnet (table (member (codes "bacnet") (string (codes "binary-value,0")) (member (codes "level") (integer (pos 8))
+    (member (codes "per") (integer (pos 1)) no_members)))) ≡ None
+switch-per = refl
+
+pub last-instance : object_in (codes "multi-state-value,4194302") ≡ Some (record { kind = MultiStateValue; instance = 4194302 })
+last-instance = refl
+
+pub past-instance : object_in (codes "multi-state-value,4194303") ≡ None
+past-instance = refl
+
+pub spaced-object : object_in (codes "analog-output, 3") ≡ None
+spaced-object = refl
+
+pub padded-object : object_in (codes "analog-output,03") ≡ None
+padded-object = refl
+
+pub object-alone : object_in (codes "analog-output") ≡ None
+object-alone = refl
+
+pub roof-suits : suits (Analog (pos 0) (pos 100000)) (Object (record { kind = AnalogOutput; instance = 3 }) 10 None (by 1000)) ≡ true
+roof-suits = refl
+
+pub roof-lamp : suits Binary (Object (record { kind = AnalogOutput; instance = 3 }) 10 None (by 1000)) ≡ false
+roof-lamp = refl
+
+-- a place is checked as often as its driver says, where it says nothing itself
+pub roof-plan : plan_in
+    (record three_points { points = point_of_field (codes "ahu1.damper") (Analog (pos 0) (pos 100000)) (pos 20000) ∷ [] })
+    (file_of
+    (item (table (member (codes "check") (integer (pos 60000)) (member (codes "host") (string (codes "127.0.0.1:47808")) (member (codes "name") (string (codes "field"))
+    (member (codes "speaks") (string (codes "bacnet")) no_members))))) no_items)
+    (item (table (member (codes "again") (integer (pos 3600000)) (member (codes "bacnet") (string (codes "analog-output,3")) (member (codes "level") (integer (pos 8))
+    (member (codes "per") (integer (pos 1000)) (member (codes "point") (string (codes "ahu1.damper")) no_members)))))) no_items))
+    ≡ Ok (record {
+      driver = 0;
+      plan = record {
+        host = codes "127.0.0.1:47808";
+        speaks = Bacnet;
+        wait = 2000;
+        tries = 2;
+        places =
+            record {
+              point = 0;
+              unit = 0;
+              at = Object (record { kind = AnalogOutput; instance = 3 }) 8 None (by 1000);
+              check = 60000;
+              again = 3600000;
+            }
+            ∷ [];
+      };
+    } ∷ [])
+roof-plan = refl
+
+pub tries-three : tries_of Bacnet (table (member (codes "tries") (integer (pos 3)) no_members)) ≡ Some 3
+tries-three = refl
+
+pub tries-over_modbus : tries_of Modbus (table (member (codes "tries") (integer (pos 1)) no_members)) ≡ None
+tries-over_modbus = refl
+
+pub interval-none : interval_in (integer (pos 0)) ≡ Some 0
+interval-none = refl
+
+pub interval-too_short : interval_in (integer (pos 999)) ≡ None
+interval-too_short = refl
+
+pub interval-day : interval_in (integer (pos 86400000)) ≡ Some 86400000
+interval-day = refl
+
+pub interval-past : interval_in (integer (pos 86400001)) ≡ None
+interval-past = refl
 
 -- ---- lines
 

@@ -1,8 +1,11 @@
 -- Source: TOML 1.0.0 (the form of the file); its keys own.
 -- What the keys of a plan's tables spell. A key that is not named here is passed over.
-use Rattle.std.specs.Prelude.{ℕ, ◌^◌, nat_le, ℤ, pos, negsuc, neg_ℤ, int_le, Bool, ◌&&◌, if◌then◌else◌, List, length, codes, is_some, Option, Some, None}
+use Rattle.std.specs.Prelude.{ℕ, ◌^◌, nat_eq, nat_le, ℤ, pos, negsuc, neg_ℤ, int_le, Bool, ◌&&◌, ◌||◌, if◌then◌else◌, List, length, codes, is_some, Option, Some, None}
 use Rattle.std.specs.Option.{option_map_or}
-use Rattle.toml.specs.Data.{Data, get, as_integer}
+use Rattle.std.specs.Str.{bytes_eq}
+use Rattle.toml.specs.Data.{Data, get, as_integer, as_str}
+use Rattle.boss_model.specs.declared.places.Protocol.{Protocol}
+use Rattle.boss_model.specs.declared.places.Protocol.TheVariants.{Modbus, Bacnet}
 use Rattle.boss_points.specs.Keys.{◌>>=◌, if_true, text_at}
 
 abbrev pub has : List ℕ → Data → Bool
@@ -33,9 +36,49 @@ is_host text = nat_le 1 (length text) && nat_le (length text) 255
 abbrev pub host_of : Data → Option (List ℕ)
 host_of driver = text_at (codes "host") driver >>= if_true is_host
 
--- how long the host is waited for, in milliseconds: where the key is missing, five seconds
-abbrev pub wait_of : Data → Option ℕ
-wait_of driver = option_map_or (natural_between 50 5000) (get (codes "wait") driver) (Some 5000)
+abbrev pub protocol_named : List ℕ → Option Protocol
+protocol_named name = if bytes_eq name (codes "modbus") then Some Modbus else (if bytes_eq name (codes "bacnet") then Some Bacnet else None)
+
+abbrev pub protocol_in : Data → Option Protocol
+protocol_in d = as_str d >>= protocol_named
+
+-- where the key is missing, the host speaks Modbus
+abbrev pub speaks_of : Data → Option Protocol
+speaks_of driver = option_map_or protocol_in (get (codes "speaks") driver) (Some Modbus)
+
+-- how long the host is waited for, in milliseconds, where the key is missing
+abbrev pub usual_wait : Protocol → ℕ
+usual_wait Modbus = 5000
+usual_wait Bacnet = 2000
+
+abbrev pub wait_of : Protocol → Data → Option ℕ
+wait_of speaks driver = option_map_or (natural_between 50 5000) (get (codes "wait") driver) (Some (usual_wait speaks))
+
+-- how often a request is sent at most; over Modbus once, and no key says so
+abbrev pub tries_in : Protocol → Data → Option ℕ
+tries_in Modbus d = None
+tries_in Bacnet d = natural_between 1 4 d
+
+abbrev pub usual_tries : Protocol → ℕ
+usual_tries Modbus = 1
+usual_tries Bacnet = 2
+
+abbrev pub tries_of : Protocol → Data → Option ℕ
+tries_of speaks driver = option_map_or (tries_in speaks) (get (codes "tries") driver) (Some (usual_tries speaks))
+
+-- ---- how often something is done, of a driver or of a place
+
+-- in milliseconds, and 0 for never
+abbrev pub interval_of : ℤ → Option ℕ
+interval_of (pos n) = if nat_eq n 0 || (nat_le 1000 n && nat_le n 86400000) then Some n else None
+interval_of (negsuc _) = None
+
+abbrev pub interval_in : Data → Option ℕ
+interval_in d = as_integer d >>= interval_of
+
+-- as usual where the key is missing
+abbrev pub interval_at : List ℕ → ℕ → Data → Option ℕ
+interval_at key usual d = option_map_or interval_in (get key d) (Some usual)
 
 -- ---- the scale of a place
 

@@ -48,11 +48,12 @@ first_lacking hosts places id (point ∷ points) = if lacks_place hosts places i
 abbrev pub all_placed : Option ℕ → Result (Unit {0}) PlanRefusal
 all_placed lacking = option_map_or (λ point. Err (NoPlace point)) lacking (Ok tt)
 
--- what a driver's device is assigned: its host, how long that is waited for, and the places of its points
+-- what a driver's device is assigned: its host and what it speaks, how long it is waited for, how often a request is sent, and the places of
+-- its points
 abbrev pub part_of : Catalogue → List Place → Host → Part
 part_of catalogue places host = record {
   driver = host.driver;
-  plan = record { host = host.host; wait = host.wait; places = filter (is_of_driver catalogue host.driver) places };
+  plan = record { host = host.host; speaks = host.terms.speaks; wait = host.wait; tries = host.tries; places = filter (is_of_driver catalogue host.driver) places };
 }
 
 -- tests 3 to 6, and the plan of a table

@@ -11,11 +11,13 @@ use Rattle.boss_model.specs.declared.places.Function.{Function}
 use Rattle.boss_model.specs.declared.places.Function.TheVariants.{WriteSingle, WriteMultiple}
 use Rattle.boss_model.specs.declared.places.Half.{Half}
 use Rattle.boss_model.specs.declared.places.Half.TheVariants.{High, Low}
+use Rattle.boss_model.specs.declared.places.ObjectKind.{ObjectKind}
+use Rattle.boss_model.specs.declared.places.ObjectKind.TheVariants.{AnalogOutput, AnalogValue, BinaryOutput, BinaryValue, MultiStateOutput, MultiStateValue}
 use Rattle.boss_model.specs.declared.places.Round.{Round}
 use Rattle.boss_model.specs.declared.places.Round.TheVariants.{Down, Nearest}
 use Rattle.boss_model.specs.declared.places.Scale.{Scale}
 use Rattle.boss_model.specs.declared.places.Where.{Where}
-use Rattle.boss_model.specs.declared.places.Where.TheVariants.{Coil, Register}
+use Rattle.boss_model.specs.declared.places.Where.TheVariants.{Coil, Register, Object}
 use Rattle.boss_model.specs.declared.point.Kind.{Kind}
 use Rattle.boss_model.specs.declared.point.Kind.TheVariants.{Analog, Binary, Multi}
 use Rattle.boss_numbers.specs.Scales.{have_forms}
@@ -156,11 +158,38 @@ where_of place = do
 
 -- ---- which points a place suits
 
--- a binary point has a coil or a register, every other a register, and each end of its values has a form there
+-- an object suits the points of its kind; what is analog has a form of each end of their values
+abbrev pub suits_analog : Kind → Scale → Bool
+suits_analog (Analog min max) scale = have_forms (Single High) scale min max
+suits_analog Binary scale = false
+suits_analog (Multi states) scale = false
+
+abbrev pub is_binary : Kind → Bool
+is_binary Binary = true
+is_binary (Analog min max) = false
+is_binary (Multi states) = false
+
+abbrev pub is_multi : Kind → Bool
+is_multi (Multi states) = true
+is_multi Binary = false
+is_multi (Analog min max) = false
+
+abbrev pub suits_object : Kind → ObjectKind → Scale → Bool
+suits_object kind AnalogOutput scale = suits_analog kind scale
+suits_object kind AnalogValue scale = suits_analog kind scale
+suits_object kind BinaryOutput scale = is_binary kind
+suits_object kind BinaryValue scale = is_binary kind
+suits_object kind MultiStateOutput scale = is_multi kind
+suits_object kind MultiStateValue scale = is_multi kind
+
+-- a coil suits binary points, and a register each point of which both ends have a form there
 abbrev pub suits : Kind → Where → Bool
 suits Binary (Coil address function) = true
 suits Binary (Register address form scale function) = have_forms form scale (pos 0) (pos 1)
+suits Binary (Object object level station scale) = suits_object Binary object.kind scale
 suits (Analog min max) (Coil address function) = false
 suits (Analog min max) (Register address form scale function) = have_forms form scale min max
+suits (Analog min max) (Object object level station scale) = suits_object (Analog min max) object.kind scale
 suits (Multi states) (Coil address function) = false
 suits (Multi states) (Register address form scale function) = have_forms form scale (pos 1) states
+suits (Multi states) (Object object level station scale) = suits_object (Multi states) object.kind scale

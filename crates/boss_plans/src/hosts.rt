@@ -3,22 +3,34 @@ ghost use Rattle.std.specs.List.{position_from};
 ghost use Rattle.std.specs.Str.{bytes_eq};
 ghost use Rattle.toml.specs.View.{view};
 ghost use Rattle.boss_points.specs.Seen.{views};
-ghost use Rattle.boss_plans.specs.Places.{is_named, planned_in, is_planned};
+ghost use Rattle.boss_plans.specs.Places.{is_named, planned_in, is_planned, terms_in, terms_of};
 ghost use Rattle.boss_plans.specs.Plans.{Gives, IsKnown, hosts_from};
 
 use crate::PlanRefusal;
-use crate::keys::{host_of, text_at, wait_of};
-use boss_model::{DriverId, Items};
+use crate::keys::{host_of, interval_at, speaks_of, text_at, tries_of, wait_of};
+use boss_model::{DriverId, Items, Protocol};
 use boss_points::Catalogue;
 use std::alloc::Global;
 use toml::Value;
 
-/// A driver of the plan, the host that it is reached at, and how long that is waited for, in milliseconds.
+/// A driver of the plan, the host that it is reached at, how long that is waited for, in milliseconds, how often a request is sent at most,
+/// and what its places are read by.
 #[derive(Debug, Drop)]
 pub struct Host {
     pub driver: DriverId,
     pub host: Items<u8>,
     pub wait: u64,
+    pub tries: u8,
+    pub terms: Terms,
+}
+
+/// What the places of a driver are read by: what its host speaks, and how often each is checked and written once more where its table does
+/// not say so, in milliseconds.
+#[derive(Clone, Copy, Debug, PartialEq, Eq)]
+pub struct Terms {
+    pub speaks: Protocol,
+    pub check: u64,
+    pub again: u64,
 }
 
 /// The drivers of these tables, which are all different.
@@ -36,11 +48,45 @@ pub(crate) fn hosts_of(
         let refusal = PlanRefusal::BadDriver { place };
         let driver = planned_in(catalogue, &hosts, table).ok_or(refusal)?;
         let host = host_of(table).ok_or(refusal)?;
-        let wait = wait_of(table).ok_or(refusal)?;
+        let terms = terms_in(table).ok_or(refusal)?;
+        let wait = wait_of(terms.speaks, table).ok_or(refusal)?;
+        let tries = tries_of(terms.speaks, table).ok_or(refusal)?;
         let host = Items::from_vec(host.as_bytes().to_vec(alloc)?);
-        hosts.push(Host { driver, host, wait })?;
+        hosts.push(Host {
+            driver,
+            host,
+            wait,
+            tries,
+            terms,
+        })?;
     }
     Ok(hosts)
+}
+
+/// What the places of the driver of a table are read by.
+fn terms_in(table: &Value) -> Option<Terms>
+    ensures { result ≡ terms_in (view table.now) }
+{
+    let speaks = speaks_of(table)?;
+    let check = interval_at("check", 0, table)?;
+    let again = interval_at("again", 0, table)?;
+    Some(Terms {
+        speaks,
+        check,
+        again,
+    })
+}
+
+/// What the places of a driver are read by, where it has a host among these.
+pub(crate) fn terms_of(hosts: &[Host], driver: DriverId) -> Option<Terms>
+    ensures { result ≡ terms_of hosts.now driver }
+{
+    for host in hosts {
+        if host.driver == driver {
+            return Some(host.terms);
+        }
+    }
+    None
 }
 
 /// The driver that a table names, where no earlier one named it.

@@ -9,10 +9,11 @@ ghost use Rattle.boss_model.specs.Catalogue.{Catalogue};
 ghost use Rattle.boss_points.specs.Keys.{array_at, text_at};
 ghost use Rattle.boss_points.specs.Reading.{table_of};
 ghost use Rattle.boss_points.specs.Seen.{views};
-ghost use Rattle.boss_plans.specs.Keys.{host_of, is_shift, natural_between, natural_in, natural_up_to, offset_in, offset_of, per_in, per_of, times_of, wait_of};
+ghost use Rattle.boss_plans.specs.Keys.{host_of, interval_at, interval_in, is_shift, natural_between, natural_in, natural_up_to, offset_in, offset_of, per_in, per_of, protocol_in, protocol_named, speaks_of, times_of, tries_in, tries_of, usual_tries, usual_wait, wait_of};
 ghost use Rattle.boss_plans.specs.Plans.{Gives, IsKnown};
 
 use crate::PlanRefusal;
+use boss_model::Protocol;
 use std::alloc::Global;
 use toml::Value;
 
@@ -22,10 +23,23 @@ const LONGEST_HOST: usize = 255;
 /// The most that one of a register may stand for, in thousandths of a point's unit.
 const GREATEST_PER: i64 = 1_000_000_000_000_000;
 
-/// How long a host is waited for at least and at most, in milliseconds.
+/// How long a host is waited for at least and at most, in milliseconds. Over Modbus it is the longest where no plan says how long.
 const LEAST_WAIT: u16 = 50;
 
 const LONGEST_WAIT: u16 = 5_000;
+
+/// How long one that speaks BACnet is waited for where no plan says how long.
+const BACNET_WAIT: u64 = 2_000;
+
+/// How often a request over BACnet is sent at most, and where no plan says how often.
+const MOST_TRIES: u16 = 4;
+
+const BACNET_TRIES: u8 = 2;
+
+/// What lies at least and at most between two checks of a place, or two writes of one value, in milliseconds.
+const LEAST_INTERVAL: i64 = 1_000;
+
+const LONGEST_INTERVAL: i64 = 86_400_000;
 
 /// The most that a value is multiplied by.
 const MOST_TIMES: u16 = 1_000;
@@ -85,7 +99,7 @@ pub(crate) fn natural_in(most: u16, value: &Value) -> Option<u16>
 }
 
 /// The whole number between these that a value spells.
-fn natural_between(least: u16, most: u16, value: &Value) -> Option<u16>
+pub(crate) fn natural_between(least: u16, most: u16, value: &Value) -> Option<u16>
     ensures { result ≡ natural_between least most (view value.now) }
 {
     let number = natural_in(most, value)?;
@@ -104,13 +118,102 @@ pub(crate) fn host_of(driver: &Value) -> Option<&str>
     }
 }
 
-/// How long a driver's host is waited for, in milliseconds: five seconds where the key is missing.
-pub(crate) fn wait_of(driver: &Value) -> Option<u64>
-    ensures { result ≡ wait_of (view driver.now) }
+/// The protocol of this name.
+fn protocol_named(name: &str) -> Option<Protocol>
+    ensures { result ≡ protocol_named name.now }
+{
+    match name {
+        "modbus" => Some(Protocol::Modbus),
+        "bacnet" => Some(Protocol::Bacnet),
+        _ => None,
+    }
+}
+
+fn protocol_in(value: &Value) -> Option<Protocol>
+    ensures { result ≡ protocol_in (view value.now) }
+{
+    protocol_named(value.as_str()?)
+}
+
+/// What a driver's host speaks: Modbus where the key is missing.
+pub(crate) fn speaks_of(driver: &Value) -> Option<Protocol>
+    ensures { result ≡ speaks_of (view driver.now) }
+{
+    match driver.get("speaks") {
+        Some(value) => protocol_in(value),
+        None => Some(Protocol::Modbus),
+    }
+}
+
+/// How long a host is waited for where the key is missing.
+fn usual_wait(speaks: Protocol) -> u64
+    ensures { result ≡ usual_wait speaks }
+{
+    match speaks {
+        Protocol::Modbus => u64::from(LONGEST_WAIT),
+        Protocol::Bacnet => BACNET_WAIT,
+    }
+}
+
+/// How long a driver's host is waited for, in milliseconds.
+pub(crate) fn wait_of(speaks: Protocol, driver: &Value) -> Option<u64>
+    ensures { result ≡ wait_of speaks (view driver.now) }
 {
     match driver.get("wait") {
         Some(value) => Some(u64::from(natural_between(LEAST_WAIT, LONGEST_WAIT, value)?)),
-        None => Some(u64::from(LONGEST_WAIT)),
+        None => Some(usual_wait(speaks)),
+    }
+}
+
+/// How often a request is sent at most, as a value spells it, which no driver over Modbus has.
+fn tries_in(speaks: Protocol, value: &Value) -> Option<u8>
+    ensures { result ≡ tries_in speaks (view value.now) }
+{
+    match speaks {
+        Protocol::Modbus => None,
+        Protocol::Bacnet => Some(natural_between(1, MOST_TRIES, value)? as u8),
+    }
+}
+
+/// How often a request is sent where the key is missing.
+fn usual_tries(speaks: Protocol) -> u8
+    ensures { result ≡ usual_tries speaks }
+{
+    match speaks {
+        Protocol::Modbus => 1,
+        Protocol::Bacnet => BACNET_TRIES,
+    }
+}
+
+/// How often a driver's request is sent at most.
+pub(crate) fn tries_of(speaks: Protocol, driver: &Value) -> Option<u8>
+    ensures { result ≡ tries_of speaks (view driver.now) }
+{
+    match driver.get("tries") {
+        Some(value) => tries_in(speaks, value),
+        None => Some(usual_tries(speaks)),
+    }
+}
+
+/// How often something is done, in milliseconds, as a value spells it: 0 for never.
+fn interval_in(value: &Value) -> Option<u64>
+    ensures { result ≡ interval_in (view value.now) }
+{
+    let interval = value.as_integer()?;
+    if interval == 0 || (LEAST_INTERVAL <= interval && interval <= LONGEST_INTERVAL) {
+        Some(interval as u64)
+    } else {
+        None
+    }
+}
+
+/// How often a table says that something is done: as usual where the key is missing.
+pub(crate) fn interval_at(key: &str, usual: u64, table: &Value) -> Option<u64>
+    ensures { result ≡ interval_at key.now usual (view table.now) }
+{
+    match table.get(key) {
+        Some(value) => interval_in(value),
+        None => Some(usual),
     }
 }
 

@@ -5,6 +5,7 @@
 mod hosts;
 mod keys;
 mod line;
+mod objects;
 mod places;
 mod plan;
 mod refusal;

@@ -2,14 +2,15 @@ ghost use Rattle.std.specs.Prelude.{◌≡◌, ◌<◌, [], length, IfSome, IfEr
 ghost use Rattle.toml.specs.View.{view};
 ghost use Rattle.boss_model.specs.Catalogue.{place_of};
 ghost use Rattle.boss_points.specs.Seen.{seen, views};
-ghost use Rattle.boss_plans.specs.Places.{place_spelled, place_in, goes_at, is_placed};
+ghost use Rattle.boss_plans.specs.Places.{place_spelled, place_in, is_placed};
 ghost use Rattle.boss_plans.specs.Plans.{Gives, IsKnown, places_from, lacks_place, first_lacking};
 
 use crate::PlanRefusal;
-use crate::hosts::{Host, is_planned};
-use crate::keys::text_at;
-use crate::wheres::{suits, unit_of, where_of};
-use boss_model::{Place, PointId, Where};
+use crate::hosts::{Host, Terms, is_planned, terms_of};
+use crate::keys::{interval_at, text_at};
+use crate::objects::{unit_at, where_at};
+use crate::wheres::suits;
+use boss_model::{Place, PointId};
 use boss_points::{Catalogue, Point};
 use std::alloc::Global;
 use toml::Value;
@@ -43,33 +44,32 @@ fn place_in(
 ) -> Option<Place>
     ensures { result ≡ place_in catalogue.now hosts.now earlier.now (view table.now) }
 {
-    let place = place_spelled(catalogue, table)?;
-    if is_placed(earlier, place.point) {
-        return None;
-    }
-    if !goes_at(hosts, catalogue.point(place.point), place.at) {
+    let name = text_at(table, "point")?;
+    let id = catalogue.find(name.as_bytes())?;
+    let point = catalogue.point(id);
+    let terms = terms_of(hosts, point.driver)?;
+    let place = place_spelled(id, terms, table)?;
+    if is_placed(earlier, id) || !suits(point.kind, place.at) {
         return None;
     }
     Some(place)
 }
 
-/// The place that a table spells, of whatever point it names.
-fn place_spelled(catalogue: &Catalogue, table: &Value) -> Option<Place>
-    ensures spelled { result ≡ place_spelled catalogue.now (view table.now) }
-    ensures within { IfSome result (λ place. place.point < length catalogue.now.points) }
+/// The place that a table spells, of this point.
+fn place_spelled(point: PointId, terms: Terms, table: &Value) -> Option<Place>
+    ensures { result ≡ place_spelled point terms (view table.now) }
 {
-    let name = text_at(table, "point")?;
-    let point = catalogue.find(name.as_bytes())?;
-    let unit = unit_of(table)?;
-    let at = where_of(table)?;
-    Some(Place { point, unit, at })
-}
-
-/// Whether the point may be written there: its driver is planned, and this suits its kind.
-fn goes_at(hosts: &[Host], point: &Point, at: Where) -> bool
-    ensures { result ≡ goes_at hosts.now (seen point.now) at }
-{
-    is_planned(hosts, point.driver) && suits(point.kind, at)
+    let unit = unit_at(terms.speaks, table)?;
+    let at = where_at(terms.speaks, table)?;
+    let check = interval_at("check", terms.check, table)?;
+    let again = interval_at("again", terms.again, table)?;
+    Some(Place {
+        point,
+        unit,
+        at,
+        check,
+        again,
+    })
 }
 
 /// Whether the point has a place among these.

@@ -93,9 +93,21 @@ fn parts_of(
 {
     let mut parts = Vec::with_capacity(alloc, hosts.len())?;
     for host in hosts {
-        let Host { driver, host, wait } = host;
+        let Host {
+            driver,
+            host,
+            wait,
+            tries,
+            terms,
+        } = host;
         let places = Items::from_vec(places_of_driver(alloc, catalogue, driver, places)?);
-        let plan = DriverPlan { host, wait, places };
+        let plan = DriverPlan {
+            host,
+            speaks: terms.speaks,
+            wait,
+            tries,
+            places,
+        };
         parts.push(Part { driver, plan })?;
     }
     Ok(parts)

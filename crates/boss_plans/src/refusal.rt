@@ -22,14 +22,14 @@ pub enum PlanRefusal {
         /// The key.
         key: PlanKey,
     },
-    /// The driver at this place is none of the catalogue, stands twice, has no `host` of 1 to 255 bytes, or a `wait` that is not 50 to
-    /// 5,000.
+    /// The driver at this place is none of the catalogue, stands twice, has no `host` of 1 to 255 bytes, speaks neither of the two protocols,
+    /// or has a `wait`, `tries`, `check` or `again` out of its bounds.
     BadDriver {
         /// Its place among the drivers.
         place: u64,
     },
     /// The place at this place is of no such form, is of no point of a planned driver, or of one that has a place
-    /// already, has a key that its form has not, or does not suit the values of its point.
+    /// already, has a key that its form or its driver's protocol has not, or does not suit the values of its point.
     BadPlace {
         /// Its place among the places.
         place: u64,
@@ -64,7 +64,7 @@ impl fmt::Display for PlanRefusal {
             }
             PlanRefusal::BadDriver { place } => write!(
                 f,
-                "the driver at place {place} is none of the catalogue, stands twice, or has no host or no good wait"
+                "the driver at place {place} is none of the catalogue, stands twice, or has no host, or a value out of its bounds"
             ),
             PlanRefusal::BadPlace { place } => write!(
                 f,

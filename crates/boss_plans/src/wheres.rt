@@ -2,10 +2,10 @@
 
 ghost use Rattle.std.specs.Prelude.{◌≡◌, ℤ, ◌≤ℤ◌, true, option_map, option_copied};
 ghost use Rattle.toml.specs.View.{view};
-ghost use Rattle.boss_plans.specs.Wheres.{coil_at, form_named, form_of, function_in, function_numbered, function_of, half_in, half_named, half_of, has_register_key, is_long, is_scaled, is_single, long_form_named, multiple_in, only_multiple, register_at, register_function, round_in, round_named, round_of, scale_of, suits, type_of, unit_of, where_of, where_spelled};
+ghost use Rattle.boss_plans.specs.Wheres.{coil_at, form_named, form_of, function_in, function_numbered, function_of, half_in, half_named, half_of, has_register_key, is_long, is_scaled, is_single, long_form_named, multiple_in, only_multiple, register_at, register_function, round_in, round_named, round_of, scale_of, suits, suits_object, type_of, unit_of, where_of, where_spelled};
 
 use crate::keys::{is_shift, natural_in, offset_of, per_of, times_of};
-use boss_model::{Form, Function, Half, Kind, Round, Scale, Where};
+use boss_model::{Form, Function, Half, Kind, ObjectKind, Round, Scale, Where};
 use boss_numbers::have_forms;
 use toml::Value;
 
@@ -288,8 +288,8 @@ pub(crate) fn where_of(place: &Value) -> Option<Where>
     where_spelled(place, per, place.get("coil"), place.get("register"))
 }
 
-/// Whether a place suits the values of a point: a binary one has a coil or a register, and every other a register, which has a form of
-/// each of them.
+/// Whether a place suits the values of a point: a binary one has a coil, a register or a binary object, and every other a register or an
+/// object of its kind, which has a form of each of them.
 pub(crate) fn suits(kind: Kind, at: Where) -> bool
     ensures { result ≡ suits kind at }
 {
@@ -299,6 +299,26 @@ pub(crate) fn suits(kind: Kind, at: Where) -> bool
             Kind::Binary => have_forms(form, scale, 0, 1),
             Kind::Analog { min, max } => have_forms(form, scale, min, max),
             Kind::Multi { states } => have_forms(form, scale, 1, states),
+        },
+        Where::Object { object, scale, .. } => suits_object(kind, object.kind, scale),
+    }
+}
+
+/// Whether an object suits the values of a point: it is of the point's kind, and what is analog has a form of each of them.
+fn suits_object(kind: Kind, object: ObjectKind, scale: Scale) -> bool
+    ensures { result ≡ suits_object kind object scale }
+{
+    match object {
+        ObjectKind::AnalogOutput | ObjectKind::AnalogValue => match kind {
+            Kind::Analog { min, max } => {
+                have_forms(Form::Single { first: Half::High }, scale, min, max)
+            }
+            Kind::Binary | Kind::Multi { .. } => false,
+        },
+        ObjectKind::BinaryOutput | ObjectKind::BinaryValue => kind == Kind::Binary,
+        ObjectKind::MultiStateOutput | ObjectKind::MultiStateValue => match kind {
+            Kind::Multi { .. } => true,
+            Kind::Binary | Kind::Analog { .. } => false,
         },
     }
 }

@@ -5,14 +5,15 @@ ghost use Rattle.std.specs.Prelude.{◌≡◌, ◌≤◌, IsTrue};
 ghost use Rattle.std.specs.List.{AllByRecursion};
 ghost use Rattle.boss_drive.specs.Driving.{Driven};
 ghost use Rattle.boss_lock.specs.Places.{entries_at};
-ghost use Rattle.boss_model.specs.Limits.{drive_pause, last_moment};
+ghost use Rattle.boss_model.specs.Limits.{last_moment};
+ghost use Rattle.boss_outside_server.specs.Pauses.{drive_pause};
 ghost use Rattle.def_lanes.specs.Waits.{PausedFor};
 
 use boss_drive::drive;
 use boss_expiry::WorkEnd;
 use boss_modbus::ModbusDevice;
 use boss_model::{
-    DriverId, DriverPlan, Form, Function, Items, Place, PointId, Round, Scale, Where,
+    DriverId, DriverPlan, Form, Function, Items, Place, PointId, Protocol, Round, Scale, Where,
 };
 use boss_outside::{Actuators, DeviceCall, Link, ListLink, Noted};
 use boss_outside_server::{Clock, ListClock, TurnWaiter, Waiter};
@@ -46,6 +47,8 @@ const PLACES: [Place; 3] = [
             },
             function: Function::WriteSingle,
         },
+        check: 0,
+        again: 0,
     },
     Place {
         point: LAMP,
@@ -54,6 +57,8 @@ const PLACES: [Place; 3] = [
             address: 19,
             function: Function::WriteSingle,
         },
+        check: 0,
+        again: 0,
     },
     Place {
         point: FAN,
@@ -69,6 +74,8 @@ const PLACES: [Place; 3] = [
             },
             function: Function::WriteSingle,
         },
+        check: 0,
+        again: 0,
     },
 ];
 
@@ -163,7 +170,7 @@ fn link(rt: &impl Abort, alloc: Global, responses: &[u8]) -> ListLink {
 
 /// A device whose host answers with these bytes.
 fn devices(rt: &impl Abort, alloc: Global, responses: &[u8]) -> Noted<ModbusDevice<ListLink>> {
-    let mut device = ModbusDevice::new(link(rt, alloc, responses));
+    let mut device = ModbusDevice::new(alloc, link(rt, alloc, responses));
     device.assign(part(rt, alloc));
     Noted::new(alloc, device)
 }
@@ -173,7 +180,9 @@ fn part(rt: &impl Abort, alloc: Global) -> DriverPlan {
     let places = PLACES.to_vec(alloc).expect(rt, "memory");
     DriverPlan {
         host: Items::from_vec(host),
+        speaks: Protocol::Modbus,
         wait: 5_000,
+        tries: 1,
         places: Items::from_vec(places),
     }
 }

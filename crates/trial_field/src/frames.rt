@@ -36,7 +36,7 @@ fn device(
         contents.try_push(Items::from_vec(bytes.to_vec(alloc)?))?;
     }
     let fails = Items::from_vec(fails.to_vec(alloc)?);
-    let mut device = ModbusDevice::new(ListLink::new(alloc, contents, most, fails)?);
+    let mut device = ModbusDevice::new(alloc, ListLink::new(alloc, contents, most, fails)?);
     device.assign(part(alloc, HOST)?);
     Ok(device)
 }

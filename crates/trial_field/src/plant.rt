@@ -1,7 +1,8 @@
 //! A driver with three points, and the host that they are wired to.
 
 use boss_model::{
-    DriverPlan, Form, Function, Half, Items, NoMemory, Place, PointId, Round, Scale, Where,
+    DriverPlan, Form, Function, Half, Items, NoMemory, Place, PointId, Protocol, Round, Scale,
+    Where,
 };
 use std::alloc::Global;
 
@@ -32,6 +33,8 @@ const PLACES: [Place; 3] = [
             },
             function: Function::WriteSingle,
         },
+        check: 0,
+        again: 0,
     },
     Place {
         point: LAMP,
@@ -40,6 +43,8 @@ const PLACES: [Place; 3] = [
             address: 19,
             function: Function::WriteSingle,
         },
+        check: 0,
+        again: 0,
     },
     Place {
         point: FLOW,
@@ -55,6 +60,8 @@ const PLACES: [Place; 3] = [
             },
             function: Function::WriteMultiple,
         },
+        check: 0,
+        again: 0,
     },
 ];
 
@@ -62,7 +69,30 @@ const PLACES: [Place; 3] = [
 pub fn part(alloc: Global, host: &[u8]) -> Result<DriverPlan, NoMemory> {
     Ok(DriverPlan {
         host: Items::from_vec(host.to_vec(alloc)?),
+        speaks: Protocol::Modbus,
         wait: 5_000,
+        tries: 1,
         places: Items::from_vec(PLACES.to_vec(alloc)?),
+    })
+}
+
+/// The same, of which each place is checked and written once more so often.
+pub fn part_looked_after(
+    alloc: Global,
+    host: &[u8],
+    check: u64,
+    again: u64,
+) -> Result<DriverPlan, NoMemory> {
+    let mut places = Items::new(alloc);
+    for place in PLACES {
+        places.try_push(Place {
+            check,
+            again,
+            ..place
+        })?;
+    }
+    Ok(DriverPlan {
+        places,
+        ..part(alloc, host)?
     })
 }

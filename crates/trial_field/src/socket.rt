@@ -1,12 +1,13 @@
 //! Devices over a socket of this machine. Their host is a stub in a second thread.
 
-use crate::plant::{LAMP, part};
+use crate::datagrams::part_over_bacnet;
+use crate::plant::{DAMPER, LAMP, part};
 use boss_field::{FieldDevices, RealLink};
 use boss_modbus::{Fate, ModbusDevice};
 use boss_outside::Actuators;
 use std::alloc::Global;
 use std::io::{self, Read, Write};
-use std::net::{Net, TcpListener, TcpStream};
+use std::net::{Net, TcpListener, TcpStream, UdpSocket};
 use std::test::Fail;
 use std::thread::{self, Threads};
 
@@ -42,7 +43,7 @@ fn assign_to<A: Actuators>(
 #[test]
 fn a_device_on_a_socket_takes_writes(rt: HostRuntime) -> Result<(), Fail> {
     let listener = TcpListener::bind(&rt, "127.0.0.1:0")?;
-    let mut device = ModbusDevice::new(RealLink::new(&rt, 5_000));
+    let mut device = ModbusDevice::new(rt.alloc(), RealLink::new(&rt, 5_000));
     assign_to(rt.alloc(), &listener, &mut device)?;
     assert!(&rt; turn_on(&rt, &listener, &mut device));
     assert_eq!(rt; device.fate(), Fate::Taken);
@@ -62,5 +63,45 @@ fn devices_are_simulated_until_they_are_assigned(rt: HostRuntime) -> Result<(), 
     // Nothing listens there any more.
     drop(listener);
     assert!(&rt; devices.write(LAMP, 1).is_err());
+    Ok(())
+}
+
+/// Hears a datagram, and acknowledges its exchange behind two datagrams that are no answer to it.
+fn acknowledge_once(socket: &UdpSocket) -> io::Result<()> {
+    let mut request = [0; 64];
+    let (_, from) = socket.recv_from(&mut request)?;
+    let id = request[8];
+    socket.send_to(b"hello", from)?;
+    socket.send_to(
+        &[0x81, 0x0a, 0, 9, 1, 0, 0x20, id.wrapping_sub(1), 0x0f],
+        from,
+    )?;
+    socket.send_to(&[0x81, 0x0a, 0, 9, 1, 0, 0x20, id, 0x0f], from)?;
+    Ok(())
+}
+
+/// Whether the damper was set while the stub acknowledged one datagram.
+fn set_damper<R: Threads, A: Actuators>(rt: &R, socket: &UdpSocket, devices: &mut A) -> bool {
+    let (heard, answer) = thread::join(
+        rt,
+        move || acknowledge_once(socket),
+        move || devices.write(DAMPER, 45_000),
+    );
+    heard.is_ok() && answer.is_ok()
+}
+
+#[test]
+fn devices_behind_a_socket_for_datagrams_take_writes(rt: HostRuntime) -> Result<(), Fail> {
+    let alloc = rt.alloc();
+    let socket = UdpSocket::bind(&rt, "127.0.0.1:0")?;
+    let host = format!(in alloc; "{}", socket.local_addr()?)?;
+    let mut devices = FieldDevices::new(alloc, &rt);
+    devices.assign(part_over_bacnet(alloc, host.as_bytes())?);
+    assert!(&rt; set_damper(&rt, &socket, &mut devices));
+    assert!(&rt; set_damper(&rt, &socket, &mut devices));
+    // Nobody hears what is sent there, and then nobody is there.
+    assert!(&rt; devices.write(DAMPER, 45_000).is_err());
+    drop(socket);
+    assert!(&rt; devices.write(DAMPER, 45_000).is_err());
     Ok(())
 }
