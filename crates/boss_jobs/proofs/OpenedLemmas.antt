@@ -19,7 +19,7 @@ use Rattle.def_history.specs.History.{events, is_broken, run, run_tried}
 use Rattle.def_history.proofs.Going.{tried_whole}
 use Rattle.boss_opening.specs.Opens.{digest_of, OpenedAt}
 use Rattle.def_disk_pair.specs.Pairs.{OpensCleanly}
-use Rattle.boss_shared.specs.Walking.{shortened}
+use Rattle.boss_shared.specs.Walking.{AreTried, shortened}
 use Rattle.boss_shared.proofs.Holding.{whole_shortened}
 use Rattle.boss_disk.specs.Legs.{Two, Legs, LeaveBoth}
 use Rattle.boss_disk.specs.Story.{Story}
@@ -60,7 +60,7 @@ module _ {D : Type 0} (d : disk.Ghosts D) (catalogue : Catalogue) (durable : Dur
     → OpensCleanly (actuators catalogue) durable.disks.digest (run (actuators catalogue) made durable.engine.state).persistent
     (length before + length (events (actuators catalogue) made durable.engine.state)) (d.reads disks.0) (d.reads disks.1))
     (torn : d.tells → (before : List Event) → keeps durable before → leaves durable (lasting durable) (lasting durable)
-    → (tried : ℕ) × OpensToOne (actuators catalogue) durable.disks.digest (run (actuators catalogue) made durable.engine.state).persistent
+    → (tried : ℕ) × AreTried tried made × OpensToOne (actuators catalogue) durable.disks.digest (run (actuators catalogue) made durable.engine.state).persistent
     (run_tried (actuators catalogue) (shortened tried made) durable.engine.state).persistent (d.reads disks.0) (d.reads disks.1)) where
   -- what disks hold that came back of an engine, after the entries that it made
   pub holds-so : d.tells → HoldsAfter catalogue durable.engine.state durable.disks.events made (d.reads disks.0) (d.reads disks.1)
@@ -69,15 +69,15 @@ module _ {D : Type 0} (d : disk.Ghosts D) (catalogue : Catalogue) (durable : Dur
       let number = durable.disks.events in
       let any = some-events number in
       let kept : keeps durable any = held any (ap counted (many-events number) ∙ few) in
-      let torn : (tried : ℕ) × OpensToOne plant (digest_of catalogue) (run plant made durable.engine.state).persistent
+      let torn : (tried : ℕ) × AreTried tried made × OpensToOne plant (digest_of catalogue) (run plant made durable.engine.state).persistent
       (run_tried plant (shortened tried made) durable.engine.state).persistent (d.reads disks.0) (d.reads disks.1) =
-      subst (λ g. (tried : ℕ) × OpensToOne plant g (run plant made durable.engine.state).persistent
+      subst (λ g. (tried : ℕ) × AreTried tried made × OpensToOne plant g (run plant made durable.engine.state).persistent
       (run_tried plant (shortened tried made) durable.engine.state).persistent (d.reads disks.0) (d.reads disks.1)) digest (torn tells any kept left) in
       record {
         whole = λ fine.
             same-state plant (digest_of catalogue) _ _ (d.reads disks.0) (d.reads disks.1)
             (ap (λ es. (run_tried plant es durable.engine.state).persistent) (whole_shortened torn.0 made fine) ∙ ap (λ t. t.persistent) (tried_whole plant made durable.engine.state fine))
-            torn.1;
+            torn.2;
         counted = λ fine few.
             subst (λ n. OpensCleanly plant (digest_of catalogue) (run plant made durable.engine.state).persistent (n + length (events plant made durable.engine.state)) (d.reads disks.0) (d.reads disks.1))
             (many-events number)

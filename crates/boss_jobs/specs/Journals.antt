@@ -18,7 +18,7 @@ use Rattle.boss_files.specs.Names.{second_name}
 use Rattle.boss_lines.specs.declared.reader.Next.{Next}
 use Rattle.def_history.specs.declared.entry.Entry.{Entry}
 use Rattle.def_history.specs.History.{events, is_broken, IsLegal, run, run_tried}
-use Rattle.boss_shared.specs.Walking.{shortened}
+use Rattle.boss_shared.specs.Walking.{AreTried, shortened}
 use Rattle.boss_scripts.specs.declared.broken.Broken.{Broken}
 use Rattle.boss_scripts.specs.Causes.{ReadCause, WriteCause}
 use Rattle.boss_scripts.specs.Ends.{EndsOver}
@@ -119,13 +119,13 @@ beside_files world = beside world.source world.sink world.devices
 
 -- A script made these entries from a state, where a journal had come by so many events. It opens cleanly to what they leave, and
 -- has as many events more as they have, as far as they are counted. Where a disk failed it opens cleanly to what the entries leave,
--- or to that with what was under way as well.
+-- or to that with what was under way as well: all its commands, or those before one for which there was no memory.
 pub record HoldsAfter (catalogue : Catalogue) (s : State) (number : ℕ) (made : List Entry) (first second : List ℕ) : Type 0 where
   pub whole : is_broken made ≡ false → OpensTo (actuators catalogue) (digest_of catalogue) (run (actuators catalogue) made s).persistent first second
   pub counted : is_broken made ≡ false → number + length (events (actuators catalogue) made s) < last_number →
       OpensCleanly (actuators catalogue) (digest_of catalogue) (run (actuators catalogue) made s).persistent
       (number + length (events (actuators catalogue) made s)) first second
-  pub torn : (tried : ℕ) × OpensToOne (actuators catalogue) (digest_of catalogue) (run (actuators catalogue) made s).persistent
+  pub torn : (tried : ℕ) × AreTried tried made × OpensToOne (actuators catalogue) (digest_of catalogue) (run (actuators catalogue) made s).persistent
       (run_tried (actuators catalogue) (shortened tried made) s).persistent first second
 
 -- ---- the jobs

@@ -15,7 +15,7 @@ use Rattle.boss_durable.specs.Words.{faults, keeps, lasting, leaves}
 use Rattle.boss_lines.specs.declared.reader.Next.{Next}
 use Rattle.def_history.specs.declared.entry.Entry.{Entry}
 use Rattle.def_history.specs.History.{events, is_broken, IsLegal, run, run_tried}
-use Rattle.boss_shared.specs.Walking.{shortened}
+use Rattle.boss_shared.specs.Walking.{AreTried, shortened}
 use Rattle.def_disk_pair.specs.Pairs.{OpensCleanly}
 use Rattle.boss_scripts.specs.declared.broken.Broken.{Broken}
 use Rattle.boss_scripts.specs.Causes.{ReadCause, WriteCause}
@@ -67,7 +67,7 @@ module _ {D S K A : Type 0} (d : disk.Ghosts D) (s : source.Ghosts S) (k : sink.
         OpensCleanly (actuators catalogue) durable.disks.digest (run (actuators catalogue) made durable.engine.state).persistent
         (length before + length (events (actuators catalogue) made durable.engine.state)) (d.reads disks.0) (d.reads disks.1)
     pub torn : d.tells → (before : List Event) → keeps durable before → leaves durable (lasting durable) (lasting durable) →
-        (tried : ℕ) × OpensToOne (actuators catalogue) durable.disks.digest (run (actuators catalogue) made durable.engine.state).persistent
+        (tried : ℕ) × AreTried tried made × OpensToOne (actuators catalogue) durable.disks.digest (run (actuators catalogue) made durable.engine.state).persistent
         (run_tried (actuators catalogue) (shortened tried made) durable.engine.state).persistent (d.reads disks.0) (d.reads disks.1)
     pub steps : d.tells → (before : List Event) → keeps durable before →
         Steps (actuators catalogue) durable.disks.digest durable.engine.state (stories durable.disks) made (two (d.story disks.0) (d.story disks.1))

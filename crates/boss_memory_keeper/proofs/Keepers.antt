@@ -35,6 +35,7 @@ module _ {V : Type 0} (plant : V → List Actuator) (state : V → State) (stopp
     stood = λ _. stood;
     images = λ _ _ before _. (
       0,
+      none_tried made whole,
       subst (λ (q : State × State). leaves new q.0.persistent q.1.persistent)
           (λ i. (ran i, (ran ∙ sym (tried_same (plant old) made (state old) whole)) i)) there,
     );

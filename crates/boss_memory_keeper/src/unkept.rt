@@ -6,7 +6,7 @@ ghost use Rattle.boss_model.specs.Sound.{IsSound};
 
 use crate::stepping::{events_behind, step_all, step_together};
 use boss_engine::Engine;
-use boss_model::{Answer, Command, DriverId, Effect, Items, NoMemory, SessionId};
+use boss_model::{Answer, Command, DriverId, Effect, Items, Name, NoMemory, SessionId};
 use boss_points::Catalogue;
 use boss_shared::{Asked, Keeper};
 use def_history::{Outcome, Outcomes};
@@ -67,6 +67,18 @@ impl Keeper for Unkept {
 
     fn wanting(&self) -> Option<DriverId> {
         self.engine.wanting()
+    }
+
+    fn has_want(&self, driver: DriverId) -> bool {
+        self.engine.has_want(driver)
+    }
+
+    fn first_due(&self) -> u64 {
+        self.engine.first_due()
+    }
+
+    fn next_noticed(&mut self) -> Option<Name> {
+        self.engine.next_noticed()
     }
 
     fn has_stopped(&self) -> bool {

@@ -10,7 +10,7 @@ use Rattle.def_history.proofs.Going.{run_append, events_append, broken_append, t
 use Rattle.def_history.proofs.Sound.{legal-sound}
 use Rattle.boss_shared.specs.declared.keeper.Keeper as keeper
 use Rattle.boss_shared.specs.Walking.{shortened, Walks}
-use Rattle.boss_shared.proofs.Holding.{shortened_append, whole_shortened}
+use Rattle.boss_shared.proofs.Holding.{shortened_append, tried_behind, whole_shortened}
 use Rattle.boss_shared.proofs.Walks.{walks_join, walks_nowhere}
 use Rattle.boss_scripts.specs.Keepers.{IsAt, Kept}
 use Rattle.boss_scripts.specs.Runs.{after, Under}
@@ -50,7 +50,7 @@ module _ {V : Type 0} (v : keeper.Ghosts V) where
     state_is = λ _. refl;
     rose = λ off on. not-both (v.stopped k) on off;
     stood = λ _. refl;
-    images = λ _ here before has. (0, here);
+    images = λ _ here before has. (0, tt, here);
     images_stay = λ _ first second there. there;
     through = λ _ _ _. walks_nowhere (v.plant k) v.passes (v.state k) k;
     gained = λ _ before has. subst (v.keeps k) (sym (append-nil before)) has;
@@ -72,7 +72,7 @@ module _ {V : Type 0} (v : keeper.Ghosts V) where
           rose = λ off _. subst (λ n. Rose (v.faults old) n) (sym (two.stood (stays ∙ sym on))) (one.rose off on);
           stood = λ same. two.stood (stays ∙ sym on) ∙ one.stood (on ∙ sym stays ∙ same);
           images = λ off here before has.
-              let there = one.images off here before has in (there.0, two.images_stay on _ _ there.1);
+              let there = one.images off here before has in (there.0, there.1, two.images_stay on _ _ there.2);
           images_stay = λ was left right there. two.images_stay on left right (one.images_stay was left right there);
           through = λ off before has.
               subst (λ value. Walks (v.plant old) v.passes (v.state old) old first value) (sym (two.still on)) (one.through off before has);
@@ -108,9 +108,12 @@ module _ {V : Type 0} (v : keeper.Ghosts V) where
               let left = one.images was here before has in
               let there : v.leaves mid (v.state mid).persistent (v.state mid).persistent =
               subst (λ (q : State × State). v.leaves mid q.0.persistent q.1.persistent)
-              (λ i. (sym d i, (ap (λ es. run_tried (v.plant old) es (v.state old)) (whole_shortened left.0 first whole) ∙ tried_whole (v.plant old) first (v.state old) whole ∙ sym d) i)) left.1 in
-              let more = two.images off there (before ++ events (v.plant old) first (v.state old)) (one.gained off before has) in
-              (more.0, subst (λ (q : State × State). v.leaves new q.0.persistent q.1.persistent) (λ i. (ran i, tried more.0 i)) more.1);
+              (λ i. (sym d i, (ap (λ es. run_tried (v.plant old) es (v.state old)) (whole_shortened left.0 first whole) ∙ tried_whole (v.plant old) first (v.state old) whole ∙ sym d) i)) left.2 in
+              let more = two.images off there (before ++ events (v.plant old) first (v.state old)) (one.gained off before has) in (
+                more.0,
+                tried_behind more.0 first second whole more.1,
+                subst (λ (q : State × State). v.leaves new q.0.persistent q.1.persistent) (λ i. (ran i, tried more.0 i)) more.2,
+              );
           images_stay = λ on. not-both (v.stopped old) on was;
           through = λ _ before has.
               walks_join (v.plant old) v.passes (v.state old) old mid new first second (one.through was before has)

@@ -1,5 +1,5 @@
 -- What is said of a feed over one pair is said of another that follows it.
-use Rattle.std.proofs.Common.{◌≡◌, inl, inr, ℕ, ◌+◌, ◌==◌, if◌then◌else◌, List, [], refl, sym, subst, ◌∙◌, arith}
+use Rattle.std.proofs.Common.{◌≡◌, inl, inr, ℕ, ◌+◌, ◌==◌, if◌then◌else◌, List, [], refl, subst, ◌∙◌, arith}
 use Rattle.boss_disk.specs.declared.disk.Disk as disk
 use Rattle.boss_disk.specs.Window.{settled}
 use Rattle.boss_disk_pair.specs.Images.{OpensTo}

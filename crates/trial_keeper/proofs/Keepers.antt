@@ -53,7 +53,7 @@ module _ {V : Type 0} (plant : V → List Actuator) (state : V → State) (stopp
     state_is = λ not. absurd (never new on not);
     rose = λ _ _. rose;
     stood = λ equal. absurd (never new on (equal ∙ off));
-    images = λ _ _ before _. (0, there _);
+    images = λ _ _ before _. (length calls, (inl refl, tt), there _);
     images_stay = λ was. absurd (never old was off);
     through = λ _ before _. walks_once (plant old) passes (state old) old (Broke session calls others ∷ []) new (length calls, (inl refl, tt), goes _);
     gained = λ not. absurd (never new on not);

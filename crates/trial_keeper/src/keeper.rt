@@ -5,7 +5,7 @@ ghost use Rattle.boss_model.specs.Sound.{IsSound};
 
 use crate::stepping::{step_all, step_together, take_step};
 use boss_memory_keeper::Unkept;
-use boss_model::{Answer, Command, DriverId, Items, NoMemory, SessionId};
+use boss_model::{Answer, Command, DriverId, Items, Name, NoMemory, SessionId};
 use boss_points::Catalogue;
 use boss_shared::{Asked, Keeper, fail_all, stop_all};
 use def_history::{Outcome, Outcomes};
@@ -176,6 +176,18 @@ impl Keeper for FailingKeeper {
 
     fn wanting(&self) -> Option<DriverId> {
         self.unkept.wanting()
+    }
+
+    fn has_want(&self, driver: DriverId) -> bool {
+        self.unkept.has_want(driver)
+    }
+
+    fn first_due(&self) -> u64 {
+        self.unkept.first_due()
+    }
+
+    fn next_noticed(&mut self) -> Option<Name> {
+        self.unkept.next_noticed()
     }
 
     fn has_stopped(&self) -> bool {

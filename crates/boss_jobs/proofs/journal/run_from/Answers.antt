@@ -52,9 +52,10 @@ returns g c =
       torn = λ told before held left.
           let may = ran.kept.images c.requires.going left before held in (
             may.0,
+            may.1,
             one-as _ plant _ c.args.durable.disks.digest _ (run plant ran.made start).persistent _ (run_tried plant (shortened may.0 ran.made) start).persistent (d.reads c.close.result.0) (d.reads c.close.result.1) same c.run_script-end.ensures.under
                 (ap (λ p. (run p ran.made start).persistent) c.requires.plant) (ap (λ p. (run_tried p (shortened may.0 ran.made) start).persistent) c.requires.plant)
-                (c.close.ensures.left told _ _ may.1),
+                (c.close.ensures.left told _ _ may.2),
           );
       steps = λ told before held.
           subst (λ at. Steps plant c.args.durable.disks.digest start (stories c.args.durable.disks) ran.made at)
