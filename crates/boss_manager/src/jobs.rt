@@ -206,6 +206,7 @@ where
     F::Store: Send,
     H::In: Send,
     H::Out: Send,
+    W::Bells: Send,
     requires sound { H.sound world.host.now }
     requires some { 1 ≤ service.workers }
     requires few { service.workers ≤ most_workers }

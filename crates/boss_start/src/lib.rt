@@ -13,7 +13,7 @@ use boss_adapters::{
     RealClock, RealFiles, RealHost, RealSpawner, RealWaiter, StdSink, StdSource, say_aside,
 };
 use boss_field::field_devices;
-use boss_manager::{Status, boss};
+use boss_manager::{Next, Status, boss, boss_serve};
 use boss_model::{MOST_DRIVERS, NoMemory};
 use std::alloc::AllocError;
 use std::env;
@@ -40,26 +40,37 @@ where
 {
     let words = words_of(&rt)?;
     let mut devices = field_devices(rt.alloc(), server, MOST_DRIVERS)?;
-    let mut waiter = RealWaiter::new(rt.alloc(), &rt)?;
     let mut source = StdSource::new(rt.stdin());
     let mut sink = StdSink::new(rt.stdout());
     let mut files = RealFiles::new(rt);
     let mut clock = RealClock::new(rt.alloc(), server)?;
+    let mut waiter = RealWaiter::new(rt.alloc(), server, &mut clock)?;
     let mut host = RealHost::new(rt.alloc(), server);
     let mut spawner = RealSpawner::new(server);
-    let status = boss(
-        server,
+    let next = boss(
         rt.alloc(),
         &words,
         &mut files,
         &mut source,
         &mut sink,
         &mut devices,
-        &mut clock,
-        &mut host,
-        &mut waiter,
-        &mut spawner,
     );
+    let status = match next {
+        Next::Done(status) => status,
+        Next::Serve(job) => boss_serve(
+            server,
+            rt.alloc(),
+            &job,
+            &mut files,
+            &mut source,
+            &mut sink,
+            &mut devices,
+            &mut clock,
+            &mut host,
+            &mut waiter,
+            &mut spawner,
+        ),
+    };
     let point = if status == Status::CATALOGUE {
         refused_point(rt.alloc(), &mut files, word_at(&words, 1))
     } else {

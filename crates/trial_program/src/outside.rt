@@ -4,7 +4,7 @@ ghost use Rattle.std.specs.Prelude.{◌≡◌, IsTrue};
 ghost use Rattle.boss_files.specs.Shelf.{have_distinct_names};
 
 use boss_files::MemoryFiles;
-use boss_manager::{Status, boss};
+use boss_manager::{Next, Status, boss, boss_serve};
 use boss_model::Items;
 use boss_outside::{BytesSink, BytesSource, DeviceCall, SimActuators};
 use boss_outside_server::{ListClock, ListHost, ListSpawner, TurnWaiter};
@@ -143,6 +143,10 @@ fn alone<R: Abort + Threads + Wait + Sync>(
     devices: &mut Vec<SimActuators>,
     host_fails: u64,
 ) -> Status {
+    let job = match boss(alloc, words, files, source, sink, devices) {
+        Next::Done(status) => return status,
+        Next::Serve(job) => job,
+    };
     let mut clock = ListClock::new(alloc, Items::new(alloc), Items::new(alloc)).expect(
         rt, "memory",
     );
@@ -155,10 +159,10 @@ fn alone<R: Abort + Threads + Wait + Sync>(
     let mut spawner: ListSpawner<R> = ListSpawner::new(alloc, Items::new(alloc)).expect(
         rt, "memory",
     );
-    boss(
+    boss_serve(
         rt,
         alloc,
-        words,
+        &job,
         files,
         source,
         sink,

@@ -10,6 +10,7 @@ use boss_outside::{BytesSink, Hears, Sink, Source};
 use boss_outside_server::{Host, ListHost};
 use boss_points::Catalogue;
 use std::alloc::Global;
+use std::io::Eprint;
 use std::process::Abort;
 use std::sync::Wait;
 use std::sync::atomic::AtomicBool;
@@ -86,7 +87,7 @@ fn tell_talks<R: Abort + Drop>(
 
 /// Serves three connections by two workers.
 fn serve<
-    R: Abort + Threads + Wait + time::Clock + Copy + Drop + Send + Sync,
+    R: Abort + Threads + Wait + time::Clock + Eprint + Copy + Drop + Send + Sync,
     S: Hears<K> + Drop + Send,
     K: Sink + Drop + Send,
 >(rt: R, alloc: Global, catalogue: &Catalogue, host: &mut ListHost<S, K>, text: &mut String)
@@ -96,7 +97,7 @@ fn serve<
 }
 
 /// What is told of the three connections, and how the server ended.
-fn run<R: Abort + Threads + Wait + time::Clock + Copy + Drop + Send + Sync>(
+fn run<R: Abort + Threads + Wait + time::Clock + Eprint + Copy + Drop + Send + Sync>(
     rt: R,
     alloc: Global,
     catalogue: &Catalogue,

@@ -4,20 +4,24 @@ ghost use Rattle.std.specs.Prelude.{◌≤◌};
 
 use crate::clocks::list_clock;
 use crate::texts::tell_end;
-use boss_adapters::{RealSpawner, RealWaiter};
+use boss_adapters::{RealClock, RealSpawner, RealWaiter};
 use boss_manager::{Service, Site, Status, Surroundings, serve_in_memory};
 use boss_model::Items;
 use boss_outside::{BytesSink, SimActuators};
 use boss_outside_server::{Host, ListClock};
 use boss_points::Catalogue;
 use std::alloc::Global;
+use std::io::Eprint;
 use std::process::Abort;
 use std::sync::Wait;
 use std::thread::Threads;
 use std::time;
 
 /// Serves connections of a host, without a device.
-fn serve<R: Abort + Threads + Wait + time::Clock + Copy + Drop + Send + Sync, H: Host + Send>(
+fn serve<
+    R: Abort + Threads + Wait + time::Clock + Eprint + Copy + Drop + Send + Sync,
+    H: Host + Send,
+>(
     rt: R,
     alloc: Global,
     catalogue: &Catalogue,
@@ -36,7 +40,8 @@ where
 {
     let mut devices: Vec<SimActuators> = Vec::new(alloc);
     let mut spawner = RealSpawner::new(rt);
-    let mut waiter = RealWaiter::new(alloc, rt).expect(&rt, "memory");
+    let mut real = RealClock::new(alloc, rt).expect(&rt, "memory");
+    let mut waiter = RealWaiter::new(alloc, rt, &mut real).expect(&rt, "memory");
     let surroundings = Surroundings {
         sink,
         devices: &mut devices,
@@ -54,7 +59,7 @@ where
 
 /// Serves so many connections of a host by so many workers in threads of their own, always at the moment 1,000, and tells how that ended.
 pub fn serve_in_threads<
-    R: Abort + Threads + Wait + time::Clock + Copy + Drop + Send + Sync,
+    R: Abort + Threads + Wait + time::Clock + Eprint + Copy + Drop + Send + Sync,
     H: Host + Send,
 >(
     rt: R,
