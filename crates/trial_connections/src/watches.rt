@@ -65,9 +65,9 @@ const FROM_1: Watch = Watch {
     write: 0,
     reading: 0,
     machine: GOOD,
-    going: 600,
+    going: 12,
     taken: (0, 0),
-    told: &[ENDED, DONE, "Idle; pauses: 600"],
+    told: &[ENDED, DONE, "Idle; pauses: 12"],
 };
 
 const RUNS: &[Watch] = &[
@@ -75,19 +75,19 @@ const RUNS: &[Watch] = &[
     Watch {
         shows: "from the second on",
         from: 2,
-        told: &[DONE, "Idle; pauses: 600"],
+        told: &[DONE, "Idle; pauses: 12"],
         ..FROM_1
     },
     Watch {
         shows: "from one that has not come",
         from: 3,
-        told: &["Idle; pauses: 600"],
+        told: &["Idle; pauses: 12"],
         ..FROM_1
     },
     Watch {
         shows: "a process that is not known yet",
         lines: &[],
-        told: &["Idle; pauses: 600"],
+        told: &["Idle; pauses: 12"],
         ..FROM_1
     },
     Watch {
@@ -95,7 +95,7 @@ const RUNS: &[Watch] = &[
         lines: &[ATTACH],
         submits: 101,
         taken: (1, 101),
-        told: &["Idle; pauses: 600"],
+        told: &["Idle; pauses: 12"],
         ..FROM_1
     },
     Watch {
@@ -103,7 +103,7 @@ const RUNS: &[Watch] = &[
         lines: &[ATTACH],
         submits: 520,
         taken: (8, 520),
-        told: &["Idle; pauses: 600"],
+        told: &["Idle; pauses: 12"],
         ..FROM_1
     },
     Watch {
@@ -112,7 +112,7 @@ const RUNS: &[Watch] = &[
         submits: 520,
         from: 999,
         taken: (500, 520),
-        told: &["Idle; pauses: 600"],
+        told: &["Idle; pauses: 12"],
         ..FROM_1
     },
     Watch {
@@ -123,8 +123,8 @@ const RUNS: &[Watch] = &[
     },
     Watch {
         shows: "the last pause closes",
-        going: 599,
-        told: &[ENDED, DONE, "Idle; pauses: 600; told to end"],
+        going: 11,
+        told: &[ENDED, DONE, "Idle; pauses: 12; told to end"],
         ..FROM_1
     },
     Watch {

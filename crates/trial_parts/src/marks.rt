@@ -1,6 +1,9 @@
 ghost use Rattle.std.specs.Prelude.{◌≤◌, ◌<◌, ◌^◌, length};
 
-use self::Deed::{Differed, Doubted, Looked, Next, Reported, Retried, Settled, Started, Wanting};
+use self::Deed::{
+    Differed, Doubted, HasWant, Looked, Next, NextRetry, Reported, Retried, Settled, Started,
+    Wanting,
+};
 use boss_marks::Marks;
 use boss_model::{DriverId, Items, PointId};
 use std::alloc::Global;
@@ -36,6 +39,10 @@ enum Deed {
     Retried(u32),
     /// The point's mark is asked for.
     Looked(u32),
+    /// Whether this driver has a want is asked for.
+    HasWant(u16),
+    /// The moment is asked for before which no failed write is tried again.
+    NextRetry,
     /// The least driver that has a want is asked for.
     Wanting,
 }
@@ -56,6 +63,10 @@ const TRIALS: &[&[(Deed, &str)]] = &[
             "Some(Want { point: PointId(1), version: 1, value: 0 })",
         ),
         (Next(FIELD), "None"),
+        (HasWant(FIELD), "false"),
+        (HasWant(ROOF), "true"),
+        (HasWant(2), "false"),
+        (NextRetry, "18446744073709551615"),
         (Wanting, "Some(DriverId(1))"),
         (
             Next(ROOF),
@@ -101,6 +112,7 @@ const TRIALS: &[&[(Deed, &str)]] = &[
             "Some(Want { point: PointId(1), version: 1, value: 0 })",
         ),
         (Reported(LAMP, 1, false, 1000), "FirstFailure"),
+        (NextRetry, "6000"),
         (Retried(5999), "()"),
         (Looked(LAMP), "Failed"),
         (Next(FIELD), "None"),
@@ -185,6 +197,8 @@ fn told(rt: &impl Abort, alloc: Global, marks: &mut Marks, deed: Deed) -> String
         Differed(point) => shown(rt, alloc, &marks.differed(known(rt, marks, point))),
         Retried(n) => shown(rt, alloc, &marks.retry_due(u64::from(n))),
         Looked(point) => shown(rt, alloc, &marks.mark(known(rt, marks, point))),
+        HasWant(driver) => shown(rt, alloc, &marks.has_want(DriverId(driver))),
+        NextRetry => shown(rt, alloc, &marks.next_retry()),
         Wanting => shown(rt, alloc, &marks.wanting()),
     }
 }

@@ -57,3 +57,21 @@ fn a_process_has_its_last_notices(rt: HostRuntime) {
         "7 1031 [Notice { number: 1030, at: 2000, txn: Txn(1030), what: Done }]",
     );
 }
+
+#[test]
+fn who_was_told_something_is_given_out_once(rt: HostRuntime) {
+    let alloc = rt.alloc();
+    let mut rings = Rings::new(alloc).expect(&rt, "memory");
+    let first = rings.add_process(alloc).expect(&rt, "memory");
+    let second = rings.add_process(alloc).expect(&rt, "memory");
+    assert_eq!(&rt; rings.next_noticed(), None);
+    rings.post(second, 2000, Txn(1), What::Done);
+    rings.post(first, 2000, Txn(2), What::Done);
+    rings.post(second, 3000, Txn(3), What::Done);
+    assert_eq!(&rt; rings.next_noticed(), Some(first));
+    assert_eq!(&rt; rings.next_noticed(), Some(second));
+    assert_eq!(&rt; rings.next_noticed(), None);
+    rings.post(first, 4000, Txn(4), What::Done);
+    assert_eq!(&rt; rings.next_noticed(), Some(first));
+    assert_eq!(&rt; rings.next_noticed(), None);
+}

@@ -6,7 +6,7 @@ use crate::clients::Clients;
 use crate::serving::Serving;
 use boss_adapters::{RealClock, RealHost, RealSpawner, RealWaiter};
 use boss_model::{Items, NoMemory};
-use boss_outside::{BytesSink, BytesSource, Sink, Source};
+use boss_outside::{BytesSink, BytesSource, Ringer, Sink, Source};
 use boss_outside_server::{
     Accepted, Clock, Host, Leaving, Lengths, ListClock, ListHost, ListSpawner, OneOf, Ran, Spawner,
     Task, TurnWaiter, Waited, Waiter, Woke,
@@ -14,9 +14,10 @@ use boss_outside_server::{
 use std::alloc::Global;
 use std::io::Eprint;
 use std::net::{Net, SocketAddr, TcpListener, TcpStream};
+use std::sync::Wait;
 use std::test::Fail;
 use std::thread::Threads;
-use std::time;
+use std::{thread, time};
 
 // What a trial sees is written down as a number of decimal digits, so that one comparison tells of all of it.
 
@@ -105,18 +106,26 @@ fn a_waiter_in_memory_closes_after_its_turns(rt: HostRuntime) -> Result<(), Fail
 }
 
 /// What is noted of a worker where three are expected.
-fn note(pauses: u64, lengths: Lengths, closed: bool, leaving: Leaving) -> Waited {
+fn note(
+    pauses: u64,
+    lengths: Lengths,
+    closed: bool,
+    leaving: Leaving,
+    bell: Option<u32>,
+) -> Waited {
     Waited {
         pauses,
         lengths,
         closed,
         expected: 3,
         leaving,
+        bell,
     }
 }
 
 /// Whether a waiter that expects three workers keeps what it is to of four parts: one that never paused; one that paused twice for
-/// 100 ms, and left behind seven connections; one whose pauses are of two lengths; and one that left twice.
+/// 100 ms, and left behind seven connections; one that listens at a second bell, and whose pauses are of two lengths; and one that left
+/// twice.
 fn keeps_four_notes(alloc: Global, waiter: &mut TurnWaiter) -> Result<bool, NoMemory> {
     waiter.expect(3);
     let first = waiter.split(alloc)?;
@@ -125,8 +134,10 @@ fn keeps_four_notes(alloc: Global, waiter: &mut TurnWaiter) -> Result<bool, NoMe
     let mut fourth = waiter.split(alloc)?;
     pauses(0, &mut second, 2, 100);
     second.leave(7);
-    pauses(0, &mut third, 1, 20);
+    third.listen(4);
     pauses(0, &mut third, 1, 100);
+    third.listen(5);
+    pauses(0, &mut third, 1, 20);
     fourth.leave(0);
     fourth.leave(1);
     waiter.join(first);
@@ -134,10 +145,10 @@ fn keeps_four_notes(alloc: Global, waiter: &mut TurnWaiter) -> Result<bool, NoMe
     waiter.join(third);
     waiter.join(fourth);
     let wanted = [
-        note(0, Lengths::NoPause, false, Leaving::NotYet),
-        note(2, Lengths::Each(100), true, Leaving::Once(7)),
-        note(2, Lengths::Various, true, Leaving::NotYet),
-        note(0, Lengths::NoPause, false, Leaving::Often),
+        note(0, Lengths::NoPause, false, Leaving::NotYet, None),
+        note(2, Lengths::Within(100, 100), true, Leaving::Once(7), None),
+        note(2, Lengths::Within(20, 100), true, Leaving::NotYet, Some(5)),
+        note(0, Lengths::NoPause, false, Leaving::Often, None),
     ];
     let notes = waiter.waits(alloc)?;
     let mut same = notes.len() == wanted.len();
@@ -172,9 +183,70 @@ fn pauses_behind_leaves<W: Waiter>(alloc: Global, waiter: &mut W) -> Result<u64,
 
 #[test]
 fn a_real_waiter_closes_at_the_last_leave(rt: HostRuntime) -> Result<(), Fail> {
-    let mut waiter = RealWaiter::new(rt.alloc(), &rt)?;
+    let mut clock = RealClock::new(rt.alloc(), &rt)?;
+    let mut waiter = RealWaiter::new(rt.alloc(), &rt, &mut clock)?;
     let digits = pauses_behind_leaves(rt.alloc(), &mut waiter)?;
     assert_eq!(rt; digits, 1_122);
+    Ok(())
+}
+
+/// Longer than a test may take, in milliseconds.
+const TOO_LONG: u64 = 600_000;
+
+/// The pauses of a worker: one behind a ring of its bell, one while it is rung, one in which only another bell was rung, and for the worker
+/// for time one behind an alarm whose moment is there.
+fn rung_pauses<R: Threads + Wait + time::Clock + Eprint + Copy + Drop + Send + Sync>(
+    rt: R,
+    alloc: Global,
+) -> Result<u64, NoMemory> {
+    let mut clock = RealClock::new(alloc, rt)?;
+    let mut waiter = RealWaiter::new(alloc, rt, &mut clock)?;
+    let mut ringer = waiter.ringer(alloc)?;
+    waiter.expect(1);
+    let mut part = waiter.split(alloc)?;
+    part.listen(7);
+    ringer.ring(7);
+    let mut digits = pauses(0, &mut part, 1, TOO_LONG);
+    let (then, _) = thread::join(
+        &rt,
+        || pauses(digits, &mut part, 1, TOO_LONG),
+        || ringer.ring(7),
+    );
+    digits = then;
+    ringer.ring(8);
+    digits = pauses(digits, &mut part, 1, 20);
+    part.listen(0);
+    ringer.set_alarm(0);
+    Ok(pauses(digits, &mut part, 2, TOO_LONG))
+}
+
+#[test]
+fn a_real_waiter_is_woken_by_its_bell(rt: HostRuntime) -> Result<(), Fail> {
+    assert_eq!(rt; rung_pauses(&rt, rt.alloc())?, 11_111);
+    Ok(())
+}
+
+/// A pause of a worker at a bell that nobody rings, while the only one that is waited for leaves.
+fn closed_pause<R: Threads + Wait + time::Clock + Eprint + Copy + Drop + Send + Sync>(
+    rt: R,
+    alloc: Global,
+) -> Result<u64, NoMemory> {
+    let mut clock = RealClock::new(alloc, rt)?;
+    let mut waiter = RealWaiter::new(alloc, rt, &mut clock)?;
+    waiter.expect(1);
+    let mut part = waiter.split(alloc)?;
+    part.listen(7);
+    let (digits, _) = thread::join(
+        &rt,
+        || pauses(0, &mut part, 1, TOO_LONG),
+        || waiter.leave(1),
+    );
+    Ok(digits)
+}
+
+#[test]
+fn a_real_waiter_sees_a_close_while_it_sleeps(rt: HostRuntime) -> Result<(), Fail> {
+    assert_eq!(rt; closed_pause(&rt, rt.alloc())?, 2);
     Ok(())
 }
 
