@@ -94,7 +94,7 @@ def denying(rule, index=0):
             "cancel": {"error": "unknown-txn"},
             "read": {"ok": "read", "point": asked.get("point"), "value": 0, "from": "default", "mark": "settled"},
             "array": {"ok": "array", "point": asked.get("point"), "default": 0, "slots": [None] * 16},
-        }[asked["op"]]
+        }.get(asked["op"], {"error": "unknown-op"})
     return answer
 
 

@@ -2,6 +2,7 @@
 
 import contextlib
 import glob
+import hashlib
 import io
 import json
 import os
@@ -12,9 +13,10 @@ import tempfile
 import textwrap
 import time
 import unittest
+from unittest import mock
 
 import bossd
-from bossd.ctl import _journal, _lint, _show, main
+from bossd.ctl import _commands, _journal, _lint, _live, _served, _show, main
 from bossd.ctl._toml import Failure, Lines
 from test_bossd import MINUTE, Answering, common, denying, eventually
 
@@ -69,6 +71,29 @@ register = 3
 """
 
 
+# One whose driver speaks BACnet. A table begins at lines 1, 5, 10 and 14.
+OBJECTS = """[[driver]]
+name = "field"
+host = "127.0.0.1:47808"
+speaks = "bacnet"
+[[place]]
+point = "ahu1.damper"
+bacnet = "analog-output,3"
+level = 10
+per = 1000
+[[place]]
+point = "lamp"
+bacnet = "binary-value,2"
+level = 10
+[[place]]
+point = "fan"
+bacnet = "multi-state-output,4"
+level = 10
+network = 2001
+station = 12
+"""
+
+
 # Rules for it. A rule begins at lines 1, 5 and 9.
 RULES = """[[rule]]
 process = "operator"
@@ -90,6 +115,10 @@ class Folder(unittest.TestCase):
         folder = tempfile.TemporaryDirectory()
         self.addCleanup(folder.cleanup)
         self.folder = folder.name
+        # The catalogue of a unit on this machine is none of theirs.
+        default = mock.patch.object(_served, "DEFAULT", os.path.join(self.folder, "default.toml"))
+        default.start()
+        self.addCleanup(default.stop)
 
     def file(self, name, text):
         path = os.path.join(self.folder, name)
@@ -339,7 +368,8 @@ class Linting(Folder):
         self.assertEqual(self.of_plan("driver = []\nplace = []\n"), [])
         self.assertEqual(self.of_plan("place = []\n" + DRIVER + DRIVER, "drivers = []\npoint = []\n"), [
             (3, "driver[0]", "name", '"field"', True), (6, "driver[1]", "name", '"field"', True)])
-        for name in ("plant", "pump", "heatpump"):
+        self.assertEqual(self.of_plan(OBJECTS), [])
+        for name in ("plant", "pump", "heatpump", "airhandler"):
             catalogue, plan = (os.path.join(common.EXAMPLES, f"{name}.{kind}") for kind in ("toml", "plan.toml"))
             self.assertEqual(_lint.lint(catalogue, None, plan), [])
 
@@ -422,6 +452,98 @@ class Linting(Folder):
             self.assertIn((2, "driver[0]", "wait", wait, True), self.of_plan(PLAN.replace("[[driver]]\n", "[[driver]]\nwait = " + wait + "\n", 1)))
         self.assertIn((5, "place[0]", "point", 'a point of the driver "field"', True),
                       self.of_plan(PLAN.replace('"field"', '"roof"'), PLANT.replace('["field"]', '["field", "roof"]')))
+
+    def test_drivers_that_speak_bacnet(self):
+        for old, new, line, key, found in [
+            ('speaks = "bacnet"', 'speaks = "BACnet"', 4, "speaks", '"BACnet"'),
+            ('speaks = "bacnet"', "speaks = 1", 4, "speaks", "1"),
+            ('speaks = "bacnet"', 'speaks = "bacnet"\ntries = 0', 5, "tries", "0"),
+            ('speaks = "bacnet"', 'speaks = "bacnet"\ntries = 5', 5, "tries", "5"),
+            ('speaks = "bacnet"', 'tries = 2', 4, "tries", "tries at a driver that speaks Modbus"),
+            ('speaks = "bacnet"', 'speaks = "bacnet"\nwait = 49', 5, "wait", "49"),
+            ('speaks = "bacnet"', 'speaks = "bacnet"\ncheck = 999', 5, "check", "999"),
+            ('speaks = "bacnet"', 'speaks = "bacnet"\nagain = 86400001', 5, "again", "86400001"),
+            ('speaks = "bacnet"', 'speaks = "bacnet"\nagain = false', 5, "again", "false"),
+        ]:
+            with self.subTest(new):
+                self.assertIn((line, "driver[0]", key, found, True), self.of_plan(OBJECTS.replace(old, new)))
+        for more in ("check = 0", "check = 1000", "check = 86400000", "again = 60000", "tries = 4", "wait = 50"):
+            self.assertEqual(self.of_plan(OBJECTS.replace('speaks = "bacnet"', f'speaks = "bacnet"\n{more}')), [], more)
+
+    def test_objects_of_a_plan(self):
+        """Each fault of a place of BACnet, in that of the lamp, which begins at line 10."""
+        for old, new, line, key, found in [
+            ("level = 10", "level = 10\nunit = 1", 14, "unit", "unit where the driver speaks BACnet"),
+            ("level = 10", "level = 10\ncoil = 1", 14, "coil", "coil where the driver speaks BACnet"),
+            ("level = 10", "level = 10\nregister = 1", 14, "register", "register where the driver speaks BACnet"),
+            ("level = 10", 'level = 10\ntype = "f32"', 14, "type", "type where the driver speaks BACnet"),
+            ("level = 10", "level = 10\nfunction = 5", 14, "function", "function where the driver speaks BACnet"),
+            ("level = 10", 'level = 10\nround = "down"', 14, "round", "round where the driver speaks BACnet"),
+            ("level = 10", "", 10, "level", "nothing"),
+            ("level = 10", "level = 0", 13, "level", "0"),
+            ("level = 10", "level = 6", 13, "level", "6"),
+            ("level = 10", "level = 17", 13, "level", "17"),
+            ("level = 10", "level = 10\nnetwork = 1", 14, "network", "network alone"),
+            ("level = 10", "level = 10\nstation = 1", 14, "station", "station alone"),
+            ("level = 10", "level = 10\nnetwork = 65535\nstation = 1", 14, "network", "65535"),
+            ("level = 10", "level = 10\nnetwork = 1\nstation = 255", 15, "station", "255"),
+            ("level = 10", "level = 10\nper = 1000", 14, "per", "per at an object of kind binary"),
+            ("level = 10", "level = 10\ntimes = 2", 14, "times", "times at an object of kind binary"),
+            ("level = 10", "level = 10\noffset = 2", 14, "offset", "offset at an object of kind binary"),
+            ("level = 10", "level = 10\ncheck = 1", 14, "check", "1"),
+            ("level = 10", "level = 10\nagain = -1", 14, "again", "-1"),
+            ('"binary-value,2"', '"binary-value, 2"', 12, "bacnet", '"binary-value, 2"'),
+            ('"binary-value,2"', '"binary-value,4194303"', 12, "bacnet", '"binary-value,4194303"'),
+            ('"binary-value,2"', '"binary-input,2"', 12, "bacnet", '"binary-input,2"'),
+            ('"binary-value,2"', "2", 12, "bacnet", "2"),
+            ('"binary-value,2"', '"analog-value,2"', 12, "bacnet", 'an object of kind analog for a point of kind "binary"'),
+            ('bacnet = "binary-value,2"', "", 10, "bacnet", "nothing"),
+        ]:
+            with self.subTest(new):
+                lamp = OBJECTS.index('point = "lamp"')
+                self.assertIn((line, "place[1]", key, found, True), self.of_plan(OBJECTS[:lamp] + OBJECTS[lamp:].replace(old, new, 1)))
+        for old, new, key in [("per = 1000", "per = 10000000000\noffset = 1000000000", "offset"), ("per = 1000", "per = 1000\ntimes = 1001", "times")]:
+            self.assertIn((10, "place[0]", key), [it[:3] for it in self.of_plan(OBJECTS.replace(old, new)) if it[4]])
+        # Such a place where the driver speaks Modbus.
+        found = self.of_plan(PLAN.replace("coil = 19", 'coil = 19\nbacnet = "binary-value,2"\nlevel = 10\nnetwork = 1\nstation = 1'))
+        self.assertEqual(found, [(line, "place[1]", key, f"{key} where the driver speaks Modbus", True) for line, key in
+                                 [(13, "bacnet"), (14, "level"), (15, "network"), (16, "station")]])
+
+    def test_what_a_plan_of_objects_can_hardly_mean(self):
+        for old, new, line, table, key, found in [
+            ("level = 10\nper", "level = 1\nper", 8, "place[0]", "level", "level 1, Manual-Life Safety"),
+            ("level = 10\nper", "level = 2\nper", 8, "place[0]", "level", "level 2, Automatic-Life Safety"),
+            ("per = 1000\n", "", 5, "place[0]", "per", "no per, so that 100000 thousandths are 100000 in the device"),
+            ("127.0.0.1:47808", "127.0.0.1", 3, "driver[0]", "host", '"127.0.0.1"'),
+            ("127.0.0.1:47808", "127.0.0.1:502", 3, "driver[0]", "host", '"127.0.0.1:502"'),
+        ]:
+            with self.subTest(new):
+                self.assertEqual(self.of_plan(OBJECTS.replace(old, new)), [(line, table, key, found, False)])
+        self.assertEqual(self.of_plan(PLAN.replace(":1502", ":47808")), [(3, "driver[0]", "host", '"127.0.0.1:47808"', False)])
+        twice = PLANT.replace('kind = "multi"\nstates = 3\ndefault = 1', 'kind = "binary"\ndefault = 0')
+        objects = OBJECTS.replace('"multi-state-output,4"', '"binary-value,2"')
+        # The same name at a station is another object.
+        self.assertEqual(self.of_plan(objects, twice), [])
+        self.assertEqual(self.of_plan(objects.replace("network = 2001\nstation = 12\n", ""), twice),
+                         [(16, "place[2]", "bacnet", 'binary-value,2 again, which "lamp" has', False)])
+
+    def test_many_that_are_written_all_the_time(self):
+        def found(count, again, of_driver=""):
+            names = [f"lamp.{place}" for place in range(count)]
+            catalogue = 'drivers = ["field"]\n' + "".join(f'[[point]]\nname = "{it}"\ndriver = "field"\nkind = "binary"\ndefault = 0\n' for it in names)
+            plan = DRIVER + of_driver + "".join(f'[[place]]\npoint = "{it}"\nunit = 1\ncoil = {place}\n{again}' for place, it in enumerate(names))
+            return self.of_plan(plan, catalogue)
+        told = "101 places that are written once more each 4999 ms"
+        self.assertEqual(found(101, "again = 4999\n"), [(1, "driver[0]", "again", told, False)])
+        self.assertEqual(found(101, "", "again = 4999\n"), [(4, "driver[0]", "again", told, False)])
+        self.assertEqual([found(100, "again = 4999\n"), found(101, "again = 5000\n"), found(101, "again = 0\n", "again = 4999\n")], [[], [], []])
+
+    def test_registers_that_overlap(self):
+        """A number in two registers, and another point in the second of them."""
+        plan = PLAN.replace("per = 1000", 'per = 1000\ntype = "i32"')
+        self.assertEqual(self.of_plan(plan), [(18, "place[2]", "register", 'register 3 again, which "ahu1.damper" has', False)])
+        self.assertEqual(self.of_plan(plan.replace("register = 3", "register = 4")), [])
+        self.assertEqual(self.of_plan(plan.replace("unit = 1\nregister = 3", "unit = 2\nregister = 3")), [])
 
     def test_points_without_a_place(self):
         places = PLAN.index("[[place]]\npoint = \"lamp\"")
@@ -596,6 +718,96 @@ class Denied(Folder):
         self.assertEqual((status, "write 0 (lamp) is denied by rule 1" in aside), (1, True), aside)
 
 
+class Served(Folder):
+    """A server that tells its catalogue, for which another one stands; two points on a page."""
+
+    # The canonical text of PLANT, and its points, as docs/FORMATS.md and docs/PROTOCOL.md have them.
+    DIGEST = hashlib.sha256(b"d field\np ahu1.damper field analog 0 100000 20000\np lamp field binary 0 1 0\np fan field multi 1 3 1\n").hexdigest()
+    POINTS = [{"point": "ahu1.damper", "kind": "analog", "min": 0, "max": 100_000, "default": 20_000, "driver": "field"},
+              {"point": "lamp", "kind": "binary", "default": 0, "driver": "field"},
+              {"point": "fan", "kind": "multi", "states": 3, "default": 1, "driver": "field"}]
+
+    def setUp(self):
+        super().setUp()
+        self.server = Answering(self.answer)
+        self.addCleanup(self.server.listener.close)
+
+    def answer(self, asked):
+        if asked["op"] == "version":
+            return {"ok": "version", "program": "0.3.0", "journal": 3, "digest": self.DIGEST, "points": 3, "drivers": 1}
+        if asked["op"] == "points":
+            part = self.POINTS[asked["from"]:asked["from"] + 2]
+            drivers = {} if asked["from"] else {"drivers": ["field"]}
+            return {"ok": "points", "digest": self.DIGEST, **drivers, "count": 3, "next": asked["from"] + len(part), "list": part}
+        return denying(0)(asked)
+
+    def ask(self, *words):
+        return self.run_here(*words, "--server", self.server.address)
+
+    def pages(self):
+        return [asked["from"] for asked in self.server.asked if asked["op"] == "points"]
+
+    def test_no_file(self):
+        status, out, aside = self.ask("points")
+        self.assertEqual((status, aside, self.pages()), (0, "", [0, 2]))
+        self.assertEqual([line.split()[:2] for line in out.splitlines()[1:4]], [["ahu1.damper", "0.0"], ["lamp", "0"], ["fan", "0"]])
+        status, out, _ = self.ask("point", "ahu1.damper")
+        self.assertEqual((status, out.splitlines()[1]), (0, "  analog, 0.0 to 100.0, in steps of 0.001, default 0.0, driver field"))
+
+    def test_faulty_words_come_before_a_name_of_a_process(self):
+        for words, why in [(("set", "lamp", "2", "--for", "1m"), "2 is no value of lamp: wanted 0 or 1"),
+                           (("hold", "ahu1.dampr", "2"), "has no point ahu1.dampr; is ahu1.damper meant?")]:
+            status, _, aside = self.ask(*words)
+            self.assertEqual((status, why in aside), (1, True), aside)
+        self.assertNotIn("attach", [asked["op"] for asked in self.server.asked])
+
+    def test_a_file_of_the_same_digest(self):
+        status, out, aside = self.ask("points", "--catalogue", self.file("plant.toml", PLANT))
+        self.assertEqual((status, aside, self.pages()), (0, "", []))
+        self.assertIn("supply air", out)
+        self.assertIn("0.0 %", out)
+
+    def test_a_file_of_another_digest(self):
+        status, out, aside = self.ask("points", "--catalogue", self.file("other.toml", PLANT.replace("100000", "90000")))
+        self.assertEqual((status, "%" in out, len(aside.splitlines())), (0, False, 1), aside)
+        self.assertIn(f"is not the catalogue that {self.server.address} serves", aside)
+
+    def test_the_file_of_the_unit(self):
+        self.file("default.toml", PLANT)
+        self.assertIn("0.0 %", self.ask("points")[1])
+        self.file("default.toml", PLANT.replace("100000", "90000"))
+        self.assertIn("is not the catalogue", self.ask("points")[2])
+        # Before the server of another machine it is another building's, and nothing is said.
+        with mock.patch.object(_served, "is_local", return_value=False):
+            status, out, aside = self.ask("points")
+        self.assertEqual((status, "%" in out, aside), (0, False, ""))
+        self.file("default.toml", "no catalogue")
+        status, _, aside = self.ask("points")
+        self.assertEqual((status, "no TOML" in aside), (0, True), aside)
+
+    def test_a_file_that_was_named_and_is_none(self):
+        status, _, aside = self.ask("points", "--catalogue", self.file("none.toml", "points"))
+        self.assertEqual((status, "no TOML" in aside), (1, True), aside)
+
+    def test_a_server_of_before(self):
+        server = Answering(denying(0))
+        self.addCleanup(server.listener.close)
+        status, _, aside = self.run_here("points", "--server", server.address)
+        self.assertEqual((status, "name a copy of its catalogue by --catalogue" in aside), (1, True), aside)
+        status, _, aside = self.run_here("points", "--server", server.address, "--catalogue", self.file("plant.toml", PLANT))
+        self.assertEqual((status, aside), (0, ""))
+
+    def test_status(self):
+        status, out, aside = self.ask("status")
+        self.assertEqual((status, aside), (0, ""))
+        self.assertIn(f"bossd 0.3.0, whose journals are of version 3; its catalogue: points 3, drivers 1, digest {self.DIGEST[:16]}..", out)
+        self.assertEqual(json.loads(self.ask("status", "--json")[1])["version"]["program"], "0.3.0")
+
+    def test_which_servers_are_of_this_machine(self):
+        self.assertEqual([_served.is_local(one) for one in ("127.0.0.1:7000", "127.1.2.3:1", "[::1]:7000", "localhost:7000")], [True] * 4)
+        self.assertEqual([_served.is_local(one) for one in ("192.0.2.1:7000", "panel.example:7000", "[2001:db8::1]:7000")], [False] * 3)
+
+
 class Guarded(Folder):
     """A point with minimum times, of a server for which another one stands."""
 
@@ -608,19 +820,25 @@ class Guarded(Folder):
         self.addCleanup(server.listener.close)
         status, out, aside = self.run_here("point", "lamp", "--server", server.address, "--catalogue", self.file("plant.toml", self.CATALOGUE))
         self.assertEqual(status, 0, aside)
-        return out.splitlines()[:2]
+        return out.splitlines()[:3]
 
     def test_what_is_shown(self):
-        self.assertEqual(self.shown("pending"), ["lamp: 0, its default: nobody holds it; its device: pending, perhaps held by its minimum times",
-                                                 "  binary, 0 or 1, default 0, driver field, on for 5m at least, off for 1m30s at least"])
+        with mock.patch.object(_show, "moment", lambda at: f"T+{round((at - time.time() * 1000) / 60_000)}min"), mock.patch.object(
+                _commands, "moment", _show.moment):
+            first, second, third = self.shown("pending")
+        self.assertEqual(first, "lamp: 0, its default: nobody holds it; its device: pending")
+        # It is to be off, so it may be on yet, for the five minutes of min_on at most.
+        self.assertEqual(second, "  perhaps still on until T+5min at the latest, by its minimum time")
+        self.assertEqual(third, "  binary, 0 or 1, default 0, driver field, on for 5m at least, off for 1m30s at least")
         self.assertEqual(self.shown("settled")[0], "lamp: 0, its default: nobody holds it; its device: settled")
 
     def test_who_sets_it_is_told_to_wait(self):
         looks = []
+        until = time.time_ns() // 1_000_000 + 60 * MINUTE
 
         def answer(asked):
             if asked["op"] == "submit":
-                return {"ok": "accepted", "txn": 1, "until": 1 << 50}
+                return {"ok": "accepted", "txn": 1, "until": until}
             if asked["op"] == "notices":
                 ended = {"n": 1, "at": 1, "txn": 1, "kind": "ended", "point": "lamp", "cause": "expired"}
                 return {"ok": "notices", "first": 1, "next": 1, "list": [ended] if len(looks) > 4 else []}
@@ -630,7 +848,7 @@ class Guarded(Folder):
             if asked["op"] == "status":
                 return {"ok": "status", "txn": 1, "owner": "bossctl", "stage": "run", "live": 1, "pending": 0}
             if asked["op"] == "array" and len(looks) > 1:
-                return {"ok": "array", "point": "lamp", "default": 0, "slots": [None] * 7 + [{"value": 1, "txn": 1, "until": 1 << 50}] + [None] * 8}
+                return {"ok": "array", "point": "lamp", "default": 0, "slots": [None] * 7 + [{"value": 1, "txn": 1, "until": until}] + [None] * 8}
             return denying(0)(asked)
         server = Answering(answer)
         self.addCleanup(server.listener.close)
@@ -638,8 +856,42 @@ class Guarded(Folder):
                                            "--catalogue", self.file("plant.toml", self.CATALOGUE))
         self.assertEqual((status, aside), (0, ""))
         told = [line.partition("  ")[2] for line in out.splitlines()]
-        self.assertEqual(told[1:4], ["in force: 1, by a lease of bossctl at priority 8",
-                                     "its device is not written yet: on for 5m at least, off for 1m30s at least", "its device took the value"])
+        self.assertEqual((told[1], told[3]), ("in force: 1, by a lease of bossctl at priority 8", "its device took the value"))
+        self.assertRegex(told[2], "^its device is not written yet, and still off until [-0-9: ]+ at the latest, by its minimum time$")
+
+    def test_a_clock_that_is_away(self):
+        def aside_of(ahead):
+            def answer(asked):
+                if asked["op"] == "submit":
+                    return {"ok": "accepted", "txn": 1, "until": time.time_ns() // 1_000_000 + MINUTE + ahead}
+                if asked["op"] == "notices":
+                    ended = {"n": 1, "at": 1, "txn": 1, "kind": "ended", "point": "lamp", "cause": "expired"}
+                    return {"ok": "notices", "first": 1, "next": 2, "list": [ended]}
+                return denying(0)(asked)
+            server = Answering(answer)
+            self.addCleanup(server.listener.close)
+            words = ("set", "lamp", "1", "--for", "1m", "--server", server.address, "--catalogue", self.file("plant.toml", PLANT))
+            status, _, aside = self.run_here(*words)
+            self.assertEqual(status, 0, aside)
+            return aside
+        self.assertEqual(aside_of(0), "")
+        self.assertIn(" 2h ahead of this machine's", aside_of(120 * MINUTE + 30_000))
+        self.assertIn(" 59m", aside_of(-59 * MINUTE - 30_000))
+        self.assertIn(" behind this machine's", aside_of(-59 * MINUTE - 30_000))
+
+    def test_up_to_when_it_may_wait(self):
+        point = _show.Point("lamp", "field", "binary", 0, 1, 0, min_on=300_000, min_off=90_000)
+        for value, basis, priority, mark, until in [
+            (0, "default", None, "pending", 301_000), (1, "lease", 8, "pending", 91_000), (1, "lease", 6, "pending", 91_000),
+            # Leases at 1 to 5 go at once, and their reversions do not.
+            (1, "lease", 5, "pending", None), (1, "pending", 5, "pending", 91_000), (0, "default", None, "settled", None),
+            (0, "default", None, "failed", None),
+        ]:
+            with self.subTest(value=value, basis=basis, priority=priority, mark=mark):
+                reading = bossd.Reading("lamp", value, basis, mark, priority)
+                self.assertEqual(_live.View(point, reading, bossd.Slots("lamp", 0, {}), {}).may_wait_until(1_000), until)
+        free = _live.View(point._replace(min_on=0), bossd.Reading("lamp", 0, "default", "pending"), bossd.Slots("lamp", 0, {}), {})
+        self.assertIsNone(free.may_wait_until(1_000))
 
     def test_the_digest_has_the_times(self):
         digests = {_show.read_catalogue(self.file("plant.toml", text)).digest for text in

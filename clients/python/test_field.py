@@ -6,6 +6,7 @@ import json
 import os
 import queue
 import re
+import shutil
 import signal
 import socket
 import struct
@@ -22,6 +23,8 @@ from bossd.ctl import _forms
 from test_bossd import CATALOGUE, MINUTE, common, eventually
 
 HERE = os.path.dirname(os.path.abspath(__file__))
+# The Python of the system, which has Debian's packages.
+PYTHON = "/usr/bin/python3"
 # As the documents' examples have them: coil 173 is address 172, register 2 is address 1.
 PLAN = """
 [[driver]]
@@ -350,6 +353,72 @@ class Forms(Begun):
         # One register of two is a word, and stands for no value.
         self.assertEqual([self.shown("ahu1.damper"), self.shown("ahu1.damper")],
                          [["unit 1 register 1 = 32768", "-", "taken"], ["unit 1 register 1 read", "45.625", "read"]])
+
+    @unittest.skipUnless(shutil.which("mbpoll"), "no mbpoll here")
+    def test_mbpoll_reads_it(self):
+        self.type("set", "ahu1.damper", "45.5")
+        self.type("set", "lamp", "on")
+        self.wait_for("lamp is 1")
+        for words, text in [(("-r", "1", "-t", "4:float"), "[1]: \t45.5"), (("-r", "19", "-t", "0"), "[19]: \t1")]:
+            ran = subprocess.run(["mbpoll", "-m", "tcp", "-p", str(self.port), "-a", "1", "-0", *words, "-1", "127.0.0.1"], capture_output=True, text=True,
+                                 timeout=60)
+            self.assertIn(text, ran.stdout)
+
+    def test_pymodbus_reads_it(self):
+        """Two registers and a coil, by a client of its own."""
+        script = ("import sys; from pymodbus.client import ModbusTcpClient as Client; it = Client('127.0.0.1', port=int(sys.argv[1])); it.connect();"
+                  "print(it.read_holding_registers(1, 2, 1).registers, it.read_coils(19, 1, 1).bits[0], it.read_coils(20, 1, 1).function_code)")
+        if subprocess.run([PYTHON, "-c", "import pymodbus.client"], stderr=subprocess.DEVNULL).returncode:
+            self.skipTest("no pymodbus here")
+        self.type("set", "ahu1.damper", "45.5")
+        self.type("set", "lamp", "on")
+        self.wait_for("lamp is 1")
+        ran = subprocess.run([PYTHON, "-c", script, str(self.port)], capture_output=True, text=True, timeout=60)
+        # 45.5 is 42360000 as a binary32, and its low half stands first. A coil that is none is exception 2, of function 129.
+        self.assertEqual(ran.stdout, "[0, 16950] True 129\n", ran.stderr)
+
+    def test_a_restart_forgets(self):
+        connection = self.connect()
+        self.assertEqual(self.ask("0001 0000 0006 01 06 0009 0003", connection), bytes.fromhex("0001 0000 0006 01 06 0009 0003"))
+        self.type("restart", "field")
+        self.wait_for("restarts")
+        began = time.monotonic()
+        connection.sendall(bytes.fromhex("0002 0000 0006 01 03 0009 0001"))
+        self.wait_for("has forgotten all values")
+        self.assertGreater(time.monotonic() - began, 1.5)
+        try:
+            self.assertEqual(connection.recv(1), b"")
+        except ConnectionResetError:
+            pass
+        answered = bytes.fromhex("0003 0000 0005 01 03 02 0000")
+        self.assertEqual(self.ask("0003 0000 0006 01 03 0009 0001", length=len(answered)), answered)
+
+    def test_late_and_twice(self):
+        connection, answered = self.connect(), bytes.fromhex("0003 0000 0005 01 03 02 0000")
+        self.type("twice", "field")
+        self.wait_for("two times")
+        self.assertEqual(self.ask("0003 0000 0006 01 03 0009 0001", connection, 2 * len(answered)), answered * 2)
+        self.type("back", "field")
+        self.wait_for("works again")
+        self.type("late", "field")
+        # Its driver waits 500 ms.
+        self.wait_for("after 600 ms")
+        began = time.monotonic()
+        self.assertEqual(self.ask("0003 0000 0006 01 03 0009 0001", connection, len(answered)), answered)
+        self.assertGreater(time.monotonic() - began, 0.55)
+
+    def test_what_moves_of_itself(self):
+        self.type("set", "fan", "1")
+        self.wait_for("fan is 1")
+        self.type("drift", "fan", "1")
+        self.wait_for("fan moves by 1 each second")
+        self.assertTrue(eventually(lambda: self.ask("0003 0000 0006 01 03 0009 0001", length=11)[-1] == 3, 20))
+        self.type("back", "fan")
+        self.wait_for("fan works again")
+        self.type("watchdog", "fan", "200", "2")
+        self.assertIn("200 ms", self.wait_for("fan falls back to 2 where"))
+        self.wait_for("  falls back to 2")
+        self.assertEqual(self.ask("0003 0000 0006 01 03 0009 0001", length=11)[-1], 2)
 
     def test_a_hand_turns_a_device(self):
         connection = self.connect()

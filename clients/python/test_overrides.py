@@ -10,7 +10,7 @@ import time
 import unittest
 
 import bossd
-from bossd.overrides import BRIDGE, NotMade, Store, asked
+from bossd.overrides import BRIDGE, Damaged, NotMade, Store, asked
 from test_bossd import CATALOGUE, Case, damper, eventually
 from test_ctl import Folder
 
@@ -167,8 +167,17 @@ class Standing(Case, Folder):
 class Kept(Folder):
     def test_no_file_and_a_file_that_is_none(self):
         self.assertEqual(Store(os.path.join(self.folder, "none")).told(), {"overrides": [], "ended": []})
-        with self.assertRaises(ValueError):
-            Store(self.file("broken", "{"))
+        for broken in ("{", "", "[]", "{}", '{"overrides":[{}],"ended":[]}', '{"overrides":5,"ended":[]}'):
+            with self.subTest(broken), self.assertRaises(Damaged) as caught:
+                Store(self.file("broken", broken))
+            self.assertIn("broken is no file of overrides", str(caught.exception))
+
+    def test_faulty_words_and_a_damaged_file_have_statuses_of_their_own(self):
+        for address, kept, status, said in (("nowhere", "", 2, "has no port"), ("127.0.0.1:0", "", 2, "is no port"), ("127.0.0.1:1", "{", 3, "is no file of overrides")):
+            words = [sys.executable, "-m", "bossd.overrides", address, "--file", self.file("kept", kept), "--socket", os.path.join(self.folder, "s")]
+            ended = subprocess.run(words, cwd=HERE, stderr=subprocess.PIPE, text=True, timeout=20)
+            self.assertEqual((ended.returncode, said in ended.stderr), (status, True), ended.stderr)
+            self.assertFalse(os.path.exists(os.path.join(self.folder, "s")))
 
 
 if __name__ == "__main__":

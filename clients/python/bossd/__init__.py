@@ -7,7 +7,7 @@
         with client.hold([damper]) as held:
             held.wait(3600)
 
-`bossd.aio` is the same for programs that use asyncio.
+`bossd.aio` is the same for programs that use asyncio. Both take `tls=`, where TLS stands before a server of another machine.
 
 Units. A value is a whole number: thousandths of the unit at an analog point (45000 is 45 %), 0 or 1 at a binary point, a state from 1
 on at a multi-state one. `thousandths` and `units` convert. A moment is milliseconds since 1970 by the server's clock, a length of
@@ -21,7 +21,7 @@ was done at first, and `status` tells what still stands. A write that the server
 `Denied`, and is not asked again. An address that is none raises ValueError, and one whose host does not exist `UnknownHost`.
 """
 
-from ._client import Client, Held, Watch, connect, connected, watch
+from ._client import Client, Held, Watch, connect, connected, tls_context, watch
 from ._protocol import (
     LONGEST_LINE, PARTING, PAUSE, PULSE, REFUSALS, SILENCE, Accepted, Already, Answer, BadLease, BadPriority, BadReversion, Denied,
     Ended, Malformed, NoMemory, NotAttached, Notice, Notices, NotInTransaction, NotYours, OutOfRange, Over, Point, Points, Reading,
@@ -38,5 +38,6 @@ __all__ = [
     "PAUSE", "PULSE", "Point", "Points", "REFUSALS", "Reading", "Refused", "Request", "SILENCE", "SamePoint", "Slot", "Slots", "Spent",
     "Stale", "Status", "Stopped", "Taken", "TooLong", "TooManyProcesses", "Unanswered", "UnknownHost", "UnknownOp", "UnknownPoint",
     "UnknownTransaction", "Version", "Watch", "answer_of", "check", "connect", "connected", "line_of", "milliseconds", "notice_of",
-    "notices_of", "point_of", "reading_of", "renewal", "slots_of", "status_of", "thousandths", "units", "version_of", "watch", "write",
+    "notices_of", "point_of", "reading_of", "renewal", "slots_of", "status_of", "thousandths", "tls_context", "units", "version_of",
+    "watch", "write",
 ]

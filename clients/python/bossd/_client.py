@@ -2,6 +2,7 @@
 
 import contextlib
 import socket
+import ssl
 import threading
 import time
 from types import TracebackType
@@ -17,31 +18,59 @@ from ._session import Ask, Clock, Connect, Drop, Hear, Keeping, Pause, Say, Sess
 T = TypeVar("T")
 
 
-def connected(address: str, seconds: Optional[float]) -> socket.socket:
-    """A connection to an address as the server has it, "host:port". ValueError, UnknownHost, or another OSError."""
-    host_port = host_and_port(address)
+def tls_context(authority: str, certificate: Optional[str] = None, key: Optional[str] = None) -> ssl.SSLContext:
+    """What a client takes as `tls` where TLS stands before the server: TLS 1.3 to a host whose name the plant's own `authority` put into
+    its certificate, and no other authority; the client shows its own `certificate`, with its `key`, which may stand in the same file. All
+    are names of files, in PEM. OSError where one can't be read, or is none."""
+    context = ssl.create_default_context(cafile=authority)
+    context.minimum_version = ssl.TLSVersion.TLSv1_3
+    if certificate is not None:
+        context.load_cert_chain(certificate, key)
+    return context
+
+
+def connected(address: str, seconds: Optional[float], tls: Optional[ssl.SSLContext] = None) -> socket.socket:
+    """A connection to an address as the server has it, "host:port", within `tls` where that is given. ValueError, UnknownHost, or another
+    OSError."""
+    host, port = host_and_port(address)
     try:
-        link = socket.create_connection(host_port, timeout=seconds)
+        link = socket.create_connection((host, port), timeout=seconds)
     except socket.gaierror as error:
         raise no_such_host(address, error) or error from error
     prepare(link)
-    return link
+    return link if tls is None else within(tls, link, host)
 
 
-def connect(address: str, process: Optional[str] = None, patience: float = 60.0, *, at_once: bool = False) -> "Client":
+def within(tls: ssl.SSLContext, link: socket.socket, host: str) -> ssl.SSLSocket:
+    """The same connection with TLS in it. OSError."""
+    try:
+        return tls.wrap_socket(link, server_hostname=host)
+    except BaseException:
+        link.close()
+        raise
+
+
+def shut(link: socket.socket, how: int) -> None:
+    """Shuts a connection down, whoever reads of it. Of one with TLS in it nothing else is changed, as its own `shutdown` would."""
+    socket.socket.shutdown(link, how)
+
+
+def connect(address: str, process: Optional[str] = None, patience: float = 60.0, *, at_once: bool = False,
+            tls: Optional[ssl.SSLContext] = None) -> "Client":
     """A Client, as its class makes it."""
-    return Client(address, process, patience, at_once=at_once)
+    return Client(address, process, patience, at_once=at_once, tls=tls)
 
 
 class Connection:
     """A socket, and the lines that come of it."""
 
-    def __init__(self) -> None:
+    def __init__(self, tls: Optional[ssl.SSLContext]) -> None:
+        self._tls = tls
         self._link: Optional[socket.socket] = None
         self._lines: Optional[BinaryIO] = None
 
     def _connect(self, address: str, seconds: float) -> None:
-        self._link = connected(address, seconds)
+        self._link = connected(address, seconds, self._tls)
         self._lines = self._link.makefile("rb")
 
     def _tell(self, lines: List[bytes], seconds: float) -> List[bytes]:
@@ -84,14 +113,16 @@ class Client(Session, Connection):
 
     `address` is "host:port". `patience` is for how many seconds a request is asked again, over new connections, until it is answered;
     a server whose workers are all busy answers nothing until one is free, so it should be long. With `at_once` a server that nobody has
-    started is not waited for. While a connection is gone the server takes the process for lost, as of its last request; when it was the
+    started is not waited for. With `tls`, as `tls_context` makes one, the connection has TLS in it, for what stands before the server
+    then; a host whose certificate is not trusted at first is not asked again. While a connection is gone the server takes the process for lost, as of its last request; when it was the
     server that was gone, leases are as they were."""
 
-    def __init__(self, address: str, process: Optional[str] = None, patience: float = 60.0, *, at_once: bool = False) -> None:
+    def __init__(self, address: str, process: Optional[str] = None, patience: float = 60.0, *, at_once: bool = False,
+                 tls: Optional[ssl.SSLContext] = None) -> None:
         """Connects, and attaches as the process if it is given. ValueError for an address that is none, UnknownHost, Unanswered; or
         as `attach`."""
         Session.__init__(self, address, patience, at_once)
-        Connection.__init__(self)
+        Connection.__init__(self, tls)
         self._lock = threading.RLock()
         try:
             self._run(self._opening(process))
@@ -111,10 +142,11 @@ class Client(Session, Connection):
         self._closed, link = True, self._link
         if link is not None:
             with contextlib.suppress(OSError):
-                link.shutdown(socket.SHUT_WR)
+                if not isinstance(link, ssl.SSLSocket):
+                    link.shutdown(socket.SHUT_WR)
                 self._await_end(link)
                 # Whoever still waits for an answer waits no longer.
-                link.shutdown(socket.SHUT_RDWR)
+                shut(link, socket.SHUT_RDWR)
         with self._lock:
             self._drop()
 
@@ -209,8 +241,12 @@ class Client(Session, Connection):
         if self._lock.acquire(timeout=PARTING):
             try:
                 link.settimeout(PARTING)
-                while link.recv(65_536):
-                    pass
+                if isinstance(link, ssl.SSLSocket):
+                    # Says the end within TLS, and waits for that of the other side, which comes once the server has closed.
+                    link.unwrap()
+                else:
+                    while link.recv(65_536):
+                        pass
             finally:
                 self._lock.release()
 
@@ -267,9 +303,9 @@ class Held(Keeping):
         return self._client.ask(step.request)
 
 
-def watch(address: str, process: str, first: int = 1, patience: float = 60.0) -> "Watch":
+def watch(address: str, process: str, first: int = 1, patience: float = 60.0, *, tls: Optional[ssl.SSLContext] = None) -> "Watch":
     """Gives the Notices of a process one after another as they come, from the number `first` on, each once and in order: a Watch."""
-    return Watch(address, process, first, patience)
+    return Watch(address, process, first, patience, tls=tls)
 
 
 class Watch(Watching, Connection, Iterator[Notice]):
@@ -279,11 +315,12 @@ class Watch(Watching, Connection, Iterator[Notice]):
 
     `patience` is for how many seconds it connects anew before it raises Unanswered; `float("inf")` is for ever. UnknownHost for a host
     that was never found, ValueError for an address that is none, Malformed for a name that is none; the last two come from `watch`
-    itself. `close` may be called from another thread, and whoever waits for a notice then waits no longer."""
+    itself. `tls` is as that of a Client. `close` may be called from another thread, and whoever waits for a notice then waits no longer."""
 
-    def __init__(self, address: str, process: str, first: int = 1, patience: float = 60.0) -> None:
+    def __init__(self, address: str, process: str, first: int = 1, patience: float = 60.0, *,
+                 tls: Optional[ssl.SSLContext] = None) -> None:
         Watching.__init__(self, address, process, first, patience)
-        Connection.__init__(self)
+        Connection.__init__(self, tls)
         self._end = threading.Event()
 
     def __enter__(self) -> "Watch":
@@ -309,7 +346,7 @@ class Watch(Watching, Connection, Iterator[Notice]):
         link = self._link
         if link is not None:
             with contextlib.suppress(OSError):
-                link.shutdown(socket.SHUT_RDWR)
+                shut(link, socket.SHUT_RDWR)
 
     def _do(self, step: Step) -> Any:
         if isinstance(step, Connect):

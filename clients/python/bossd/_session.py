@@ -5,6 +5,7 @@ and is sent what came of that, or has the error thrown in that came of it. `_cli
 
 import json
 import logging
+import ssl
 import time
 from typing import Any, Callable, Dict, Generator, Iterable, List, Mapping, NamedTuple, Optional, Tuple, TypeVar, Union
 
@@ -188,7 +189,7 @@ class Session:
                 if isinstance(error, UnknownHost) and not self._met:
                     raise
                 lost, why = True, error
-                if self._at_once and not self._met and isinstance(error, ConnectionRefusedError):
+                if not self._met and (is_untrusted(error) or self._at_once and isinstance(error, ConnectionRefusedError)):
                     raise Unanswered(request, str(why)) from why
                 self._tell_lost(error)
             if lost and (self._closed or self._clock() + PAUSE > deadline):
@@ -259,6 +260,11 @@ class Session:
 
     def _seconds_to(self, deadline: float) -> float:
         return max(0.001, min(deadline - self._clock(), LONGEST_WAIT))
+
+
+def is_untrusted(error: Exception) -> bool:
+    """Whether it is that the other side's certificate is not trusted, which asking again does not mend."""
+    return isinstance(error, ssl.SSLCertVerificationError)
 
 
 def lines_of(requests: Iterable[Request]) -> Tuple[List[bytes], List[Request]]:
@@ -335,7 +341,7 @@ class Watching:
             return
         if isinstance(error, UnknownHost) and not self._met:
             raise error
-        if self._clock() + PAUSE > lost_since + self.patience:
+        if self._clock() + PAUSE > lost_since + self.patience or (is_untrusted(error) and not self._met):
             raise Unanswered(self._request(), str(error)) from error
         if not self._is_away:
             self._is_away = True

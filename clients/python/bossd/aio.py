@@ -17,6 +17,7 @@ the same, and only its answer is lost, since a connection that was cut in the mi
 import asyncio
 import contextlib
 import socket
+import ssl
 from types import TracebackType
 from typing import (
     Any, AsyncIterator, Callable, Coroutine, Generator, Generic, Iterable, List, Mapping, Optional, Set, Tuple, Type, TypeVar, Union,
@@ -80,17 +81,18 @@ class Opening(Generic[Ends]):
         await self._made._leave()
 
 
-def connect(address: str, process: Optional[str] = None, patience: float = 60.0, *, at_once: bool = False) -> "Opening[Client]":
+def connect(address: str, process: Optional[str] = None, patience: float = 60.0, *, at_once: bool = False,
+            tls: Optional[ssl.SSLContext] = None) -> "Opening[Client]":
     """A Client that is connected, and attached as the process if it is given: `await` it, or open it by `async with`. With `at_once` a
-    server that nobody has started is not waited for. ValueError for an address that is none, UnknownHost, Unanswered; or as `attach`."""
+    server that nobody has started is not waited for; `tls` is as that of `bossd.Client`. ValueError for an address that is none, UnknownHost, Unanswered; or as `attach`."""
     host_and_port(address)
-    return Opening(Client(address, patience, at_once=at_once)._open(process))
+    return Opening(Client(address, patience, at_once=at_once, tls=tls)._open(process))
 
 
-async def connected(address: str, seconds: float) -> Stream:
+async def connected(address: str, seconds: float, tls: Optional[ssl.SSLContext]) -> Stream:
     host, port = host_and_port(address)
     try:
-        opening = asyncio.open_connection(host, port, limit=LONGEST_ANSWER)
+        opening = asyncio.open_connection(host, port, limit=LONGEST_ANSWER, ssl=tls)
         stream = await asyncio.wait_for(opening, min(seconds, LONGEST_WAIT))
     except socket.gaierror as error:
         raise no_such_host(address, error) or error from error
@@ -110,11 +112,12 @@ async def whole_line(source: asyncio.StreamReader) -> bytes:
 class Connection:
     """A stream, and the lines that come of it."""
 
-    def __init__(self) -> None:
+    def __init__(self, tls: Optional[ssl.SSLContext]) -> None:
+        self._tls = tls
         self._stream: Optional[Stream] = None
 
     async def _connect(self, address: str, seconds: float) -> None:
-        self._stream = await connected(address, seconds)
+        self._stream = await connected(address, seconds, self._tls)
 
     async def _tell(self, lines: List[bytes], seconds: float) -> List[bytes]:
         assert self._stream is not None
@@ -157,9 +160,9 @@ class Client(Closable, Session, Connection):
     of one loop, and asks one request at a time. `patience` is for how many seconds a request is asked again, over new connections,
     until it is answered."""
 
-    def __init__(self, address: str, patience: float = 60.0, *, at_once: bool = False) -> None:
+    def __init__(self, address: str, patience: float = 60.0, *, at_once: bool = False, tls: Optional[ssl.SSLContext] = None) -> None:
         Session.__init__(self, address, patience, at_once)
-        Connection.__init__(self)
+        Connection.__init__(self, tls)
         self._turn = asyncio.Lock()
         self._under_way: Set["asyncio.Task[Any]"] = set()
 
@@ -176,9 +179,7 @@ class Client(Closable, Session, Connection):
         stream = self._stream
         if stream is not None:
             with contextlib.suppress(OSError, asyncio.TimeoutError):
-                if stream[1].can_write_eof():
-                    stream[1].write_eof()
-                await asyncio.wait_for(self._await_end(stream[0]), PARTING)
+                await asyncio.wait_for(self._await_end(*stream), PARTING)
         self._drop()
 
     async def attach(self, process: str) -> int:
@@ -288,9 +289,15 @@ class Client(Closable, Session, Connection):
         assert isinstance(step, Pause)
         return await asyncio.sleep(step.seconds)
 
-    async def _await_end(self, source: asyncio.StreamReader) -> None:
-        """Waits until the server has closed the connection."""
+    async def _await_end(self, source: asyncio.StreamReader, sink: asyncio.StreamWriter) -> None:
+        """Says that nothing more comes, and waits until the server has closed the connection."""
+        if sink.can_write_eof():
+            sink.write_eof()
         async with self._turn:
+            if self._tls is not None:
+                # Says the end within TLS, and waits for that of the other side, which comes once the server has closed.
+                sink.close()
+                await sink.wait_closed()
             while await source.read(65_536):
                 pass
 
@@ -344,9 +351,9 @@ class Held(Closable, Keeping):
         return await self._client.ask(step.request)
 
 
-def watch(address: str, process: str, first: int = 1, patience: float = 60.0) -> "Watch":
+def watch(address: str, process: str, first: int = 1, patience: float = 60.0, *, tls: Optional[ssl.SSLContext] = None) -> "Watch":
     """The Notices of a process as they come, from the number `first` on, each once and in order: a Watch, for `async for`."""
-    return Watch(address, process, first, patience)
+    return Watch(address, process, first, patience, tls=tls)
 
 
 class Watch(Watching, Connection, AsyncIterator[Notice]):
@@ -354,9 +361,10 @@ class Watch(Watching, Connection, AsyncIterator[Notice]):
     It is as `bossd.Watch`: `patience` is for how many seconds it connects anew before it raises Unanswered. A task that waits for a
     notice may be cancelled, and the watch used again: no notice is lost by that. `close` ends it; `async with` closes it at the end."""
 
-    def __init__(self, address: str, process: str, first: int = 1, patience: float = 60.0) -> None:
+    def __init__(self, address: str, process: str, first: int = 1, patience: float = 60.0, *,
+                 tls: Optional[ssl.SSLContext] = None) -> None:
         Watching.__init__(self, address, process, first, patience)
-        Connection.__init__(self)
+        Connection.__init__(self, tls)
 
     async def __aenter__(self) -> "Watch":
         return self

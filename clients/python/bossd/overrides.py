@@ -20,8 +20,8 @@ from typing import IO, Any, Dict, List, NamedTuple, Optional, Sequence, Tuple
 
 from . import aio
 from ._protocol import (
-    LONGEST_LINE, PULSE, Ended, NoMemory, NotYours, Refused, Request, Stopped, Taken, UnknownHost, UnknownTransaction, line_of, renewal,
-    several, steps_of, submission, table, a_step, a_text, whole, wrong, write,
+    LONGEST_LINE, PULSE, Ended, NoMemory, NotYours, Refused, Request, Stopped, Taken, UnknownHost, UnknownTransaction, host_and_port, line_of,
+    renewal, several, steps_of, submission, table, a_step, a_text, whole, wrong, write,
 )
 
 SOCKET, FILE, PROCESS = "/run/bossd-overrides/socket", "/var/lib/bossd-overrides/overrides.json", "people"
@@ -65,18 +65,27 @@ def now() -> int:
     return time.time_ns() // 1_000_000
 
 
+class Damaged(Exception):
+    """The file is none of bossd-overrides. Its text says where it is not."""
+
+
 class Store:
     """The file with what stands and what ended last."""
 
     def __init__(self, path: str) -> None:
+        """OSError, Damaged."""
         self.path = path
         self.standing: Dict[Key, Override] = {}
         self.ended: List[Dict[str, Any]] = []
-        with contextlib.suppress(FileNotFoundError):
+        try:
             with open(path, encoding="utf-8") as file:
                 told = json.load(file)
             self.standing = {one.key: one for one in (Override(**each) for each in told["overrides"])}
             self.ended = told["ended"]
+        except FileNotFoundError:
+            pass
+        except (ValueError, KeyError, TypeError) as error:
+            raise Damaged(f"{path} is no file of overrides: {error}") from error
 
     def put(self, one: Override) -> None:
         """It stands. OSError."""
@@ -359,7 +368,7 @@ def asked(path: str, request: Request, seconds: float = 10.0) -> Dict[str, Any]:
 # ---- how it all starts
 
 async def serve(words: argparse.Namespace) -> None:
-    """Runs until it is told to end. Taken, UnknownHost, OSError, ValueError."""
+    """Runs until it is told to end. Taken, UnknownHost, OSError, Damaged."""
     lock = locked(words.file)
     overrides = Overrides(Store(words.file))
     with contextlib.suppress(FileNotFoundError):
@@ -397,19 +406,26 @@ def locked(path: str) -> IO[str]:
 
 
 def main(given: Optional[Sequence[str]] = None) -> int:
-    """Ends with 0 when it is told to end, with 1 where it cannot go on, with 2 where the words are none."""
+    """Ends with 0 when it is told to end, with 1 where it cannot go on, with 2 where the words are none, with 3 where the file is damaged."""
     parser = argparse.ArgumentParser(prog="bossd-overrides", description="Holds people's overrides until they are released.")
     parser.add_argument("server", metavar="HOST:PORT", help="where the server listens")
     parser.add_argument("--file", default=FILE, help="where the overrides are kept (%(default)s)")
     parser.add_argument("--socket", default=SOCKET, help="where it is asked (%(default)s)")
     parser.add_argument("--as", dest="process", metavar="NAME", default=PROCESS, help="the control process that it is (%(default)s)")
     words = parser.parse_args(given)
+    try:
+        host_and_port(words.server)
+    except ValueError as error:
+        parser.error(str(error))
     logging.basicConfig(format="bossd-overrides: %(message)s", level=logging.INFO)
     try:
         asyncio.run(serve(words))
         return 0
     except Taken:
         LOG.error("another program speaks for %s", words.process)
+    except Damaged as error:
+        LOG.error("%s", error)
+        return 3
     except (Refused, UnknownHost, OSError, ValueError, KeyError, TypeError) as error:
         LOG.error("%s", error)
     return 1

@@ -15,9 +15,9 @@ from typing import Any, Deque, Dict, Iterable, Iterator, List, Optional
 
 from .. import __version__
 from .._client import Client, Watch
-from .._protocol import Accepted, Denied, Notice, Over, Request, UnknownTransaction, write
+from .._protocol import Accepted, Denied, Notice, Over, Request, Unanswered, UnknownOp, UnknownTransaction, Version, write
 from ..overrides import NotMade, asked as overrides_asked
-from . import _journal, _lint, _live, _show
+from . import _journal, _lint, _live, _served, _show
 from ._journal import Damaged, Event, Journal, Known
 from ._live import View
 from ._show import NONE, PRIORITIES, Catalogue, Cell, Point, exact_length, exact_moment, length, moment, now
@@ -26,6 +26,8 @@ from ._toml import Failure
 Words = argparse.Namespace
 FINE, WRONG = 0, 1
 LONGEST_LEASE = 604_800_000
+# From how many milliseconds on it is said that two clocks are apart.
+ODD = 60_000
 
 
 def tell(lines: Iterable[str]) -> None:
@@ -42,11 +44,35 @@ def aside(text: str) -> None:
 
 
 def client_of(words: Words) -> Client:
-    return Client(words.server, None, words.patience, at_once=True)
+    return Client(words.server, None, words.patience, at_once=True, tls=words.context)
 
 
-def catalogue_of(words: Words) -> Catalogue:
-    return _show.read_catalogue(words.catalogue)
+def catalogue_of(words: Words, client: Client) -> Catalogue:
+    """The server's catalogue, as it tells it, or as a file that is the same has it, with units and notes. Where a file that was named, or the
+    unit's before a server of this machine, is another one, that is said once. Failure, Unanswered."""
+    file = _served.file_of(words.catalogue)
+    told = _served.served(client, words.server, file.catalogue)
+    if told is None:
+        if file.catalogue is None:
+            raise _served.silent(words.server)
+        return file.catalogue
+    if file.why:
+        aside(file.why)
+    elif file.catalogue is not None and told is not file.catalogue and (file.is_named or _served.is_local(words.server)):
+        aside(_served.differs(file.catalogue, told))
+    return told
+
+
+def catalogue_anyhow(words: Words) -> Catalogue:
+    """The same; the file's where the server does not answer. Failure, Unanswered."""
+    try:
+        with client_of(words) as client:
+            return catalogue_of(words, client)
+    except Unanswered:
+        file = _served.file_of(words.catalogue).catalogue
+        if file is None:
+            raise
+        return file
 
 
 # ---- points
@@ -75,9 +101,8 @@ def summary(views: List[View]) -> str:
 
 
 def points(words: Words) -> int:
-    some = catalogue_of(words).some(words.pattern)
     with client_of(words) as client:
-        views = _live.views(client, some)
+        views = _live.views(client, catalogue_of(words, client).some(words.pattern))
     if words.held:
         views = [view for view in views if view.reading is None or view.reading.basis != "default"]
     if words.json:
@@ -96,23 +121,31 @@ def width_of_terminal() -> Optional[int]:
 
 
 def point(words: Words) -> int:
-    one = catalogue_of(words).point(words.name)
     with client_of(words) as client:
+        one = catalogue_of(words, client).point(words.name)
         view = _live.views(client, [one])[0]
     if view.reading is None:
-        raise Failure(f"{words.server} knows no point {one.name}: it was started with another catalogue than {words.catalogue}")
+        raise Failure(f"{words.server} knows no point {one.name}: it was started with another catalogue")
     if words.json:
         tell_json({**view.told(), "default": view.slots.default, "slots": [slot_told(view, priority) for priority in PRIORITIES],
                    "next": [it._asdict() for it in _live.after(view)]})
         return FINE
-    held = ", perhaps held by its minimum times" if one.times() and view.reading.mark == "pending" else ""
-    tell([f"{one.name}: {sentence(view)}; its device: {view.reading.mark}{held}"])
+    until = view.may_wait_until(now())
+    tell([f"{one.name}: {sentence(view)}; its device: {view.reading.mark}"])
+    if until is not None:
+        tell([f"  perhaps {still(view, until)}"])
     about = [one.kind, one.range(), f"default {one.show(view.slots.default)}", f"driver {one.driver}", one.times()]
     tell([f"  {', '.join(filter(None, about))}"] + ([f"  {one.note}"] if one.note else []) + [""])
     heads = ("PRIORITY", "LEVEL", "VALUE", "WHAT", "HELD BY", "TXN", "LEFT")
     tell(_show.table(heads, [slot_row(view, priority) for priority in PRIORITIES], "r r  rr"))
     tell(["", f"Next: {next_sentence(view)}"])
     return FINE
+
+
+def still(view: View, until: int) -> str:
+    """Which value a device may have yet, and up to when."""
+    other = "off" if view.reading is not None and view.reading.value else "on"
+    return f"still {other} until {moment(until)} at the latest, by its minimum time"
 
 
 def slot_told(view: View, priority: int) -> Optional[Dict[str, Any]]:
@@ -200,12 +233,13 @@ def take(words: Words, lease: int, is_renewed: bool) -> int:
     """Sets a point and stays until it is over."""
     if not 1 <= lease <= LONGEST_LEASE:
         raise Failure("a lease lasts for at least a millisecond and at most 7d")
-    one = catalogue_of(words).point(words.point)
     # Whatever is to end this program ends the lease first, as Ctrl-C does.
     for sent in (signal.SIGINT, signal.SIGTERM, signal.SIGHUP):
         signal.signal(sent, signal.default_int_handler)
-    made = write(one.name, one.value(words.value), lease=lease, priority=words.priority, revert=steps_of(words, one))
-    with _live.attached(words.server, words.process, words.patience) as client:
+    with client_of(words) as client:
+        one = catalogue_of(words, client).point(words.point)
+        made = write(one.name, one.value(words.value), lease=lease, priority=words.priority, revert=steps_of(words, one))
+        _live.attach(client, words.process)
         first = client.next_notice or 1
         before = _live.views(client, [one])[0]
         other = before.slots.slots.get(words.priority)
@@ -215,6 +249,7 @@ def take(words: Words, lease: int, is_renewed: bool) -> int:
                 accepted = Accepted(held.txn, held.until)
             else:
                 accepted = client.submit([made], words.policy)
+        say_clocks(words, accepted.until - lease - now())
         taking = Taking(words, client, one, accepted.txn, first)
         if other is not None and not words.json:
             taking.say(f"took the slot from {before.owners.get(other.txn)}, which had {one.show(other.value)} there")
@@ -224,6 +259,14 @@ def take(words: Words, lease: int, is_renewed: bool) -> int:
             return taking.follow()
         except KeyboardInterrupt:
             return taking.release()
+
+
+def say_clocks(words: Words, ahead: int) -> None:
+    """Says so where the server's clock is so many milliseconds ahead of this machine's, or behind it where that is less than 0. All moments
+    are the server's, and what is left of them is told by this machine's."""
+    if abs(ahead) >= ODD:
+        aside(f"the clock of {words.server} is {length(abs(ahead))} {'ahead of' if ahead > 0 else 'behind'} this machine's: leases last as long "
+              "as they were asked for, but moments are its own, and what is shown as left is wrong by as much")
 
 
 # ---- overrides that stand
@@ -244,7 +287,7 @@ def of_overrides(words: Words, request: Request) -> Dict[str, Any]:
 
 def detach(words: Words) -> int:
     """Has a point set by the service that holds overrides."""
-    one = catalogue_of(words).point(words.point)
+    one = catalogue_anyhow(words).point(words.point)
     steps = steps_of(words, one)
     until = {} if words.lease is None else {"until": now() + words.lease}
     for_whom = {"for": os.environ["SUDO_USER"]} if os.environ.get("SUDO_USER") else {}
@@ -263,15 +306,19 @@ def detach(words: Words) -> int:
 
 
 def overrides(words: Words) -> int:
-    catalogue = catalogue_of(words)
     told = of_overrides(words, {"do": "list"})
     if words.json:
         tell_json(told)
         return FINE
+    try:
+        points = catalogue_anyhow(words).points
+    except (Unanswered, Failure) as error:
+        aside(f"values are thousandths at analog points, since {words.server} does not tell its points: {error}")
+        points = {}
     listed: List[Dict[str, Any]] = told["ended" if words.ended else "overrides"]
     listed.sort(key=lambda it: int(it["at"]))
     heads = ("POINT", "VALUE", "PRIORITY", "SET BY", "SET AT", "FOR", "ENDED" if words.ended else "ENDS", "WHY" if words.ended else "NOTE")
-    rows = [override_row(one, catalogue.points.get(one["point"]), words.ended) for one in listed]
+    rows = [override_row(one, points.get(one["point"]), words.ended) for one in listed]
     if rows:
         tell(_show.table(heads, rows, " rr", width_of_terminal()))
     since = f", the oldest for {length(now() - listed[0]['at'])}" if listed and not words.ended else ""
@@ -306,7 +353,7 @@ class Taking:
         self.words, self.client, self.point, self.txn, self.first = words, client, one, txn, first
         self.shown = ""
         # At how many looks in turn the device of a point with minimum times had not answered, and whether it did not take the value.
-        self.waits, self.has_failed = 0, False
+        self.waits, self.since, self.has_failed = 0, 0, False
 
     def say(self, text: str, **told: Any) -> None:
         if self.words.json:
@@ -330,8 +377,7 @@ class Taking:
             self.say(f"in force: {self.shown}")
         if view.reading is not None:
             self.hear_device(view.reading.mark)
-            if self.point.times():
-                self.wait(view.reading.mark)
+            self.wait(view, view.reading.mark)
 
     def hear_device(self, mark: str) -> None:
         """Says that a device took a value at last."""
@@ -339,13 +385,16 @@ class Taking:
             self.has_failed = False
             self.say("the device took the value")
 
-    def wait(self, mark: str) -> None:
-        """Says that a device waits for its minimum time, and when it has taken the value."""
+    def wait(self, view: View, mark: str) -> None:
+        """Says that a device may wait for its minimum time, and up to when, and that it has taken the value."""
         if mark == "settled" and self.waits > 1:
             self.say("its device took the value")
-        self.waits = self.waits + 1 if mark == "pending" else 0
-        if self.waits == 2:
-            self.say(f"its device is not written yet: {self.point.times()}")
+        until = view.may_wait_until(self.since if self.waits else now())
+        if not self.waits:
+            self.since = now()
+        self.waits = 0 if until is None else self.waits + 1
+        if until is not None and self.waits == 2:
+            self.say(f"its device is not written yet, and {still(view, until)}", until=until)
 
     def ended(self) -> Optional[Notice]:
         """How the lease ended, if it did; a fault of the device is told too."""
@@ -389,7 +438,7 @@ def release_override(words: Words, one: Point) -> Optional[Dict[str, Any]]:
 
 
 def release(words: Words) -> int:
-    one = catalogue_of(words).point(words.point)
+    one = catalogue_anyhow(words).point(words.point)
     override = release_override(words, one)
     if override is not None:
         if words.json:
@@ -398,7 +447,8 @@ def release(words: Words) -> int:
             tell([f"{one.name}: released the override at priority {words.priority}, {one.show(override['value'])}, which {override['who']} set at "
                   f"{moment(override['at'])}"])
         return FINE
-    with _live.attached(words.server, words.process, words.patience) as client:
+    with client_of(words) as client:
+        _live.attach(client, words.process)
         view = _live.views(client, [one])[0]
         slot = view.slots.slots.get(words.priority)
         if slot is None:
@@ -434,7 +484,7 @@ def watch(words: Words) -> int:
         words.first = max(1, count - 9)
         if count == 0:
             aside(f"{words.process} has had no notice yet: is the name right? (bossctl processes)")
-    with Watch(words.server, words.process, words.first, words.patience) as watched:
+    with Watch(words.server, words.process, words.first, words.patience, tls=words.context) as watched:
         for notice in watched:
             if words.json:
                 tell_json(notice._asdict())
@@ -483,7 +533,7 @@ def under_way(client: Client, catalogue: Catalogue) -> Dict[int, List[View]]:
 def processes(words: Words) -> int:
     known = journal_of(words)
     with client_of(words) as client:
-        standing = _live.statuses(client, under_way(client, catalogue_of(words)))
+        standing = _live.statuses(client, under_way(client, catalogue_of(words, client)))
         names = sorted({status.owner for status in standing.values()} | set(known.names if known else []))
         notices = _live.notice_counts(client, names)
     rows: List[Dict[str, Any]] = []
@@ -499,18 +549,19 @@ def processes(words: Words) -> int:
              + [Cell(NONE if row["last"] is None else moment(row["last"]))] for row in rows]
     if cells:
         tell(_show.table(("PROCESS", "TRANSACTIONS", "LEASES", "REVERSIONS", "NOTICES", "LAST CHANGE"), cells, " rrrr"))
-    if known is None:
+    if known is not None:
+        tell([f"{len(known.names)} of 256 names are taken; a journal forgets none"])
+    else:
         aside("shown are processes that hold something; the names of others stand in the journal alone (--journal FILE, as root)")
     return FINE
 
 
 def transactions(words: Words) -> int:
-    catalogue = catalogue_of(words)
     known = journal_of(words) if words.done or words.journal else None
     if words.done and known is None:
         raise Failure(f"{_journal.DEFAULT} cannot be read, and transactions that are done stand there alone: --journal FILE, as root")
     with client_of(words) as client:
-        slots = under_way(client, catalogue)
+        slots = under_way(client, catalogue_of(words, client))
         asked = set(slots) | (set(sorted(known.transactions)[-words.most:]) if known and words.done else set())
         standing = _live.statuses(client, asked)
     rows: List[Dict[str, Any]] = []
@@ -535,7 +586,7 @@ def transactions(words: Words) -> int:
 
 def faults(words: Words) -> int:
     with client_of(words) as client:
-        views = [view for view in _live.views(client, catalogue_of(words).points.values())
+        views = [view for view in _live.views(client, catalogue_of(words, client).points.values())
                  if view.reading is not None and view.reading.mark != "settled"]
         owners = {view.owner for view in views if view.owner is not None}
         told = [(name, notice) for name in sorted(owners) for notice in _live.last_notices(client, name, 64).list
@@ -547,14 +598,16 @@ def faults(words: Words) -> int:
     if views:
         tell(_show.table(HEADS, [point_row(view) for view in views], RIGHT, width_of_terminal()))
     tell(f"{exact_moment(notice.at)}  {name}: {notice_sentence(notice)}" for name, notice in told)
-    tell([f"{len(failed)} failed, whose devices are tried again every five seconds; {len(views) - len(failed)} not yet answered"])
+    ends = [end for end in (view.may_wait_until(now()) for view in views) if end is not None]
+    held = f", of which {len(ends)} may wait for a minimum time, until {moment(max(ends))} at the latest" if ends else ""
+    tell([f"{len(failed)} failed, whose devices are tried again every five seconds; {len(views) - len(failed)} not yet answered{held}"])
     return WRONG if failed else FINE
 
 
 def status(words: Words) -> int:
-    found = _live.health(words.server, words.patience, words.workers)
+    found = _live.health(words.server, words.patience, words.workers, words.context)
     if words.json:
-        tell_json({"server": words.server, **found._asdict()})
+        tell_json({"server": words.server, **found._asdict(), "version": program_told(words) if found.answers else None})
     elif not found.answers:
         tell([f"{words.server} does not answer: {found.why}"])
     else:
@@ -562,10 +615,30 @@ def status(words: Words) -> int:
         tell([f"{words.server} answers, in {found.milliseconds:.1f} ms; {free}"])
         if found.free == 0:
             aside("whoever connects now waits: more WORKERS, or fewer connections that stay")
-        if os.access(words.catalogue, os.R_OK):
-            with client_of(words) as client:
-                tell([summary(_live.views(client, catalogue_of(words).points.values()))])
+        with client_of(words) as client:
+            tell([program_sentence(program_of(client)), summary(_live.views(client, catalogue_of(words, client).points.values()))])
     return FINE if found.answers else 3
+
+
+def program_of(client: Client) -> Optional[Version]:
+    """Which program serves; None where it is older than the question."""
+    try:
+        return client.version()
+    except UnknownOp:
+        return None
+
+
+def program_told(words: Words) -> Optional[Dict[str, Any]]:
+    with client_of(words) as client:
+        version = program_of(client)
+    return None if version is None else version._asdict()
+
+
+def program_sentence(version: Optional[Version]) -> str:
+    if version is None:
+        return "it does not tell its version, as a bossd of before 0.3.0"
+    return (f"bossd {version.program}, whose journals are of version {version.journal}; its catalogue: points {version.points}, "
+            f"drivers {version.drivers}, digest {version.digest[:16]}..")
 
 
 # ---- the journal
@@ -578,9 +651,9 @@ def journal(words: Words) -> int:
     if found is None:
         tell_json({"file": words.file, "new": True}) if words.json else tell([f"{words.file}: new, with nothing in it yet"])
         return FINE
-    catalogue = _show.read_catalogue(words.catalogue) if os.access(words.catalogue, os.R_OK) else None
-    agrees = catalogue is not None and catalogue.digest == found.digest
-    names = Names(found, catalogue if agrees else None)
+    catalogue = catalogue_beside(words, found)
+    agrees = catalogue is not None
+    names = Names(found, catalogue)
     header(words, found, names, agrees)
     ends: Deque[Dict[str, Any]] = deque(maxlen=words.last)
     status = FINE
@@ -601,6 +674,14 @@ def journal(words: Words) -> int:
     return status
 
 
+def catalogue_beside(words: Words, found: Journal) -> Optional[Catalogue]:
+    """The catalogue that a journal is kept under: the one that was named, the unit's, or the copy that the unit's launcher keeps beside it;
+    None where none of them has its digest. Failure."""
+    kept = f"{words.file}.catalogue-{found.digest.hex()[:16]}"
+    files = [_served.file_of(words.catalogue)] + ([_served.file_of(kept)] if os.access(kept, os.R_OK) else [])
+    return next((file.catalogue for file in files if file.catalogue is not None and file.catalogue.digest == found.digest), None)
+
+
 def header(words: Words, found: Journal, names: "Names", agrees: bool) -> None:
     state = found.state
     told = {"file": found.path, "version": found.version, "generation": found.generation, "before": found.before, "now": state.now,
@@ -611,7 +692,7 @@ def header(words: Words, found: Journal, names: "Names", agrees: bool) -> None:
         return
     tell([f"{found.path}: version {found.version}, catalogue {found.digest.hex()[:16]}.." + (", which is this one" if agrees else "")])
     if not agrees:
-        aside(f"points are shown by their places: {words.catalogue} is not the catalogue of this journal, or cannot be read")
+        aside(f"points are shown by their places: {words.catalogue or _served.DEFAULT} is not the catalogue of this journal, or cannot be read")
     if found.generation is None:
         return
     tell([f"kept state {found.generation}, after {found.before} events, at {exact_moment(state.now)}: {len(state.leases)} leases, "
@@ -713,8 +794,8 @@ def version(words: Words) -> int:
 # ---- a screen that goes on
 
 def top(words: Words) -> int:
-    catalogue = catalogue_of(words)
     with client_of(words) as client:
+        catalogue = catalogue_of(words, client)
         screen = Screen(words)
         try:
             screen.open()

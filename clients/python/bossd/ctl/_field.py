@@ -1,430 +1,282 @@
-"""A field to play with: the Modbus TCP hosts of a plan, on this machine. They take what bossd writes, and fail where they are told to."""
+"""A field to play with: the hosts of a plan, on this machine, over Modbus TCP and BACnet/IP. They take what bossd writes, have it read, and
+fail where they are told to."""
 
 import argparse
 import asyncio
 import json
 import os
+import re
 import signal
 import sys
 import threading
-from typing import Any, Awaitable, Callable, Dict, Iterable, List, NamedTuple, Optional, Set, Tuple
+from typing import Any, Callable, Dict, Iterable, List, NamedTuple, Optional, Tuple
 
-from . import _forms, _lint, _show, _toml
-from ._forms import Scale
+from . import _forms, _lint, _served, _show, _toml
+from ._devices import Heard, Host, Place, Trouble, Watchdog, split_address
+from ._modbus import ModbusHost, Register
+from ._objects import BacnetHost, Object, object_place
 from ._show import NONE, Cell, Point, now
 from ._toml import Failure
 
-# What a function of the protocol is about, and whether it writes one, writes several, or reads (MODBUS Application Protocol 1.1b3, 6.1,
-# 6.3, 6.5, 6.6, 6.11 and 6.12).
-READS, WRITES_ONE, WRITES_SEVERAL = "reads", "writes one", "writes several"
-FUNCTIONS = {1: ("coil", READS), 3: ("register", READS), 5: ("coil", WRITES_ONE), 6: ("register", WRITES_ONE),
-             15: ("coil", WRITES_SEVERAL), 16: ("register", WRITES_SEVERAL)}
-# How many may be asked for at once, and of registers be written.
-MOST = {1: 2_000, 3: 125, 15: 1_968, 16: 123}
-# The word of a coil that is on (6.5).
-ON = 0xFF00
-# Codes of exceptions (7).
-ILLEGAL_FUNCTION, ILLEGAL_ADDRESS, ILLEGAL_VALUE = 1, 2, 3
-CODES = {1: "illegal function", 2: "illegal data address", 3: "illegal data value", 4: "server device failure", 5: "acknowledge",
-         6: "server device busy", 8: "memory parity error", 10: "gateway path unavailable", 11: "gateway target device failed to respond"}
-# What a header may say of the bytes after it: a unit and a function at least (MODBUS Messaging on TCP/IP 1.0b, 3.1.3).
-SHORTEST, LONGEST = 2, 254
 MARK = "# Made by bossctl field"
 HELP = """\
-    set NAME VALUE     turn a point's device by hand, to a value in the point's units: bossd is not told
-    fail NAME [CODE]   refuse each request with an exception, code 2 (illegal data address) where none is given
-    silent NAME        take requests and answer none
-    refuse DRIVER      end the host's connections and take no new ones
-    back [NAME]        work again; all of them without a name
-    list               show each point: where it is, what was written last, and how it does
-    quit               end
-NAME is a point, or a driver for its whole host."""
+    set NAME VALUE [LEVEL]  turn a point's device by hand, to a value in the point's units: bossd is not told. At a BACnet object
+                            into this level, left out the plan's; null lets the level go
+    drift NAME BY           move it of itself from now on, by so much each second, in the point's units
+    watchdog NAME MS VALUE  it falls back to a value where it was not written for so many milliseconds
+    fail NAME [CODE]        refuse each request: with exception CODE, 2 (illegal data address) where left out; of BACnet with
+                            error CODE of class property, write-access-denied (40) where left out
+    fail NAME reject        of BACnet: reject each request, or with abort abort it
+    silent NAME             take requests and answer none
+    restart DRIVER          say nothing for two seconds, and have forgotten all values then
+    late DRIVER             answer when the driver waits no more
+    twice DRIVER            answer each request two times
+    refuse DRIVER           listen no more: connections end, none is taken
+    back [NAME]             work again, without any of these; all of them without a name
+    list                    show each point: where it is, what it has, when it was written last, and how it does
+    quit                    end
+NAME is a point, or for fail, silent and back a driver too, for its whole host."""
+# How long the commands that make trouble may be.
+WORDS = {"set": (2, 3), "drift": (2, 2), "watchdog": (3, 3), "fail": (1, 2), "silent": (1, 1), "restart": (1, 1), "late": (1, 1),
+         "twice": (1, 1), "refuse": (1, 1), "back": (0, 1)}
+OF_HOSTS = ("restart", "late", "twice", "refuse")
+# How often what moves of itself is looked at, in seconds, and after how many looks it drifts.
+LOOK, LOOKS_A_SECOND = 0.1, 10
+# How long a driver waits for an answer where the plan does not say, in milliseconds.
+WAITS = {"modbus": 5_000, "bacnet": 2_000}
+KNOWN_PORTS = {"modbus": "Modbus TCP has 502", "bacnet": "BACnet/IP has 47808"}
 
 
-def code_text(code: int) -> str:
-    return f"code {code}, {CODES[code]}" if code in CODES else f"code {code}"
+class Said(NamedTuple):
+    """A line, and what it is for a program."""
+    text: str
+    told: Dict[str, Any]
 
 
-class Trouble(NamedTuple):
-    """What a host or a point does instead of working: `fail` with a code, `silent`, or of a host `refuse`."""
-    what: str
-    code: int = ILLEGAL_ADDRESS
-
-    def text(self) -> str:
-        return {"fail": f"fails with {code_text(self.code)}", "silent": "is silent", "refuse": "refuses connections"}[self.what]
-
-
-class Place:
-    """Where a point is: a coil of a unit, or the registers of one in which its values stand."""
-
-    def __init__(self, point: Point, unit: int, kind: str, address: int, scale: Scale) -> None:
-        self.point, self.unit, self.kind, self.address, self.scale = point, unit, kind, address, scale
-        # When it was written last, by anyone; 0 before.
-        self.moment = 0
-        self.trouble: Optional[Trouble] = None
-
-    def addresses(self) -> range:
-        return range(self.address, self.address + (1 if self.kind == "coil" else self.scale.registers()))
-
-    def where(self) -> str:
-        return f"unit {self.unit} {self.kind} {self.address}"
-
-    def words(self, value: int) -> List[int]:
-        """What stands at the addresses for a value of the point. Failure where it has no form there."""
-        if self.kind == "coil":
-            return [value]
-        if not self.scale.fits(value):
-            raise Failure(f"{self.point.show(value)} has no form of type {self.scale.form} at {self.where()}")
-        return self.scale.words(value)
-
-    def value(self, words: List[int]) -> int:
-        """The point's value that these words stand for."""
-        return words[0] if self.kind == "coil" else self.scale.value(words)
-
-    def shown(self, words: List[int]) -> str:
-        """What the device has."""
-        return ("off", "on")[words[0]] if self.kind == "coil" else self.scale.shown(words)
-
-
-class Asked(NamedTuple):
-    """What a request is about: so many coils or registers from an address on, and the words to be written, which are None where they are
-    read."""
-    kind: str
-    address: int
-    many: int
-    words: Optional[List[int]]
-
-    def addresses(self) -> range:
-        return range(self.address, self.address + self.many)
-
-
-def asked(request: bytes) -> Optional[Asked]:
-    """What a request of a function that is served asks for; None where it is not formed as the function's are (6.1 to 6.12)."""
-    (kind, way), rest = FUNCTIONS[request[0]], request[1:]
-    if len(rest) < 4:
-        return None
-    address, count = int.from_bytes(rest[:2], "big"), int.from_bytes(rest[2:4], "big")
-    if way == WRITES_ONE:
-        if len(rest) != 4 or (kind == "coil" and count not in (0, ON)):
-            return None
-        return Asked(kind, address, 1, [count // ON if kind == "coil" else count])
-    if not 1 <= count <= MOST[request[0]]:
-        return None
-    if way == READS:
-        return Asked(kind, address, count, None) if len(rest) == 4 else None
-    data, size = rest[5:], (count + 7) // 8 if kind == "coil" else 2 * count
-    if rest[4:5] != bytes([size]) or len(data) != size:
-        return None
-    if kind == "coil":
-        return Asked(kind, address, count, [data[at // 8] >> at % 8 & 1 for at in range(count)])
-    return Asked(kind, address, count, [int.from_bytes(data[at:at + 2], "big") for at in range(0, size, 2)])
-
-
-def read_back(kind: str, words: List[int]) -> bytes:
-    """What a function that reads is answered with: how many bytes there are, and they (6.1, 6.3)."""
-    if kind == "register":
-        data = b"".join(word.to_bytes(2, "big") for word in words)
-    else:
-        data = sum(word << at for at, word in enumerate(words)).to_bytes((len(words) + 7) // 8, "little")
-    return bytes([len(data)]) + data
-
-
-class Heard(NamedTuple):
-    """A request, what it asks for, the places that it names, the words there after it, and its response without the header, which is None
-    where there is none."""
-    unit: int
-    request: bytes
-    asked: Optional[Asked]
-    places: List[Place]
-    words: List[int]
-    response: Optional[bytes]
-
-    def code(self) -> Optional[int]:
-        """The code of the exception, where the response is one."""
-        return self.response[1] if self.response is not None and self.response[0] >= 0x80 else None
-
-    def said(self) -> str:
-        function = self.request[0]
-        if self.asked is None:
-            return f"unit {self.unit} function {function}"
-        at = f"unit {self.unit} {self.asked.kind} {self.asked.address}"
-        if self.asked.words is None:
-            return f"{at} read"
-        exact = next((it for it in self.places if it.addresses() == self.asked.addresses()), None)
-        coil = ("off", "on") if self.asked.kind == "coil" else None
-        shown = exact.shown(self.asked.words) if exact else " ".join(coil[word] if coil else str(word) for word in self.asked.words)
-        return f"{at} = {shown}"
-
-    def value(self) -> str:
-        if self.asked is None or not self.words:
-            return NONE
-        parts = [(it, it.address - self.asked.address) for it in self.places]
-        whole = [(it, self.words[at:at + len(it.addresses())]) for it, at in parts if 0 <= at and at + len(it.addresses()) <= len(self.words)]
-        return ", ".join(dict.fromkeys(it.point.show(it.value(words)) for it, words in whole)) or NONE
-
-    def name(self) -> str:
-        return ", ".join(place.point.name for place in self.places)
-
-    def came(self) -> str:
-        code = self.code()
-        if self.response is None:
-            return "no answer"
-        if code is not None:
-            return f"refused with {code_text(code)}"
-        return "read" if self.asked is not None and self.asked.words is None else "taken"
-
-
-class Host:
-    """One host of the plan: where it listens, the drivers that are there, and what it has in its registers and coils."""
-
-    def __init__(self, address: str) -> None:
-        self.address = address
-        self.drivers: List[str] = []
-        self.places: List[Place] = []
-        # By unit, kind and address: what was written there. All else that a place names is 0.
-        self.store: Dict[Tuple[int, str, int], int] = {}
-        self.trouble: Optional[Trouble] = None
-        self.server: Optional[asyncio.AbstractServer] = None
-        self.open: Set[asyncio.StreamWriter] = set()
-
-    def answer(self, unit: int, request: bytes) -> Heard:
-        """What comes of a request, which begins with its function."""
-        what, places, code = self._asked(unit, request)
-        words = [] if what is None else what.words or [self.store.get((unit, what.kind, at), 0) for at in what.addresses()]
-        trouble = self.trouble or next((it.trouble for it in places if it.trouble), None)
-        if trouble is not None and trouble.what == "silent":
-            return Heard(unit, request, what, places, words, None)
-        if code is None and trouble is not None:
-            code = trouble.code
-        if what is None or code is not None:
-            return Heard(unit, request, what, places, words, bytes([request[0] | 0x80, code or ILLEGAL_VALUE]))
-        if what.words is None:
-            return Heard(unit, request, what, places, words, request[:1] + read_back(what.kind, words))
-        self.write(unit, what.kind, what.address, what.words)
-        # Of one the request itself, and of several how many they are (6.5, 6.6, 6.11, 6.12).
-        return Heard(unit, request, what, places, words, request[:5])
-
-    def write(self, unit: int, kind: str, address: int, words: List[int]) -> None:
-        for at, word in enumerate(words, address):
-            self.store[unit, kind, at] = word
-        for place in self._named(unit, kind, range(address, address + len(words))):
-            place.moment = now()
-
-    def has(self, place: Place) -> Optional[List[int]]:
-        """What a place has, where it was written."""
-        words = [self.store.get((place.unit, place.kind, at)) for at in place.addresses()]
-        return None if all(word is None for word in words) else [word or 0 for word in words]
-
-    def _named(self, unit: int, kind: str, addresses: range) -> List[Place]:
-        return [it for it in self.places if (it.unit, it.kind) == (unit, kind) and any(at in addresses for at in it.addresses())]
-
-    def _asked(self, unit: int, request: bytes) -> Tuple[Optional[Asked], List[Place], Optional[int]]:
-        """What a request asks for, the places that it names, and the code of its fault. The tests are made in the order of 6.1 to 6.12."""
-        if request[0] not in FUNCTIONS:
-            return None, [], ILLEGAL_FUNCTION
-        what = asked(request)
-        if what is None:
-            return None, [], ILLEGAL_VALUE
-        places = self._named(unit, what.kind, what.addresses())
-        known = {at for place in places for at in place.addresses()}
-        return what, places, None if known.issuperset(what.addresses()) else ILLEGAL_ADDRESS
-
-    async def listen(self, take: "Take") -> None:
-        name, port = split_address(self.address)
-        try:
-            self.server = await asyncio.start_server(lambda reader, writer: take(self, reader, writer), name, port)
-        except OSError as error:
-            raise Failure(f"{self.address} of {', '.join(self.drivers)} cannot be listened at: {error.strerror or error}") from error
-        if port == 0:
-            self.address = f"{name}:{self.server.sockets[0].getsockname()[1]}"
-
-    def shut(self) -> None:
-        """Takes no new connection, and ends those that there are."""
-        if self.server is not None:
-            self.server.close()
-            self.server = None
-        for writer in list(self.open):
-            writer.transport.abort()
-
-
-Take = Callable[[Host, asyncio.StreamReader, asyncio.StreamWriter], Awaitable[None]]
+def said(*texts: str) -> List[Said]:
+    return [Said(text, {"said": text}) for text in texts]
 
 
 class Field:
     """The hosts of a plan, and the words that make them fail."""
 
-    def __init__(self, hosts: Dict[str, Host], tell: Callable[[Dict[str, Any], str], None]) -> None:
-        self.hosts, self.tell = list(hosts.values()), tell
+    def __init__(self, hosts: "List[Host[Any]]", tell: Callable[[Dict[str, Any], str], None]) -> None:
+        self.hosts, self.tell = hosts, tell
         names = [", ".join(host.drivers) for host in self.hosts] + [place.point.name for host in self.hosts for place in host.places]
         self.width = max(map(len, names), default=0)
+        places = [place for host in self.hosts for place in host.places]
+        self.place_width = max((len(place.where()) + 8 for place in places if isinstance(place, Object)), default=28)
+        self.looks = 0
+        for host in self.hosts:
+            host.hear, host.note = self._heard, self._noted
 
     async def run(self, words: "asyncio.Queue[Optional[str]]", ready: Callable[[], None]) -> None:
         """Serves until `quit`, or until there comes None for a word."""
         for host in self.hosts:
-            await host.listen(self._connected)
+            await host.open()
         ready()
+        mover = asyncio.ensure_future(self._move())
         try:
             while True:
                 line = await words.get()
                 if line is None or line.split()[:1] == ["quit"]:
                     return
-                for text in await self.order(line):
-                    self.tell({"said": text}, text)
+                for one in await self.order(line):
+                    self.tell(one.told, one.text)
         finally:
+            mover.cancel()
             for host in self.hosts:
                 host.shut()
             # The connections' ends are seen before the loop ends.
             await asyncio.sleep(0.01)
 
-    # ---- connections
+    def _heard(self, host: "Host[Any]", heard: Heard) -> None:
+        told = {"host": host.address, "points": heard.names, **heard.told, "came": heard.came}
+        self._line(host, ", ".join(heard.names), f"{heard.said:<{self.place_width}}  {heard.value:<9}  {heard.came}", told)
 
-    async def _connected(self, host: Host, reader: asyncio.StreamReader, writer: asyncio.StreamWriter) -> None:
-        host.open.add(writer)
-        self._line(host, "", "connected")
-        why = "the connection ended"
-        try:
-            while await self._exchange(host, reader, writer):
-                pass
-            why = "what came is no Modbus TCP: the connection is ended"
-        except (OSError, asyncio.IncompleteReadError):
-            pass
-        finally:
-            host.open.discard(writer)
-            writer.close()
-            self._line(host, "", why)
+    def _noted(self, host: "Host[Any]", text: str) -> None:
+        self._line(host, "", text, {"host": host.address, "came": text})
 
-    async def _exchange(self, host: Host, reader: asyncio.StreamReader, writer: asyncio.StreamWriter) -> bool:
-        """A request and its response. False where what came has no header of Modbus TCP."""
-        header = await reader.readexactly(6)
-        length = int.from_bytes(header[4:], "big")
-        if header[2:4] != b"\0\0" or not SHORTEST <= length <= LONGEST:
-            return False
-        body = await reader.readexactly(length)
-        heard = host.answer(body[0], body[1:])
-        self._heard(host, heard)
-        if heard.response is not None:
-            writer.write(header[:4] + (len(heard.response) + 1).to_bytes(2, "big") + body[:1] + heard.response)
-            await writer.drain()
-        return True
-
-    def _heard(self, host: Host, heard: Heard) -> None:
-        told = {"host": host.address, "points": [it.point.name for it in heard.places], "unit": heard.unit, "request": heard.request.hex(),
-                "response": None if heard.response is None else heard.response.hex(), "came": heard.came()}
-        self._line(host, heard.name(), f"{heard.said():<28}  {heard.value():<9}  {heard.came()}", told)
-
-    def _line(self, host: Host, name: str, text: str, told: Optional[Dict[str, Any]] = None) -> None:
+    def _line(self, host: "Host[Any]", name: str, text: str, told: Dict[str, Any]) -> None:
         at = now()
-        told = {"at": at, **(told or {"host": host.address, "came": text})}
-        self.tell(told, f"{_show.exact_moment(at)[11:]}  {name or ', '.join(host.drivers):<{self.width}}  {text}")
+        self.tell({"at": at, **told}, f"{_show.exact_moment(at)[11:]}  {name or ', '.join(host.drivers):<{self.width}}  {text}")
+
+    # ---- what moves of itself
+
+    async def _move(self) -> None:
+        while True:
+            await asyncio.sleep(LOOK)
+            self.looks += 1
+            for host in self.hosts:
+                for place in filter(Place.is_moving, host.places):
+                    self._moved(host, place)
+
+    def _moved(self, host: "Host[Any]", place: Place) -> None:
+        if self.looks % LOOKS_A_SECOND == 0:
+            place.drifts()
+        if place.falls_back():
+            text = f"falls back to {place.shown()}"
+            self._line(host, place.point.name, text, {"host": host.address, "points": [place.point.name], "came": text})
 
     # ---- words
 
-    async def order(self, line: str) -> List[str]:
+    async def order(self, line: str) -> List[Said]:
         """Does what a typed line says, and gives what is to be written of it."""
         words = line.split()
         if not words:
             return []
         what, names = words[0], words[1:]
         if what == "help":
-            return HELP.split("\n")
+            return said(*HELP.split("\n"))
         if what == "list":
             return self.listed()
+        least, most = WORDS.get(what, (1, 0))
+        if not least <= len(names) <= most:
+            return said(f"no such words: {line.strip()}; help has them")
         if what == "back" and not names:
             return [text for host in self.hosts for text in await self._back(host, host.places)]
-        if what == "set" and len(names) == 2:
-            return self._set(names[0], names[1])
-        if what not in ("fail", "silent", "refuse", "back") or not 1 <= len(names) <= (2 if what == "fail" else 1):
-            return [f"no such words: {line.strip()}; help has them"]
-        code = names[1] if len(names) == 2 else str(ILLEGAL_ADDRESS)
-        if not code.isdigit() or not 1 <= int(code) <= 255:
-            return [f"{code} is no code: 1 to 255"]
-        return await self._change(names[0], Trouble(what, int(code)))
-
-    def _set(self, name: str, text: str) -> List[str]:
-        """Turns a point's device by hand."""
-        found = self._find(name)
-        if found is None:
-            return [f"no point of the plan is called {name}; list shows them"]
-        host, place = found
         try:
-            value = place.point.value(text)
-            words = place.words(value)
+            return await self._ordered(what, names)
         except Failure as failure:
-            return [str(failure)]
-        host.write(place.unit, place.kind, place.address, words)
-        return [f"{name} is {place.point.show(value)} by hand: {place.where()} = {place.shown(words)}"]
+            return said(str(failure))
 
-    def _find(self, name: str) -> Optional[Tuple[Host, Place]]:
-        return next(((host, place) for host in self.hosts for place in host.places if place.point.name == name), None)
-
-    async def _change(self, name: str, trouble: Trouble) -> List[str]:
-        host = next((host for host in self.hosts if name in host.drivers), None)
+    async def _ordered(self, what: str, names: List[str]) -> List[Said]:
+        host = next((host for host in self.hosts if names[0] in host.drivers), None)
+        if what in OF_HOSTS:
+            return await self._of_host(what, names[0], host)
+        if what in ("set", "drift", "watchdog"):
+            return self._of_point(what, *self._find(names[0], "no point"), names[1:])
         if host is not None:
-            return await self._change_host(host, trouble)
-        found = self._find(name)
-        if found is None:
-            return [f"no point and no driver of the plan is called {name}; list shows them"]
-        if trouble.what == "refuse":
-            return [f"a host refuses, and no point alone: refuse {found[0].drivers[0]}"]
-        if trouble.what == "back":
-            return await self._back(None, [found[1]])
-        found[1].trouble = trouble
-        return [f"{name} {trouble.text()}"]
+            if what == "back":
+                return await self._back(host, host.places)
+            return await self._troubled(host, trouble_of(host, what, names[1:]))
+        found, place = self._find(names[0], "no point and no driver")
+        if what == "back":
+            return await self._back(None, [place])
+        place.trouble = trouble_of(found, what, names[1:])
+        return said(f"{names[0]} {found.trouble_text(place.trouble)}")
 
-    async def _change_host(self, host: Host, trouble: Trouble) -> List[str]:
-        if trouble.what == "back":
-            return await self._back(host, host.places)
+    def _find(self, name: str, none: str) -> "Tuple[Host[Any], Place]":
+        """A point's host and place. Failure where there is none."""
+        for host in self.hosts:
+            for place in host.places:
+                if place.point.name == name:
+                    return host, place
+        raise Failure(f"{none} of the plan is called {name}; list shows them")
+
+    def _of_point(self, what: str, host: "Host[Any]", place: Place, words: List[str]) -> List[Said]:
+        point = place.point
+        if what == "drift":
+            place.drift = amount_of(point, words[0])
+            return said(f"{point.name} moves by {point.show(place.drift)} each second")
+        if what == "watchdog":
+            patience = number_of(words[0], 1, 86_400_000, "milliseconds")
+            place.watchdog = Watchdog(patience, point.value(words[1]))
+            return said(f"{point.name} falls back to {point.show(place.watchdog.value)} where it is not written for {patience} ms")
+        level = number_of(words[1], 1, 16, "a level") if len(words) == 2 else None
+        value = None if words[0] == "null" else point.value(words[0])
+        text = place.turn(value, level)
+        has = "let go" if value is None else point.show(value)
+        return said(f"{point.name} is {has} by hand: {place.where()} = {text}")
+
+    async def _of_host(self, what: str, name: str, host: "Optional[Host[Any]]") -> List[Said]:
+        """What only a whole host does. Failure where it is none."""
+        if host is None:
+            found, _ = self._find(name, "no driver")
+            raise Failure(f"{what} is for a host, and no point alone: {what} {found.drivers[0]}")
+        if what == "refuse":
+            return await self._troubled(host, Trouble("refuse"))
+        if what == "restart":
+            await self._opened(host)
+            host.restart()
+            return said(f"{self._called(host)} restarts")
+        if what == "late":
+            host.is_late = True
+            return said(f"{self._called(host)} answers each request after {round(host.delay() * 1000)} ms")
+        host.is_twice = True
+        return said(f"{self._called(host)} answers each request two times")
+
+    async def _troubled(self, host: "Host[Any]", trouble: Trouble) -> List[Said]:
+        host.stop_restart()
         if trouble.what == "refuse":
             host.shut()
-        elif host.server is None:
-            await host.listen(self._connected)
+        else:
+            await self._opened(host)
         host.trouble = trouble
-        return [f"{self._called(host)} {trouble.text()}"]
-
-    async def _back(self, host: Optional[Host], places: Iterable[Place]) -> List[str]:
-        """Lets a host, these places, or both work again."""
-        changed = [place for place in places if place.trouble is not None]
-        for place in changed:
-            place.trouble = None
-        texts = [f"{place.point.name} works again" for place in changed]
-        if host is not None and host.trouble is not None:
-            if host.server is None:
-                await host.listen(self._connected)
-            host.trouble = None
-            texts.append(f"{self._called(host)} works again")
-        return texts
-
-    def _called(self, host: Host) -> str:
-        return f"{' and '.join(host.drivers)} at {host.address}"
-
-    def listed(self) -> List[str]:
-        rows = [[Cell(place.point.name), Cell(host.drivers[0]), Cell(host.address), Cell(place.where()),
-                 Cell(self._value(host, place)), Cell(_show.exact_moment(place.moment)[11:] if place.moment else NONE), self._state(host, place)]
-                for host in self.hosts for place in host.places]
-        return _show.table(("POINT", "DRIVER", "HOST", "PLACE", "VALUE", "WRITTEN", "IT"), rows, "    r")
+        return said(f"{self._called(host)} {host.trouble_text(trouble)}")
 
     @staticmethod
-    def _value(host: Host, place: Place) -> str:
-        words = host.has(place)
-        return NONE if words is None else place.point.show(place.value(words))
+    async def _opened(host: "Host[Any]") -> None:
+        if not host.is_open():
+            await host.open()
 
-    def _state(self, host: Host, place: Place) -> Cell:
-        trouble = host.trouble or place.trouble
-        return Cell("works") if trouble is None else Cell(trouble.text(), "failed")
+    async def _back(self, host: "Optional[Host[Any]]", places: Iterable[Place]) -> List[Said]:
+        """Lets a host, these places, or both work again."""
+        changed = [place for place in places if place.trouble is not None or place.is_moving()]
+        for place in changed:
+            place.trouble, place.drift, place.watchdog = None, 0, None
+        texts = [f"{place.point.name} works again" for place in changed]
+        if host is not None and (host.trouble is not None or host.is_late or host.is_twice):
+            host.stop_restart()
+            await self._opened(host)
+            host.trouble, host.is_late, host.is_twice = None, False, False
+            texts.append(f"{self._called(host)} works again")
+        return said(*texts)
+
+    def _called(self, host: "Host[Any]") -> str:
+        return f"{' and '.join(host.drivers)} at {host.address}"
+
+    def listed(self) -> List[Said]:
+        pairs = [(host, place) for host in self.hosts for place in host.places]
+        rows = [[Cell(place.point.name), Cell(place.point.driver), Cell(host.address), Cell(place.where()), Cell(place.shown()),
+                 Cell(_show.exact_moment(place.moment)[11:] if place.moment else NONE), state(host, place)] for host, place in pairs]
+        head, *lines = _show.table(("POINT", "DRIVER", "HOST", "PLACE", "VALUE", "WRITTEN", "IT"), rows, "    r")
+        told = [{"point": place.point.name, "driver": place.point.driver, "host": host.address, "place": place.where(), "value": place.value(),
+                 "written": place.moment, "it": row[-1].text} for (host, place), row in zip(pairs, rows)]
+        return said(head) + [Said(*one) for one in zip(lines, told)]
+
+
+def state(host: "Host[Any]", place: Place) -> Cell:
+    """How a place does."""
+    moves = [f"moves by {place.point.show(place.drift)} a second"] if place.drift else []
+    moves += [f"falls back after {place.watchdog.patience} ms"] if place.watchdog else []
+    text = ", ".join(filter(None, [host.state(place.trouble), *moves]))
+    return Cell(text, "failed") if text else Cell("works")
+
+
+def number_of(text: str, least: int, most: int, what: str) -> int:
+    """A whole number that was typed. Failure where it is none of these."""
+    if not (text.isascii() and text.isdigit()) or not least <= int(text) <= most:
+        raise Failure(f"{text} is no number of {what}: {least} to {most}")
+    return int(text)
+
+
+def amount_of(point: Point, text: str) -> int:
+    """By how much a point's value is to change, in the point's units. Failure where the text says none."""
+    found = re.fullmatch(r"([-+]?)(\d{1,15})(?:\.(\d{1,3}))?", text)
+    if found is None or (found[3] and point.kind != "analog"):
+        raise Failure(f"{text} is no amount: a number in units of {point.name}, as -0.5")
+    thousandths = int(found[2]) * 1000 + int((found[3] or "0").ljust(3, "0"))
+    return (-1 if found[1] == "-" else 1) * (thousandths if point.kind == "analog" else thousandths // 1000)
+
+
+def trouble_of(host: "Host[Any]", what: str, words: List[str]) -> Trouble:
+    """The trouble that was typed. Failure where a host of this protocol has none such."""
+    if not words:
+        return Trouble(what)
+    if words[0] in ("reject", "abort"):
+        if isinstance(host, ModbusHost):
+            raise Failure(f"Modbus knows no {words[0]}: fail NAME CODE, 1 to 255")
+        return Trouble(words[0])
+    if not (words[0].isascii() and words[0].isdigit()) or not 1 <= int(words[0]) <= 255:
+        raise Failure(f"{words[0]} is no code: 1 to 255")
+    return Trouble(what, int(words[0]))
 
 
 # ---- the plan
 
-def split_address(address: str) -> Tuple[str, int]:
-    """The host and the port of HOST:PORT. Failure where there is no port."""
-    name, _, port = address.rpartition(":")
-    if not name or not port.isdigit() or int(port) > 65_535:
-        raise Failure(f"{address} has no port: Modbus TCP has 502")
-    return name.strip("[]"), int(port)
-
-
-def is_loopback(address: str) -> bool:
-    name = split_address(address)[0]
+def is_loopback(address: str, protocol: str) -> bool:
+    name = split_address(address, KNOWN_PORTS[protocol])[0]
     return name == "localhost" or name == "::1" or name.startswith("127.")
 
 
@@ -439,37 +291,59 @@ def read_plan(catalogue: str, plan: str) -> Dict[str, Any]:
     return tables
 
 
-def place_of(table: Dict[str, Any], points: Dict[str, Point]) -> Place:
-    kind = "coil" if "coil" in table else "register"
-    return Place(points[table["point"]], table["unit"], kind, table[kind], _forms.scale_of(table))
+def protocol_of(driver: Dict[str, Any]) -> str:
+    return str(driver.get("speaks", "modbus"))
 
 
-def hosts_of(tables: Dict[str, Any], points: Dict[str, Point], first: Optional[int]) -> Dict[str, Host]:
-    """The hosts by the addresses that they have in the plan. With a first port they listen at 127.0.0.1, one port after another, or for 0
-    at ports that the system chooses."""
-    hosts: Dict[str, Host] = {}
+def host_of(protocol: str, address: str) -> "Host[Any]":
+    if protocol == "bacnet":
+        return BacnetHost(address)
+    return ModbusHost(address)
+
+
+def add_place(host: "Host[Any]", table: Dict[str, Any], point: Point) -> None:
+    if isinstance(host, ModbusHost):
+        kind = "coil" if "coil" in table else "register"
+        host.places.append(Register(point, table["unit"], kind, table[kind], _forms.scale_of(table), host.store))
+    elif isinstance(host, BacnetHost):
+        host.places.append(object_place(point, table, _forms.scale_of({**table, "type": "f32"})))
+
+
+def hosts_of(tables: Dict[str, Any], points: Dict[str, Point], first: Optional[int]) -> "Dict[Tuple[str, str], Host[Any]]":
+    """The hosts by their protocols and the addresses that they have in the plan. With a first port they listen at 127.0.0.1, one port
+    after another, or for 0 at ports that the system chooses."""
+    hosts: Dict[Tuple[str, str], Host[Any]] = {}
+    instance = 1
     for driver in tables["driver"]:
-        address = driver["host"]
-        if first is None and not is_loopback(address):
+        protocol, address = protocol_of(driver), driver["host"]
+        if first is None and not is_loopback(address, protocol):
             raise Failure(f"{driver['name']} is at {address}, and bossctl field listens on this machine alone: with --ports 1502 it listens at"
                           " 127.0.0.1:1502 and the ports after it, and writes a plan that says so")
-        if address not in hosts:
-            port = 0 if not first else first + len(hosts)
-            hosts[address] = Host(address if first is None else f"127.0.0.1:{port}")
-        host = hosts[address]
+        if (protocol, address) not in hosts:
+            here = address if first is None else f"127.0.0.1:{first + len(hosts) if first else 0}"
+            hosts[protocol, address] = host_of(protocol, here)
+        host = hosts[protocol, address]
         host.drivers.append(driver["name"])
-        host.places += [place for place in (place_of(it, points) for it in tables["place"]) if place.point.driver == driver["name"]]
+        host.wait = max(host.wait, driver.get("wait", WAITS[protocol]))
+        for table in tables["place"]:
+            if points[table["point"]].driver == driver["name"]:
+                add_place(host, table, points[table["point"]])
+    for host in hosts.values():
+        if isinstance(host, BacnetHost):
+            host.first_instance = instance
+            instance += len(host.devices())
     return hosts
 
 
-def plan_text(source: str, tables: Dict[str, Any], hosts: Dict[str, Host]) -> str:
+def plan_text(source: str, tables: Dict[str, Any], hosts: "Dict[Tuple[str, str], Host[Any]]") -> str:
     """The same plan, at the addresses where the hosts listen."""
     lines = [f"{MARK} from {os.path.basename(source)}, with hosts of this machine. It is written anew each time."]
     # A plan without drivers, or without places, says so above its first table.
     lines += [f"{key} = []" for key in ("driver", "place") if not tables[key]]
     for driver in tables["driver"]:
-        lines += ["", "[[driver]]", f'name = "{driver["name"]}"', f'host = "{hosts[driver["host"]].address}"']
-        lines += [f"wait = {driver['wait']}"] if "wait" in driver else []
+        address = hosts[protocol_of(driver), driver["host"]].address
+        lines += ["", "[[driver]]", f'name = "{driver["name"]}"', f'host = "{address}"']
+        lines += [f"{key} = {json.dumps(driver[key])}" for key in _lint.A_DRIVER[2:] if key in driver]
     for place in tables["place"]:
         lines += ["", "[[place]]", f'point = "{place["point"]}"']
         lines += [f"{key} = {json.dumps(place[key])}" for key in _lint.A_PLACE[1:] if key in place]
@@ -498,8 +372,9 @@ def written_name(plan: str) -> str:
 # ---- the command
 
 def field(words: argparse.Namespace) -> int:
-    tables = read_plan(words.catalogue, words.plan)
-    hosts = hosts_of(tables, _show.read_catalogue(words.catalogue).points, words.ports)
+    catalogue = words.catalogue or _served.DEFAULT
+    tables = read_plan(catalogue, words.plan)
+    hosts = hosts_of(tables, _show.read_catalogue(catalogue).points, words.ports)
     plan = words.plan if words.ports is None else words.to or written_name(words.plan)
 
     def tell(told: Dict[str, Any], text: str) -> None:
@@ -513,10 +388,10 @@ def field(words: argparse.Namespace) -> int:
             tell({"drivers": host.drivers, "host": host.address},
                  f"{' and '.join(host.drivers)}: {host.address}, {len(host.places)} point{'s' if len(host.places) != 1 else ''}")
         if not words.json:
-            print(f"bossd serve {words.catalogue} - 127.0.0.1:7000 4 1000 - {plan}   drives them. Type help for what may be typed here.", flush=True)
+            print(f"bossd serve {catalogue} - 127.0.0.1:7000 4 1000 - {plan}   drives them. Type help for what may be typed here.", flush=True)
 
     try:
-        asyncio.run(served(Field(hosts, tell), ready))
+        asyncio.run(served(Field(list(hosts.values()), tell), ready))
     except KeyboardInterrupt:
         pass
     return 0

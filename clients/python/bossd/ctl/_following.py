@@ -9,7 +9,7 @@ answered. The value and the owner have to agree too: the file may be the journal
 
 import asyncio
 import os
-from typing import Dict, Iterable, List, NamedTuple, Optional, Sequence, Set, Tuple
+from typing import Dict, Iterable, List, NamedTuple, Optional, Protocol, Sequence, Set, Tuple
 
 from .._protocol import Slot
 from . import _journal as journals
@@ -32,6 +32,16 @@ class Written(NamedTuple):
     owner: str
     value: Optional[int]
     way: Way
+
+
+class Hearer(Protocol):
+    """Who is told all that a journal says, in order, in the thread that reads it."""
+
+    def begun(self, state: journals.State, before: int) -> None:
+        """A file begins with this state, to which so many events led. Of a journal that was read before it may be the same state again."""
+
+    def happened(self, event: journals.Event, names: List[str], following: int) -> None:
+        """An event. `names` are those of the processes so far; `following` is the number that a submit has."""
 
 
 class Moved(Exception):
@@ -58,8 +68,9 @@ def bytes_at(path: str, place: int, size: int) -> bytes:
 class Log:
     """What a file of a journal says, up to a gate."""
 
-    def __init__(self, found: journals.Journal) -> None:
+    def __init__(self, found: journals.Journal, hearer: Optional[Hearer] = None) -> None:
         state = found.state
+        self._hearer = hearer
         self.path, self.version, self.gate, self.next = found.path, found.version, found.gate, state.next
         self.front = found.data[:min(KNOWN, self.gate)]
         self.names = [process.name for process in state.processes]
@@ -70,6 +81,8 @@ class Log:
             self.slots[lease.point, lease.priority] = Written(lease.txn, self.names[lease.owner], lease.value, lease.steps)
         for one in state.reversions:
             self.slots[one.point, one.priority] = Written(one.txn, self.names[one.owner], None, one.steps)
+        if hearer is not None:
+            hearer.begun(state, found.before)
 
     def is_of(self, path: str, front: bytes) -> bool:
         """Whether a file that begins so is still the one that this was read from."""
@@ -106,6 +119,8 @@ class Log:
             return None, gate
 
     def _happens(self, event: journals.Event) -> None:
+        if self._hearer is not None:
+            self._hearer.happened(event, self.names, self.next)
         if event.kind == "process":
             self.names.append(event.name or "")
         elif event.kind == "submit" and event.owner is not None:
@@ -129,12 +144,12 @@ class Log:
 
 
 class Reader:
-    """Follows a journal. `sentence` says why it cannot; it is empty where it is followed."""
+    """Follows a journal. `sentence` says why it cannot; it is empty where it is followed. `hearer` is told what it says."""
 
-    def __init__(self, path: str, catalogue: Catalogue) -> None:
+    def __init__(self, path: str, catalogue: Catalogue, hearer: Optional[Hearer] = None) -> None:
         self.path, self.sentence, self.ended = path, BEING_READ, False
         self._places = {name: place for place, name in enumerate(catalogue.points)}
-        self._catalogue, self._why = catalogue, ""
+        self._catalogue, self._why, self._hearer = catalogue, "", hearer
         self._log: Optional[Log] = None
 
     def follow(self) -> None:
@@ -203,7 +218,7 @@ class Reader:
             raise Moved
         if found.digest != self._catalogue.digest:
             raise Failure(f"{path}: it was kept under another catalogue than {self._catalogue.path}")
-        return Log(found)
+        return Log(found, self._hearer)
 
     def _failed(self, why: str) -> None:
         """Once may be a moment at which the server writes it: it is said where it is so twice."""

@@ -4,7 +4,7 @@ import difflib
 from typing import Any, Callable, Dict, Iterable, List, NamedTuple, Optional, Sequence, Set, Tuple, Union
 
 from .._protocol import is_name
-from . import _forms, _toml
+from . import _bacnet, _forms, _show, _toml
 from ._toml import Broken, Failure, Lines, Path
 
 LONGEST_FILE = 1_048_576
@@ -344,17 +344,28 @@ def covers(pattern: str, other: str) -> bool:
 
 # ---- a plan of devices
 
-# The keys of a register alone, and of each place.
+# The keys of a driver, those of a register alone, of a place of each protocol alone, and of each place.
+A_DRIVER = ("name", "host", "speaks", "wait", "tries", "check", "again")
 OF_REGISTER = ("type", "first", "times", "offset", "round")
-A_PLACE = ("point", "unit", "coil", "register", "per", "function") + OF_REGISTER
+OF_MODBUS = ("unit", "coil", "register", "function", "type", "first", "round")
+OF_BACNET = ("bacnet", "level", "network", "station")
+A_PLACE = ("point", "unit", "coil", "register") + OF_BACNET + ("per", "function") + OF_REGISTER + ("check", "again")
+PROTOCOLS = {"modbus": "Modbus", "bacnet": "BACnet"}
+# The port that each protocol mostly has.
+PORTS = {"modbus": "502", "bacnet": "47808"}
+# How often, in milliseconds, a device may be looked at or written once more, and how many may be more often than the last.
+LEAST_LOOK, MANY, OFTEN = 1_000, 100, 5_000
+AN_OBJECT = '"TYPE,INSTANCE" without a space: one of ' + ", ".join(_bacnet.OBJECTS) + f", and 0 to {_bacnet.LAST_INSTANCE}"
 
 
 class Plan(File):
-    """A plan of Modbus devices: arrays of tables `driver` and `place`."""
+    """A plan of devices: arrays of tables `driver` and `place`."""
 
     def __init__(self, path: str, catalogue: Catalogue) -> None:
         super().__init__(path)
         self.catalogue = catalogue
+        # Of each driver how many of its places are written once more oftener than is good for many.
+        self.often: Dict[str, List[int]] = {}
         # The place of each driver's table, which points have a place, and which point has each register and coil.
         self.planned: Dict[str, int] = {}
         self.placed: Set[str] = set()
@@ -366,6 +377,7 @@ class Plan(File):
             for place, one in enumerate(self.array("place", None, "tables [[place]]")):
                 self._place(("place", place), one)
             self._missing()
+            self._too_often()
 
     def _driver(self, path: Path, driver: Any) -> None:
         if not isinstance(driver, dict):
@@ -383,19 +395,70 @@ class Plan(File):
             host, _, port = driver["host"].rpartition(":")
             if "/" in host + port:
                 self.note(path + ("host",), name, shown(driver["host"]), 'HOST:PORT and nothing before it or after it, as "192.0.2.7:502"')
-            elif not port.isdigit() or not 1 <= int(port) <= 65_535:
-                self.note(path + ("host",), name, shown(driver["host"]), "it has no port: Modbus TCP has 502", is_mistake=False)
+            else:
+                self._port(path, name, driver, port)
+        self.one(path, name, driver, "speaks", lambda value: value in tuple(PROTOCOLS), " or ".join(map(shown, PROTOCOLS)), default="modbus")
         self.one(path, name, driver, "wait", lambda value: is_whole(value, 50, 5_000), "50 to 5000 milliseconds", default=5_000)
-        self.known(path, name, driver, ("name", "host", "wait"))
+        self.one(path, name, driver, "tries", lambda value: is_whole(value, 1, 4), "1 to 4: how often a request is sent", default=2)
+        if "tries" in driver and driver.get("speaks", "modbus") == "modbus":
+            self.note(path + ("tries",), name, "tries at a driver that speaks Modbus", 'it belongs to speaks = "bacnet"; over TCP a request is sent once')
+        self._looks(path, name, driver)
+        self.known(path, name, driver, A_DRIVER)
+
+    def _port(self, path: Path, name: str, driver: Dict[str, Any], port: str) -> None:
+        """Notes a host without a port, or with that of another protocol."""
+        protocol = driver.get("speaks", "modbus")
+        if not isinstance(protocol, str) or protocol not in PROTOCOLS:
+            return
+        has = f"{'BACnet/IP' if protocol == 'bacnet' else 'Modbus TCP'} has {PORTS[protocol]}"
+        if not port.isdigit() or not 1 <= int(port) <= 65_535:
+            self.note(path + ("host",), name, shown(driver["host"]), f"it has no port: {has}", is_mistake=False)
+        elif port != PORTS[protocol] and port in PORTS.values():
+            self.note(path + ("host",), name, shown(driver["host"]), f"{has}; is speaks right?", is_mistake=False)
+
+    def _looks(self, path: Path, name: str, table: Dict[str, Any]) -> None:
+        fits = lambda value: is_whole(value, 0, 0) or is_whole(value, LEAST_LOOK, A_DAY)
+        for key, what in (("check", "the device is read"), ("again", "it is written once more")):
+            self.one(path, name, table, key, fits, f"{LEAST_LOOK} to {A_DAY} milliseconds, so often {what}; 0 for never", default=0)
 
     def _place(self, path: Path, place: Any) -> None:
         if not isinstance(place, dict):
             self.note(path, "", shown(place), "a table [[place]]")
             return
         name = name_of(place, "point")
-        self.one(path, name, place, "unit", lambda value: is_whole(value, 0, 255), "the unit, 0 to 255")
-        self.one(path, name, place, "per", lambda value: is_whole(value, 1, BOUND), "1 to 10^15: so many thousandths are 1 in the register",
+        self.one(path, name, place, "per", lambda value: is_whole(value, 1, BOUND), "1 to 10^15: so many thousandths are 1 in the device",
                  default=1)
+        protocol = self._protocol(place)
+        for key in OF_MODBUS if protocol == "bacnet" else OF_BACNET:
+            if key in place:
+                wanted = "an object is named by bacnet" if protocol == "bacnet" else 'a driver with speaks = "bacnet", or coil or register'
+                self.note(path + (key,), name, f"{key} where the driver speaks {PROTOCOLS[protocol]}", wanted)
+        if protocol == "bacnet":
+            self._object(path, name, place)
+        else:
+            self._in_registers(path, name, place)
+        wanted = f"a point of the catalogue{meant(place.get('point'), self.catalogue.points)}"
+        if self.one(path, name, place, "point", lambda value: isinstance(value, str) and value in self.catalogue.points, wanted):
+            self._known_place(path, name, place, self.catalogue.points[place["point"]])
+        self._looks(path, name, place)
+        self.known(path, name, place, A_PLACE)
+
+    def _protocol(self, place: Dict[str, Any]) -> str:
+        """What the driver of a place speaks; where that is not known, what the place is of."""
+        point = self.catalogue.points.get(place["point"]) if isinstance(place.get("point"), str) else None
+        driver = None if point is None else self._table_of(point.get("driver"))
+        protocol = "bacnet" if driver is None and "bacnet" in place else (driver or {}).get("speaks", "modbus")
+        return protocol if isinstance(protocol, str) and protocol in PROTOCOLS else "modbus"
+
+    def _table_of(self, driver: Any) -> Optional[Dict[str, Any]]:
+        """The table of a driver that the plan has."""
+        if not isinstance(driver, str) or driver not in self.planned:
+            return None
+        table: Dict[str, Any] = self.tables["driver"][self.planned[driver]]
+        return table
+
+    def _in_registers(self, path: Path, name: str, place: Dict[str, Any]) -> None:
+        self.one(path, name, place, "unit", lambda value: is_whole(value, 0, 255), "the unit, 0 to 255")
         both = [key for key in ("coil", "register") if key in place]
         if len(both) != 1:
             self.note(path, name, " and ".join(both) or "neither coil nor register", "one of coil and register")
@@ -408,18 +471,46 @@ class Plan(File):
         if is_whole(place.get("register"), HOLDING.start, HOLDING.stop - 1):
             self.note(path + ("register",), name, str(place["register"]), f"is {place['register'] - HOLDING.start} meant? Addresses count from 0, "
                       f"where manuals count holding registers from {HOLDING.start}", is_mistake=False)
-        wanted = f"a point of the catalogue{meant(place.get('point'), self.catalogue.points)}"
-        if self.one(path, name, place, "point", lambda value: isinstance(value, str) and value in self.catalogue.points, wanted):
-            self._known_place(path, name, place, self.catalogue.points[place["point"]])
-        self.known(path, name, place, A_PLACE)
+
+    def _object(self, path: Path, name: str, place: Dict[str, Any]) -> None:
+        """An object of BACnet."""
+        is_object = self.one(path, name, place, "bacnet", lambda value: isinstance(value, str) and _bacnet.object_of(value) is not None, AN_OBJECT)
+        fits = lambda value: is_whole(value, 1, 16) and value != _bacnet.MINIMUM_TIMES
+        if self.one(path, name, place, "level", fits, "1 to 16 and not 6: the BACnet priority at which it is written") and place["level"] <= 2:
+            self.note(path + ("level",), name, f"level {place['level']}, {_show.level(place['level'])}", "a lower level, as 8 or 10, where it saves no lives",
+                      is_mistake=False)
+        both = [key for key in ("network", "station") if key in place]
+        if len(both) == 1:
+            self.note(path + (both[0],), name, f"{both[0]} alone", "both network and station, for what is behind a router, or neither")
+        self.one(path, name, place, "network", lambda value: is_whole(value, 1, 65_534), "a network, 1 to 65534", default=1)
+        self.one(path, name, place, "station", lambda value: is_whole(value, 0, 254), "a station of it, 0 to 254", default=0)
+        kind = _bacnet.KINDS[place["bacnet"].partition(",")[0]] if is_object else "analog"
+        for key in ("times", "offset", "per"):
+            if key in place and kind != "analog":
+                self.note(path + (key,), name, f"{key} at an object of kind {kind}", "a state is written as it is")
+        self._scale(path, name, place)
+
+    def _scale(self, path: Path, name: str, place: Dict[str, Any]) -> None:
+        self.one(path, name, place, "times", lambda value: is_whole(value, 1, 1_000), "1 to 1000", default=1)
+        is_offset = self.one(path, name, place, "offset", lambda value: is_whole(value, -10**9, 10**9), "-10^9 to 10^9: what is in the device for 0",
+                             default=0)
+        if is_offset and is_whole(place.get("per", 1), 1, BOUND) and abs(place.get("offset", 0) * place.get("per", 1)) > 10**18:
+            self.note(path + ("offset",), name, f"{place['offset']} times {place.get('per', 1)}", "at most 10^18 together")
 
     def _known_place(self, path: Path, name: str, place: Dict[str, Any], point: Dict[str, Any]) -> None:
         if point["name"] in self.placed:
             self.note(path + ("point",), "", f"{name} again", "a point that has no earlier place")
         self.placed.add(point["name"])
-        if point.get("driver") not in self.planned:
+        driver = self._table_of(point.get("driver"))
+        if driver is None:
             self.note(path + ("point",), name, f"a point of the driver {shown(point.get('driver'))}", "a point of a driver that the plan has")
+        else:
+            again = place.get("again", driver.get("again", 0))
+            self.often.setdefault(point["driver"], []).extend([again] if is_whole(again, LEAST_LOOK, OFTEN - 1) else [])
         is_binary = point.get("kind") == "binary"
+        if self._protocol(place) == "bacnet":
+            self._known_object(path, name, place, point)
+            return
         if "coil" in place and not is_binary:
             self.note(path + ("coil",), name, f"a coil for a point of kind {shown(point.get('kind'))}", "a register; coils are for binary points")
         if "register" in place:
@@ -427,6 +518,21 @@ class Plan(File):
         elif "per" in place:
             self.note(path + ("per",), name, "per at a coil", "a coil is 0 or 1, and per means nothing there", is_mistake=False)
         self._same_place(path, name, place, point)
+
+    def _known_object(self, path: Path, name: str, place: Dict[str, Any], point: Dict[str, Any]) -> None:
+        """An object whose point is known."""
+        found = _bacnet.object_of(place["bacnet"]) if isinstance(place.get("bacnet"), str) else None
+        if found is None:
+            return
+        kind = _bacnet.KINDS[found[0]]
+        if kind != point.get("kind"):
+            self.note(path + ("bacnet",), name, f"an object of kind {kind} for a point of kind {shown(point.get('kind'))}", "an object of the point's kind")
+        elif kind == "analog":
+            self._range(path, name, {**place, "type": "f32"}, point)
+        at = (point.get("driver"), str(place.get("network")), str(place.get("station")), place["bacnet"])
+        other = self.taken.setdefault(at, name)
+        if other != name:
+            self.note(path + ("bacnet",), name, f"{place['bacnet']} again, which {other} has", "two points would be written to one", is_mistake=False)
 
     def _coil(self, path: Path, name: str, place: Dict[str, Any]) -> None:
         for key in OF_REGISTER:
@@ -442,11 +548,7 @@ class Plan(File):
         self.one(path, name, place, "first", lambda value: value in ("high", "low"), "high or low: the half that stands first", default="high")
         if count == 1 and "first" in place:
             self.note(path + ("first",), name, f"first at one register of type {form}", "a type of two registers: u32, i32 or f32")
-        self.one(path, name, place, "times", lambda value: is_whole(value, 1, 1_000), "1 to 1000", default=1)
-        is_offset = self.one(path, name, place, "offset", lambda value: is_whole(value, -10**9, 10**9), "-10^9 to 10^9: what is in the register for 0",
-                             default=0)
-        if is_offset and is_whole(place.get("per", 1), 1, BOUND) and abs(place.get("offset", 0) * place.get("per", 1)) > 10**18:
-            self.note(path + ("offset",), name, f"{place['offset']} times {place.get('per', 1)}", "at most 10^18 together")
+        self._scale(path, name, place)
         self.one(path, name, place, "round", lambda value: value in ("down", "nearest"), "down or nearest", default="down")
         if form == "f32" and "round" in place:
             self.note(path + ("round",), name, "round at type f32", "it has fractions, and nothing is rounded to a whole number")
@@ -464,6 +566,9 @@ class Plan(File):
         for end in ends:
             if not scale.fits(end):
                 self._no_form(path, name, place, scale, end)
+        if scale.form == "f32" and point.get("kind") == "analog" and "per" not in place:
+            found = f"no per, so that {most} thousandths are {scale.shown(scale.words(most)) if scale.fits(most) else most} in the device"
+            self.note(path + ("per",), name, found, "is per = 1000 meant?", is_mistake=False)
         if scale.form != "f32" and least < most and scale.whole(least) == scale.whole(most):
             found = f"{scale.per}, by which each of {least} to {most} comes to {scale.whole(most)}"
             self.note(path + ("per",), name, found, f"so many {'states' if point.get('kind') == 'multi' else 'thousandths'} are 1 in the register",
@@ -499,6 +604,13 @@ class Plan(File):
                 if again is not None:
                     self.note(path + (key,), name, f"{key} {shown(again)} again, which {others[again]} has", "two points would be written to one",
                               is_mistake=False)
+
+    def _too_often(self) -> None:
+        """Notes a driver with many places that are written once more all the time."""
+        for driver, often in self.often.items():
+            if len(often) > MANY:
+                self.note(("driver", self.planned[driver], "again"), shown(driver), f"{len(often)} places that are written once more each {min(often)} ms",
+                          f"again of {OFTEN} or more where a driver has more than {MANY} of them", is_mistake=False)
 
     def _missing(self) -> None:
         for name, point in self.catalogue.points.items():

@@ -1,6 +1,7 @@
 """What a running server is asked: points, who holds them, and how it is."""
 
 import socket
+import ssl
 import time
 from typing import Dict, Iterable, List, NamedTuple, Optional
 
@@ -14,6 +15,8 @@ from ._toml import Failure
 
 # The number after each notice that a process may have had.
 AFTER_ALL = 1 << 62
+# The last of the priorities whose leases go by no minimum time.
+MOST_URGENT = 5
 # How long a server that has a free worker may take for an answer, in seconds.
 SOON = 0.5
 # By which names bossctl sets points where no name is given. A server forgets no name, so there are few.
@@ -46,6 +49,17 @@ class View(NamedTuple):
         """Who holds it."""
         return None if self.reading is None or self.reading.txn is None else self.owners.get(self.reading.txn)
 
+    def may_wait_until(self, since: int) -> Optional[int]:
+        """Up to when its device may have its other value still, by the minimum time of that one, where it is known to wait since this
+        moment: that value was written before. None where nothing keeps it."""
+        reading = self.reading
+        if reading is None or reading.mark != "pending" or self.point.kind != "binary":
+            return None
+        if reading.basis == "lease" and (reading.priority or 16) <= MOST_URGENT:
+            return None
+        least = self.point.min_on if reading.value == 0 else self.point.min_off
+        return since + least if least else None
+
     def told(self) -> Answer:
         """The view for a program."""
         point, reading = self.point, self.reading
@@ -55,7 +69,7 @@ class View(NamedTuple):
         ends = self.ends
         return {**base, "value": reading.value, "shown": point.number(reading.value), "from": reading.basis, "priority": reading.priority,
                 "process": self.owner, "txn": reading.txn, "ends": ends, "left": None if ends is None else max(0, ends - now()),
-                "mark": reading.mark}
+                "mark": reading.mark, "may_wait_until": self.may_wait_until(now())}
 
 
 def end_of(slot: Slot) -> int:
@@ -152,13 +166,15 @@ def following(at: int, basis: str, priority: int, slot: Slot) -> Next:
 
 # ---- who sets a point
 
-def attached(server: str, name: Optional[str], patience: float) -> Client:
-    """A client for the process of this name, or, without one, for the first of bossctl's own that nobody has."""
+def attach(client: Client, name: Optional[str]) -> None:
+    """Speaks for the process of this name, or, without one, for the first of bossctl's own that nobody has. Failure, and as `Client.attach`."""
     if name is not None:
-        return Client(server, name, patience, at_once=True)
+        client.attach(name)
+        return
     for own in NAMES:
         try:
-            return Client(server, own, patience, at_once=True)
+            client.attach(own)
+            return
         except Taken:
             pass
     raise Failure(f"all of bossctl's own names are in use, {NAMES[0]} to {NAMES[-1]}: give another one by --as")
@@ -175,21 +191,23 @@ class Health(NamedTuple):
     why: str
 
 
-def health(server: str, patience: float, tried: int) -> Health:
+def health(server: str, patience: float, tried: int, tls: Optional[ssl.SSLContext] = None) -> Health:
     """Asks the server something, and then something over further connections that are open at one time: each takes a worker."""
     began = time.monotonic()
     links: List[socket.socket] = []
     try:
-        links.append(answered(server, patience))
+        links.append(answered(server, patience, tls))
         took = (time.monotonic() - began) * 1000
     except socket.timeout:
         return Health(False, 0.0, 0, 0, "it takes the connection and answers nothing: all its workers are busy, or it hangs")
+    except ConnectionRefusedError:
+        return Health(False, 0.0, 0, 0, "nobody listens there: does bossd run?")
     except OSError as error:
         return Health(False, 0.0, 0, 0, str(error))
     try:
         free = 0
         while free < tried:
-            links.append(answered(server, SOON))
+            links.append(answered(server, SOON, tls))
             free += 1
     except OSError:
         pass
@@ -199,9 +217,9 @@ def health(server: str, patience: float, tried: int) -> Health:
     return Health(True, took, free, tried, "")
 
 
-def answered(server: str, seconds: float) -> socket.socket:
+def answered(server: str, seconds: float, tls: Optional[ssl.SSLContext]) -> socket.socket:
     """A connection on which something was answered."""
-    link = connected(server, seconds)
+    link = connected(server, seconds, tls)
     try:
         link.sendall(line_of({"op": "status", "txn": 0}))
         if not link.recv(65_536):

@@ -3,22 +3,24 @@
 import argparse
 import os
 import socket
+import ssl
 import sys
 import textwrap
 from typing import Callable, Optional, Sequence
 
 from .. import overrides
+from .._client import tls_context
 from .._protocol import Refused, Unanswered, UnknownHost
-from . import _commands, _field, _journal
+from . import _commands, _feed, _field, _follow, _journal, _served
 from ._toml import Failure
 
-SERVER, CATALOGUE = "127.0.0.1:7000", "/etc/bossd/plant.toml"
+SERVER = "127.0.0.1:7000"
 FAULT, USAGE, NO_ANSWER, BROKEN = 1, 2, 3, 130
 
 ABOUT = """Shows and sets what a building's bossd holds.
 
-Each command asks a running server, but for journal and lint, which read files, and field, which stands for devices. Every connection takes one of the server's workers as
-long as it lasts."""
+Each command asks a running server, but for journal and lint, which read files, field, which stands for devices, and feed and follow, which
+keep a standby. Every connection takes one of the server's workers as long as it lasts."""
 
 ENDS = """A priority is 1 to 16 but not 6, and the least number wins; 8 is Manual Operator. Lengths of time are written 30m, 90s, 1h30m, 250ms
 or 2d. Values of analog points are in units, as 45 or 21.5.
@@ -51,13 +53,20 @@ def at_every_place(parser: argparse.ArgumentParser, is_top: bool) -> None:
     group = parser.add_argument_group("options of every command")
     group.add_argument("--server", metavar="HOST:PORT", default=given(environment.get("BOSSD_SERVER") or SERVER),
                        help=f"where the server listens (or BOSSD_SERVER in the environment; {SERVER})")
-    group.add_argument("--catalogue", metavar="FILE", default=given(environment.get("BOSSD_CATALOGUE") or CATALOGUE),
-                       help=f"the server's catalogue (or BOSSD_CATALOGUE in the environment; {CATALOGUE}); its points may have a unit and a note,"
-                       " which the server passes over and bossctl shows")
+    group.add_argument("--catalogue", metavar="FILE", default=given(environment.get("BOSSD_CATALOGUE")),
+                       help="a file with the server's catalogue (or BOSSD_CATALOGUE in the environment; else "
+                       f"{_served.DEFAULT}, where it may be read): it has the units and notes of points, which the server does not keep. Without "
+                       "one, or where it is another catalogue than the server's, bossctl goes by what the server tells")
     group.add_argument("--overrides", metavar="SOCKET", default=given(environment.get("BOSSD_OVERRIDES") or overrides.SOCKET),
                        help=f"where bossd-overrides is asked (or BOSSD_OVERRIDES in the environment; {overrides.SOCKET})")
     group.add_argument("--json", action="store_true", default=given(False), help="write JSON, for programs: values are whole numbers,"
                        " thousandths of the unit at analog points; moments are milliseconds since 1970")
+    group.add_argument("--tls", metavar="FILE", default=given(environment.get("BOSSD_TLS")),
+                       help="connect by TLS, to a host that this authority vouches for, in PEM (or BOSSD_TLS in the environment)")
+    group.add_argument("--tls-certificate", metavar="FILE", default=given(environment.get("BOSSD_TLS_CERTIFICATE")),
+                       help="with --tls, the certificate to show, in PEM (or BOSSD_TLS_CERTIFICATE in the environment)")
+    group.add_argument("--tls-key", metavar="FILE", default=given(environment.get("BOSSD_TLS_KEY")),
+                       help="its key, where that is not in the same file (or BOSSD_TLS_KEY in the environment)")
     group.add_argument("--patience", type=float, metavar="SECONDS", default=given(10.0),
                        help="how long to wait for the server (10): where all its workers are busy, nothing is answered until one is free")
 
@@ -68,6 +77,15 @@ def add(commands: "argparse._SubParsersAction[argparse.ArgumentParser]", name: s
     parser = commands.add_parser(name, help=help, description=text, formatter_class=Paragraphs)
     parser.set_defaults(run=run)
     at_every_place(parser, is_top=False)
+    return parser
+
+
+def add_plain(commands: "argparse._SubParsersAction[argparse.ArgumentParser]", name: str, run: Callable[[Sequence[str]], int], help: str,
+              more: str) -> argparse.ArgumentParser:
+    """A command whose words are its own; `main` of the package runs it before this is read, unless they begin with an option."""
+    parser = commands.add_parser(name, help=help, description=f"{help[0].upper()}{help[1:]}.\n\n{more}", formatter_class=Paragraphs)
+    parser.set_defaults(run=lambda words: run(words.plain))
+    parser.add_argument("plain", nargs=argparse.REMAINDER, help=argparse.SUPPRESS)
     return parser
 
 
@@ -164,14 +182,15 @@ def parser_of() -> argparse.ArgumentParser:
     add(commands, "faults", _commands.faults, "show points whose devices did not take a value, or have not answered yet",
         "Ends with 1 where there is one that did not take it. Also shown is what the processes that hold these points were told of faults.")
 
-    one = add(commands, "status", _commands.status, "show whether the server answers, how soon, and whether workers are free",
+    one = add(commands, "status", _commands.status, "show whether the server answers, how soon, whether workers are free, and what it serves",
               "Asks it something, and then over further connections, which take free workers for some thousandths of a second.")
     one.add_argument("--workers", type=count, default=4, metavar="N", help="look for so many free workers at most (4)")
 
     one = add(commands, "journal", _commands.journal, "show the events of a journal, one on a line",
               "Reads the files and asks no server. Of the two files FILE and FILE.b it reads the one in force: the kept state that it may begin\n"
               "with, and each event after that. Reading the files of a server that runs does no harm; as the last line it may miss what came\n"
-              "meanwhile.")
+              "meanwhile. Points have their names where the catalogue of the journal is the file of --catalogue, the unit's, or the copy that the\n"
+              "unit keeps beside the journal.")
     one.add_argument("file", metavar="FILE", help="the journal's name")
     one.add_argument("--state", action="store_true", help="show the leases and reversions of the kept state too")
     one.add_argument("--from", dest="first", type=count, default=1, metavar="N", help="begin with this event")
@@ -185,26 +204,39 @@ def parser_of() -> argparse.ArgumentParser:
     one = add(commands, "lint", _commands.lint, "look through a catalogue, access rules and a plan of devices, and name every mistake",
               "Each mistake has its line, its table, its key, what was found and what may stand there. Tables count from 0 and rules from 1, as in\n"
               "what the server prints. A key that nothing reads is a mistake where it looks like one that is missing. What is merely odd is named\n"
-              "too, as passed over: other keys that nothing reads, percent where thousandths are meant, a register of 40001 and more, rules that\n"
-              "no write comes to, patterns that fit no point, and points that no rule is for. Which processes there are no file says, so none is\n"
-              "looked for. It ends with 1 where there is a mistake, and with --strict also where something is passed over.\n\n"
-              "RULES has tables [[rule]] with process, point, highest (1) and allow (true). PLAN has tables [[driver]] with name and host, and\n"
-              "[[place]] with point, unit, one of coil and register, and per (1).")
+              "too, as passed over: other keys that nothing reads, percent where thousandths are meant, a register of 40001 and more, two points\n"
+              "at one place, rules that no write comes to, patterns that fit no point, and points that no rule is for. Which processes there are\n"
+              "no file says, so none is looked for. It ends with 1 where there is a mistake, and with --strict also where something is passed over.\n\n"
+              "RULES has tables [[rule]] with process, point, highest (1) and allow (true). PLAN has tables [[driver]] with name, host, speaks\n"
+              "(modbus), wait, tries, check (0) and again (0), and [[place]] with point; for Modbus unit and one of coil and register; for BACnet\n"
+              "bacnet, level, network and station; and with per (1), check and again.")
     one.add_argument("file", metavar="CATALOGUE", help="the catalogue")
     one.add_argument("rules", metavar="RULES", nargs="?", help="access rules; - for none")
-    one.add_argument("plan", metavar="PLAN", nargs="?", help="a plan of Modbus devices; - for none")
+    one.add_argument("plan", metavar="PLAN", nargs="?", help="a plan of devices; - for none")
     one.add_argument("--strict", action="store_true", help="end with 1 also where something is passed over")
 
-    one = add(commands, "field", _field.field, "serve the Modbus hosts of a plan on this machine: a field to play with",
-              "Shows each write as it comes: the moment, the point, its register or coil, the value, and what was answered. Words that are typed\n"
-              "make a point or a whole host fail:\n\n" + _field.HELP + "\n\n"
-              "It takes the functions 5 and 6 (write single coil, write single register) and answers every other one with exception 1.\n"
-              "A write to a place that the plan does not have is answered with exception 2. It goes on until quit or Ctrl-C.\n\n"
+    one = add(commands, "field", _field.field, "serve the hosts of a plan on this machine, over Modbus TCP and BACnet/IP: a field to play with",
+              "Shows each request as it comes: the moment, the point, its place, the value, and what was answered. Words that are typed\n"
+              "turn a point's device, or make it or a whole host fail:\n\n" + _field.HELP + "\n\n"
+              "Over Modbus it takes the functions 1 and 3 (read coils and registers), 5 and 6 (write one), 15 and 16 (write several), and answers\n"
+              "every other one with exception 1; what names a place that the plan does not have is answered with exception 2. Over BACnet it takes\n"
+              "ReadProperty and WriteProperty, with a priority array, and Who-Is. It goes on until quit or Ctrl-C.\n\n"
               "A plan whose hosts are at 127.0.0.1 is served as it is. For any other, --ports 1502 serves its hosts at 127.0.0.1:1502 and the\n"
               "ports after it, and writes a plan that says so, for bossd to be started with.")
-    one.add_argument("plan", metavar="PLAN", help="the plan of Modbus devices")
+    one.add_argument("plan", metavar="PLAN", help="the plan of devices")
     one.add_argument("--ports", type=port, metavar="FROM", help="serve the hosts at 127.0.0.1, at this port and those after it; 0 for free ones")
     one.add_argument("--to", metavar="FILE", help="where to write the plan with these hosts (its name with .local, in this folder)")
+
+    one = add_plain(commands, "feed", _feed.feed, "write what a standby does not have yet of a journal that is being served",
+                    "Copies both files of JOURNAL, and writes the feed of the copy above the number FROM. Nothing is written before a copy is whole, and\n"
+                    "nothing where CATALOGUE does not have the digest DIGEST, if that is given. CATALOGUE alone has its digest written.\n"
+                    "bossd-feed(8) says more.")
+    one.usage = "bossctl feed CATALOGUE [JOURNAL FROM [DIGEST]]"
+
+    one = add_plain(commands, "follow", _follow.follow, "keep a standby's journal behind one that is served elsewhere",
+                    "Goes round each SECONDS, or once: COMMAND, which gets two words more, the number above which events are wanted and the digest of\n"
+                    "CATALOGUE, writes a feed, and bossd takes it into JOURNAL. bossd-follow(8) says more.")
+    one.usage = "bossctl follow CATALOGUE JOURNAL SECONDS|once COMMAND WORD.."
 
     add(commands, "version", _commands.version, "show the version of bossctl")
     return parser
@@ -217,6 +249,7 @@ def main(arguments: Optional[Sequence[str]] = None) -> int:
         if getattr(words, name, None) == "-":
             setattr(words, name, None)
     try:
+        words.context = context_of(words)
         status: int = words.run(words)
         sys.stdout.flush()
         return status
@@ -238,6 +271,21 @@ def main(arguments: Optional[Sequence[str]] = None) -> int:
         return say(str(error), USAGE)
     except OSError as error:
         return say(f"{words.server}: {error}", NO_ANSWER)
+
+
+def context_of(words: argparse.Namespace) -> Optional[ssl.SSLContext]:
+    """How to connect; None without TLS. Failure where a file is none, ValueError where one is missing."""
+    if words.tls is None:
+        if words.tls_certificate or words.tls_key:
+            raise ValueError("--tls-certificate and --tls-key belong to --tls, which names the authority")
+        return None
+    if words.tls_key and not words.tls_certificate:
+        raise ValueError("--tls-key belongs to --tls-certificate")
+    try:
+        return tls_context(words.tls, words.tls_certificate, words.tls_key)
+    except OSError as error:
+        names = ", ".join(filter(None, (words.tls, words.tls_certificate, words.tls_key)))
+        raise Failure(f"{names}: no authority, certificate and key in PEM, or not to be read ({error.strerror or error})") from error
 
 
 def say(text: str, status: int) -> int:

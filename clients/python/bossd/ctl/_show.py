@@ -11,7 +11,7 @@ import time
 from decimal import Decimal, InvalidOperation
 from typing import Any, Dict, List, NamedTuple, Optional, Sequence
 
-from .._protocol import is_name
+from .._protocol import Points, is_name
 from . import _toml
 from ._toml import Broken, Failure
 
@@ -152,6 +152,15 @@ def catalogue_of(path: str, tables: Dict[str, Any]) -> Catalogue:
         text += f"p {point.name} {point.driver} {kind} {least} {most} {point.default}{guarded}\n"
         points[point.name] = point
     return Catalogue(path, points, hashlib.sha256(text.encode()).digest())
+
+
+def told_catalogue(server: str, told: Points) -> Catalogue:
+    """The catalogue that a server tells, which keeps neither units nor notes."""
+    points: Dict[str, Point] = {}
+    for one in told.list:
+        least, most = {"analog": (one.min or 0, one.max or 0), "binary": (0, 1), "multi": (1, one.states or 1)}[one.kind]
+        points[one.name] = Point(one.name, one.driver, one.kind, least, most, one.default, min_on=one.min_on, min_off=one.min_off)
+    return Catalogue(server, points, bytes.fromhex(told.digest))
 
 
 # ---- time
