@@ -10,6 +10,7 @@ import bossd.aio
 
 from .answering import SLOW, Answering
 from .catalogue import Following, now
+from .knowing import Knowing
 from .picture import Picture
 
 # How many requests are asked at once. The client sends on while the answers come, and the server makes sixteen at a time of those that have
@@ -39,14 +40,14 @@ class Looking:
     """Looks each `every` seconds, and calls `seen` after each look and whenever the server is found to answer or not. `seconds` is how
     long the last whole look took, `first` how long its first request did, `rounds` how many there were."""
 
-    def __init__(self, address: str, picture: Picture, answering: Answering, every: float) -> None:
-        self.address, self.picture, self.answering, self.every = address, picture, answering, every
+    def __init__(self, knowing: Knowing, picture: Picture, answering: Answering, every: float) -> None:
+        self.address, self.knowing, self.picture, self.answering, self.every = knowing.address, knowing, picture, answering, every
         self.seconds, self.first, self.rounds = 0.0, 0.0, 0
         self.seen: Callable[[], None] = lambda: None
-        self._following = Following(picture.journal) if picture.journal is not None else None
         self._client: Optional[bossd.aio.Client] = None
         self._asked_since: Optional[float] = None
-        self._reads = [{"op": "read", "point": name} for name in picture.points]
+        self._following: Optional[Following] = None
+        self._begin()
 
     async def run(self) -> None:
         """Looks, for ever."""
@@ -78,9 +79,19 @@ class Looking:
 
     # -- a look
 
+    def _begin(self) -> None:
+        """What is read, by the catalogue that the picture has."""
+        if self._following is not None:
+            self._following.end()
+        self._following = Following(self.picture.journal) if self.picture.journal is not None else None
+        self._reads = [{"op": "read", "point": name} for name in self.picture.points]
+
     async def _look(self) -> None:
         if self._client is None:
             await self._reach()
+        if await self.knowing.is_another(self._ask):
+            self.picture.become(self.knowing.catalogue)
+            self._begin()
         began, changes = time.monotonic(), self.answering.changed
         changed = await self._read_points(self._reads[:1])
         self.first = time.monotonic() - began
@@ -89,6 +100,7 @@ class Looking:
         # A server that was away may have come back with another journal, whose transactions have the same numbers.
         await self._see_owners(self.answering.changed != changes)
         await self._see_journal()
+        await self.picture.schedules.look()
         await self._hear()
         self.seconds, self.rounds = time.monotonic() - began, self.rounds + 1
         self.seen()

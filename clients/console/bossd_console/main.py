@@ -15,12 +15,14 @@ from aiohttp import web
 from . import __version__
 from .answering import Answering
 from .bounds import IDLE, Bounds, is_worth_a_line
-from .catalogue import Failure, Reader, is_name, read_catalogue
+from .catalogue import Failure, is_name
 from .guard import Guard, hosts_of, token_in
+from .knowing import Knowing
 from .looking import Looking
 from .metrics import registry_of
 from .operating import Operator
 from .picture import Picture
+from .schedules import Schedules
 from .standing import Standing, process_at
 from .streams import MOST_OF_ONE, MOST_STREAMS, Streams
 from .web import Web
@@ -34,7 +36,10 @@ def words() -> argparse.ArgumentParser:
     parser = argparse.ArgumentParser(
         prog="bossd-console", description="Shows in a browser who holds which point of a bossd, and counts it for Prometheus.",
         epilog="It takes one of the server's workers to look, and one more while the operator holds something.")
-    parser.add_argument("catalogue", metavar="CATALOGUE", help="the file with the server's points, as /etc/bossd/plant.toml")
+    parser.add_argument("catalogue", metavar="CATALOGUE", nargs="?",
+                        help="a file with the server's catalogue, as /etc/bossd/plant.toml, for the units and notes of points, which the server "
+                             "does not keep; an empty word is none. Without one, or where it is another catalogue than the server's, the page "
+                             "shows what the server tells")
     parser.add_argument("server", metavar="SERVER", help="the server's address, as 127.0.0.1:7000")
     parser.add_argument("--listen", metavar="ADDRESS", default="127.0.0.1:8080", help="where browsers come (%(default)s)")
     parser.add_argument("--operator", metavar="NAME", help="allow changes from the page, as the control process of this name")
@@ -49,6 +54,8 @@ def words() -> argparse.ArgumentParser:
                         help=f"how many pages may listen from one address, as that of a proxy: 1 to {MOST_STREAMS}, {MOST_OF_ONE} where left out")
     parser.add_argument("--journal", metavar="FILE", help="the server's journal, which is read to see what comes after every lease; an empty "
                                                           "word is none")
+    parser.add_argument("--schedule", metavar="FILE", action="append", default=[],
+                        help="the coming.json of a bossd-schedule, to show what it wants and whether it holds it; an empty word is none")
     parser.add_argument("--version", action="version", version=f"bossd-console {__version__}")
     return parser
 
@@ -96,12 +103,12 @@ def greeting(given: argparse.Namespace, token: Optional[str]) -> str:
 async def serve(given: argparse.Namespace) -> None:
     """Runs until it is told to end. Failure, OSError."""
     host, port = address(given.listen)
-    catalogue = read_catalogue(given.catalogue)
-    picture, answering = Picture(catalogue, Reader(given.journal, catalogue) if given.journal else None), Answering()
-    looking = Looking(given.server, picture, answering, given.every)
+    knowing = Knowing(given.server, given.catalogue)
+    picture = Picture(knowing.catalogue, given.journal or None, Schedules([path for path in given.schedule if path]))
+    answering = Answering()
+    looking = Looking(knowing, picture, answering, given.every)
     standing = process_at(given.overrides) if given.overrides and given.operator else None
-    about = {"address": given.server, "every": given.every, "operator": standing or given.operator, "catalogue": given.catalogue,
-             "stands": standing is not None}
+    about = {"address": given.server, "every": given.every, "operator": standing or given.operator, "stands": standing is not None}
     streams, bounds = Streams(picture, answering, looking, about, given.streams), Bounds()
     looking.seen = streams.publish
     operator = operator_of(given, standing, picture, streams.publish)
@@ -162,7 +169,7 @@ async def parted(tasks: Sequence["asyncio.Future[None]"]) -> None:
 
 def main(given: Optional[List[str]] = None) -> None:
     """Ends with 0, with 1 where it could not be started, with 2 where the words are none."""
-    said = words().parse_args(given)
+    said = words().parse_intermixed_args(given)
     logging.getLogger("aiohttp.server").addFilter(is_worth_a_line)
     # The page shows whether the server answers; it is tried every second, and each time would be a line.
     logging.getLogger("bossd").setLevel(logging.ERROR)

@@ -13,6 +13,10 @@ const FILTERS = {
   pending: ["Device pending", (now) => now.mark === "pending"],
   failed: ["Failed", (now) => now.mark === "failed"],
 };
+// The lengths of time that the plot of a point offers, the shortest that it shows, and how often its day is asked for, in milliseconds.
+const HOUR = 3600000, DAY = 24 * HOUR, SPANS = [["24 h", DAY], ["6 h", 6 * HOUR], ["1 h", HOUR], ["10 min", HOUR / 6]], SHORTEST = 10000, ASK = 60000;
+// So many rows of a day's table are shown, the last ones, and so many colours the holders of a point have.
+const MOST_ROWS = 200, COLOURS = 6;
 // An override is a lease of a manual operator or before it. So many changes of a point are kept for its plot, and notices of a process.
 const OPERATOR_PRIORITY = 8, KEPT_CHANGES = 500, KEPT_NOTICES = 256;
 // How often what is opened is asked for again, so that the console goes on looking at it, and for how long it is said that the server is
@@ -22,8 +26,8 @@ const LOOK = 10000, BACK = 60000;
 const find = (id) => document.getElementById(id);
 const points = new Map();
 const groups = new Map();
-let about = {}, server = {}, journal = null, processes = [], offset = 0, filter = "all", search = "";
-let opened = null, detail = null, notices = [], seconds = 0, lost = false;
+let about = {}, server = {}, journal = null, schedules = [], processes = [], offset = 0, filter = "all", search = "";
+let opened = null, detail = null, notices = [], day = null, seconds = 0, lost = false;
 
 // ---- small things
 
@@ -120,8 +124,10 @@ function setPoint(told) {
   if (!point || told.mark === undefined) return;
   const {cells, node} = point, last = point.history.at(-1);
   point.now = told;
-  if (!last || last[1] !== told.value) {
-    point.history.push([serverNow(), told.value]);
+  // Whose it is may be known a look later.
+  if (last && last[4] === null && last.slice(1, 4).join() === [told.value, told.from, told.priority].join()) last[4] = told.owner || null;
+  else if (!last || last.slice(1).join() !== [told.value, told.from, told.priority, told.owner].join()) {
+    point.history.push([serverNow(), told.value, told.from, told.priority || null, told.owner || null]);
     if (point.history.length > KEPT_CHANGES) point.history.shift();
   }
   say(cells.value, shown(point, told.value));
@@ -204,18 +210,19 @@ function sayProcesses() {
 function listen() {
   const source = new EventSource("api/changes");
   source.addEventListener("all", (event) => {
-    const told = JSON.parse(event.data);
+    const told = JSON.parse(event.data), other = about.digest !== told.digest;
     about = told;
     setClock(told.now);
     say(find("address"), told.address);
     say(find("role"), told.operator ? `Operator: ${told.operator}` : "Looking only");
-    if (told.points.length !== points.size || told.points.some((one) => !points.has(one.name))) {
+    if (other || told.points.length !== points.size || told.points.some((one) => !points.has(one.name))) {
       points.clear(); groups.clear();
       find("list").querySelectorAll(".group").forEach((node) => node.remove());
       told.points.forEach(addPoint);
+      mark(true);
     }
     told.points.forEach(setPoint);
-    server = told.server; journal = told.journal; processes = told.processes; lost = false;
+    server = told.server; journal = told.journal; schedules = told.schedules; processes = told.processes; lost = false;
     countAll(); sayProcesses(); sayHealth(); openHash();
   });
   source.addEventListener("changes", (event) => {
@@ -227,6 +234,7 @@ function listen() {
     if (told.processes) { processes = told.processes; sayProcesses(); }
     if (told.server) { server = told.server; }
     if (told.journal) { journal = told.journal; if (opened && opened.kind === "point") drawPoint(); }
+    if (told.schedules) { schedules = told.schedules; if (opened && opened.kind === "process") drawProcess(); }
     if (told.server || lost) { lost = false; sayHealth(); }
     if (opened) drawChanges(told);
   });
@@ -264,7 +272,7 @@ function open_(kind, name) {
   if (!same) {
     mark(false);
     opened = {kind, name};
-    detail = null; notices = [];
+    detail = null; notices = []; day = null;
     mark(true);
     find("pane").hidden = false;
     document.querySelector(".columns").classList.add("open");
@@ -297,7 +305,7 @@ async function look() {
     const answer = await fetch(kind === "point" ? `api/points/${name}` : `api/processes/${encodeURIComponent(name)}/notices`);
     const told = await answer.json();
     if (!here()) return;
-    if (kind === "point" && answer.ok) { detail = told; drawPoint(); }
+    if (kind === "point" && answer.ok) { detail = told; drawPoint(); askDay(); }
     if (kind === "process") { notices = told.list || []; opened.why = told.sentence; drawProcess(); }
   } catch { /* The stream says that the console is gone. */ }
 }
@@ -338,12 +346,25 @@ function times(point) {
   return [["on", point.min_on], ["off", point.min_off]].filter(([, least]) => least).map(([word, least]) => `${word} for ${length(least)} at least`).join(", ");
 }
 
+// For how long the value that a point had before keeps this one from its device, at most: leases at priority 1 to 5 go at once.
+function leastTime(point, {value, from, priority}) {
+  if (from === "lease" && priority <= 5) return 0;
+  return (value ? point.min_off : point.min_on) || 0;
+}
+
+function follows(point, one) {
+  const least = leastTime(point, one);
+  return least ? `; its device up to ${length(least)} later, by its minimum time` : "";
+}
+
 // How far the device has come, in words.
 function deviceSentence(point) {
   const {now} = point, [sign, word] = MARKS[now.mark] || ["", "not known"];
   if (now.mark === "failed") return `${sign} device ${word}: it refused the value, and is tried again`;
   if (!now.waiting) return `${sign} device ${word}`;
-  return `${sign} device ${word}, ${times(point) ? "perhaps held by its minimum times" : "no answer"} since ${clock(now.waiting)}`;
+  const least = leastTime(point, now);
+  const still = least ? `, perhaps still ${now.value ? "off" : "on"} until ${clock(now.waiting + least)} at the latest, by its minimum time` : "";
+  return `${sign} device ${word}, no answer since ${clock(now.waiting)}${still}`;
 }
 
 function drawPoint() {
@@ -362,11 +383,11 @@ function drawPoint() {
         make("button", {type: "button", id: `release-${slot.txn}`, textContent: `Release${own.length > 1 ? " " + slot.priority : ""}…`, onclick: () => askRelease(point, slot)}),
       ])) : null,
     make("h3", {textContent: "What comes next"}),
+    renewedNote(now),
     comingList(point, coming, now),
     knownNote(),
-    make("h3", {textContent: `Value since ${clock(point.history.length ? point.history[0][0] : serverNow())}`}),
-    plot(point),
-    make("ul", {className: "changes"}, ...point.history.slice(-6).reverse().map(([at, value]) => make("li", {textContent: `${clock(at)}: ${shown(point, value)}`}))),
+    ...scheduleParts(point),
+    dayPart(point),
     make("h3", {textContent: "Slots"}),
     slotTable(point, slots, now),
   );
@@ -380,6 +401,12 @@ function comingList(point, coming, now) {
   return make("ol", {className: "coming"}, ...coming.map((one) => make("li", {textContent: comingSentence(point, one)})));
 }
 
+// A schedule renews its leases, so their ends are none.
+function renewedNote(now) {
+  const by = ((detail && detail.schedules) || []).find((one) => one.state === "held" && one.process === now.owner && one.priority === now.priority);
+  return by ? make("p", {id: "renewed", className: "soft", textContent: `Its lease is renewed by the schedule “${by.programme}”, as below. Only where ${by.process} ends:`}) : null;
+}
+
 // What comes next of leases that others took stands in the server's journal alone.
 function knownNote() {
   if (journal && !journal.sentence) return null;
@@ -391,7 +418,7 @@ function knownNote() {
 function comingSentence(point, one) {
   const what = one.from === "default" ? "its default" : `${FROM[one.from]} at priority ${one.priority}`;
   const doubt = one.sure ? "" : one.from === "pending" ? "; its steps are not known" : ", unless a reversion comes first that is not known";
-  return `at ${clock(one.at)}: ${shown(point, one.value)}, ${what}${doubt}`;
+  return `at ${clock(one.at)}: ${shown(point, one.value)}, ${what}${doubt}${follows(point, one)}`;
 }
 
 function slotTable(point, slots, now) {
@@ -431,22 +458,230 @@ function drawing(tag, attributes, text) {
   return made;
 }
 
-function plot(point) {
-  const [wide, high, edge, foot] = [400, 140, 58, 20], {history} = point;
-  const values = history.map(([, value]) => value), from = history.length ? history[0][0] : serverNow(), to = Math.max(serverNow(), from + 10000);
-  let least = Math.min(...values), most = Math.max(...values);
-  if (least === most) { least -= point.kind === "analog" ? 1000 : 1; most += point.kind === "analog" ? 1000 : 1; }
-  const x = (at) => edge + (at - from) / (to - from) * (wide - edge - 8), y = (value) => high - foot - (value - least) / (most - least) * (high - foot - 14);
-  const svg = drawing("svg", {viewBox: `0 0 ${wide} ${high}`, role: "img", "aria-label": values.length
-    ? `${values.length - 1} changes since ${clock(from)}, between ${shown(point, Math.min(...values))} and ${shown(point, Math.max(...values))}` : "no value yet"});
-  if (!values.length) return svg;
-  for (const value of new Set([Math.min(...values), Math.max(...values)])) {
-    svg.append(drawing("line", {x1: edge, x2: wide - 8, y1: y(value), y2: y(value)}), drawing("text", {x: edge - 6, y: y(value) + 4, "text-anchor": "end"}, number(point, value)));
+// ---- what schedules want
+
+const STATES = {
+  held: (one) => `${one.process} holds it now, at priority ${level(one.priority)}`,
+  other: (one) => `${one.by || "another process"} has its slot${one.since ? " since " + clock(one.since) : ""}, so it is left alone until something else is wanted`,
+  yielded: (one) => `it was left to ${one.by || "another process"}${one.since ? " at " + clock(one.since) : ""}, until something else is wanted`,
+  refused: () => "the server refused it",
+  unset: (one) => `${one.process} does not hold it now`,
+  free: () => "nothing is wanted now",
+  unknown: () => "not known yet whether it holds it",
+};
+
+// What each schedule wants of a point in the hours to come, and whether its process holds it.
+function scheduleParts(point) {
+  const told = (detail && detail.schedules) || [], faults = schedules.filter((one) => one.fault);
+  const now = serverNow();
+  return [
+    ...told.flatMap((one) => [
+      make("h3", {textContent: `By the schedule “${one.programme}”`}),
+      make("p", {className: "schedule-state " + ({held: "settled", free: "soft", unknown: "soft"}[one.state] || "waiting")}, scheduleSentence(point, one)),
+      one.old ? make("p", {className: "failed", textContent: `Its file is old: ${one.process} may not run. What stands here may be so no more.`}) : null,
+      scheduleTable(point, one, now),
+    ]),
+    ...faults.map((one) => make("p", {className: "note schedule-fault", textContent: `What a schedule wants is not known, ${one.path}: ${one.fault}`})),
+  ].filter(Boolean);
+}
+
+// Where a lesser number decides, what is held below it is not seen at the point.
+function scheduleSentence(point, one) {
+  const {now} = point, above = one.state === "held" && now.from === "lease" && now.priority < one.priority;
+  const over = above ? `; ${now.owner || "another process"} decides at priority ${level(now.priority)}${now.until !== undefined ? " until " + clock(now.until) : ""}` : "";
+  return `${STATES[one.state](one)}${over}.`;
+}
+
+function scheduleTable(point, one, now) {
+  const head = ["From", "Until", "Wanted", "Why"].map((text) => make("th", {scope: "col", textContent: text}));
+  if (!one.spans.length) return make("p", {className: "soft", textContent: "It wants nothing in the next 24 hours."});
+  const rows = one.spans.map(([start, end, value, why]) => make("tr", {className: start <= now && now < end ? "force" : ""}, make("td", {textContent: start <= now ? "now" : clock(start)}),
+    make("td", {textContent: clock(end)}), make("td", {className: "value", textContent: shown(point, value)}), make("td", {textContent: why})));
+  return make("table", {className: "schedule", "aria-label": `What ${one.process} wants in the next 24 hours`}, make("thead", {}, make("tr", {}, ...head)), make("tbody", {}, ...rows),
+    one.more ? make("tfoot", {}, make("tr", {}, make("td", {colSpan: 4, textContent: "and more"}))) : null);
+}
+
+// What the file of a schedule says of its process.
+function scheduleOf(name) {
+  return schedules.filter((one) => one.process === name).flatMap((one) => [
+    make("h3", {textContent: "Its schedule"}),
+    make("p", {textContent: `${one.programmes.length} programme${one.programmes.length === 1 ? "" : "s"} over ${one.points} point${one.points === 1 ? "" : "s"}, from ${one.file}, read ${clock(one.reloaded)}, by the time of ${one.zone}. What it wants changes next ${clock(one.until)}.`}),
+    one.old ? make("p", {className: "failed", textContent: `Its file was written ${clock(one.written)}, and not at ${clock(one.until)}: the process may not run.`}) : null,
+    one.sentence ? make("p", {className: "failed", textContent: `Its last reload was refused, and the file before is in force: ${one.sentence}`}) : null,
+    make("ul", {}, ...one.programmes.slice(0, 100).map(({name: programme, priority}) => make("li", {textContent: `${programme}, at priority ${priority}`})),
+      ...one.yielded.slice(0, 100).map((slot) => make("li", {className: "waiting", textContent: `${slot.point} at priority ${slot.priority} is left to ${slot.by || "another process"} since ${clock(slot.since)}`})),
+      ...one.refused.slice(0, 100).map((slot) => make("li", {className: "failed", textContent: `${slot.point} at priority ${slot.priority} was refused by the server`}))),
+  ].filter(Boolean));
+}
+
+// ---- the day of a point: a plot to zoom, and the same as a table
+
+// What is shown: `span` milliseconds up to `end`, which is null for now.
+class Day {
+  constructor(point) {
+    this.point = point;
+    this.span = DAY; this.end = null; this.told = null; this.asked = 0; this.due = false; this.stale = true;
+    this.title = make("h3");
+    this.note = make("p", {className: "note", id: "day-note", hidden: true});
+    this.svg = drawing("svg", {viewBox: "0 0 400 190", id: "day-plot", role: "img", tabindex: "0"});
+    this.legend = make("ul", {className: "legend"});
+    this.under = make("p", {className: "soft", id: "day-under"});
+    this.recent = make("ul", {className: "changes"});
+    this.rows = make("tbody");
+    this.more = make("p", {className: "soft", hidden: true});
+    this.table = make("details", {id: "day-table", ontoggle: () => this.draw()}, make("summary", {textContent: "As a table"}), make("table", {"aria-label": "The changes, the last first"}, make("thead", {}, make("tr", {},
+      ...["From", "Value", "By", "Priority", "Owner"].map((text) => make("th", {scope: "col", textContent: text})))), this.rows), this.more);
+    const button = (id, text, label, does) => make("button", {type: "button", id, textContent: text, "aria-label": label, onclick: () => { does(); this.draw(); }});
+    this.spans = SPANS.map(([text, span], place) => button(`day-span-${place}`, text, `The last ${text}`, () => { this.span = span; this.end = null; }));
+    this.buttons = make("div", {className: "buttons zoom", role: "group", "aria-label": "What the plot shows"}, ...this.spans, button("day-in", "+", "Nearer", () => this.zoom(0.5)),
+      button("day-out", "−", "Farther", () => this.zoom(2)), button("day-back", "◂", "Earlier", () => this.move(-0.5)), button("day-on", "▸", "Later", () => this.move(0.5)));
+    this.node = make("section", {className: "day"}, this.title, this.note, this.buttons, this.svg, this.under, this.legend, this.recent, this.table);
+    this.svg.addEventListener("wheel", (event) => { event.preventDefault(); this.zoom(event.deltaY > 0 ? 1.25 : 0.8, this.share(event)); this.draw(); }, {passive: false});
+    this.svg.addEventListener("pointerdown", (event) => this.drag(event));
+    this.svg.addEventListener("keydown", (event) => this.key(event));
   }
-  svg.append(drawing("text", {x: edge, y: high - 5}, clock(from)), drawing("text", {x: wide - 8, y: high - 5, "text-anchor": "end"}, "now"));
-  const path = history.map(([at, value], place) => (place ? `H${x(at).toFixed(1)}V` : `M${x(at).toFixed(1)} `) + y(value).toFixed(1)).join("");
-  svg.append(drawing("path", {d: `${path}H${x(to).toFixed(1)}`}));
-  return svg;
+
+  // The changes: those of the journal, or else those that this page saw.
+  changes() { return this.told && this.told.changes ? this.told.changes : this.point.history; }
+  first() { return this.told && this.told.changes ? this.told.since : this.point.history.length ? this.point.history[0][0] : serverNow(); }
+  last() { return this.end === null ? serverNow() : this.end; }
+
+  // Zooms about a share of what is shown, its end where none is given.
+  zoom(factor, share = 1) {
+    const at = this.last() - this.span * (1 - share);
+    this.span = Math.min(DAY, Math.max(SHORTEST, this.span * factor));
+    this.until(at + this.span * (1 - share));
+  }
+
+  move(share) { this.until(this.last() + this.span * share); }
+
+  // What is shown ends there, but neither behind now nor before there is anything.
+  until(end) {
+    const now = serverNow(), least = Math.min(now, this.first() + this.span);
+    this.end = end >= now ? null : Math.max(end, least);
+  }
+
+  share(event) {
+    const box = this.svg.getBoundingClientRect();
+    return Math.min(1, Math.max(0, ((event.clientX - box.left) / box.width * 400 - EDGE) / (WIDE - EDGE - 8)));
+  }
+
+  drag(event) {
+    const from = event.clientX, end = this.last(), width = this.svg.getBoundingClientRect().width * (WIDE - EDGE - 8) / WIDE;
+    const move = (next) => { this.until(end - (next.clientX - from) / width * this.span); this.draw(); };
+    const up = () => { removeEventListener("pointermove", move); removeEventListener("pointerup", up); removeEventListener("pointercancel", up); };
+    addEventListener("pointermove", move); addEventListener("pointerup", up); addEventListener("pointercancel", up);
+  }
+
+  key(event) {
+    const does = {"+": () => this.zoom(0.5), "-": () => this.zoom(2), ArrowLeft: () => this.move(-0.25), ArrowRight: () => this.move(0.25), Home: () => this.until(0), End: () => this.until(Infinity)}[event.key];
+    if (!does || event.ctrlKey || event.metaKey || event.altKey) return;
+    event.preventDefault();
+    does(); this.draw();
+  }
+
+  draw() {
+    const {point} = this, to = this.last(), from = to - this.span, changes = this.changes(), has = this.told && this.told.changes;
+    say(this.title, has ? "The last 24 hours" : `Value since ${clock(this.first())}`);
+    say(this.note, has || !this.told ? "" : `A day's history is not known, only what this page saw: ${this.told.sentence}.`);
+    this.note.hidden = !this.note.textContent;
+    for (const [place, [, span]] of SPANS.entries()) this.spans[place].setAttribute("aria-pressed", String(this.end === null && Math.abs(this.span - span) < 1));
+    const parts = partsOf(changes, from, to), owners = [...new Set(changes.map(holderOf).filter(Boolean))];
+    this.svg.replaceChildren(...plotOf(point, parts, from, to, this.first(), owners));
+    const values = parts.map(([, , value]) => value);
+    const known = values.length ? `${parts.length - 1} change${parts.length === 2 ? "" : "s"}, between ${shown(point, Math.min(...values))} and ${shown(point, Math.max(...values))}` : "nothing is known";
+    this.svg.setAttribute("aria-label", `From ${clock(from)} to ${clock(to)}: ${known}. The table below has them all.`);
+    say(this.under, `${clock(from)} to ${this.end === null ? "now" : clock(to)}: ${known}.${has && this.first() > to - this.span + 1000 && this.first() > serverNow() - DAY + 1000 ? ` Known since ${clock(this.first())}.` : ""}`);
+    this.legend.replaceChildren(...[...new Set(parts.map((part) => part[3]).filter(Boolean))].map((owner) => make("li", {className: "holder-" + owners.indexOf(owner) % COLOURS}, owner)),
+      ...(parts.some((part) => part[4] === "pending") ? [make("li", {className: "reverting", textContent: "pale: a reversion"})] : []));
+    this.recent.replaceChildren(...changes.slice(-6).reverse().map(([at, value]) => make("li", {textContent: `${clock(at)}: ${shown(point, value)}`})));
+    if (this.table.open) this.drawTable(changes);
+  }
+
+  drawTable(changes) {
+    const rows = changes.slice(-MOST_ROWS).reverse();
+    this.rows.replaceChildren(...rows.map(([at, value, basis, priority, owner]) => make("tr", {}, make("td", {textContent: clock(at)}), make("td", {className: "value", textContent: shown(this.point, value)}),
+      make("td", {textContent: FROM[basis]}), make("td", {textContent: priority ? String(priority) : ""}), make("td", {textContent: owner || ""}))));
+    say(this.more, `and ${changes.length - rows.length} before`);
+    this.more.hidden = changes.length <= rows.length;
+  }
+}
+
+const WIDE = 400, EDGE = 58, TOP = 12, FLOOR = 140, BAND = 150, BAND_HIGH = 14;
+
+function holderOf([, , basis, , owner]) { return basis === "default" ? null : owner || "not known"; }
+
+// What stood in a stretch of time: from when to when, which value, who held it, and by what.
+function partsOf(changes, from, to) {
+  const parts = [];
+  for (const [place, change] of changes.entries()) {
+    const start = Math.max(from, change[0]), end = Math.min(to, place + 1 < changes.length ? changes[place + 1][0] : to);
+    if (end > start || (end === start && place + 1 === changes.length && start <= to)) parts.push([start, end, change[1], holderOf(change), change[2]]);
+  }
+  return parts;
+}
+
+// Moments that stand under a plot: whole steps of the wall clock.
+function ticks(from, to) {
+  const step = [1, 2, 5, 10, 30, 60, 120, 300, 600, 1800, 3600, 7200, 14400, 21600].map((one) => one * 1000).find((one) => (to - from) / one <= 5) || DAY;
+  const shift = new Date(to).getTimezoneOffset() * 60000 + offset, found = [];
+  for (let at = Math.ceil((from - shift) / step) * step + shift; at <= to; at += step) found.push(at);
+  return found.map((at) => [at, new Date(at - offset).toLocaleTimeString("sv", {hour: "2-digit", minute: "2-digit", ...(step < 60000 ? {second: "2-digit"} : {})})]);
+}
+
+function plotOf(point, parts, from, to, first, owners) {
+  const right = WIDE - 8, x = (at) => EDGE + (at - from) / (to - from) * (right - EDGE), values = parts.map(([, , value]) => value);
+  const drawn = ticks(from, to).flatMap(([at, text]) => [drawing("line", {x1: x(at).toFixed(1), x2: x(at).toFixed(1), y1: TOP, y2: BAND + BAND_HIGH, class: "grid"}),
+    drawing("text", {x: Math.min(right - 14, Math.max(EDGE + 14, x(at))).toFixed(1), y: 184, "text-anchor": "middle"}, text)]);
+  if (!values.length) return drawn;
+  let least = Math.min(...values), most = Math.max(...values);
+  const marked = [...new Set([least, most])];
+  if (least === most) { least -= point.kind === "analog" ? 1000 : 1; most += point.kind === "analog" ? 1000 : 1; }
+  const y = (value) => FLOOR - 4 - (value - least) / (most - least) * (FLOOR - TOP - 10);
+  for (const value of marked) {
+    drawn.push(drawing("line", {x1: EDGE, x2: right, y1: y(value).toFixed(1), y2: y(value).toFixed(1)}), drawing("text", {x: EDGE - 6, y: (y(value) + 4).toFixed(1), "text-anchor": "end"}, number(point, value)));
+  }
+  if (first > from) drawn.push(drawing("rect", {x: EDGE, y: TOP, width: Math.max(0, x(Math.min(first, to)) - EDGE).toFixed(1), height: BAND + BAND_HIGH - TOP, class: "unknown"}));
+  drawn.push(drawing("path", {d: parts.map(([start, end, value], place) => `${place ? "V" + y(value).toFixed(1) : `M${x(start).toFixed(1)} ${y(value).toFixed(1)}`}H${x(end).toFixed(1)}`).join("")}));
+  drawn.push(drawing("text", {x: EDGE - 6, y: BAND + 11, "text-anchor": "end"}, "held by"));
+  for (const [start, end, value, owner, basis] of parts) {
+    if (!owner) continue;
+    const bar = drawing("rect", {x: x(start).toFixed(1), y: BAND, width: Math.max(1, x(end) - x(start)).toFixed(1), height: BAND_HIGH, class: `holder-${owners.indexOf(owner) % COLOURS} ${basis}`});
+    bar.append(drawing("title", {}, `${owner}, ${FROM[basis]}, ${shown(point, value)}, ${clock(start)} to ${clock(end)}`));
+    drawn.push(bar);
+  }
+  return drawn;
+}
+
+// The part of the pane, which stays as it is while all around it is drawn anew.
+function dayPart(point) {
+  if (!day || day.point !== point) day = new Day(point);
+  const last = point.history.length ? point.history.at(-1)[0] : 0;
+  if (day.seen !== last) { day.seen = last; day.stale = true; }
+  day.draw();
+  askDay();
+  return day.node;
+}
+
+// Asks for the day where something changed since, and each minute; one question at a time.
+async function askDay() {
+  const mine = day;
+  if (!mine || mine.due || !(mine.stale || Date.now() - mine.asked > ASK)) return;
+  mine.due = true; mine.stale = false; mine.asked = Date.now();
+  try {
+    // The journal is read just after the look that saw the change.
+    await new Promise((later) => setTimeout(later, mine.told ? 300 : 0));
+    const answer = await fetch(`api/points/${mine.point.name}/history`);
+    if (answer.ok) {
+      const told = await answer.json();
+      // Of what is known for a few minutes alone, no day is shown at first.
+      const known = told.changes ? told.until - told.since : serverNow() - mine.first();
+      if (!mine.told && mine.span === DAY) mine.span = SPANS.map(([, span]) => span).filter((span) => span >= known).at(-1) || DAY;
+      mine.told = told;
+    }
+  } catch { mine.stale = true; }
+  mine.due = false;
+  if (day === mine) mine.draw();
 }
 
 function drawProcess() {
@@ -455,6 +690,7 @@ function drawProcess() {
     paneTop(name, "control process"),
     make("h3", {textContent: `Decides ${holds.length} point${holds.length === 1 ? "" : "s"}`}),
     make("ul", {}, ...holds.slice(0, 100).map((point) => make("li", {}, make("a", {href: "#point/" + point.name, textContent: point.name}), ` ${shown(point, point.now.value)}, ${FROM[point.now.from]} at priority ${point.now.priority}`))),
+    ...scheduleOf(name),
     make("h3", {textContent: "Notices, the last first"}),
     make("ul", {className: "notices"}, ...(notices.length ? [...notices].reverse().map((one) => make("li", {className: one.kind, textContent: noticeSentence(one)})) : [make("li", {textContent: opened.why || "none"})])),
   );
@@ -574,7 +810,7 @@ async function preview() {
     if (!answer.ok) { find("ask-next").replaceChildren(); sayAsked(told.sentence); return; }
     if (!mine.busy && !mine.refused) sayAsked("");
     const [first, ...rest] = told.next, what = first.from === "default" ? "its default" : `${FROM[first.from]} at priority ${level(first.priority)}`;
-    find("ask-next").replaceChildren(make("li", {textContent: `at once: ${shown(point, first.value)}, ${what}`}), ...rest.map((one) => make("li", {textContent: comingSentence(point, one)})));
+    find("ask-next").replaceChildren(make("li", {textContent: `at once: ${shown(point, first.value)}, ${what}${first.value === point.now.value ? "" : follows(point, first)}`}), ...rest.map((one) => make("li", {textContent: comingSentence(point, one)})));
     const loses = mine.do === "take" && first.txn !== undefined && first.txn !== 0;
     find("ask-note").hidden = !loses;
     if (loses) say(find("ask-note"), `A lease at priority ${first.priority} stays in force before yours.`);
@@ -655,6 +891,7 @@ addEventListener("hashchange", openHash);
 setInterval(() => {
   for (const group of groups.values()) if (group.near) countDown(group);
   countOpened();
+  if (day && day.end === null && opened && opened.kind === "point") day.draw();
   if (server.away !== undefined) sayHealth();
 }, 1000);
 setInterval(() => { if (opened) look(); }, LOOK);

@@ -8,6 +8,8 @@ import bossd
 
 from .catalogue import Catalogue, Reader, described, level, now
 from .coming import Way, steps_to_come, what_comes
+from .history import History
+from .schedules import Schedules
 
 # How many notices of a process are kept here, and how many ways back of transactions.
 KEPT_NOTICES = 256
@@ -74,10 +76,13 @@ class Looked:
 
 
 class Picture:
-    """What is known. `began` is when the console began, in milliseconds since 1970; `journal` is the server's, where it may be read."""
+    """What is known. `began` is when the console began, in milliseconds since 1970; `journal` is the server's, where its file may be read,
+    and `history` what it told; `schedules` are those whose files are read."""
 
-    def __init__(self, catalogue: Catalogue, journal: Optional[Reader] = None) -> None:
-        self.points, self.journal = catalogue.points, journal
+    def __init__(self, catalogue: Catalogue, journal: Optional[str] = None, schedules: Optional[Schedules] = None) -> None:
+        self._journal_path = journal
+        self._go_by(catalogue)
+        self.schedules = schedules if schedules is not None else Schedules(())
         self.began = now()
         self.readings: Dict[str, bossd.Reading] = {}
         self.slots: Dict[str, bossd.Slots] = {}
@@ -99,8 +104,20 @@ class Picture:
         self._fresh: Dict[str, List[bossd.Notice]] = {}
         self._named = 0
         self._said_of_journal: Optional[Dict[str, Any]] = None
+        self._said_of_schedules: List[Dict[str, Any]] = []
+
+    def _go_by(self, catalogue: Catalogue) -> None:
+        """The points are those of this catalogue, and the journal is read as theirs."""
+        self.catalogue, self.points, self.history = catalogue, catalogue.points, History(catalogue)
+        self.journal = Reader(self._journal_path, catalogue, self.history) if self._journal_path is not None else None
 
     # -- what the server answered
+
+    def become(self, catalogue: Catalogue) -> None:
+        """The server has another catalogue: nothing is known of its points yet. Transactions and notices go on."""
+        self._go_by(catalogue)
+        self.readings, self.slots, self.stood, self.waiting, self._sent, self._told = {}, {}, {}, {}, {}, {}
+        self.foreign = set()
 
     def read(self, reading: bossd.Reading) -> bool:
         """A point was read. Gives whether somebody else decides it than before, or something else."""
@@ -224,10 +241,11 @@ class Picture:
         """The slots of a point, and what comes next."""
         slots = self.slots.get(point)
         if slots is None:
-            return {"slots": [], "next": []}
+            return {"slots": [], "next": [], "schedules": self.schedules.of(point, None, self.owners)}
         ways = self.ways_at(point)
         standing = [self._standing(point, priority, slot, ways.get(slot.txn)) for priority, slot in sorted(slots.slots.items())]
-        return {"slots": standing, "next": [one.described() for one in what_comes(slots, ways, now())[1:]]}
+        return {"slots": standing, "next": [one.described() for one in what_comes(slots, ways, now())[1:]],
+                "schedules": self.schedules.of(point, slots, self.owners)}
 
     def _standing(self, point: str, priority: int, slot: bossd.Slot, way: Optional[Way]) -> Dict[str, Any]:
         """What stands in a slot, and its steps to come where they are known."""
@@ -252,6 +270,23 @@ class Picture:
         if said == self._said_of_journal:
             return None
         self._said_of_journal = said
+        return said
+
+    def history_of(self, point: str) -> Dict[str, Any]:
+        """The last day of a point, or why it is not known."""
+        if self.journal is None:
+            return {"sentence": "the console reads no journal: start it with --journal"}
+        known = self.history.of(point, now())
+        if self.journal.sentence or known is None:
+            return {"sentence": self.journal.sentence or "the journal says nothing yet"}
+        return known.described()
+
+    def changed_schedules(self) -> Optional[List[Dict[str, Any]]]:
+        """What the files of the schedules say, where it is another thing than when this was last asked."""
+        said = self.schedules.described()
+        if said == self._said_of_schedules:
+            return None
+        self._said_of_schedules = said
         return said
 
     def changed_details(self) -> Dict[str, Dict[str, Any]]:

@@ -2,7 +2,7 @@
 
 import asyncio
 import json
-from typing import Any, Dict, Optional
+from typing import Any, Dict, List, Optional
 
 from .answering import Answering
 from .catalogue import now
@@ -28,6 +28,7 @@ class Streams:
         self.picture, self.answering, self.looking, self.about, self.most = picture, answering, looking, about, most
         self._queues: Dict["asyncio.Queue[Optional[bytes]]", str] = {}
         self._said = -1
+        self._catalogue = picture.catalogue
 
     def __len__(self) -> int:
         return len(self._queues)
@@ -59,20 +60,26 @@ class Streams:
 
     def everything(self) -> Dict[str, Any]:
         """All that is known of points, and how the server stands."""
-        return {"now": now(), **self.about, "server": self._server(), "journal": self.picture.journal_described(),
-                "points": self.picture.rows(), "processes": sorted(self.picture.processes)}
+        catalogue = self.picture.catalogue
+        return {"now": now(), **self.about, "catalogue": catalogue.path, "digest": catalogue.digest.hex(), "server": self._server(),
+                "journal": self.picture.journal_described(), "schedules": self.picture.schedules.described(), "points": self.picture.rows(),
+                "processes": sorted(self.picture.processes)}
 
     def all(self) -> bytes:
         """The event that says everything."""
         return event("all", self.everything())
 
     def publish(self) -> None:
-        """Sends on what changed."""
+        """Sends on what changed; all anew where the catalogue is another one."""
+        if self._catalogue is not self.picture.catalogue:
+            self._catalogue = self.picture.catalogue
+            self._anew(list(self._queues))
         if not self._queues:
             return
         told: Dict[str, Any] = {"now": now(), "seconds": round(self.looking.seconds, 3)}
         parts = {"points": self.picture.changed_rows(), "details": self.picture.changed_details(),
-                 "notices": self.picture.fresh_notices(), "processes": self.picture.named(), "journal": self.picture.changed_journal()}
+                 "notices": self.picture.fresh_notices(), "processes": self.picture.named(), "journal": self.picture.changed_journal(),
+                 "schedules": self.picture.changed_schedules()}
         told.update({key: part for key, part in parts.items() if part})
         if self._said != self.answering.changed:
             self._said = self.answering.changed
@@ -85,9 +92,14 @@ class Streams:
         if not queue.full():
             queue.put_nowait(sent)
             return
-        while not queue.empty():
-            queue.get_nowait()
-        queue.put_nowait(self.all())
+        self._anew([queue])
+
+    def _anew(self, queues: List["asyncio.Queue[Optional[bytes]]"]) -> None:
+        """Sends these everything in place of what waits for them."""
+        for queue in queues:
+            while not queue.empty():
+                queue.get_nowait()
+            queue.put_nowait(self.all())
 
     def _server(self) -> Dict[str, Any]:
         return {**self.answering.state.described(), "foreign": sorted(self.picture.foreign)[:16]}

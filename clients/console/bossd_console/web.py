@@ -55,7 +55,8 @@ class Web:
         made = web.Application(middlewares=[self._noted, middleware(self.guard)], client_max_size=LONGEST_BODY)
         made.add_routes([
             web.get("/", self.get_page), web.get("/metrics", self.get_metrics), web.get("/api/points", self.get_points),
-            web.get("/api/points/{name}", self.get_point), web.get("/api/processes", self.get_processes),
+            web.get("/api/points/{name}", self.get_point), web.get("/api/points/{name}/history", self.get_history),
+            web.get("/api/schedules", self.get_schedules), web.get("/api/processes", self.get_processes),
             web.get("/api/processes/{name}/notices", self.get_notices), web.get("/api/changes", self.get_changes),
             web.post("/api/preview", self.post_preview), web.post("/api/take", self.post_change),
             web.post("/api/prolong", self.post_change), web.post("/api/release", self.post_change),
@@ -91,6 +92,17 @@ class Web:
         row = self.picture.row(point.name)
         told = {**described(point), **(row.described(point.name) if row else {}), **self.picture.detail(point.name)}
         return web.json_response(told)
+
+    async def get_history(self, request: web.Request) -> web.Response:
+        """The last day of a point, by the journal, or why it is not known."""
+        name = request.match_info["name"]
+        if name not in self.picture.points:
+            return refused("unknown-point", "the catalogue has no such point", 404)
+        return web.json_response(self.picture.history_of(name))
+
+    async def get_schedules(self, request: web.Request) -> web.Response:
+        """What the files of the schedules say."""
+        return web.json_response({"schedules": self.picture.schedules.described()})
 
     async def get_processes(self, request: web.Request) -> web.Response:
         """The processes that were met, with the transactions of theirs that hold something."""

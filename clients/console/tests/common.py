@@ -47,7 +47,8 @@ class Console:
         self.port = tools.free_port()
         self.host = f"127.0.0.1:{self.port}"
         self.address = f"http://{self.host}/"
-        command = ["/usr/bin/python3", os.path.join(CONSOLE, "bossd-console"), catalogue, server, "--listen", self.host, *words]
+        command = ["/usr/bin/python3", os.path.join(CONSOLE, "bossd-console"), *([catalogue] if catalogue else []), server,
+                   "--listen", self.host, *words]
         self.process = subprocess.Popen(command, stdout=subprocess.PIPE, text=True)
         self.greeting = self.process.stdout.readline().strip()
         self.token = self.greeting.partition("#token=")[2].partition(" ")[0]

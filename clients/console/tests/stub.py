@@ -39,7 +39,11 @@ class Stub:
         self.listed.append({"n": len(self.listed) + 1, "at": at, "txn": 1, "kind": "fault", "point": "ahu1.damper"})
 
     def answer(self, asked):
-        return getattr(self, asked["op"])(asked)
+        return getattr(self, asked["op"], self.unknown)(asked)
+
+    def unknown(self, asked):
+        """As a server of before 0.3.0, which tells neither its points nor its version."""
+        return {"error": "unknown-op"}
 
     def read(self, asked):
         if asked["point"] == "ahu1.damper":

@@ -3,6 +3,7 @@ and python3-pil."""
 
 import functools
 import http.server
+import json
 import os
 import signal
 import tempfile
@@ -15,16 +16,19 @@ from selenium import webdriver
 from selenium.common.exceptions import NoSuchElementException, SessionNotCreatedException, StaleElementReferenceException
 from selenium.webdriver.chrome.options import Options
 from selenium.webdriver.chrome.service import Service
+from selenium.webdriver.common.action_chains import ActionChains
+from selenium.webdriver.common.actions.wheel_input import ScrollOrigin
 from selenium.webdriver.common.by import By
 from selenium.webdriver.common.keys import Keys
 
 from tests import journals
 from tests.common import CATALOGUE, MINUTE, PATIENCE, Case, Console, bossd
-from tests.stub import Stub
+from tests.stub import UNTIL, Stub
 
 from bossd_console.catalogue import read_catalogue
 
 DAMPER = "ahu1.damper"
+DAY = 24 * 60 * MINUTE
 # Where the pictures go. Without it they are made and thrown away.
 PICTURES = os.environ.get("PICTURES")
 COLOURS = 128
@@ -132,6 +136,25 @@ class Page(Case):
         # With all shades of its letters a picture is three times as large.
         Image.open(path).convert("RGB").quantize(COLOURS, dither=Image.Dither.NONE).save(path, optimize=True)
         self.assertLess(os.path.getsize(path), 150_000)
+
+
+class Served(Page):
+    """A page without a catalogue's file."""
+
+    def test_it_shows_what_the_server_tells_also_of_another_catalogue(self):
+        self.open(self.console(catalogue=None), "#point/ahu1.damper")
+        self.see(lambda: self.row("ahu1.damper")["value"] == "20.0")
+        self.see(lambda: "0.0 to 100.0" in self.text("#pane"))
+        self.server.kill()
+        with open(CATALOGUE) as file:
+            text = file.read().replace("max = 100000", "max = 90000", 1)
+        self.server.catalogue, self.server.journal = os.path.join(self.folder, "more.toml"), os.path.join(self.folder, "anew")
+        with open(self.server.catalogue, "w") as file:
+            file.write(text + '\n[[point]]\nname = "roof.added"\ndriver = "light"\nkind = "binary"\ndefault = 1\n')
+        self.server.start()
+        self.see(lambda: "roof.added" in self.texts(".group tbody tr a"))
+        self.see(lambda: self.row("roof.added")["value"].startswith("1"))
+        self.see(lambda: "0.0 to 90.0" in self.text("#pane"))
 
 
 class WhatIsSeen(Page):
@@ -530,6 +553,173 @@ class Pictures(Page):
     def fits(self):
         """Whether nothing has to be moved sideways."""
         return browser.execute_script("return document.documentElement.scrollWidth <= 400")
+
+
+class DayStub(Stub):
+    """A server whose point ahu1.damper is held by `comfort`, and below by `schedule`."""
+
+    OWNERS = {40: "comfort", 41: "schedule"}
+
+    def __init__(self):
+        super().__init__()
+        self.failed, self.until = False, UNTIL
+
+    def read(self, asked):
+        if asked["point"] != DAMPER:
+            default = read_catalogue(CATALOGUE).points[asked["point"]].default
+            return {"ok": "read", "point": asked["point"], "value": default, "from": "default", "mark": "settled"}
+        return {**super().read(asked), "txn": 40}
+
+    def array(self, asked):
+        told = super().array(asked)
+        if asked["point"] == DAMPER:
+            told["slots"][11]["txn"] = 40
+            told["slots"][15] = {"value": 60_000, "txn": 41, "until": UNTIL - 45 * MINUTE}
+        else:
+            told["slots"] = [None] * 16
+        return told
+
+    def status(self, asked):
+        return {"ok": "status", "txn": asked["txn"], "owner": self.OWNERS[asked["txn"]], "stage": "run", "live": 1, "pending": 0}
+
+
+class ADay(Page):
+    """A point's day, by a journal that no program wrote, before a server that is none."""
+
+    def setUp(self):
+        folder = tempfile.TemporaryDirectory()
+        self.addCleanup(folder.cleanup)
+        self.folder = folder.name
+        self.addCleanup(self.blank)
+        self.stub = DayStub()
+        self.addCleanup(self.stub.stop)
+        self.now = round(time.time() * 1000)
+
+    def ago(self, hours):
+        return self.now - round(hours * 60 * MINUTE)
+
+    def journal(self):
+        """A day of the damper. The schedule has it at 30 %, and from twelve hours ago on at 60 % for eight and a half; comfort steps through
+        five values in the course of four hours, an operator has it for 40 minutes with two steps back, which show as nobody else has a lease
+        then; the schedule took it an hour and a half ago, and comfort an hour ago."""
+        def submit(ago, owner, value, priority, minutes, way=()):
+            return journals.record(journals.submit(self.ago(ago), owner, journals.write(0, value, priority, minutes * MINUTE, way)))
+        records = [journals.record(*[journals.taken_on(self.ago(30), name) for name in ("schedule", "comfort", "operator")]),
+                   submit(20, 0, 30_000, 16, 8 * 60), submit(12, 0, 60_000, 16, 8 * 60 + 30)]
+        records += [submit(10 - step * 0.8, 1, 35_000 + 9_000 * step, 12, 48) for step in range(5)]
+        records += [submit(3, 2, 90_000, 8, 40, [(75_000, 10 * MINUTE), (65_000, 10 * MINUTE)]), submit(1.5, 0, 60_000, 16, 180), submit(1, 1, 35_000, 12, 180)]
+        path = os.path.join(self.folder, "journal")
+        with open(path, "wb") as file:
+            file.write(journals.journal(*records, digest=read_catalogue(CATALOGUE).digest))
+        return path
+
+    def coming(self):
+        """What the schedule wants: 60 % for three hours more, and 20 % in the evening."""
+        path, hour = os.path.join(self.folder, "coming.json"), 60 * MINUTE
+        spans = [[self.now - hour, self.now + 3 * hour, 60_000, "week: mon-fri 06:30"], [self.now + 5 * hour, self.now + 9 * hour, 20_000, "evening"]]
+        told = {"process": "schedule", "zone": "Europe/Berlin", "written": self.now, "until": self.now + 3 * hour, "file": "week.toml", "reloaded": self.now - hour,
+                "sentence": None, "coming": [{"points": [DAMPER, "ahu1.heating"], "priority": 16, "programme": "offices", "spans": spans}], "yielded": [], "refused": []}
+        with open(path, "w") as file:
+            json.dump(told, file)
+        return path
+
+    def opened(self, *words, **more):
+        console = Console(self.stub.address, *words)
+        self.addCleanup(console.stop)
+        self.open(console, "#point/" + DAMPER, **more)
+        self.see(lambda: self.find("#day-plot path"))
+        return console
+
+    def bars(self):
+        """Who held the point, by the titles of the strip."""
+        found = browser.execute_script("return [...document.querySelectorAll('#day-plot rect title')].map((it) => it.textContent)")
+        return [title.partition(",")[0] for title in found]
+
+    def pressed(self):
+        return self.texts("#pane .zoom [aria-pressed=true]")
+
+    def test_the_day_is_seen_zoomed_and_read_as_a_table(self):
+        self.opened("--journal", self.journal())
+        self.see(lambda: "The last 24 hours" in self.texts("#pane h3"))
+        self.assertEqual(self.pressed(), ["24 h"])
+        # By hand: the schedule's two, comfort's five, which follow one another, the schedule's again, the operator's with its two steps, the
+        # schedule's and comfort's; and the default before the first, before the operator's and after it.
+        held = ["schedule"] * 2 + ["comfort"] * 5 + ["schedule"] + ["operator"] * 3 + ["schedule", "comfort"]
+        self.see(lambda: self.bars() == held)
+        self.assertEqual(self.texts("#pane .legend li"), ["schedule", "comfort", "operator", "pale: a reversion"])
+        self.assertIn("between 20.0 % and 90.0 %", self.text("#day-under"))
+        self.assertIn("15 changes", self.find("#day-plot").get_attribute("aria-label"))
+        self.click("#day-table summary")
+        rows = self.see(lambda: (lambda found: found if len(found) == 16 else None)(self.texts("#day-table tbody tr")))
+        self.assertEqual([row.split("\t")[1:] for row in (rows[0], rows[2], rows[3], rows[5], rows[15])], [
+            ["35.0 %", "lease", "12", "comfort"], ["20.0 %", "default", "", ""], ["65.0 %", "reversion", "8", "operator"], ["90.0 %", "lease", "8", "operator"],
+            ["20.0 %", "default", "", ""]])
+        self.click("#day-span-1")
+        self.see(lambda: self.pressed() == ["6 h"] and self.bars() == ["schedule"] + ["operator"] * 3 + ["schedule", "comfort"])
+        self.click("#day-in")
+        self.see(lambda: self.pressed() == [] and self.bars() == ["operator"] * 3 + ["schedule", "comfort"])
+
+    def test_the_wheel_keys_and_a_drag(self):
+        self.opened("--journal", self.journal())
+        self.see(lambda: len(self.bars()) == 13)
+        shown = "const it = day; return [it.span, it.last()]"
+        plot = self.find("#day-plot")
+        browser.execute_script("arguments[0].scrollIntoView({block: 'center'})", plot)
+        ActionChains(browser).scroll_from_origin(ScrollOrigin.from_element(plot), 0, -100).perform()
+        span, end = self.see(lambda: (lambda it: it if it[0] < DAY else None)(browser.execute_script(shown)))
+        self.assertLess(end, self.now - MINUTE)
+        ActionChains(browser).click_and_hold(plot).move_by_offset(80, 0).release().perform()
+        dragged = browser.execute_script(shown)
+        self.assertEqual(dragged[0], span)
+        self.assertLess(dragged[1], end - 60 * MINUTE)
+        plot = self.find("#day-plot")
+        browser.execute_script("arguments[0].focus()", plot)
+        for _ in range(20):
+            browser.switch_to.active_element.send_keys("+")
+        self.see(lambda: browser.execute_script(shown)[0] == 10_000)
+        browser.switch_to.active_element.send_keys(Keys.END)
+        self.see(lambda: browser.execute_script("return day.end === null"))
+        for _ in range(20):
+            browser.switch_to.active_element.send_keys("-")
+        self.see(lambda: browser.execute_script(shown)[0] == DAY)
+
+    def test_the_page_says_that_there_is_no_journal(self):
+        self.opened()
+        self.see(lambda: "the console reads no journal" in self.text("#day-note"))
+        # It was opened a moment ago, so no day is shown, in which that would not be seen.
+        self.see(lambda: self.find("#day-span-3").get_attribute("aria-pressed") == "true")
+        self.assertTrue(any(title.startswith("Value since") for title in self.texts("#pane h3")))
+        self.assertEqual(self.bars(), ["comfort"])
+
+    def test_what_the_schedule_wants_and_who_decides_meanwhile(self):
+        console = self.opened("--schedule", self.coming())
+        self.see(lambda: "By the schedule “offices”" in self.texts("#pane h3"))
+        said = self.text("#pane .schedule-state")
+        self.assertIn("schedule holds it now, at priority 16 Available; comfort decides at priority 12", said)
+        rows = [row.split("\t") for row in self.texts("#pane .schedule tbody tr")]
+        self.assertEqual(self.texts("#renewed"), [])
+        self.assertEqual([(row[0] == "now", *row[2:]) for row in rows], [(True, "60.0 %", "week: mon-fri 06:30"), (False, "20.0 %", "evening")])
+        # Another point that it wants, and that nobody has.
+        browser.execute_script("location.hash = '#point/ahu1.heating'")
+        self.see(lambda: "schedule does not hold it now" in self.text("#pane .schedule-state"))
+        browser.execute_script("location.hash = '#process/schedule'")
+        self.see(lambda: "1 programme over 2 points, from week.toml" in self.text("#pane"))
+        os.remove(os.path.join(self.folder, "coming.json"))
+        browser.execute_script("location.hash = '#point/ahu1.damper'")
+        self.see(lambda: "there is no such file" in self.text("#pane .schedule-fault"))
+        self.assertEqual(console.ask("/api/schedules")[1]["schedules"][0]["process"], "schedule")
+
+    def test_pictures(self):
+        self.opened("--journal", self.journal(), "--schedule", self.coming(), high=1500)
+        self.see(lambda: len(self.bars()) == 13 and "By the schedule “offices”" in self.texts("#pane h3"))
+        self.picture("console-day-1280")
+        browser.execute_cdp_cmd("Emulation.setDeviceMetricsOverride", {"width": 400, "height": 800, "deviceScaleFactor": 1, "mobile": True})
+        self.addCleanup(browser.execute_cdp_cmd, "Emulation.clearDeviceMetricsOverride", {})
+        self.click("#day-span-1")
+        self.click("#day-table summary")
+        browser.execute_script("document.querySelector('#pane .day').scrollIntoView()")
+        self.eventually(lambda: browser.execute_script("const pane = find('pane'); return pane.scrollWidth <= pane.clientWidth && document.documentElement.scrollWidth <= 400"))
+        self.picture("console-day-400")
 
 
 if __name__ == "__main__":
