@@ -5,15 +5,18 @@ import asyncio
 import contextlib
 import signal
 import sys
-from typing import List, Optional
+import time
+from typing import List, Optional, Tuple
 
 from bossd._protocol import host_and_port
+from bossd.ctl._lint import Finding
+from bossd.ctl._served import NoAnswer, asking
 from bossd.ctl._toml import Failure
 
 from . import __version__
 from .bridge import Bridge, discovery_of, own_topics
 from .link import context_of
-from .server import IsTaken
+from .server import PATIENCE, PAUSE, IsTaken
 from .settings import Settings, password_of, read_settings
 
 USAGE, REFUSED, TAKEN, UNREADABLE = 2, 3, 4, 5
@@ -23,7 +26,8 @@ def words() -> argparse.ArgumentParser:
     """The words that are understood."""
     parser = argparse.ArgumentParser(
         prog="bossd-mqtt", description="Carries a building's bossd to an MQTT broker, and changes from there.",
-        epilog="It takes one of the server's workers. It ends with 0 where it was ended, 2 for faulty words, 3 where FILE or one that it names is "
+        epilog="It takes one of the server's workers. Where FILE names no catalogue, and this machine has none at /etc/bossd/plant.toml, the "
+               "server is asked for its points. It ends with 0 where it was ended, 2 for faulty words, 3 where FILE or one that it names is "
                "refused, 4 where another copy runs, 5 where a password or a certificate cannot be read.")
     parser.add_argument("file", metavar="FILE", help="what is told where, and what may be set, as /etc/bossd/mqtt/north.toml")
     parser.add_argument("server", metavar="SERVER", nargs="?", help="the server's address, as 127.0.0.1:7000")
@@ -59,9 +63,25 @@ def say(text: str) -> None:
     print(f"bossd-mqtt: {text}", file=sys.stderr)
 
 
+def read(given: argparse.Namespace) -> Tuple[Optional[Settings], List[Finding]]:
+    """What the file says, and what is to be said of it. A server that has to tell its catalogue is waited for as long as it takes, unless it
+    is only looked what the file says. Failure."""
+    said, ask = "", asking(given.server, PATIENCE) if given.server else None
+    while True:
+        try:
+            return read_settings(given.file, ask)
+        except NoAnswer as error:
+            if given.check or given.show:
+                raise
+            if str(error) != said:
+                said = str(error)
+                say(said)
+        time.sleep(PAUSE)
+
+
 def run(given: argparse.Namespace) -> int:
     """Does what was asked, and gives the status to end with. Failure."""
-    settings, findings = read_settings(given.file)
+    settings, findings = read(given)
     for finding in findings:
         print(finding.sentence(), file=sys.stdout if given.check else sys.stderr)
     if settings is None:
@@ -88,7 +108,7 @@ def main(arguments: Optional[List[str]] = None) -> None:
     """Ends with the status."""
     given = words().parse_args(arguments)
     try:
-        if not given.check and not given.show:
+        if given.server is not None or not given.check and not given.show:
             host_and_port(given.server or "")
     except ValueError as error:
         say(str(error) if given.server else "SERVER is missing: the server's address, as 127.0.0.1:7000")

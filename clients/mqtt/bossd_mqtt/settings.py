@@ -10,13 +10,14 @@ from typing import Any, Callable, Dict, List, NamedTuple, Optional, Sequence, Tu
 from bossd._protocol import host_and_port, is_name
 from bossd.ctl import _show as show
 from bossd.ctl._lint import A_NAME, File, Finding, is_pattern, is_whole, matches, name_of, shown
+from bossd.ctl._served import DEFAULT, Ask, NoAnswer, is_none_here, told
 from bossd.ctl._show import DAY, HOUR, MINUTE, SECOND, Catalogue, exact_length, read_catalogue, read_length
 from bossd.ctl._toml import Failure, Path
 
 from .discovery import classes_of
 from .topics import LONGEST_BASE, LONGEST_DISCOVERY, Point, Topics, is_levels
 
-CATALOGUE, BROKER = "/etc/bossd/plant.toml", "127.0.0.1:1883"
+BROKER = "127.0.0.1:1883"
 MOST_RULES, MOST_POINTS, MOST_PATTERNS, MOST_STEPS = 256, 4_096, 4_096, 7
 CLIENT_ID = re.compile(r"[A-Za-z0-9_-]{1,64}")
 A_LEVEL = "of A-Z a-z 0-9 _ -, in levels with / between"
@@ -109,10 +110,12 @@ def value_in(point: show.Point, value: object) -> Optional[int]:
 
 
 class Reading(File):
-    """A file that is read. `settings` are its settings, and None where a finding is a mistake."""
+    """A file that is read. `settings` are its settings, and None where a finding is a mistake. `ask` is asked for the catalogue where the file
+    names none, and there is none of a server on this machine. NoAnswer."""
 
-    def __init__(self, path: str) -> None:
+    def __init__(self, path: str, ask: Optional[Ask] = None) -> None:
         super().__init__(path)
+        self._ask = ask
         self.settings: Optional[Settings] = None
         self._catalogue: Optional[Catalogue] = None
         self._settable: Dict[str, Settable] = {}
@@ -153,10 +156,12 @@ class Reading(File):
         return read_length(table[key])
 
     def _catalogue_of(self, top: Dict[str, Any]) -> Optional[Catalogue]:
-        if not self.one((), "", top, "catalogue", is_text, "a path", default=CATALOGUE):
+        if not self.one((), "", top, "catalogue", is_text, "a path", default=DEFAULT):
             return None
         try:
-            return read_catalogue(top.get("catalogue", CATALOGUE))
+            return told(self._ask) if is_none_here(top.get("catalogue")) else read_catalogue(top.get("catalogue", DEFAULT))
+        except NoAnswer:
+            raise
         except Failure as error:
             self.note(("catalogue",), "", "", str(error))
             return None
@@ -330,9 +335,9 @@ def is_loopback(host: str) -> bool:
         return host == "localhost"
 
 
-def read_settings(path: str) -> Tuple[Optional[Settings], List[Finding]]:
-    """What a file says, and what is to be said of it. Failure where it cannot be read."""
-    reading = Reading(path)
+def read_settings(path: str, ask: Optional[Ask] = None) -> Tuple[Optional[Settings], List[Finding]]:
+    """What a file says, and what is to be said of it. Failure where it cannot be read; NoAnswer."""
+    reading = Reading(path, ask)
     return reading.settings, reading.findings
 
 

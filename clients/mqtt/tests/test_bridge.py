@@ -42,6 +42,18 @@ class Told(common.Case):
             self.assertIn(told["state_topic"], found)
             self.assertTrue({one["topic"] for one in told["availability"]} <= found.keys())
 
+    @unittest.skipIf(os.path.exists("/etc/bossd/plant.toml"), "this machine has a catalogue")
+    def test_without_a_catalogue_the_server_tells_its_points(self):
+        self.server.kill()
+        made = common.Bridge(self.new_folder(), f'base = "{BASE}"\n[broker]\naddress = "127.0.0.1:{self.broker.port}"\n', self.server.address)
+        made.start()
+        self.addCleanup(made.stop)
+        self.eventually(lambda: f"{self.server.address} does not tell its points" in made.said())
+        self.server.start()
+        self.eventually(lambda: retained(self.broker.port, f"{BASE}/+", 0.2).get(f"{BASE}/server") == "online")
+        found = retained(self.broker.port, f"{BASE}/point/+/value")
+        self.assertEqual(found, {f"{BASE}/point/{name}/value": value for name, value in DEFAULTS.items()})
+
     def test_what_others_hold(self):
         self.bridge()
         listener, client = self.listener(), self.client("comfort")

@@ -4,9 +4,13 @@ import os
 import subprocess
 import tempfile
 import unittest
+from unittest import mock
 
 from tests import common
 
+from bossd.ctl import _served
+from bossd.ctl._served import NoAnswer
+from bossd.ctl._show import Catalogue, Point
 from bossd.ctl._toml import Failure
 from bossd_mqtt.settings import Broker, Settable, password_of, read_settings
 
@@ -33,6 +37,38 @@ class Case(unittest.TestCase):
         """Whether it is refused, and the sentences without the file's name."""
         settings, findings = self.read(text)
         return settings is None, [finding.sentence().removeprefix(self.path) for finding in findings]
+
+
+class WhoTells(Case):
+    """Where the file names no catalogue, and this machine has none."""
+
+    LAMP = Point("hall.lamp", "hall", "binary", 0, 1, 0)
+
+    def setUp(self):
+        super().setUp()
+        none = mock.patch.object(_served, "DEFAULT", os.path.join(self.folder, "none.toml"))
+        none.start()
+        self.addCleanup(none.stop)
+        self.read('base = "site/north"\n')
+
+    def test_the_server_tells(self):
+        settings, findings = read_settings(self.path, lambda: Catalogue("192.0.2.1:7000", {"hall.lamp": self.LAMP}, bytes(32)))
+        self.assertEqual(([one.sentence() for one in findings], list(settings.points), settings.catalogue.path), ([], ["hall.lamp"], "192.0.2.1:7000"))
+
+    def test_it_does_not_answer(self):
+        with self.assertRaises(NoAnswer):
+            read_settings(self.path, mock.Mock(side_effect=NoAnswer("away")))
+
+    def test_nobody_tells(self):
+        for ask, words in ((None, "no SERVER is named"), (mock.Mock(side_effect=Failure("a bossd of before")), "a bossd of before")):
+            settings, findings = read_settings(self.path, ask)
+            self.assertEqual((settings, len(findings)), (None, 1))
+            self.assertIn(words, findings[0].sentence())
+
+    def test_it_is_not_asked_for_nothing(self):
+        self.read(GOOD)
+        ask = mock.Mock()
+        self.assertEqual((read_settings(self.path, ask)[0].catalogue.path, ask.called), (common.CATALOGUE, False))
 
 
 class WhatItSays(Case):

@@ -14,7 +14,7 @@ import bossd
 import bossd.aio
 
 from . import __version__, told, week
-from .catalogue import Failure, host_and_port, now
+from .catalogue import Ask, Failure, NoAnswer, asking, host_and_port, now
 from .idle import note_idle
 from .reading import Reader, Schedule
 from .running import Clock, Link, Running
@@ -33,14 +33,15 @@ def words() -> argparse.ArgumentParser:
     parser = argparse.ArgumentParser(
         prog="bossd-schedule", description="Holds points by weekly programmes, as one control process of a bossd.",
         usage="bossd-schedule FILE SERVER [--state FOLDER]\n"
-              "       bossd-schedule FILE --check\n"
-              "       bossd-schedule FILE --show now|day|week|DATE [--point PATTERN] [--picture FILE] [--json]",
-        epilog="It takes one of the server's workers. A signal HUP has it read FILE again.")
+              "       bossd-schedule FILE [SERVER] --check\n"
+              "       bossd-schedule FILE [SERVER] --show now|day|week|DATE [--point PATTERN] [--picture FILE] [--json]",
+        epilog="It takes one of the server's workers. A signal HUP has it read FILE again. Where FILE names no catalogue, and this machine has none "
+               "at /etc/bossd/plant.toml, the server is asked for its points.")
     parser.add_argument("file", metavar="FILE", help="the file with the programmes, as /etc/bossd/week.toml")
     parser.add_argument("server", metavar="SERVER", nargs="?", help="the server's address, as 127.0.0.1:7000")
     parser.add_argument("--state", metavar="FOLDER", help="where it writes schedule.prom, for Prometheus, and coming.json; an empty word is nowhere")
-    parser.add_argument("--check", action="store_true", help="say every mistake of the file, and what is rarely meant; asks no server")
-    parser.add_argument("--show", metavar="WHEN", help="show what is wanted: now, day, week (from today on) or of a day, as 2026-12-24; asks no server")
+    parser.add_argument("--check", action="store_true", help="say every mistake of the file, and what is rarely meant")
+    parser.add_argument("--show", metavar="WHEN", help="show what is wanted: now, day, week (from today on) or of a day, as 2026-12-24")
     parser.add_argument("--point", metavar="PATTERN", help="show these points alone: a name, or the beginning of names and a *")
     parser.add_argument("--picture", metavar="FILE", help="draw it into this file, as SVG")
     parser.add_argument("--json", action="store_true", help="show it as JSON")
@@ -52,18 +53,18 @@ def say(sentence: str) -> None:
     print(f"bossd-schedule: {sentence}", file=sys.stderr, flush=True)
 
 
-def read(path: str, moment: int, thorough: bool = False) -> Reader:
-    """The file, with what is to be said of it. Failure where it cannot be read."""
-    reader = Reader(path, moment)
+def read(path: str, moment: int, ask: Optional[Ask], thorough: bool = False) -> Reader:
+    """The file, with what is to be said of it. Failure where it cannot be read; NoAnswer."""
+    reader = Reader(path, moment, ask)
     if thorough:
         note_idle(reader)
         reader.findings.sort(key=lambda one: one.line or 0)
     return reader
 
 
-def check(path: str) -> int:
-    """Says all that is to be said of a file."""
-    reader = read(path, now(), thorough=True)
+def check(path: str, ask: Optional[Ask]) -> int:
+    """Says all that is to be said of a file. Failure."""
+    reader = read(path, now(), ask, thorough=True)
     for finding in reader.findings:
         print(finding.sentence())
     if reader.has_mistakes():
@@ -74,9 +75,9 @@ def check(path: str) -> int:
     return 0
 
 
-def taken_file(path: str) -> Schedule:
-    """What a file says that has no mistake. Failure, with its first mistakes, where it has any."""
-    reader = read(path, now())
+def taken_file(path: str, ask: Optional[Ask]) -> Schedule:
+    """What a file says that has no mistake. Failure, with its first mistakes, where it has any; NoAnswer."""
+    reader = read(path, now(), ask)
     if reader.schedule is None:
         mistakes = [one.sentence() for one in reader.findings if one.is_mistake]
         more = [f"and {len(mistakes) - 20} more"] if len(mistakes) > 20 else []
@@ -87,10 +88,10 @@ def taken_file(path: str) -> Schedule:
 # ---- it runs
 
 class Service:
-    """The program while it runs: its file, its folder, and what it is told by signals."""
+    """The program while it runs: its file, its folder, and what it is told by signals; `ask` asks the server for its catalogue."""
 
-    def __init__(self, file: str, folder: Optional[str], running: Running) -> None:
-        self.file, self.folder, self.running = file, folder, running
+    def __init__(self, file: str, folder: Optional[str], running: Running, ask: Optional[Ask] = None) -> None:
+        self.file, self.folder, self.running, self.ask = file, folder, running, ask
         self.reloads = told.Reloads(now(), None)
         self._is_told, self._is_ready = False, False
         self._telling: Optional["asyncio.Task[None]"] = None
@@ -122,7 +123,7 @@ class Service:
     async def _reload(self) -> None:
         """Takes the file as it is now, or goes on with the old one and says why."""
         try:
-            schedule = await asyncio.to_thread(taken_file, self.file)
+            schedule = await asyncio.to_thread(taken_file, self.file, self.ask)
             if schedule.process != self.running.schedule.process:
                 raise Failure(f"{self.file}: process: found \"{schedule.process}\"; a restart, for another name")
         except Failure as error:
@@ -193,13 +194,26 @@ async def connected(server: str, process: str) -> bossd.aio.Client:
         await asyncio.sleep(pause)
 
 
-async def keep(file: str, server: str, folder: Optional[str]) -> int:
+async def first_file(file: str, ask: Ask) -> Schedule:
+    """What the file says. A server that has to tell its catalogue is waited for as long as it takes. Failure."""
+    said = ""
+    while True:
+        try:
+            return await asyncio.to_thread(taken_file, file, ask)
+        except NoAnswer as error:
+            if str(error) != said:
+                said = str(error)
+                say(said)
+        await asyncio.sleep(AGAIN)
+
+
+async def keep(file: str, server: str, folder: Optional[str], ask: Ask) -> int:
     """Runs until it is ended. Failure."""
-    schedule = await asyncio.to_thread(taken_file, file)
+    schedule = await first_file(file, ask)
     say(f"version {__version__}, {file}: {len(schedule.plays)} programmes as the process {schedule.process}, times of {schedule.zone.key} ({zones()})")
     client = await connected(server, schedule.process)
     running = Running(schedule, Link(client), Clock(), say)
-    service = Service(file, folder, running)
+    service = Service(file, folder, running, ask)
     loop = asyncio.get_running_loop()
     loop.add_signal_handler(signal.SIGHUP, service.hang_up)
     while True:
@@ -230,7 +244,8 @@ def end(*_: object) -> NoReturn:
 
 def faulty(given: argparse.Namespace) -> Optional[str]:
     """What is wrong with the words together."""
-    if sum((given.check, given.show is not None, given.server is not None)) != 1:
+    looks = given.check + (given.show is not None)
+    if looks > 1 or not looks and given.server is None:
         return "one of SERVER, --check and --show is wanted"
     if given.show is not None and not WHEN.fullmatch(given.show):
         return f"--show {given.show}: wanted now, day, week or a day, as 2026-12-24"
@@ -238,8 +253,8 @@ def faulty(given: argparse.Namespace) -> Optional[str]:
         return "--picture goes with a day or a week"
     if given.show is None and (given.point or given.picture or given.json):
         return "--point, --picture and --json go with --show"
-    if given.state and given.server is None:
-        return "--state goes with SERVER"
+    if given.state and looks:
+        return "--state goes with SERVER alone"
     if given.state and not os.path.isdir(given.state):
         return f"--state {given.state}: no such folder"
     return None
@@ -269,11 +284,13 @@ def main(said: Optional[List[str]] = None) -> None:
 
 def run(given: argparse.Namespace) -> int:
     """The status to end with. Failure, Taken."""
+    ask = asking(given.server, PATIENCE) if given.server is not None else None
     if given.check:
-        return check(given.file)
+        return check(given.file, ask)
     if given.show is not None:
-        return show(taken_file(given.file), given)
+        return show(taken_file(given.file, ask), given)
+    assert ask is not None
     for one in (signal.SIGTERM, signal.SIGINT):
         signal.signal(one, end)
     signal.signal(signal.SIGHUP, signal.SIG_IGN)
-    return asyncio.run(keep(given.file, given.server, given.state))
+    return asyncio.run(keep(given.file, given.server, given.state, ask))

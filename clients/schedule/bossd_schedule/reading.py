@@ -8,7 +8,8 @@ from decimal import Decimal
 from typing import Any, Callable, Dict, List, Mapping, NamedTuple, Optional, Sequence, Set, Tuple, Union
 from zoneinfo import ZoneInfo
 
-from .catalogue import Catalogue, Failure, File, Path, Point, exact_length, is_name, is_pattern, name_of, read_catalogue, read_length, shown
+from .catalogue import (DEFAULT, Ask, Catalogue, Failure, File, NoAnswer, Path, Point, exact_length, is_name, is_none_here, is_pattern, name_of,
+                        read_catalogue, read_length, shown, told)
 from .days import Days, any_of, both_of, days_of, every_day, is_weekdays
 from .keeping import MOST_WRITES, Slot, Way
 from .sources import Sources, Unread, days_touched, matching
@@ -16,7 +17,6 @@ from .week import Between, Block, Events, Moment, Programme, Special
 
 SECOND, MINUTE, DAY = 1_000, 60_000, 86_400_000
 WEEK = 7 * DAY
-CATALOGUE = "/etc/bossd/plant.toml"
 MOST_CALENDARS, MOST_DAYS, MOST_GROUPS, MOST_PATTERNS, MOST_PROGRAMMES, MOST_BLOCKS, MOST_EVENTS, MOST_STEPS = 64, 1_000, 512, 4_096, 512, 64, 16, 7
 MANY_TRANSACTIONS = 64
 
@@ -167,11 +167,12 @@ def fits(pattern: str, name: str) -> bool:
 
 
 class Reader(File):
-    """A file that is read; `schedule` is what it says, if it has no mistake."""
+    """A file that is read; `schedule` is what it says, if it has no mistake. `ask` is asked for the catalogue where the file names none, and
+    there is none of a server on this machine. NoAnswer."""
 
-    def __init__(self, path: str, moment: Moment) -> None:
+    def __init__(self, path: str, moment: Moment, ask: Optional[Ask] = None) -> None:
         super().__init__(path)
-        self.moment = moment
+        self.moment, self.ask = moment, ask
         self.schedule: Optional[Schedule] = None
         self.sources = Sources(moment)
         self.catalogue: Optional[Catalogue] = None
@@ -199,7 +200,7 @@ class Reader(File):
         common = Common(
             zone or ZoneInfo("UTC"), self.may(at, "", top, "priority", a_priority, 16),
             self.may(at, "", top, "lease", a_length(MINUTE, DAY), 15 * MINUTE), self.may(at, "", top, "hold", a_length(0, DAY), 2 * MINUTE))
-        self._catalogue(self.may(at, "", top, "catalogue", a_path, CATALOGUE))
+        self._catalogue(self.may(at, "", top, "catalogue", a_path, DEFAULT))
         if self.catalogue is None:
             return
         for path, table in self.each(at, "", top, "calendar", MOST_CALENDARS):
@@ -216,10 +217,13 @@ class Reader(File):
             self._rare(self.schedule)
 
     def _catalogue(self, path: str) -> None:
+        is_none = is_none_here(self.tables.get("catalogue"))
         try:
-            self.catalogue = read_catalogue(self.beside(path))
+            self.catalogue = told(self.ask) if is_none else read_catalogue(self.beside(path))
+        except NoAnswer:
+            raise
         except Failure as error:
-            self.note(("catalogue",), "", shown(path), str(error))
+            self.note(("catalogue",), "", "nothing" if is_none else shown(path), str(error))
 
     def _calendar(self, path: Path, table: Table, zone: ZoneInfo) -> None:
         name = name_of(table)

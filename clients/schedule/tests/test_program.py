@@ -84,6 +84,35 @@ class Case(unittest.TestCase):
         self.assertTrue(eventually(lambda: self.values() == wanted), (self.values(), wanted))
 
 
+@unittest.skipIf(os.path.exists("/etc/bossd/plant.toml"), "this machine has a catalogue")
+class WithoutACatalogue(Case):
+    """On another machine than the server's."""
+
+    TEXT = 'zone = "UTC"\n' + DAMPER
+
+    def test_the_server_tells_it_and_is_waited_for(self):
+        self.server.kill()
+        made = Program(written(self.folder, self.TEXT), self.server.address)
+        self.addCleanup(made.close)
+        self.eventually(lambda: f"{self.server.address} does not tell its points" in made.said())
+        self.server.start()
+        self.eventually(lambda: self.values()["air.damper"] == 45_000)
+        # It reads its file by what the server tells also where it is told to read it again.
+        written(self.folder, self.TEXT.replace("45", "46"))
+        made.process.send_signal(signal.SIGHUP)
+        self.eventually(lambda: self.values()["air.damper"] == 46_000)
+
+    def test_a_look_at_the_file(self):
+        path = written(self.folder, self.TEXT)
+        told = Program(path, self.server.address, "--check")
+        self.addCleanup(told.close)
+        self.assertEqual(told.process.wait(PATIENCE), 0)
+        for words in ((path, "--check"), (path, f"127.0.0.1:{tools.free_port()}", "--check")):
+            refused = Program(*words)
+            self.addCleanup(refused.close)
+            self.assertEqual(refused.process.wait(PATIENCE), 3)
+
+
 class Held(Case):
     def test_what_is_wanted_is_held_and_let_go_by_a_reload_and_touched_by_none(self):
         program = self.start(LAMPS + DAMPER)

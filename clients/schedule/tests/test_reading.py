@@ -7,9 +7,13 @@ import tempfile
 import unittest
 import xml.etree.ElementTree
 from datetime import date
+from unittest import mock
 
 from .common import HOUR, MINUTE, PLANT, SCHEDULE, SECOND, TOP, WEEK, at, written
 
+from bossd.ctl import _served
+from bossd_schedule import reading
+from bossd_schedule.catalogue import Catalogue, Failure, NoAnswer, Point
 from bossd_schedule.idle import note_idle
 from bossd_schedule.reading import Reader
 from bossd_schedule.week import decide
@@ -45,6 +49,57 @@ class Case(unittest.TestCase):
         reader = self.read(text)
         self.assertEqual([one.sentence() for one in reader.findings], [])
         return reader.schedule
+
+
+class WhoTells(Case):
+    """Whose catalogue counts: the one that the file names, else the one that this machine has, else the one that the server tells."""
+
+    TOLD = Catalogue("192.0.2.1:7000", {"hall.lamp": Point("hall.lamp", "hall", "binary", 0, 1, 0)}, bytes(32))
+
+    def setUp(self):
+        super().setUp()
+        self.default = os.path.join(self.folder, "plant.toml")
+        for module in (_served, reading):
+            replaced = mock.patch.object(module, "DEFAULT", self.default)
+            replaced.start()
+            self.addCleanup(replaced.stop)
+
+    def whose(self, head, ask):
+        """Of which catalogue the points are, and what is said."""
+        reader = Reader(written(self.folder, head + GOOD), NOW, ask)
+        said = [one.sentence().split(": ", 1)[1] for one in reader.findings]
+        return reader.schedule.catalogue.path if reader.schedule is not None else None, said
+
+    def fails(self, error):
+        def ask():
+            raise error
+        return ask
+
+    def test_the_file_names_one(self):
+        self.assertEqual(self.whose(HEAD, self.fails(AssertionError())), (PLANT, []))
+
+    def test_this_machine_has_one(self):
+        with open(PLANT, encoding="utf-8") as file:
+            written(self.folder, file.read(), "plant.toml")
+        self.assertEqual(self.whose('zone = "UTC"\n', self.fails(AssertionError())), (self.default, []))
+
+    def test_the_server_tells(self):
+        self.assertEqual(self.whose('zone = "UTC"\n', lambda: self.TOLD), ("192.0.2.1:7000", []))
+
+    def test_a_point_that_the_server_does_not_tell(self):
+        told, said = self.whose('zone = "UTC"\n', lambda: self.TOLD._replace(points={}))
+        self.assertEqual((told, len(said)), (None, 1))
+        self.assertIn("a name that a point of 192.0.2.1:7000 has", said[0])
+
+    def test_it_does_not_answer(self):
+        with self.assertRaises(NoAnswer):
+            self.whose('zone = "UTC"\n', self.fails(NoAnswer("away")))
+
+    def test_nobody_tells(self):
+        for ask in (None, self.fails(Failure("a bossd of before"))):
+            told, said = self.whose('zone = "UTC"\n', ask)
+            self.assertEqual((told, len(said)), (None, 1))
+            self.assertIn("catalogue: found nothing; " + ("a bossd of before" if ask else "the server's catalogue: no "), said[0])
 
 
 class Mistakes(Case):
@@ -222,7 +277,8 @@ class Words(Case):
 
     def test_words_that_are_none(self):
         for words in ((), ("examples/week.toml",), ("examples/week.toml", "--check", "--show", "now"), ("examples/week.toml", "127.0.0.1"),
-                      ("examples/week.toml", "--check", "--json"), ("examples/week.toml", "127.0.0.1:7000", "--check"),
+                      ("examples/week.toml", "--check", "--json"), ("examples/week.toml", "127.0.0.1", "--check"),
+                      ("examples/week.toml", "127.0.0.1:7000", "--check", "--state", "/tmp"),
                       ("examples/week.toml", "127.0.0.1:7000", "--state", "/no/such/folder"), ("examples/week.toml", "--show", "someday"),
                       ("examples/week.toml", "--show", "now", "--picture", "a.svg")):
             self.assertEqual(self.run_(*words).returncode, 2, words)
