@@ -123,6 +123,13 @@ static void bossd_begin(struct talk *talk) {
     talk->txn = atol(txn + 6);
 }
 
+/* Whoever reads need not be known, so there may be more of these than control processes. */
+static void read_begin(struct talk *talk) {
+    char text[64];
+    bossd_read(talk, (unsigned char *)text);
+    ask_line(talk, text);
+}
+
 static size_t redis_set(struct talk *talk, unsigned char *into) {
     return line(into, "SET p%ld 45000 PX 60000\r\n", talk->number, 0);
 }
@@ -263,7 +270,7 @@ static void keepalive_begin(struct talk *talk) {
 
 static const struct kind KINDS[] = {
     {"bossd-submit", bossd_submit, bossd_begin, hear_lines}, {"bossd-renew", bossd_renew, bossd_begin, hear_lines},
-    {"bossd-read", bossd_read, bossd_begin, hear_lines},     {"redis-set", redis_set, redis_begin, hear_lines},
+    {"bossd-read", bossd_read, read_begin, hear_lines},     {"redis-set", redis_set, redis_begin, hear_lines},
     {"redis-pexpire", redis_pexpire, redis_begin, hear_lines}, {"redis-pttl", redis_pttl, redis_begin, hear_lines},
     {"etcd-grant", etcd_grant, etcd_begin, hear_frames},     {"etcd-keepalive", etcd_keepalive, keepalive_begin, hear_frames},
 };

@@ -13,6 +13,8 @@ TOP = os.path.dirname(os.path.dirname(os.path.abspath(__file__)))
 PROGRAM = os.path.abspath(os.environ.get("BOSSD") or os.path.join(TOP, "crates", "bossd", "out", "bossd"))
 EXAMPLES = os.path.join(TOP, "examples")
 CLIENT = os.path.join(TOP, "clients", "python")
+# The commands of packaging/ find the client of this repository, whatever is installed.
+os.environ["PYTHONPATH"] = os.pathsep.join([CLIENT, *filter(None, [os.environ.get("PYTHONPATH")])])
 # How long, in seconds, a server may take until it listens.
 PATIENCE = 60
 # So many free bytes at most the C library keeps for each thread, as in the unit for systemd.
@@ -67,6 +69,12 @@ def memory_of(pid):
             return next((int(line.split()[1]) for line in file if line.startswith("VmRSS")), 0)
     except OSError:
         return 0
+
+
+def private_of(pid):
+    """What a process has in memory that no other one shares with it, in kB."""
+    with open(f"/proc/{pid}/smaps_rollup") as file:
+        return sum(int(line.split()[1]) for line in file if line.startswith("Private_"))
 
 
 def check(catalogue, journal):
