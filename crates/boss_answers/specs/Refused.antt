@@ -1,6 +1,7 @@
 -- Source: own.
 -- What the program says where its words or the catalogue come to nothing.
 use Rattle.std.specs.Prelude.{ℕ, List, [], ◌∷◌, ◌++◌, codes, decimal}
+use Rattle.boss_model.specs.Limits.{program_version}
 use Rattle.boss_points.specs.declared.CatalogueRefusal.{CatalogueRefusal}
 use Rattle.boss_points.specs.declared.CatalogueRefusal.TheVariants.{TooLong, NotToml, Missing, TooMany, BadDriver, BadName, SameName, BadKind, BadDefault, UnknownDriver, BadTimes, NoMemory}
 use Rattle.boss_points.specs.declared.Key.{Key}
@@ -8,6 +9,24 @@ use Rattle.boss_points.specs.declared.Key.TheVariants.{Drivers, Point}
 
 abbrev pub usage_line : List ℕ
 usage_line = codes "usage" ++ 10 ∷ []
+
+-- the jobs, one a line, and what their words are
+abbrev pub help_text : List ℕ
+help_text =
+    codes "script CATALOGUE JOURNAL: answer commands that come line by line on the standard input" ++ 10 ∷
+    codes "serve CATALOGUE JOURNAL ADDRESS WORKERS CONNECTIONS [RULES [PLAN]]: serve control programs over TCP" ++ 10 ∷
+    codes "check CATALOGUE JOURNAL: tell what a journal stands for, and write nothing" ++ 10 ∷
+    codes "adopt OLD NEW JOURNAL: take a journal over under a changed catalogue" ++ 10 ∷
+    codes "feed CATALOGUE JOURNAL FROM: tell the events of a journal above a number" ++ 10 ∷
+    codes "standby CATALOGUE JOURNAL: follow a feed that comes on the standard input" ++ 10 ∷
+    codes "load COUNT SEED: play a generated day" ++ 10 ∷
+    codes "version: tell which version this is" ++ 10 ∷
+    codes "JOURNAL is a file with a second one beside it that ends with .b, or - for memory alone; RULES and PLAN are files, or - for none" ++ 10 ∷
+    []
+
+-- the program, and its version
+abbrev pub version_line : List ℕ
+version_line = codes "bossd " ++ program_version ++ 10 ∷ []
 
 abbrev pub key_text : Key → List ℕ
 key_text Drivers = codes "drivers"

@@ -2,7 +2,7 @@ ghost use Rattle.std.specs.Prelude.{◌≡◌, ◌+◌, ◌≤◌, ◌<◌, ◌+
 ghost use Rattle.std.specs.Fmt.{signed_decimal};
 ghost use Rattle.boss_model.specs.Catalogue.{actuators, default_of};
 ghost use Rattle.boss_model.specs.Tellable.{AreTellable, IsTellable};
-ghost use Rattle.def_wire.specs.Texts.{answer_text, basis_text, differed_text, listed, mark_text, notice_text, point_text, quoted, slot_text, stage_text};
+ghost use Rattle.def_wire.specs.Texts.{answer_text, basis_text, differed_text, listed, mark_text, notice_text, point_text, quoted, slot_text, stage_text, took_text};
 ghost use Rattle.boss_answers.specs.Room.{HasRoom, PutsAtMost};
 
 use crate::entries::{put_points, put_version};
@@ -13,7 +13,7 @@ use crate::parts::{
 };
 use crate::refusal::write_refusal;
 use crate::slots::write_slots;
-use boss_model::{Answer, Basis, Buffer, Mark, Name, Notice, PointId, Slots, Stage, Txn};
+use boss_model::{Answer, Basis, Buffer, Mark, Name, Notice, PointId, Slots, Stage, Took, Txn};
 use boss_points::Catalogue;
 
 /// An answer as a JSON object.
@@ -47,7 +47,15 @@ pub fn write_answer(into: &mut Buffer, catalogue: &Catalogue, answer: &Answer)
             basis,
             mark,
             differed,
-        } => put_reading(into, catalogue, *point, *value, *basis, *mark, *differed),
+            took,
+        } => {
+            let device = Device {
+                mark: *mark,
+                differed: *differed,
+                took: *took,
+            };
+            put_reading(into, catalogue, *point, *value, *basis, device)
+        }
         Answer::Array { point, slots } => put_array(into, catalogue, *point, slots),
         Answer::Status {
             txn,
@@ -113,29 +121,38 @@ fn put_want(into: &mut Buffer, catalogue: &Catalogue, point: PointId, version: u
     into.push(b'}');
 }
 
-/// The value that a point is to have.
+/// Where a point's device stands: how far it has come, how often it was found with another value, and what it took last.
+#[derive(Clone, Copy)]
+struct Device {
+    mark: Mark,
+    differed: u64,
+    took: Option<Took>,
+}
+
+/// The value that a point is to have, what it rests on, and where its device stands.
 fn put_reading(
     into: &mut Buffer,
     catalogue: &Catalogue,
     point: PointId,
     value: i64,
     basis: Basis,
-    mark: Mark,
-    differed: u64,
+    device: Device,
 )
-    requires room { HasRoom 256 into.old }
+    requires room { HasRoom 384 into.old }
     requires known { point < length catalogue.now.points }
-    ensures { PutsAtMost 256 into.old into.new
+    ensures { PutsAtMost 384 into.old into.new
         (codes "{\"ok\":\"read\",\"point\":" ++ point_text catalogue.now point ++ codes ",\"value\":" ++ signed_decimal value
-        ++ codes ",\"from\":" ++ basis_text basis ++ codes ",\"mark\":" ++ mark_text mark ++ differed_text differed ++ codes "}") }
+        ++ codes ",\"from\":" ++ basis_text basis ++ codes ",\"mark\":" ++ mark_text device.mark
+        ++ differed_text device.differed ++ took_text value device.took ++ codes "}") }
 {
     write_point(into, b"{\"ok\":\"read\",\"point\":", catalogue, point);
     write_signed(into, b",\"value\":", value);
     into.extend(b",\"from\":");
     write_basis(into, basis);
     into.extend(b",\"mark\":");
-    into.extend(mark_name(mark));
-    put_differed(into, differed);
+    into.extend(mark_name(device.mark));
+    put_differed(into, device.differed);
+    put_took(into, value, device.took);
     into.push(b'}');
 }
 
@@ -146,6 +163,19 @@ fn put_differed(into: &mut Buffer, count: u64)
 {
     if count != 0 {
         write_number(into, b",\"differed\":", count);
+    }
+}
+
+/// What a point's device took last, where that is not the value that the point is to have.
+fn put_took(into: &mut Buffer, value: i64, took: Option<Took>)
+    requires { HasRoom 96 into.old }
+    ensures { PutsAtMost 96 into.old into.new (took_text value took) }
+{
+    if let Some(took) = took
+        && took.value != value
+    {
+        write_signed(into, b",\"took\":", took.value);
+        write_number(into, b",\"since\":", took.since);
     }
 }
 

@@ -20,5 +20,6 @@ pub use device::write_device;
 pub use lines::{put_answer_line, put_denied_line, put_memory_line, put_stopped_line};
 pub use notice::write_notice;
 pub use telling::{
-    tell_answer, tell_memory, tell_refusal, tell_stopped, tell_too_long, tell_usage, tell_write,
+    tell_answer, tell_help, tell_memory, tell_refusal, tell_stopped, tell_too_long, tell_usage,
+    tell_version, tell_write,
 };

@@ -5,7 +5,7 @@ ghost use Rattle.boss_model.specs.Tellable.{IsTellable};
 ghost use Rattle.def_wire.specs.Texts.{answer_text, device_text, line_of, memory_text, refusal_text, stopped_text, too_long_text};
 ghost use Rattle.boss_outside.specs.Counts.{HasCause};
 ghost use Rattle.boss_outside.specs.Streams.{Writes};
-ghost use Rattle.boss_answers.specs.Refused.{usage_line};
+ghost use Rattle.boss_answers.specs.Refused.{help_text, usage_line, version_line};
 
 use crate::lines::{memory_line, put_answer_line, stopped_line};
 use crate::refusal::write_refusal;
@@ -13,6 +13,18 @@ use crate::write_device;
 use boss_model::{Answer, Buffer, PointId, Refusal};
 use boss_outside::{Failed, Sink};
 use boss_points::Catalogue;
+
+/// The jobs, one a line, and what their words are.
+const HELP: &str =
+    "script CATALOGUE JOURNAL: answer commands that come line by line on the standard input\n\
+    serve CATALOGUE JOURNAL ADDRESS WORKERS CONNECTIONS [RULES [PLAN]]: serve control programs over TCP\n\
+    check CATALOGUE JOURNAL: tell what a journal stands for, and write nothing\n\
+    adopt OLD NEW JOURNAL: take a journal over under a changed catalogue\n\
+    feed CATALOGUE JOURNAL FROM: tell the events of a journal above a number\n\
+    standby CATALOGUE JOURNAL: follow a feed that comes on the standard input\n\
+    load COUNT SEED: play a generated day\n\
+    version: tell which version this is\n\
+    JOURNAL is a file with a second one beside it that ends with .b, or - for memory alone; RULES and PLAN are files, or - for none\n";
 
 /// Tells an answer, as a line.
 pub fn tell_answer<K: Sink>(
@@ -98,6 +110,22 @@ pub fn tell_usage<K: Sink>(sink: &mut K) -> Result<(), Failed>
     ensures cause { HasCause (K.faults sink.old) (K.faults sink.new) result }
 {
     sink.write(b"usage\n")
+}
+
+/// Tells which jobs there are, one a line, and where more is said.
+pub fn tell_help<K: Sink>(sink: &mut K) -> Result<(), Failed>
+    ensures bytes { K.tells → Writes (K.taken sink.old) (K.taken sink.new) help_text result }
+    ensures cause { HasCause (K.faults sink.old) (K.faults sink.new) result }
+{
+    sink.write(HELP.as_bytes())
+}
+
+/// Tells which version of the program it is.
+pub fn tell_version<K: Sink>(sink: &mut K) -> Result<(), Failed>
+    ensures bytes { K.tells → Writes (K.taken sink.old) (K.taken sink.new) version_line result }
+    ensures cause { HasCause (K.faults sink.old) (K.faults sink.new) result }
+{
+    sink.write(b"bossd 0.3.0\n")
 }
 
 /// Tells a text, with the end of a line behind it.

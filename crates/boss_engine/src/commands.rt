@@ -499,6 +499,7 @@ impl Machine {
             basis: basis_of(holdings, point),
             mark: self.marks.mark(point),
             differed: self.marks.differed(point),
+            took: self.marks.took(point),
         })
     }
 

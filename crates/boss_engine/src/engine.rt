@@ -687,7 +687,7 @@ fn gone(ended: u64) -> Outcome
 /// What comes of it where a point was read.
 #[inline(always)]
 fn read(reading: Reading) -> Outcome
-    ensures { result ≡ outcome.Done (answer.Reading reading.point reading.value reading.basis reading.mark reading.differed) }
+    ensures { result ≡ outcome.Done (answer.Reading reading.point reading.value reading.basis reading.mark reading.differed reading.took) }
 {
     Outcome::Done {
         answer: answer_of_reading(reading),

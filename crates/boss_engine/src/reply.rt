@@ -9,10 +9,11 @@ ghost use Rattle.boss_model.specs.declared.answer.Answer.TheVariants as answer;
 
 use crate::machine::Machine;
 use boss_marks::Want;
-use boss_model::{Answer, Basis, Mark, Name, Notice, PointId, ProcId, Refusal, Txn};
+use boss_model::{Answer, Basis, Mark, Name, Notice, PointId, ProcId, Refusal, Took, Txn};
 use boss_persistent::{Decision, notices, slots_of, status};
 
-/// The value that a point is to have, what it rests on, how far the device has come, and how often it was found with another value.
+/// The value that a point is to have, what it rests on, how far the device has come, how often it was found with another value, and what
+/// it took last.
 #[derive(Clone, Copy)]
 pub struct Reading {
     pub point: PointId,
@@ -20,6 +21,7 @@ pub struct Reading {
     pub basis: Basis,
     pub mark: Mark,
     pub differed: u64,
+    pub took: Option<Took>,
 }
 
 /// What a command came to, before it is an answer. An answer has room for sixteen slots, and is dear to move: it is made once, in
@@ -124,7 +126,7 @@ pub fn answer_of_want(want: Want) -> Answer
 
 /// What is answered where a point is read.
 pub fn answer_of_reading(reading: Reading) -> Answer
-    ensures { result ≡ answer.Reading reading.point reading.value reading.basis reading.mark reading.differed }
+    ensures { result ≡ answer.Reading reading.point reading.value reading.basis reading.mark reading.differed reading.took }
 {
     Answer::Reading {
         point: reading.point,
@@ -132,5 +134,6 @@ pub fn answer_of_reading(reading: Reading) -> Answer
         basis: reading.basis,
         mark: reading.mark,
         differed: reading.differed,
+        took: reading.took,
     }
 }

@@ -21,7 +21,7 @@ abbrev pub report_of : Bool → Proxy → Reported
 report_of ok proxy = if ok then reported.Settled else (if proxy.failed then reported.LaterFailure else reported.FirstFailure)
 
 abbrev pub after_report : Bool → ℕ → Proxy → Proxy
-after_report ok n proxy = if ok then taken proxy else not_taken n proxy
+after_report ok n proxy = if ok then taken n proxy else not_taken n proxy
 
 -- the device's write failed, and is to be tried again at moment n: whatever the place of its point
 abbrev pub is_due : ℕ → Proxy → Bool

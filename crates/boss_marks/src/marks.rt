@@ -9,7 +9,7 @@ ghost use Rattle.boss_marks.specs.Marks.{IsEarly, opened, started, settled, want
 
 use crate::proxy::{Reported, doubt, fresh, is_due, recommand, report};
 use crate::wants::Wants;
-use boss_model::{DriverId, Items, Mark, NoMemory, PointId, Proxy};
+use boss_model::{DriverId, Items, Mark, NoMemory, PointId, Proxy, Took};
 use std::alloc::Global;
 use std::marker::Model;
 
@@ -193,6 +193,14 @@ impl Marks {
         ensures { result ≡ (proxy_of self.now.proxies point).differed }
     {
         self.proxies[point.0 as usize].differed
+    }
+
+    /// What the point's device took last, since the state was opened.
+    pub fn took(&self, point: PointId) -> Option<Took>
+        requires { point < length self.now.drivers }
+        ensures { result ≡ (proxy_of self.now.proxies point).took }
+    {
+        self.proxies[point.0 as usize].took
     }
 
     /// How far the point's device has come.

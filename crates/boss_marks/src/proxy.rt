@@ -1,10 +1,10 @@
-ghost use Rattle.std.specs.Prelude.{◌≡◌, ◌≤◌};
+ghost use Rattle.std.specs.Prelude.{◌≡◌, ◌≤◌, Some};
 ghost use Rattle.boss_model.specs.Limits.{last_moment};
-ghost use Rattle.boss_model.specs.Devices.{doubted};
+ghost use Rattle.boss_model.specs.Devices.{doubted, took_at};
 ghost use Rattle.boss_model.specs.Settle.{fresh};
 ghost use Rattle.boss_marks.specs.Proxy.{recommand, report_of, after_report, is_due};
 
-use boss_model::{Mark, Proxy, RETRY_AFTER};
+use boss_model::{Mark, Proxy, RETRY_AFTER, Took};
 
 /// What a report of a device's write comes to.
 #[derive(Clone, Copy, Debug, PartialEq, Eq)]
@@ -30,6 +30,7 @@ pub fn fresh(target: i64) -> Proxy
         failed: false,
         retry_at: 0,
         differed: 0,
+        took: None,
     }
 }
 
@@ -43,6 +44,19 @@ pub fn recommand(proxy: &mut Proxy, target: i64)
     proxy.failed = false;
 }
 
+/// What the device has taken as it takes the commanded value at moment `n`: since before, where it had this value already.
+fn took_at(proxy: &Proxy, n: u64) -> Took
+    ensures { Some result ≡ took_at n proxy.now proxy.now.took }
+{
+    match proxy.took {
+        Some(took) if took.value == proxy.commanded => took,
+        _ => Took {
+            value: proxy.commanded,
+            since: n,
+        },
+    }
+}
+
 /// What the device says of the present version at moment `n`.
 pub fn report(proxy: &mut Proxy, ok: bool, n: u64) -> Reported
     requires { n ≤ last_moment }
@@ -51,6 +65,7 @@ pub fn report(proxy: &mut Proxy, ok: bool, n: u64) -> Reported
 {
     if ok {
         proxy.mark = Mark::Settled;
+        proxy.took = Some(took_at(proxy, n));
         return Reported::Settled;
     }
     let answer = match proxy.failed {

@@ -1,5 +1,5 @@
 -- A small building, and calls to its transaction manager, for the worked timelines.
-use Rattle.std.proofs.Common.{ℕ, pos, Bool, true, List, [], ◌∷◌, ◌++◌, None}
+use Rattle.std.proofs.Common.{ℕ, pos, Bool, true, List, [], ◌∷◌, ◌++◌, Option, Some, None}
 use Rattle.std.specs.Prelude.{codes}
 use Rattle.boss_model.specs.declared.answer.Answer.{Answer}
 use Rattle.boss_model.specs.declared.answer.Answer.TheVariants as answer
@@ -14,6 +14,7 @@ use Rattle.boss_model.specs.declared.point.Kind.TheVariants.{Analog, Binary, Mul
 use Rattle.boss_model.specs.Catalogue.{Actuator}
 use Rattle.boss_model.specs.Run.{Call, answers}
 use Rattle.boss_model.specs.Settle.{first_state}
+use Rattle.boss_model.specs.State.{Took}
 
 -- one driver; a damper from closed, 0, to open, 100,000 thousandths of a percent, by default 20,000; a lamp, by default
 -- off; and a fan of three speeds, by default at the first
@@ -81,6 +82,10 @@ asked calls = answers building (first_state building) calls
 
 abbrev pub took : ℕ → ℕ → ℕ → List Answer
 took point version value = answer.Want point version (pos value) ∷ answer.Noted true ∷ []
+
+-- the device took this value last, at this moment
+abbrev pub since : ℕ → ℕ → Option Took
+since value moment = Some (record { value = pos value; since = moment })
 
 abbrev pub opened : List Answer
 opened = took damper 1 20000 ++ took lamp 1 0 ++ took fan 1 1

@@ -1,5 +1,5 @@
 -- Timelines of devices that fail, computed from the definitions alone.
-use Rattle.std.proofs.Common.{◌≡◌, [], ◌∷◌, ◌++◌, true, false, pos, refl}
+use Rattle.std.proofs.Common.{◌≡◌, [], ◌∷◌, ◌++◌, true, false, pos, None, refl}
 use Rattle.boss_model.specs.declared.answer.Answer.TheVariants as answer
 use Rattle.boss_model.specs.declared.answer.Basis.TheVariants as basis
 use Rattle.boss_model.specs.declared.answer.Mark.TheVariants as mark
@@ -10,7 +10,7 @@ use Rattle.boss_model.specs.declared.notice.Stage.TheVariants as stage
 use Rattle.boss_model.specs.declared.notice.What.TheVariants as what
 use Rattle.std.specs.Prelude.{codes}
 use Rattle.boss_model.specs.Machine.{step}
-use Rattle.boss_model.proofs.Building.{damper, lamp, at, write, reverting, held, submit, notices, device, a_attaches, opening, asked, took, opened, a_attached, notice}
+use Rattle.boss_model.proofs.Building.{damper, lamp, at, write, reverting, held, submit, notices, device, a_attaches, opening, asked, took, since, opened, a_attached, notice}
 
 -- under abort, the first failed write ends all leases of the transaction, at the moment of its report
 first_failure_under_abort : asked (opening ++ a_attaches ∷
@@ -48,7 +48,7 @@ first_failure_under_keep : asked (opening ++ a_attaches ∷
     took damper 2 45000 ++
     took lamp 2 1 ++
     answer.Notices 1 2 (notice 1 1000 1 (what.Fault lamp) ∷ []) ∷
-    answer.Reading lamp (pos 1) (basis.Lease 8 1) mark.Failed 0 ∷
+    answer.Reading lamp (pos 1) (basis.Lease 8 1) mark.Failed 0 (since 0 0) ∷
     answer.Nothing ∷
     answer.Ticked 1000 ∷
     took lamp 2 1
@@ -78,7 +78,7 @@ unfolding step
 old_report = refl
 
 report_of_a_want : asked (at 0 0 (command.Report damper 1 true) ∷ at 0 1 (command.Read damper) ∷ [])
-    ≡ answer.Noted false ∷ answer.Reading damper (pos 20000) basis.Default mark.Pending 0 ∷ []
+    ≡ answer.Noted false ∷ answer.Reading damper (pos 20000) basis.Default mark.Pending 0 None ∷ []
 unfolding step
 report_of_a_want = refl
 
@@ -97,12 +97,12 @@ found_elsewhere : asked (opening ++ a_attaches ∷ at 1000 1 (submit (write damp
     answer.Accepted 1 61000 ∷
     took damper 2 45000 ++
     answer.Noted true ∷
-    answer.Reading damper (pos 45000) (basis.Lease 8 1) mark.Pending 1 ∷
+    answer.Reading damper (pos 45000) (basis.Lease 8 1) mark.Pending 1 (since 45000 1000) ∷
     answer.Noted false ∷
     took damper 2 45000 ++
     answer.Noted true ∷
     took damper 2 45000 ++
-    answer.Reading damper (pos 45000) (basis.Lease 8 1) mark.Settled 1 ∷
+    answer.Reading damper (pos 45000) (basis.Lease 8 1) mark.Settled 1 (since 45000 1000) ∷
     answer.Notices 1 1 [] ∷ []
 unfolding step
 found_elsewhere = refl
@@ -120,7 +120,7 @@ off_for_a_while : asked (opening ++ a_attaches ∷ at 1000 1 (submit (write damp
     took damper 2 45000 ++
     answer.Noted true ∷
     took damper 2 45000 ++
-    answer.Reading damper (pos 45000) (basis.Lease 8 1) mark.Failed 0 ∷
+    answer.Reading damper (pos 45000) (basis.Lease 8 1) mark.Failed 0 (since 45000 1000) ∷
     answer.Ticked 1000 ∷
     took damper 2 45000 ++
     answer.Notices 1 1 [] ∷ []

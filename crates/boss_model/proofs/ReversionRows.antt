@@ -1,5 +1,5 @@
 -- Timelines of reversions, computed from the definitions alone.
-use Rattle.std.proofs.Common.{◌≡◌, List, [], ◌∷◌, ◌++◌, true, pos, refl}
+use Rattle.std.proofs.Common.{◌≡◌, List, [], ◌∷◌, ◌++◌, true, pos, None, refl}
 use Rattle.std.specs.Prelude.{codes}
 use Rattle.boss_model.specs.declared.answer.Answer.TheVariants as answer
 use Rattle.boss_model.specs.declared.answer.Basis.TheVariants as basis
@@ -15,7 +15,7 @@ use Rattle.boss_model.specs.Machine.{step}
 use Rattle.boss_model.specs.Run.{run}
 use Rattle.boss_model.specs.Settle.{first_state}
 use Rattle.boss_model.specs.State.{State}
-use Rattle.boss_model.proofs.Building.{building, damper, at, write, reverting, held, submit, notices, device, a_attaches, b_attaches, opening, asked, took, opened, a_attached, b_attached, notice, cancel}
+use Rattle.boss_model.proofs.Building.{building, damper, at, write, reverting, held, submit, notices, device, a_attaches, b_attaches, opening, asked, took, since, opened, a_attached, b_attached, notice, cancel}
 
 -- 30,000 for five seconds, then 25,000 for five seconds
 abbrev two_steps : List Step
@@ -35,13 +35,13 @@ steps_in_turn : asked (opening ++ a_attaches ∷ at 1000 1 one_write ∷ device 
     at 71000 1 (command.Read damper) ∷
     device 71000 damper 5 true)
     ≡ opened ++ a_attached ∷ answer.Accepted 1 61000 ∷ took damper 2 45000 ++
-    answer.Reading damper (pos 30000) (basis.Pending 8 1) mark.Pending 0 ∷
+    answer.Reading damper (pos 30000) (basis.Pending 8 1) mark.Pending 0 (since 45000 1000) ∷
     took damper 3 30000 ++
-    answer.Reading damper (pos 30000) (basis.Pending 8 1) mark.Settled 0 ∷
-    answer.Reading damper (pos 25000) (basis.Pending 8 1) mark.Pending 0 ∷
+    answer.Reading damper (pos 30000) (basis.Pending 8 1) mark.Settled 0 (since 30000 61000) ∷
+    answer.Reading damper (pos 25000) (basis.Pending 8 1) mark.Pending 0 (since 30000 61000) ∷
     took damper 4 25000 ++
-    answer.Reading damper (pos 25000) (basis.Pending 8 1) mark.Settled 0 ∷
-    answer.Reading damper (pos 20000) basis.Default mark.Pending 0 ∷
+    answer.Reading damper (pos 25000) (basis.Pending 8 1) mark.Settled 0 (since 25000 66000) ∷
+    answer.Reading damper (pos 20000) basis.Default mark.Pending 0 (since 25000 66000) ∷
     took damper 5 20000
 unfolding step
 steps_in_turn = refl
@@ -119,7 +119,7 @@ cut_short : asked (a_attaches ∷ b_attaches ∷
     answer.Accepted 1 2000 ∷
     answer.Status 1 (codes "a") stage.Revert 0 1 ∷
     answer.Accepted 2 4000 ∷
-    answer.Reading damper (pos 20000) basis.Default mark.Pending 0 ∷
+    answer.Reading damper (pos 20000) basis.Default mark.Pending 0 None ∷
     answer.Status 1 (codes "a") stage.Done 0 0 ∷
     answer.Notices 1 4 (notice 1 2000 1 (what.Ended damper cause.Expired) ∷ notice 2 3000 1 (what.Cut damper 2) ∷ notice 3 3000 1 what.Done ∷ []) ∷ []
 unfolding step
@@ -135,8 +135,8 @@ two_reversions : asked (a_attaches ∷
     ≡ a_attached ∷
     answer.Accepted 1 2000 ∷
     answer.Accepted 2 2000 ∷
-    answer.Reading damper (pos 40000) (basis.Pending 5 2) mark.Pending 0 ∷
-    answer.Reading damper (pos 30000) (basis.Pending 8 1) mark.Pending 0 ∷
-    answer.Reading damper (pos 20000) basis.Default mark.Pending 0 ∷ []
+    answer.Reading damper (pos 40000) (basis.Pending 5 2) mark.Pending 0 None ∷
+    answer.Reading damper (pos 30000) (basis.Pending 8 1) mark.Pending 0 None ∷
+    answer.Reading damper (pos 20000) basis.Default mark.Pending 0 None ∷ []
 unfolding step
 two_reversions = refl

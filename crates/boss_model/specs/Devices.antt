@@ -4,13 +4,14 @@ use Rattle.boss_model.specs.declared.answer.Answer.{Answer}
 use Rattle.boss_model.specs.declared.answer.Answer.TheVariants as answer
 use Rattle.boss_model.specs.declared.answer.Mark.{Mark}
 use Rattle.boss_model.specs.declared.answer.Mark.TheVariants as mark
+use Rattle.std.specs.Ordering.{int_eq}
 use Rattle.boss_model.specs.Catalogue.{Actuator, driver_of}
 use Rattle.boss_model.specs.Ends.{faulted}
 use Rattle.boss_model.specs.Limits.{retry_after}
 use Rattle.boss_model.specs.Lists.{member, without}
 use Rattle.boss_model.specs.Order.{least}
 use Rattle.boss_model.specs.Settle.{fresh, places, changed_if, wanted_anew}
-use Rattle.boss_model.specs.State.{Proxy, Persistent, State}
+use Rattle.boss_model.specs.State.{Proxy, Took, Persistent, State}
 use Rattle.boss_model.specs.Target.{in_force}
 
 -- an answer, and the state after it
@@ -44,8 +45,13 @@ wanting plant s = least (λ driver. driver) (map (driver_of plant) s.wants)
 abbrev pub is_current : ℕ → ℕ → State → Bool
 is_current point version s = ((proxy_of s.proxies point).version == version) && not (member point s.wants)
 
-abbrev pub taken : Proxy → Proxy
-taken proxy = record proxy { mark = mark.Settled }
+-- what the device has taken, and since when: the value that it has already, or the commanded one from this moment on
+abbrev pub took_at : ℕ → Proxy → Option Took → Option Took
+took_at n proxy None = Some (record { value = proxy.commanded; since = n })
+took_at n proxy (Some took) = Some (if int_eq took.value proxy.commanded then took else record { value = proxy.commanded; since = n })
+
+abbrev pub taken : ℕ → Proxy → Proxy
+taken n proxy = record proxy { mark = mark.Settled; took = took_at n proxy proxy.took }
 
 abbrev pub not_taken : ℕ → Proxy → Proxy
 not_taken n proxy = record proxy { mark = mark.Failed; failed = true; retry_at = n + retry_after }
@@ -55,7 +61,7 @@ abbrev pub faulted_first : Bool → ℕ → ℕ → Persistent → Persistent
 faulted_first failed point n d = if failed then d else faulted (in_force d.leases point) n d
 
 abbrev pub heard : ℕ → ℕ → Bool → State → State
-heard n point true s = record s { proxies = slice_set s.proxies point (taken (proxy_of s.proxies point)) }
+heard n point true s = record s { proxies = slice_set s.proxies point (taken n (proxy_of s.proxies point)) }
 heard n point false s = record s {
   persistent = faulted_first (proxy_of s.proxies point).failed point n s.persistent;
   proxies = slice_set s.proxies point (not_taken n (proxy_of s.proxies point));

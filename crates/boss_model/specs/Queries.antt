@@ -22,7 +22,7 @@ use Rattle.boss_model.specs.Target.{target, basis_at}
 -- ---- the value of a point
 
 abbrev pub reading : List Actuator → ℕ → Proxy → Persistent → Answer
-reading plant point proxy d = answer.Reading point (target plant d point) (basis_at d point) proxy.mark proxy.differed
+reading plant point proxy d = answer.Reading point (target plant d point) (basis_at d point) proxy.mark proxy.differed proxy.took
 
 -- ---- the slots of a point
 

@@ -1,5 +1,5 @@
 -- Source: own.
-use Rattle.std.specs.Prelude.{ℕ, ◌+◌, ◌%◌, ◌^◌, ℤ, nat_le, Bool, true, false, not, ◌&&◌, if◌then◌else◌, List, [], ◌++◌, length, map, filter}
+use Rattle.std.specs.Prelude.{ℕ, ◌+◌, ◌%◌, ◌^◌, ℤ, nat_le, Bool, true, false, not, ◌&&◌, if◌then◌else◌, List, [], ◌++◌, length, map, filter, None}
 use Rattle.std.specs.List.{enumerate_from, range_with_len}
 use Rattle.std.specs.Ordering.{int_eq}
 use Rattle.boss_model.specs.declared.answer.Mark.{Mark}
@@ -11,7 +11,7 @@ use Rattle.boss_model.specs.Target.{target}
 
 -- a point whose device has not been told anything yet
 abbrev pub fresh : ℤ → Proxy
-fresh value = record { version = 1; commanded = value; mark = mark.Pending; failed = false; retry_at = 0; differed = 0 }
+fresh value = record { version = 1; commanded = value; mark = mark.Pending; failed = false; retry_at = 0; differed = 0; took = None }
 
 -- the state that a persistent part opens to: nobody is attached, and every point wants its target
 abbrev pub opened : List Actuator → Persistent → State

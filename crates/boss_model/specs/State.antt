@@ -11,6 +11,8 @@ pub use Rattle.boss_model.specs.declared.state.Pending.{Pending}
 -- where a point's device stands: the version of its commanded value, that value, how far the device has come, whether it
 -- has failed to take this version, and when it is written again if it failed
 pub use Rattle.boss_model.specs.declared.state.Proxy.{Proxy}
+-- the value that a device took last, and the moment from which on it has been told to have it
+pub use Rattle.boss_model.specs.declared.state.Took.{Took}
 
 -- a control process: its name, how many notices it was sent, and the last of them, at most `notices_kept`; and what the last
 -- request was answered that it had numbered and that was accepted. Processes go by their places.

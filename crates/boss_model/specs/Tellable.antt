@@ -17,7 +17,7 @@ AreTellable catalogue notices = (length notices ≤ most_told) × AllByRecursion
 
 abbrev pub IsTellable : Catalogue → Answer → Type 0
 IsTellable catalogue (answer.Want point version value) = point < length catalogue.points
-IsTellable catalogue (answer.Reading point value basis mark differed) = point < length catalogue.points
+IsTellable catalogue (answer.Reading point value basis mark differed took) = point < length catalogue.points
 IsTellable catalogue (answer.Array point slots) = point < length catalogue.points
 IsTellable catalogue (answer.Notices first next list) = AreTellable catalogue list
 IsTellable catalogue (answer.Points from most) = (from ≤ last_number) × (most ≤ most_told)

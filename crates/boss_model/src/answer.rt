@@ -1,4 +1,4 @@
-use crate::{Cause, Items, Name, Notice, PointId, Priority, SessionId, Spot, Stage, Txn};
+use crate::{Cause, Items, Name, Notice, PointId, Priority, SessionId, Spot, Stage, Took, Txn};
 use std::error::Error;
 use std::fmt;
 
@@ -201,6 +201,8 @@ pub enum Answer {
         mark: Mark,
         /// How often its device was found with another value since the state was opened.
         differed: u64,
+        /// What its device took last, since the state was opened.
+        took: Option<Took>,
     },
     /// The slots of the point.
     Array {

@@ -43,4 +43,4 @@ pub use places::{
 };
 pub use point::Kind;
 pub use spot::{Key, Spot};
-pub use state::{Actuator, Lease, Pending, Proxy};
+pub use state::{Actuator, Lease, Pending, Proxy, Took};

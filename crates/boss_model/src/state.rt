@@ -65,4 +65,15 @@ pub struct Proxy {
     pub retry_at: u64,
     /// How often the device was found with another value than it took, modulo 2^64.
     pub differed: u64,
+    /// What the device took last, since the state was opened.
+    pub took: Option<Took>,
+}
+
+/// A value that a device took.
+#[derive(Clone, Copy, Debug, PartialEq, Eq)]
+pub struct Took {
+    /// The value: thousandths of an analog point, 0 or 1 of a binary one, a state of a multi-state one.
+    pub value: i64,
+    /// The moment at which it was first told to have been taken, with no other value taken since, in milliseconds.
+    pub since: u64,
 }

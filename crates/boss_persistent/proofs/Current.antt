@@ -81,7 +81,7 @@ module _ (s : State) where
 
   by-report : (n point version : ℕ) (ok : Bool) → TellsTheSame (report n point version ok s)
   by-report n point version true k = cond_both {A = Reply} (is_current point version s) _ _ (λ reply. (proxy_of reply.state.proxies k).commanded ≡ (proxy_of s.proxies k).commanded)
-      (λ _. commanded-set s.proxies point (taken (proxy_of s.proxies point)) k refl) (λ _. refl)
+      (λ _. commanded-set s.proxies point (taken n (proxy_of s.proxies point)) k refl) (λ _. refl)
   by-report n point version false k = cond_both {A = Reply} (is_current point version s) _ _ (λ reply. (proxy_of reply.state.proxies k).commanded ≡ (proxy_of s.proxies k).commanded)
       (λ _. commanded-set s.proxies point (not_taken n (proxy_of s.proxies point)) k refl) (λ _. refl)
 

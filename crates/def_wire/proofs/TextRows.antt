@@ -4,7 +4,7 @@ use Rattle.std.specs.Prelude.{codes}
 use Rattle.std.specs.Fmt.{digits}
 use Rattle.boss_model.specs.declared.answer.Answer.TheVariants as answer
 use Rattle.boss_model.specs.declared.answer.Basis.TheVariants.{Default}
-use Rattle.boss_model.specs.declared.answer.Mark.TheVariants.{Pending}
+use Rattle.boss_model.specs.declared.answer.Mark.TheVariants.{Pending, Settled}
 use Rattle.boss_model.specs.declared.answer.Refusal.TheVariants.{Malformed, Stale}
 use Rattle.boss_model.specs.declared.point.Kind.TheVariants.{Analog, Binary, Multi}
 use Rattle.boss_model.specs.declared.spot.Key.TheVariants as key
@@ -86,13 +86,25 @@ past_the_end = refl
 room_beside : page_size 0 64 ∷ page_size 0 32 ∷ page_size 1 64 ∷ [] ≡ 32 ∷ 32 ∷ 64 ∷ []
 room_beside = refl
 
-version_told : version_text digest site ≡ codes "{\"ok\":\"version\",\"program\":\"0.3.0\",\"journal\":2,\"digest\":\"3f\",\"points\":3,\"drivers\":2}"
+version_told : version_text digest site ≡ codes "{\"ok\":\"version\",\"program\":\"0.3.0\",\"journal\":3,\"digest\":\"3f\",\"points\":3,\"drivers\":2}"
 unfolding digits
 version_told = refl
 
 -- ---- a reading of a point whose device was found with another value
 
-differed : answer_text site (answer.Reading 1 (pos 1) Default Pending 3)
+differed : answer_text site (answer.Reading 1 (pos 1) Default Pending 3 None)
     ≡ codes "{\"ok\":\"read\",\"point\":\"fan\",\"value\":1,\"from\":\"default\",\"mark\":\"pending\",\"differed\":3}"
 unfolding digits
 differed = refl
+
+-- a fan that is to stand and runs; and one that has what it is to have
+
+took : answer_text site (answer.Reading 1 (pos 0) Default Pending 0 (Some (record { value = pos 1; since = 1500 })))
+    ≡ codes "{\"ok\":\"read\",\"point\":\"fan\",\"value\":0,\"from\":\"default\",\"mark\":\"pending\",\"took\":1,\"since\":1500}"
+unfolding digits
+took = refl
+
+took_it : answer_text site (answer.Reading 1 (pos 1) Default Settled 0 (Some (record { value = pos 1; since = 1500 })))
+    ≡ codes "{\"ok\":\"read\",\"point\":\"fan\",\"value\":1,\"from\":\"default\",\"mark\":\"settled\"}"
+unfolding digits
+took_it = refl

@@ -28,6 +28,7 @@ use Rattle.boss_model.specs.declared.point.Kind.TheVariants.{Analog, Binary, Mul
 use Rattle.boss_model.specs.declared.spot.Spot.{Spot}
 use Rattle.boss_model.specs.Catalogue.{Catalogue, Point, actuators, default_of, driver_of}
 use Rattle.boss_model.specs.Limits.{most_told, program_version}
+use Rattle.boss_model.specs.declared.state.Took.{Took}
 use Rattle.def_log.specs.Versions.{newest_version}
 use Rattle.def_catalogue.specs.Canonical.{digest_of}
 use Rattle.def_wire.specs.Spots.{spot_text}
@@ -191,6 +192,11 @@ version_text digest catalogue =
 abbrev pub differed_text : ℕ → List ℕ
 differed_text count = if count == 0 then [] else codes ",\"differed\":" ++ decimal count
 
+-- what a point's device took last and since when, where that is another value than the point is to have
+abbrev pub took_text : ℤ → Option Took → List ℕ
+took_text value None = []
+took_text value (Some took) = if int_eq took.value value then [] else codes ",\"took\":" ++ signed_decimal took.value ++ codes ",\"since\":" ++ decimal took.since
+
 abbrev pub answer_text : Catalogue → Answer → List ℕ
 answer_text catalogue (answer.Attached name next) =
     codes "{\"ok\":\"attached\",\"process\":" ++ quoted name ++ codes ",\"next\":" ++ decimal next ++ codes "}"
@@ -207,9 +213,9 @@ answer_text catalogue (answer.Want point version value) =
     ++ codes ",\"value\":" ++ signed_decimal value ++ codes "}"
 answer_text catalogue answer.Nothing = codes "{\"ok\":\"nothing\"}"
 answer_text catalogue (answer.Noted current) = codes "{\"ok\":\"noted\"}"
-answer_text catalogue (answer.Reading point value basis mark differed) =
+answer_text catalogue (answer.Reading point value basis mark differed took) =
     codes "{\"ok\":\"read\",\"point\":" ++ point_text catalogue point ++ codes ",\"value\":" ++ signed_decimal value
-    ++ codes ",\"from\":" ++ basis_text basis ++ codes ",\"mark\":" ++ mark_text mark ++ differed_text differed ++ codes "}"
+    ++ codes ",\"from\":" ++ basis_text basis ++ codes ",\"mark\":" ++ mark_text mark ++ differed_text differed ++ took_text value took ++ codes "}"
 answer_text catalogue (answer.Array point slots) =
     codes "{\"ok\":\"array\",\"point\":" ++ point_text catalogue point ++ codes ",\"default\":" ++ signed_decimal (default_of (actuators catalogue) point)
     ++ codes ",\"slots\":[" ++ listed (map slot_text slots.at) ++ codes "]}"

@@ -18,6 +18,7 @@ use Rattle.boss_model.specs.Replies.{once}
 use Rattle.boss_model.specs.Settle.{fresh}
 use Rattle.boss_model.specs.Sound.{IsSoundPersistent}
 use Rattle.boss_model.specs.State.{Persistent, Attachment, State}
+use Rattle.boss_model.specs.declared.state.Took.{Took}
 use Rattle.boss_model.specs.Submit.{submit}
 use Rattle.boss_model.specs.Time.{due, moment_of, tick_to}
 use Rattle.boss_model.specs.Reversions.{courses}
@@ -206,20 +207,20 @@ reading-same plant s t session other point m same =
     ∙ sym (core-read plant other point m t).0
 
 -- with what it tells of the device, an answer without that is the answer again
-pub mark-alone : (given : Answer) → (stands : Mark) × (differed : ℕ) × (marked stands differed (unmarked given) ≡ given)
-mark-alone (answer.Reading point value basis stands differed) = (stands, differed, refl)
-mark-alone (answer.Attached name next) = (mark.Pending, 0, refl)
-mark-alone (answer.Accepted txn until) = (mark.Pending, 0, refl)
-mark-alone (answer.Renewed txn until) = (mark.Pending, 0, refl)
-mark-alone (answer.Cancelled txn at) = (mark.Pending, 0, refl)
-mark-alone (answer.Gone ended) = (mark.Pending, 0, refl)
-mark-alone (answer.Ticked now) = (mark.Pending, 0, refl)
-mark-alone (answer.Want point version value) = (mark.Pending, 0, refl)
-mark-alone answer.Nothing = (mark.Pending, 0, refl)
-mark-alone (answer.Noted current) = (mark.Pending, 0, refl)
-mark-alone (answer.Array point slots) = (mark.Pending, 0, refl)
-mark-alone (answer.Status txn owner stage live pending) = (mark.Pending, 0, refl)
-mark-alone (answer.Notices first next list) = (mark.Pending, 0, refl)
-mark-alone (answer.Points from most) = (mark.Pending, 0, refl)
-mark-alone answer.Version = (mark.Pending, 0, refl)
-mark-alone (answer.Refused why) = (mark.Pending, 0, refl)
+pub mark-alone : (given : Answer) → (stands : Mark) × (differed : ℕ) × (took : Option Took) × (marked stands differed took (unmarked given) ≡ given)
+mark-alone (answer.Reading point value basis stands differed took) = (stands, differed, took, refl)
+mark-alone (answer.Attached name next) = (mark.Pending, 0, None, refl)
+mark-alone (answer.Accepted txn until) = (mark.Pending, 0, None, refl)
+mark-alone (answer.Renewed txn until) = (mark.Pending, 0, None, refl)
+mark-alone (answer.Cancelled txn at) = (mark.Pending, 0, None, refl)
+mark-alone (answer.Gone ended) = (mark.Pending, 0, None, refl)
+mark-alone (answer.Ticked now) = (mark.Pending, 0, None, refl)
+mark-alone (answer.Want point version value) = (mark.Pending, 0, None, refl)
+mark-alone answer.Nothing = (mark.Pending, 0, None, refl)
+mark-alone (answer.Noted current) = (mark.Pending, 0, None, refl)
+mark-alone (answer.Array point slots) = (mark.Pending, 0, None, refl)
+mark-alone (answer.Status txn owner stage live pending) = (mark.Pending, 0, None, refl)
+mark-alone (answer.Notices first next list) = (mark.Pending, 0, None, refl)
+mark-alone (answer.Points from most) = (mark.Pending, 0, None, refl)
+mark-alone answer.Version = (mark.Pending, 0, None, refl)
+mark-alone (answer.Refused why) = (mark.Pending, 0, None, refl)

@@ -108,7 +108,7 @@ module _ (plant : List Actuator) (m n : ℕ) (small : m ≤ last_moment) where
 
   heard-waits : (point : ℕ) (ok : Bool) (s : State) → ((k : ℕ) → k < length s.proxies → IsWaiting n (proxy_of s.proxies k)) →
       (k : ℕ) → k < length (heard n point ok s).proxies → IsWaiting n (proxy_of (heard n point ok s).proxies k)
-  heard-waits point true s waits = set-waits s.proxies point (taken (proxy_of s.proxies point)) (λ failed. cc) waits
+  heard-waits point true s waits = set-waits s.proxies point (taken n (proxy_of s.proxies point)) (λ failed. cc) waits
   heard-waits point false s waits = set-waits s.proxies point (not_taken n (proxy_of s.proxies point)) (λ failed. omega arith) waits
 
   report-waits : (point version : ℕ) (ok : Bool) (s : State) → ((k : ℕ) → k < length s.proxies → IsWaiting n (proxy_of s.proxies k)) →
@@ -192,7 +192,7 @@ module _ (plant : List Actuator) (m n : ℕ) (small : m ≤ last_moment) where
         (each-filter (λ l. list_any (is_of l.txn) s.persistent.leases ≡ true) (λ l. l.point == point) s.persistent.leases (some-of (λ x y. y.txn == x.txn) (λ x. grind (arith, nat_tests)) s.persistent.leases)) is) few
 
     lighter-heard : (ok : Bool) → length (settle plant (heard n point ok s1)).wants ≤ length plant → load plant (settle plant (heard n point ok s1)) < load plant s
-    lighter-heard true few = lighter-mark s.persistent (taken (proxy_of s.proxies point)) refl refl (λ k. refl)
+    lighter-heard true few = lighter-mark s.persistent (taken n (proxy_of s.proxies point)) refl refl (λ k. refl)
     lighter-heard false few = by (proxy_of s.proxies point).failed few
       where
         by : (failed : Bool) →

@@ -176,19 +176,19 @@ heard-report n point other version true s h is =
     (λ current. cond_both (other == point) h.asked h.took (λ took. (other == point) ≡ (other == point) → IsHeard point (heard n other true s) (record { asked = h.asked; took = took }))
     (λ here _. let same : other ≡ point = grind (arith, nat_tests) in
     let away : member other s.wants ≡ false = grind (arith, nat_tests) in
-    let there : proxy_of (set s.proxies other (taken (proxy_of s.proxies other))) point ≡ taken (proxy_of s.proxies point) =
-    subst (λ k. proxy_of (set s.proxies k (taken (proxy_of s.proxies k))) point ≡ taken (proxy_of s.proxies point)) (sym same)
-    (proxy_of-set s.proxies point (taken (proxy_of s.proxies point)) is.known) in
+    let there : proxy_of (set s.proxies other (taken n (proxy_of s.proxies other))) point ≡ taken n (proxy_of s.proxies point) =
+    subst (λ k. proxy_of (set s.proxies k (taken n (proxy_of s.proxies k))) point ≡ taken n (proxy_of s.proxies point)) (sym same)
+    (proxy_of-set s.proxies point (taken n (proxy_of s.proxies point)) is.known) in
     let asked : h.asked ≡ Some (sent (proxy_of s.proxies point)) = is.asked (subst (λ k. member k s.wants ≡ false) same away) in
     record {
-      known = subst (λ k. point < k) (sym (length-set s.proxies other (taken (proxy_of s.proxies other)))) is.known;
+      known = subst (λ k. point < k) (sym (length-set s.proxies other (taken n (proxy_of s.proxies other)))) is.known;
       asked = λ _. asked ∙ ap (λ q. Some (sent q)) (sym there);
       took = λ _. asked ∙ ap (λ q. Some (sent q)) (sym there);
     })
-    (λ apart _. let there : proxy_of (set s.proxies other (taken (proxy_of s.proxies other))) point ≡ proxy_of s.proxies point =
-    proxy_of-other s.proxies other point (taken (proxy_of s.proxies other)) (grind (arith, nat_tests)) in
+    (λ apart _. let there : proxy_of (set s.proxies other (taken n (proxy_of s.proxies other))) point ≡ proxy_of s.proxies point =
+    proxy_of-other s.proxies other point (taken n (proxy_of s.proxies other)) (grind (arith, nat_tests)) in
     record {
-      known = subst (λ k. point < k) (sym (length-set s.proxies other (taken (proxy_of s.proxies other)))) is.known;
+      known = subst (λ k. point < k) (sym (length-set s.proxies other (taken n (proxy_of s.proxies other)))) is.known;
       asked = λ away. is.asked away ∙ ap (λ q. Some (sent q)) (sym there);
       took = λ settled. is.took (ap (λ q. q.mark) (sym there) ∙ settled) ∙ ap (λ q. Some (sent q)) (sym there);
     }) refl)
@@ -317,7 +317,7 @@ told-report point other version (answer.Gone ended) h = inl refl
 told-report point other version (answer.Ticked now) h = inl refl
 told-report point other version (answer.Want p number value) h = inl refl
 told-report point other version answer.Nothing h = inl refl
-told-report point other version (answer.Reading p value basis stands differed) h = inl refl
+told-report point other version (answer.Reading p value basis stands differed last) h = inl refl
 told-report point other version (answer.Array p slots) h = inl refl
 told-report point other version (answer.Status txn owner stage live pending) h = inl refl
 told-report point other version (answer.Notices first next list) h = inl refl

@@ -1,9 +1,10 @@
 -- Source: own.
-use Rattle.std.specs.Prelude.{ℕ, Bool, true, false, Some}
+use Rattle.std.specs.Prelude.{ℕ, Bool, true, false, Option, Some, None}
 use Rattle.boss_model.specs.declared.answer.Answer.{Answer}
 use Rattle.boss_model.specs.declared.answer.Answer.TheVariants as answer
 use Rattle.boss_model.specs.declared.answer.Mark.{Mark}
 use Rattle.boss_model.specs.declared.answer.Mark.TheVariants as mark
+use Rattle.boss_model.specs.declared.state.Took.{Took}
 use Rattle.boss_model.specs.declared.command.Command.{Command}
 use Rattle.boss_model.specs.declared.command.Command.TheVariants as command
 
@@ -25,12 +26,12 @@ is_question (command.Points from most) = true
 is_question command.Version = true
 is_question c = false
 
--- a reading without what it tells of the device, its mark and how often it differed; every other answer as it is
+-- a reading without what it tells of the device: its mark, how often it differed and what it took; every other answer as it is
 abbrev pub unmarked : Answer → Answer
-unmarked (answer.Reading point value basis stands differed) = answer.Reading point value basis mark.Pending 0
+unmarked (answer.Reading point value basis stands differed took) = answer.Reading point value basis mark.Pending 0 None
 unmarked given = given
 
 -- a reading that tells this of the device; every other answer as it is
-abbrev pub marked : Mark → ℕ → Answer → Answer
-marked stands differed (answer.Reading point value basis other count) = answer.Reading point value basis stands differed
-marked stands differed given = given
+abbrev pub marked : Mark → ℕ → Option Took → Answer → Answer
+marked stands differed took (answer.Reading point value basis other count last) = answer.Reading point value basis stands differed took
+marked stands differed took given = given

@@ -1,5 +1,5 @@
 -- A first script leaves a lease; a second one asks what the first would have asked. Computed from the definitions alone.
-use Rattle.std.proofs.Common.{◌≡◌, pos, true, List, [], ◌∷◌, ◌++◌, refl}
+use Rattle.std.proofs.Common.{◌≡◌, pos, true, List, [], ◌∷◌, ◌++◌, None, refl}
 use Rattle.std.specs.Prelude.{codes}
 use Rattle.boss_model.specs.declared.answer.Answer.{Answer}
 use Rattle.boss_model.specs.declared.answer.Answer.TheVariants as answer
@@ -40,9 +40,9 @@ second = rows (opened building left.persistent)
 
 answers_at_30_and_70 : List Answer
 answers_at_30_and_70 =
-    answer.Reading damper (pos 45000) (basis.Lease 8 1) mark.Pending 0 ∷
+    answer.Reading damper (pos 45000) (basis.Lease 8 1) mark.Pending 0 None ∷
     answer.Status 1 (codes "a") stage.Run 1 0 ∷
-    answer.Reading damper (pos 20000) basis.Default mark.Pending 0 ∷ []
+    answer.Reading damper (pos 20000) basis.Default mark.Pending 0 None ∷ []
 
 asks_the_same : asked 0 on ≡ asked 0 second
 unfolding on second step left rows

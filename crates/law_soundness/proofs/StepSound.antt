@@ -273,7 +273,7 @@ module _ (plant : List Actuator) (n : ℕ) (s : State) (u : IsUnsettled plant s)
       }
 
   heard-sound : (point : ℕ) (ok : Bool) → member point s.wants ≡ false → IsUnsettled plant (heard n point ok s)
-  heard-sound point true away = marked-sound s.persistent point (taken (proxy_of s.proxies point)) away (record { sound = u.persistent; processes = refl })
+  heard-sound point true away = marked-sound s.persistent point (taken n (proxy_of s.proxies point)) away (record { sound = u.persistent; processes = refl })
   heard-sound point false away = marked-sound (faulted_first (proxy_of s.proxies point).failed point n s.persistent) point (not_taken n (proxy_of s.proxies point)) away
       (cond_both (proxy_of s.proxies point).failed s.persistent (faulted (in_force s.persistent.leases point) n s.persistent) (IsNext plant s.persistent)
       (λ _. record { sound = u.persistent; processes = refl }) (λ _. faulted-next plant n s.persistent u.persistent at small point))

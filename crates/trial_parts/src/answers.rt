@@ -96,7 +96,7 @@ fn expect_catalogue(rt: &impl Abort, alloc: Global, catalogue: &Catalogue) {
         alloc,
         catalogue,
         &Answer::Version,
-        r#"{"ok":"version","program":"0.3.0","journal":2,"digest":"e1978847ff8f7b77b36874addcee6469e687d710bc26a9e1f8f82ce94430c34f","points":1,"drivers":1}"#,
+        r#"{"ok":"version","program":"0.3.0","journal":3,"digest":"e1978847ff8f7b77b36874addcee6469e687d710bc26a9e1f8f82ce94430c34f","points":1,"drivers":1}"#,
     );
 }
 
@@ -116,6 +116,7 @@ fn expect_rare(rt: &impl Abort, alloc: Global, catalogue: &Catalogue)
         basis: Basis::Default,
         mark: Mark::Settled,
         differed: u64::MAX,
+        took: None,
     };
     expect(
         rt,

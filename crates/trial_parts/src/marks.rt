@@ -1,7 +1,7 @@
 ghost use Rattle.std.specs.Prelude.{◌≤◌, ◌<◌, ◌^◌, length};
 
 use self::Deed::{
-    Differed, Doubted, HasWant, Looked, Next, NextRetry, Reported, Retried, Settled, Started,
+    Differed, Doubted, HasWant, Looked, Next, NextRetry, Reported, Retried, Settled, Started, Took,
     Wanting,
 };
 use boss_marks::Marks;
@@ -35,6 +35,8 @@ enum Deed {
     Doubted(u32, bool),
     /// How often it was found with another value is asked for.
     Differed(u32),
+    /// What its device took last is asked for.
+    Took(u32),
     /// What failed is tried again, at a moment.
     Retried(u32),
     /// The point's mark is asked for.
@@ -127,6 +129,7 @@ const TRIALS: &[&[(Deed, &str)]] = &[
     // A settled device that is doubted is written again, with the same version and value, and its failure concerns nobody.
     &[
         (Doubted(FAN, true), "false"),
+        (Took(FAN), "None"),
         (
             Next(ROOF),
             "Some(Want { point: PointId(2), version: 1, value: 1 })",
@@ -157,6 +160,14 @@ const TRIALS: &[&[(Deed, &str)]] = &[
             "Some(Want { point: PointId(2), version: 2, value: 0 })",
         ),
         (Reported(FAN, 2, false, 7000), "FirstFailure"),
+        (Took(FAN), "Some(Took { value: 1, since: 0 })"),
+        (Retried(12000), "()"),
+        (
+            Next(ROOF),
+            "Some(Want { point: PointId(2), version: 2, value: 0 })",
+        ),
+        (Reported(FAN, 2, true, 12000), "Settled"),
+        (Took(FAN), "Some(Took { value: 0, since: 12000 })"),
     ],
 ];
 
@@ -195,6 +206,7 @@ fn told(rt: &impl Abort, alloc: Global, marks: &mut Marks, deed: Deed) -> String
             shown(rt, alloc, &marks.doubt(point, differs))
         }
         Differed(point) => shown(rt, alloc, &marks.differed(known(rt, marks, point))),
+        Took(point) => shown(rt, alloc, &marks.took(known(rt, marks, point))),
         Retried(n) => shown(rt, alloc, &marks.retry_due(u64::from(n))),
         Looked(point) => shown(rt, alloc, &marks.mark(known(rt, marks, point))),
         HasWant(driver) => shown(rt, alloc, &marks.has_want(DriverId(driver))),

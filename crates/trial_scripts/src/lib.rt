@@ -85,17 +85,17 @@ write field ahu1.damper 20000 ok
 {"ok":"accepted","txn":1,"until":61000}
 write field ahu1.damper 45000 ok
 > {"at":61000,"op":"read","point":"ahu1.damper"}
-{"ok":"read","point":"ahu1.damper","value":30000,"from":"pending","priority":8,"txn":1,"mark":"pending"}
+{"ok":"read","point":"ahu1.damper","value":30000,"from":"pending","priority":8,"txn":1,"mark":"pending","took":45000,"since":1000}
 write field ahu1.damper 30000 ok
 > {"at":65999,"op":"read","point":"ahu1.damper"}
 {"ok":"read","point":"ahu1.damper","value":30000,"from":"pending","priority":8,"txn":1,"mark":"settled"}
 > {"at":66000,"op":"read","point":"ahu1.damper"}
-{"ok":"read","point":"ahu1.damper","value":25000,"from":"pending","priority":8,"txn":1,"mark":"pending"}
+{"ok":"read","point":"ahu1.damper","value":25000,"from":"pending","priority":8,"txn":1,"mark":"pending","took":30000,"since":61000}
 write field ahu1.damper 25000 ok
 > {"at":70999,"op":"read","point":"ahu1.damper"}
 {"ok":"read","point":"ahu1.damper","value":25000,"from":"pending","priority":8,"txn":1,"mark":"settled"}
 > {"at":71000,"op":"read","point":"ahu1.damper"}
-{"ok":"read","point":"ahu1.damper","value":20000,"from":"default","mark":"pending"}
+{"ok":"read","point":"ahu1.damper","value":20000,"from":"default","mark":"pending","took":25000,"since":66000}
 write field ahu1.damper 20000 ok
 
 == a late tick finds the same as many
@@ -277,7 +277,7 @@ const REFUSED: &str = r#"
 > {"op":"points","from":3}
 {"ok":"points","digest":"aaf24f74f7546ec5b6518644b791c16f2669c87380766435de2d82a7a610d059","count":3,"next":3,"list":[]}
 > {"op":"version"}
-{"ok":"version","program":"0.3.0","journal":2,"digest":"aaf24f74f7546ec5b6518644b791c16f2669c87380766435de2d82a7a610d059","points":3,"drivers":1}
+{"ok":"version","program":"0.3.0","journal":3,"digest":"aaf24f74f7546ec5b6518644b791c16f2669c87380766435de2d82a7a610d059","points":3,"drivers":1}
 
 == lines that ask nothing are refused
 > [
@@ -357,7 +357,7 @@ write field lamp 1 failed
 > {"at":1000,"op":"notices"}
 {"ok":"notices","first":1,"next":2,"list":[{"n":1,"at":1000,"txn":1,"kind":"fault","point":"lamp"}]}
 > {"at":5999,"op":"read","point":"lamp"}
-{"ok":"read","point":"lamp","value":1,"from":"lease","priority":8,"txn":1,"mark":"failed"}
+{"ok":"read","point":"lamp","value":1,"from":"lease","priority":8,"txn":1,"mark":"failed","took":0,"since":0}
 > {"at":6000,"op":"tick"}
 {"ok":"tick","now":1000}
 write field lamp 1 ok

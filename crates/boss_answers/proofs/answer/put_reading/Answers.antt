@@ -12,5 +12,6 @@ returns c =
     let value = puts_keyed (codes ",\"value\":") _ c.write_point.ensures signed in
     let basis = puts_both (puts_both value (puts c.extend.ensures)) c.write_basis.ensures in
     let mark = puts_both (puts_both basis (puts c.extend-2.ensures)) (puts c.extend-3.ensures) in
-    let differed = puts_both mark c.put_differed.ensures in
-    rw (sym c.mark_name.ensures.text) (puts_within (puts_both differed (puts c.push.ensures)) (omega (arith, c.mark_name.ensures.short)))
+    let took = simp to_z-of_z at c.put_took.ensures in
+    let device = puts_both (puts_both mark c.put_differed.ensures) took in
+    rw (sym c.mark_name.ensures.text) (puts_within (puts_both device (puts c.push.ensures)) (omega (arith, c.mark_name.ensures.short)))
