@@ -7,7 +7,7 @@ use Rattle.std.proofs.lemmas.Slice.Eq.{bytes_eq-Decides}
 use Rattle.std.proofs.Math.Seq.{take-add}
 use Rattle.def_bytes.proofs.Spelling.{right_true, left_true}
 use Rattle.def_log.specs.declared.kind.DiskKind.TheVariants.{Idle, Plain, State, Other}
-use Rattle.def_log.specs.Kinds.{kind_of, is_idle, mark_is, plain_mark, state_mark, generation_of}
+use Rattle.def_log.specs.Kinds.{kind_of, is_idle, is_state, mark_is, plain_mark, generation_of}
 use Rattle.boss_model.specs.State.{first_persistent}
 use Rattle.def_disk_pair.specs.Fronts.{IsPlainFront}
 use Rattle.def_disk_pair.specs.Pairs.{IsNew}
@@ -32,7 +32,7 @@ zero_or_short (x ∷ bytes) is few = ⊎_elim
     (cases_lt 1 (length (x ∷ bytes)))
 
 pub idle_new : (bytes : List ℕ) → kind_of bytes ≡ Idle → length bytes ≤ 42 → IsNew bytes
-idle_new bytes is few = zero_or_short bytes (idle_part (is_idle bytes) (nat_le 42 (length bytes) && mark_is bytes plain_mark) (nat_le 66 (length bytes) && mark_is bytes state_mark) (generation_of bytes) is) few
+idle_new bytes is few = zero_or_short bytes (idle_part (is_idle bytes) (nat_le 42 (length bytes) && mark_is bytes plain_mark) (is_state bytes) (generation_of bytes) is) few
 
 pub not_new : (bytes : List ℕ) → 42 < length bytes → IsNew bytes → ⊥
 not_new bytes many (inl short) = omega (arith, many, short)
@@ -56,7 +56,7 @@ one_byte (x ∷ l) long = refl
 
 module _ (bytes : List ℕ) (kind : kind_of bytes ≡ Plain) where
   parts : (is_idle bytes ≡ false) × ((nat_le 42 (length bytes) && mark_is bytes plain_mark) ≡ true)
-  parts = plain_parts (is_idle bytes) (nat_le 42 (length bytes) && mark_is bytes plain_mark) (nat_le 66 (length bytes) && mark_is bytes state_mark) (generation_of bytes) kind
+  parts = plain_parts (is_idle bytes) (nat_le 42 (length bytes) && mark_is bytes plain_mark) (is_state bytes) (generation_of bytes) kind
 
   pub plain_long : 42 ≤ length bytes
   plain_long = let long : nat_le 42 (length bytes) ≡ true = left_true (nat_le 42 (length bytes)) (mark_is bytes plain_mark) parts.1 in grind (arith, nat_tests, long)

@@ -1,9 +1,9 @@
 -- What a kept state leaves that is written to the disk that is not in force.
-use Rattle.std.proofs.Common.{◌≡◌, ◌≢◌, ◌⊎◌, inl, inr, ⊎_elim, ℕ, ◌+◌, ◌^◌, ◌%◌, ◌<◌, ◌≤◌, ◌==◌, nat_le, ◌||◌, Bool, true, false, not, cond, List, [], ◌∷◌, ◌++◌, length, refl, sym, ap, ◌∙◌, subst, min, append-nil, length-append, arith}
+use Rattle.std.proofs.Common.{◌≡◌, ◌≢◌, ◌⊎◌, inl, inr, ⊎_elim, ℕ, ◌+◌, ◌-◌, ◌^◌, ◌%◌, ◌<◌, ◌≤◌, ◌==◌, nat_le, ◌||◌, Bool, true, false, not, cond, List, [], ◌∷◌, ◌++◌, length, refl, sym, ap, ◌∙◌, subst, min, append-nil, length-append, arith}
 use Rattle.std.proofs.lemmas.Bool.{le-leb}
 use Rattle.std.proofs.lemmas.Bool.Decides.{nat_tests}
 use Rattle.boss_model.specs.declared.state.Actuator.{Actuator}
-use Rattle.boss_model.specs.Limits.{last_number}
+use Rattle.boss_model.specs.Limits.{first_gate, last_number}
 use Rattle.boss_model.specs.Sound.{IsSoundPersistent}
 use Rattle.boss_model.specs.State.{Persistent}
 use Rattle.def_bytes.specs.States.{state}
@@ -17,14 +17,17 @@ use Rattle.boss_disk.specs.Runs.{Since}
 use Rattle.boss_disk.specs.Story.{Story}
 use Rattle.boss_disk.specs.Window.{Window, IsImage}
 use Rattle.boss_disk.proofs.Torn.{synced_image}
+use Rattle.def_log.specs.Versions.{newest_version, IsKnown}
 use Rattle.def_seal.specs.Seals.{has_sums, seed_of}
+use Rattle.def_seal.proofs.Seals.{seed_of_rest}
 use Rattle.def_disk_pair.specs.Contents.{HoldsCleanly}
-use Rattle.def_disk_pair.specs.Fronts.{IsStateFront}
+use Rattle.def_disk_pair.specs.Fronts.{kept_head, IsStateFront}
 use Rattle.def_disk_pair.specs.Pairs.{OpensCleanly}
 use Rattle.def_disk_pair.proofs.Disks.{written_state, opens_first, opens_second}
 use Rattle.def_disk_pair.proofs.OfKinds as kinds
+use Rattle.boss_snapshot.proofs.Fronted.{front_seed}
 use Rattle.boss_snapshot.proofs.KeptFronts.{written_front}
-use Rattle.boss_snapshot.specs.Writes.{state_front, DiffersAtFirst, IsIdle, IsWritten, WhileWriting}
+use Rattle.boss_snapshot.specs.Writes.{state_front, state_text, DiffersAtFirst, IsIdle, IsWritten, WhileWriting}
 use Rattle.boss_disk_pair.specs.Images.{OpensEither, OpensTo}
 use Rattle.boss_disk_pair.specs.Orders.{InOrder, stories_of}
 use Rattle.boss_disk_pair.specs.Rests.{counted, forced, IsInForce, Resting}
@@ -52,7 +55,7 @@ not_zero : (n : ℕ) → n ≢ 0 → (n == 0) ≡ false
 not_zero n is = grind (arith, nat_tests)
 
 same_rest : (old new : ℕ) (rest : List ℕ) → old ≢ 0 → new ≢ 0 → kind_of (new ∷ rest) ≡ kind_of (old ∷ rest)
-same_rest old new rest was is = let one = not_zero old was in let two = not_zero new is in rw (one, two) refl
+same_rest old new rest was is = let one = not_zero old was in let two = not_zero new is in rw (one, two, seed_of_rest new old rest) refl
 
 pub same_kind : (was bytes : List ℕ) → DiffersAtFirst was bytes → kind_of bytes ≡ kind_of was
 same_kind was bytes p = ap kind_of p.now ∙ same_rest p.old p.new p.rest p.old_is p.new_is ∙ sym (ap kind_of p.before)
@@ -62,13 +65,13 @@ same_kind was bytes p = ap kind_of p.now ∙ same_rest p.old p.new p.rest p.old_
 module _ (plant : List Actuator) (digest : List ℕ) (whole : length digest ≡ 32) (d : Persistent) (events : ℕ) (few : events ≤ last_number)
     (fits : (state 2).fits d ≡ true) (sound : IsSoundPersistent plant d) where
   -- what is written is the front of a kept state
-  is_front : (first generation : ℕ) → first ≢ 0 → generation < 2 ^ 64 → IsStateFront plant digest 2 generation d events (state_front first digest generation events d)
+  is_front : (first generation : ℕ) → first ≢ 0 → generation < 2 ^ 64 → IsStateFront plant digest newest_version generation d events (state_front first digest generation events d)
   is_front first generation marked small = written_front plant digest generation events first d marked small few fits sound
 
   pub written_kind : (first generation : ℕ) (tail : List ℕ) → first ≢ 0 → generation < 2 ^ 64 →
       kind_of (state_front first digest generation events d ++ 0 ∷ tail) ≡ State generation
   written_kind first generation tail marked small =
-      kinds.state_front plant digest whole 2 generation d events (state_front first digest generation events d) 0 tail (is_front first generation marked small)
+      kinds.state_front plant digest whole newest_version generation d events (state_front first digest generation events d) 0 tail (is_front first generation marked small)
 
   -- the other disk is in force as soon as it is written
   other_opens : (second : Bool) (held bytes : List ℕ) (generation first : ℕ) → first ≢ 0 → generation < 2 ^ 64 →
@@ -78,13 +81,13 @@ module _ (plant : List Actuator) (digest : List ℕ) (whole : length digest ≡ 
     events,
     subst (OpensCleanly plant digest d events held) (sym is)
         (opens_second plant digest held _ d events (ap (in_force (kind_of held)) (written_kind first generation [] marked small) ∙ force)
-        (written_state plant digest _ 2 generation events d (is_front first generation marked small))),
+        (written_state plant digest _ newest_version generation events d (is_front first generation marked small))),
   )
   other_opens true held bytes generation first marked small force is = (
     events,
     subst (λ b. OpensCleanly plant digest d events b held) (sym is)
         (opens_first plant digest _ held d events (ap (λ k. in_force k (kind_of held)) (written_kind first generation [] marked small) ∙ force)
-        (written_state plant digest _ 2 generation events d (is_front first generation marked small))),
+        (written_state plant digest _ newest_version generation events d (is_front first generation marked small))),
   )
 
   -- while it is written the one that was in force holds its own state, maybe of another plant
@@ -130,9 +133,9 @@ module _ (plant : List Actuator) (digest seed : List ℕ) (version : ℕ) (secon
     (new_plant : List Actuator) (new_digest : List ℕ) (whole : length new_digest ≡ 32) (e : Persistent)
     (events : ℕ) (few : events ≤ last_number) (fits : (state 2).fits e ≡ true) (sound : IsSoundPersistent new_plant e) where
   pub changed_rests : (many : ℕ) → counted many ≡ events → (new_seed : List ℕ) →
-      (has_sums 2 ≡ true → new_seed ≡ seed_of (state_front 66 new_digest ((generation + 1) % 2 ^ 64) events e)) →
+      (has_sums newest_version ≡ true → new_seed ≡ seed_of (state_front 66 new_digest ((generation + 1) % 2 ^ 64) events e)) →
       (gate : ℕ) (now : List ℕ) (last : Window) → IsWritten new_digest ((generation + 1) % 2 ^ 64) events e gate now last →
-      Resting new_plant new_digest new_seed 2 (not second) ((generation + 1) % 2 ^ 64) events gate now last reads window stopped e many
+      Resting new_plant new_digest new_seed newest_version (not second) ((generation + 1) % 2 ^ 64) events gate now last reads window stopped e many
   changed_rests many counts new_seed seeded gate now last written =
       let small : (generation + 1) % 2 ^ 64 < 2 ^ 64 = omega arith in
       let some : ◌≢◌ {A = ℕ} 66 0 = not_none in
@@ -190,6 +193,20 @@ written_inside digest generation events place d bytes window written =
     let front = state_front 66 digest generation events d in
     let size : length bytes ≡ length front + 1 = ap length written.is ∙ length-append front (0 ∷ []) in
     let here = written.gate in omega (arith, here, size)
+
+-- a seed that was taken of its head is that of its front
+pub written_seed : (digest : List ℕ) (generation events place : ℕ) (d : Persistent) (bytes : List ℕ) (window : Window) → length digest ≡ 32 → generation < 2 ^ 64 →
+    events ≤ last_number → (state 2).fits d ≡ true → IsWritten digest generation events d place bytes window → (seed : List ℕ) →
+    (place ≢ first_gate → (first : ℕ) → seed ≡ seed_of (first ∷ kept_head newest_version digest generation events (place - 73))) →
+    seed ≡ seed_of (state_front 66 digest generation events d)
+unfolding state_text
+written_seed digest generation events place d bytes window whole small few fits written seed given =
+    let front : List ℕ = state_front 66 digest generation events d in
+    let known : IsKnown newest_version = (omega arith, omega arith) in
+    let told : (73 ≤ length front) × (seed_of front ≡ seed_of (0 ∷ kept_head newest_version digest generation events (length front - 73))) =
+    front_seed digest front 66 newest_version generation events d whole refl known small few fits refl in
+    let gate : place ≡ length front = written.gate in
+    given (λ same. omega (arith, same, gate, told.0)) 0 ∙ ap (λ n. seed_of (0 ∷ kept_head newest_version digest generation events (n - 73))) gate ∙ sym told.1
 
 -- ---- the disks exchanged
 

@@ -1,10 +1,12 @@
 ghost use Rattle.std.specs.Prelude.{◌≡◌, ◌^◌, ◌≤◌, false, ℕ, [], List, slice_index};
 ghost use Rattle.boss_model.specs.Limits.{first_gate};
 ghost use Rattle.def_log.specs.declared.kind.DiskKind.TheVariants.{Plain, State};
-ghost use Rattle.def_log.specs.Kinds.{kind_of};
+ghost use Rattle.def_log.specs.Kinds.{kind_of, plain_mark};
 ghost use Rattle.boss_model.specs.declared.state.Actuator.{Actuator};
 ghost use Rattle.boss_model.specs.Sound.{IsSoundPersistent};
 ghost use Rattle.boss_model.specs.State.{Persistent, first_persistent};
+ghost use Rattle.def_disk_pair.specs.Fronts.{heading};
+ghost use Rattle.def_seal.specs.Seals.{seed_of};
 ghost use Rattle.boss_snapshot.specs.Fronts.{version_of, digest_of};
 ghost use Rattle.def_log.specs.Versions.{IsKnown};
 ghost use Rattle.boss_snapshot.specs.Refusals.{IsKeptState};
@@ -13,6 +15,7 @@ ghost use Rattle.boss_disk_pair.specs.Reads.{reads_to};
 ghost use Rattle.boss_disk_pair.specs.Rests.{IsInForce};
 
 use crate::TwoDisks;
+use crate::seeds::seed_by;
 use boss_disk::Disk;
 use boss_journal::Journal;
 
@@ -37,6 +40,8 @@ impl<D: Disk> TwoDisks<D> {
             → kind_of (D.reads journal.disk) ≡ Plain → journal.version ≡ version_of (D.reads journal.disk)
             → IsKnown journal.version → digest_of (D.reads journal.disk) ≡ digest.now → journal.place ≡ first_gate → events ≡ 0
             → (plant : List Actuator) → reads_to result plant first_persistent 0 [] first_persistent }
+        // What a journal that was made without a read has to know of its sums.
+        ensures seed { journal.place ≡ first_gate → (first : ℕ) → result.seed ≡ seed_of (heading first plain_mark journal.version digest.now) }
         ensures journal { result.journal ≡ journal }
         ensures spare { result.spare ≡ spare }
         ensures order { result.second ≡ second }
@@ -45,6 +50,13 @@ impl<D: Disk> TwoDisks<D> {
         ensures events { result.events ≡ events }
         ensures digest { result.digest ≡ digest.now }
     {
+        let seed = seed_by(
+            journal.version(),
+            journal.place(),
+            generation,
+            events,
+            digest,
+        );
         TwoDisks {
             journal,
             spare,
@@ -53,7 +65,7 @@ impl<D: Disk> TwoDisks<D> {
             generation,
             events,
             digest: *digest,
-            seed: [0; 8],
+            seed,
         }
     }
 }

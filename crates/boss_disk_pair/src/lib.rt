@@ -11,6 +11,7 @@ mod laws;
 mod reading;
 mod readying;
 mod rotating;
+mod seeds;
 mod two_disks;
 
 pub use forces::{Force, force_of};

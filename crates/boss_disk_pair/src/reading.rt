@@ -78,7 +78,7 @@ impl<D: Disk> TwoDisks<D> {
         }
         match unsealed(&self.seed, place, into.bytes()) {
             Some(size) => {
-                into.cut(size);
+                into.cut(size as u32);
                 true
             }
             None => false,

@@ -9,13 +9,15 @@ ghost use Rattle.boss_disk_pair.specs.Rests.{changes, counted, rests, leaves, pa
 ghost use Rattle.def_log.specs.Versions.{newest_version};
 
 use crate::TwoDisks;
+use crate::seeds::seed_by;
 use boss_disk::Disk;
 use boss_model::Kept;
 use boss_outside::Failed;
 use boss_snapshot::write_state;
+use def_log::NEWEST_VERSION;
 
 impl<D: Disk> TwoDisks<D> {
-    /// Writes a kept state to the disk that is not in force, as the next generation and in version 2, and goes on behind it: that
+    /// Writes a kept state to the disk that is not in force, as the next generation and in the newest version, and goes on behind it: that
     /// disk is in force then, and its log is empty. After a failure the pair is stopped, and one that was stopped before stays as
     /// it is, without a call of a disk. It takes no memory.
     pub fn next_generation(&mut self, kept: &Kept) -> Result<(), Failed>
@@ -127,6 +129,7 @@ impl<D: Disk> TwoDisks<D> {
                 self.generation = generation;
                 self.events = events;
                 self.digest = *digest;
+                self.seed = seed_by(NEWEST_VERSION, place, generation, events, digest);
                 Ok(())
             }
             Err(Failed) => {

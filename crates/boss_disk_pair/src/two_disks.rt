@@ -42,7 +42,7 @@ impl<D: Disk> TwoDisks<D> {
         self.events
     }
 
-    /// The version of the disk that is in force: 1 or 2.
+    /// The version of the disk that is in force: 1 to 3.
     pub fn version(&self) -> u8
         ensures { result ≡ self.now.journal.version }
     {

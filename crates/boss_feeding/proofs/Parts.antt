@@ -9,9 +9,9 @@ use Rattle.boss_outside.specs.Streams.{TakesFront, Writes}
 use Rattle.def_feed.specs.Feeds.{longest_part, state_items}
 use Rattle.def_feed.specs.Items.{PartLine, StateLine}
 
-module _ (number gate size : ℕ) (text bytes old : List ℕ) (has : HasText gate text bytes) (many : size ≡ gate - 65) where
+module _ (number place size : ℕ) (text bytes old : List ℕ) (has : HasText place size text bytes) where
   long : size ≡ length text
-  long = let there = has.size in omega (arith, there, many)
+  long = has.size_is
 
   abbrev pub all_lines : List ℕ
   all_lines = parts_text text
@@ -30,7 +30,7 @@ module _ (number gate size : ℕ) (text bytes old : List ℕ) (has : HasText gat
 
   module _ (done count : ℕ) (within : done < size) (part : count ≡ min longest_part (size - done)) where
     abbrev part_line : List ℕ
-    part_line = line_text (PartLine (take count (drop (65 + done) bytes)))
+    part_line = line_text (PartLine (take count (drop (place + done) bytes)))
 
     next_part : parts_text (drop done text) ≡ part_line ++ parts_text (drop (done + count) text)
     next_part =
@@ -39,8 +39,8 @@ module _ (number gate size : ℕ) (text bytes old : List ℕ) (has : HasText gat
         let some : 1 ≤ length (drop done text) = omega (arith, inside, length-drop done text) in
         one_part (drop done text) some
         ∙ ap (λ t. line_text (PartLine t) ++ parts_text (drop longest_part (drop done text)))
-        (part_is text (drop 65 bytes) done count has.is inside least ∙ ap (take count) (drop-drop done 65 bytes))
-        ∙ ap (λ t. part_line ++ parts_text t) (rest_is text (drop 65 bytes) done count has.is inside least)
+        (part_is text (drop place bytes) done count has.is inside least ∙ ap (take count) (drop-drop done place bytes))
+        ∙ ap (λ t. part_line ++ parts_text t) (rest_is text (drop place bytes) done count has.is inside least)
 
     pub part_step : (now new : List ℕ) → SoFar old now all_lines (parts_text (drop done text)) → new ≡ now ++ part_line → SoFar old new all_lines (parts_text (drop (done + count) text))
     part_step now new so told = some_more old now new all_lines part_line (parts_text (drop (done + count) text)) (subst (SoFar old now all_lines) next_part so) told

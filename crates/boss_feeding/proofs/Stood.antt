@@ -1,11 +1,11 @@
 -- What the disk in force holds of what its pair stands for.
-use Rattle.std.proofs.Common.{◌≡◌, ◌⊎◌, inl, inr, ⊎_elim, ℕ, ◌+◌, ◌<◌, ◌≤◌, true, false, List, [], ◌∷◌, ◌++◌, length, take, drop, refl, sym, ap, subst, ◌∙◌, arith, length-take, length-drop, take-append-drop}
+use Rattle.std.proofs.Common.{◌≡◌, ◌⊎◌, inl, inr, ⊎_elim, ℕ, ◌+◌, ◌-◌, ◌<◌, ◌≤◌, Bool, true, false, cond, List, [], ◌∷◌, ◌++◌, length, take, drop, refl, sym, ap, subst, ◌∙◌, arith, length-append, length-take, length-drop, take-append-drop}
 use Rattle.std.specs.Prelude.{map, nat_lt}
 use Rattle.std.proofs.lemmas.Bool.Decides.{nat_tests}
 use Rattle.std.proofs.lemmas.Bool.{cases_lt, cond-true, cond-false}
-use Rattle.std.proofs.lemmas.List.{length-take-le}
+use Rattle.std.proofs.lemmas.List.{length-take-le, take-take, take_at}
 use Rattle.boss_disk.specs.Window.{Window}
-use Rattle.boss_feeding.specs.Held.{HasLog, HasText}
+use Rattle.boss_feeding.specs.Held.{HasLog, HasText, text_size}
 use Rattle.boss_feeding.specs.Lines.{lines_text}
 use Rattle.boss_feeding.proofs.FirstRecords.{at_records}
 use Rattle.boss_feeding.proofs.Items.{lines_join}
@@ -14,14 +14,18 @@ use Rattle.boss_model.specs.declared.state.Actuator.{Actuator}
 use Rattle.boss_model.specs.Limits.{last_number}
 use Rattle.boss_model.specs.Sound.{IsSoundPersistent}
 use Rattle.boss_model.specs.State.{Persistent, first_persistent}
-use Rattle.boss_snapshot.specs.Fronts.{size_of, text_of, version_of}
+use Rattle.boss_snapshot.specs.Fronts.{size_of, text_of, text_place, version_of}
 use Rattle.boss_snapshot.specs.Refusals.{IsKeptState, IsState}
 use Rattle.boss_snapshot.specs.Writes.{IsWritten}
 use Rattle.boss_snapshot.proofs.Again.{written_kept}
+use Rattle.boss_snapshot.proofs.Fronted.{later}
+use Rattle.boss_snapshot.proofs.OfFronts.{behind_head}
 use Rattle.boss_snapshot.proofs.KeptFronts.{read_front}
 use Rattle.def_bytes.specs.Batches.{batch_text}
 use Rattle.def_bytes.specs.States.{state}
-use Rattle.def_seal.specs.Seals.{seed_of, all_sealed}
+use Rattle.def_bytes.specs.Fields.{Field}
+use Rattle.def_seal.specs.Seals.{has_sums, seed_of, sum_of, sealed, all_sealed}
+use Rattle.def_seal.proofs.Seals.{length-sum_of}
 use Rattle.def_disk_pair.specs.Contents.{records_of}
 use Rattle.def_disk_pair.specs.Fronts.{IsFront}
 use Rattle.def_disk_pair.specs.Pairs.{HasEvents, IsNew, OfThatInForce, StandsFor}
@@ -33,7 +37,7 @@ use Rattle.def_log.specs.declared.kind.DiskKind.TheVariants.{Idle, Plain, State,
 use Rattle.def_log.specs.InForce.{InForce, Foreign, Neither, First, Second}
 use Rattle.def_log.specs.Kinds.{in_force, kind_of}
 use Rattle.def_log.specs.Log.{spelled, IsLog}
-use Rattle.def_log.specs.Versions.{IsKnown}
+use Rattle.def_log.specs.Versions.{newest_version}
 
 -- ---- the disk in force
 
@@ -150,7 +154,7 @@ pub kept_log : (plant : List Actuator) (digest : List ℕ) (base : Persistent) (
     Kept base d before many gate events bytes
 kept_log plant digest base before events bytes d many gate has state kept sound =
     let generation = generation_of_kind (kind_of bytes) state in
-    let mine = read_front digest bytes generation.0 many gate d kept plant generation.1 sound in
+    let mine = read_front digest bytes generation.0 many gate d kept generation.1 plant sound in
     let inside = kept.gate in
     let same = same_front plant digest (version_of bytes) has.2.version d base many before (take gate bytes) has.2.front (drop gate bytes) (spelled (records_of has.2.version has.2.front has.0) ++ has.2.log.gate ∷ has.2.log.tail)
     (inr (generation.0, mine)) has.2.course.is_front (take-append-drop gate bytes ∙ has.2.log.is) in
@@ -162,30 +166,58 @@ kept_log plant digest base before events bytes d many gate has state kept sound 
 
 -- ---- the text of a state
 
-one_or_two : (version : ℕ) → IsKnown version → (version ≡ 1) ⊎ (version ≡ 2)
-one_or_two version known =
-    ⊎_elim (λ below. inl (omega (arith, below, known.0))) (λ up. inr (omega (arith, up, known.1))) (cases_lt version 2)
+-- before a sum, where there is one
+text_parts : (on : Bool) (l text sum : List ℕ) (size gate : ℕ) → length sum ≡ 8 → length (take size (drop (cond on 73 65) l)) ≡ size →
+    take size (drop (cond on 73 65) l) ≡ cond on (text ++ sum) text → gate ≡ cond on 73 65 + size →
+    (cond on (gate - 81) (gate - 65) ≡ length text) × (take (length text) (drop (cond on 73 65) l) ≡ text)
+text_parts true l text sum size gate eight long is behind =
+    let all : size ≡ length text + 8 = sym long ∙ ap length is ∙ length-append text sum ∙ ap (λ n. length text + n) eight in (
+      omega (arith, all, behind),
+      sym (take-take (length text) size (drop 73 l) (omega (arith, all))) ∙ ap (take (length text)) is ∙ take_at text sum (length text) refl,
+    )
+text_parts false l text sum size gate eight long is behind =
+    let all : size ≡ length text = sym long ∙ ap length is in
+    (omega (arith, all, behind), ap (λ n. take n (drop 65 l)) (sym all) ∙ is)
+
+inside_of : (on : Bool) (size gate end : ℕ) → gate ≡ cond on 73 65 + size → gate < end → cond on 73 65 + cond on (gate - 81) (gate - 65) ≤ end
+inside_of true size gate end behind inside = omega (arith, behind, inside)
+inside_of false size gate end behind inside = omega (arith, behind, inside)
+
+pub text_at : (p q m n : ℕ) (text bytes : List ℕ) → p ≡ q → m ≡ n → HasText q n text bytes → HasText p m text bytes
+text_at p q m n text bytes here many has =
+    subst (λ x. HasText x m text bytes) (sym here) (subst (λ y. HasText q y text bytes) (sym many) has)
+
+pub inside_at : (p q m n end : ℕ) → p ≡ q → m ≡ n → q + n ≤ end → p + m ≤ end
+inside_at p q m n end here many inside = subst (λ x. x + m ≤ end) (sym here) (subst (λ y. q + y ≤ end) (sym many) inside)
 
 module _ (digest bytes : List ℕ) (d : Persistent) (many gate : ℕ) (kept : IsKeptState digest bytes d many gate) where
-  pub second_version : (version_of bytes ≡ 1 → ⊥) → version_of bytes ≡ 2
-  second_version other =
-      let known = kept.known in ⊎_elim (λ one. absurd (other one)) (λ two. two) (one_or_two (version_of bytes) known)
+  -- it is behind a head
+  pub gate_far : 64 ≤ gate
+  gate_far = let behind = kept.behind in let far = behind_head (version_of bytes) (size_of bytes) (gate + 1) (omega (arith, behind)) in omega (arith, far)
 
-  pub text_there : version_of bytes ≡ 2 → HasText gate ((state 2).text d) bytes
-  text_there two =
+  pub text_inside : text_place (version_of bytes) + text_size (version_of bytes) gate ≤ length bytes
+  text_inside = inside_of (has_sums (version_of bytes)) (size_of bytes) gate (length bytes) kept.behind kept.gate
+
+  pub text_there : (version_of bytes ≡ 1 → ⊥) → HasText (text_place (version_of bytes)) (text_size (version_of bytes) gate) ((state 2).text d) bytes
+  text_there other =
+      let version : ℕ = version_of bytes in
+      let place : ℕ = text_place version in
+      let known = kept.known in
       let behind = kept.behind in
       let inside = kept.gate in
-      let text : text_of bytes ≡ (state 2).text d = kept.spells.is ∙ ap (λ v. (state v).text d) two in
-      let long : length (text_of bytes) ≡ size_of bytes = omega (arith, behind, inside, length-take (size_of bytes) (drop 65 bytes), length-drop 65 bytes) in
-      let size : size_of bytes ≡ length ((state 2).text d) = sym long ∙ ap length text in
-      record {
-        size = behind ∙ ap (λ n. 65 + n) size;
-        is = ap (λ n. take n (drop 65 bytes)) (sym size) ∙ text;
-      }
+      let text : List ℕ = (state 2).text d in
+      let late : state version ≡ state 2 = later version (⊎_elim (λ below. absurd (other (omega (arith, below, known.0)))) (λ up. up) (cases_lt version 2)) in
+      let is : text_of bytes ≡ sealed version (seed_of bytes) 65 text = kept.spells.is ∙ ap (λ (s : Field Persistent). sealed version (seed_of bytes) 65 (s.text d)) late in
+      let long : length (text_of bytes) ≡ size_of bytes = omega (arith, behind, inside, length-take (size_of bytes) (drop place bytes), length-drop place bytes) in
+      let parts = text_parts (has_sums version) bytes text (sum_of (seed_of bytes) 65 text) (size_of bytes) gate (length-sum_of (seed_of bytes) 65 text) long is behind in
+      record { size_is = parts.0; is = parts.1 }
 
 pub written_text : (digest bytes : List ℕ) (before : ℕ) (d : Persistent) (gate : ℕ) (window : Window) → length digest ≡ 32 → before ≤ last_number → (state 2).fits d ≡ true →
-    IsWritten digest 0 before d gate bytes window → HasText gate ((state 2).text d) bytes × (gate ≤ length bytes)
+    IsWritten digest 0 before d gate bytes window →
+    HasText (text_place newest_version) (text_size newest_version gate) ((state 2).text d) bytes × (text_place newest_version + text_size newest_version gate ≤ length bytes)
 written_text digest bytes before d gate window len few fits written =
     let kept = written_kept digest bytes 0 before d len written.is (omega arith) few fits gate written.gate in
-    let inside = kept.gate in
-    (text_there digest bytes d before gate kept (ap version_of written.is), omega (arith, inside))
+    let version : version_of bytes ≡ newest_version = ap version_of written.is in (
+      subst (λ v. HasText (text_place v) (text_size v gate) ((state 2).text d) bytes) version (text_there digest bytes d before gate kept (λ one. let bad = sym version ∙ one in omega (arith, bad))),
+      subst (λ v. text_place v + text_size v gate ≤ length bytes) version (text_inside digest bytes d before gate kept),
+    )

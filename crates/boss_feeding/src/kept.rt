@@ -1,8 +1,8 @@
-ghost use Rattle.std.specs.Prelude.{◌≡◌, ◌≤◌, ◌<◌, ℕ, true, List, length, IfErr, IfOk, OnOk};
+ghost use Rattle.std.specs.Prelude.{◌≡◌, ◌+◌, ◌^◌, ◌≤◌, ◌<◌, ℕ, true, List, length, IfErr, IfOk, OnOk};
 ghost use Rattle.boss_engine.specs.declared.restoring.RestoreRefusal.TheVariants as restoring;
 ghost use Rattle.boss_disk.specs.Record.{state_of};
 ghost use Rattle.boss_feeding.specs.Faults.{ActiveCause, IsLate, SinkCause};
-ghost use Rattle.boss_feeding.specs.Held.{HasText};
+ghost use Rattle.boss_feeding.specs.Held.{HasText, text_size};
 ghost use Rattle.boss_feeding.specs.Lines.{lines_text};
 ghost use Rattle.boss_model.specs.Catalogue.{actuators};
 ghost use Rattle.boss_model.specs.Limits.{last_number};
@@ -10,9 +10,10 @@ ghost use Rattle.boss_model.specs.Seen.{seen};
 ghost use Rattle.boss_model.specs.Sound.{IsSoundPersistent};
 ghost use Rattle.boss_outside.specs.Counts.{HasCause};
 ghost use Rattle.boss_outside.specs.Streams.{Writes};
-ghost use Rattle.boss_snapshot.specs.Fronts.{version_of};
+ghost use Rattle.boss_snapshot.specs.Fronts.{text_place, version_of};
 ghost use Rattle.boss_snapshot.specs.Refusals.{IsKeptState};
 ghost use Rattle.def_bytes.specs.States.{state};
+ghost use Rattle.def_log.specs.Versions.{newest_version};
 ghost use Rattle.def_feed.specs.Feeds.{state_items};
 
 use crate::FeedFault;
@@ -23,7 +24,9 @@ use boss_model::{Items, Kept, NoMemory};
 use boss_outside::{Failed, Sink};
 use boss_pair_find::DurableRefusal;
 use boss_points::Catalogue;
+use boss_seal::has_sums;
 use boss_snapshot::write_state;
+use def_log::NEWEST_VERSION;
 use std::alloc::Global;
 
 /// A kept state that was read, how many events were before it, and the place of its first gate.
@@ -67,7 +70,21 @@ pub fn tell_base<D: Disk, K: Sink>(
     if version == 1 {
         tell_anew(alloc, &base.kept, base.before, sink)
     } else {
-        tell_text(alloc, disk, base.before, base.gate, sink)
+        let (place, size) = text_of(version, base.gate);
+        tell_text(alloc, disk, base.before, place, size, sink)
+    }
+}
+
+/// Where a state stands before this gate of a disk of this version, and how many bytes it has: less its sum, where it has one.
+fn text_of(version: u8, gate: u64) -> (u64, u64)
+    ensures place { result.0 ≡ text_place version }
+    ensures size { result.1 ≡ text_size version gate }
+    ensures low { result.0 + result.1 < 2 ^ 64 }
+{
+    if has_sums(version) {
+        (73, gate.saturating_sub(81))
+    } else {
+        (65, gate.saturating_sub(65))
     }
 }
 
@@ -100,7 +117,8 @@ fn tell_anew<K: Sink>(
 {
     let mut disk = MemoryDisk::new(alloc, Items::new(alloc), Items::new(alloc))?;
     let gate = write_anew(kept, &mut disk, before)?;
-    match tell_text(alloc, &mut disk, before, gate, sink) {
+    let (place, size) = text_of(NEWEST_VERSION, gate);
+    match tell_text(alloc, &mut disk, before, place, size, sink) {
         Ok(()) => Ok(()),
         Err(FeedFault::WriteFault) => Err(FeedFault::WriteFault),
         Err(FeedFault::Refused(_)) => Err(FeedFault::from(NoMemory)),
@@ -111,8 +129,9 @@ fn tell_anew<K: Sink>(
 fn write_anew(kept: &Kept, disk: &mut MemoryDisk, before: u64) -> Result<u64, NoMemory>
     requires fits { (state 2).fits (seen kept.now) ≡ true }
     requires few { before ≤ last_number }
-    ensures text { IfOk result (λ gate. HasText gate ((state 2).text (seen kept.entry.now)) (state_of disk.new).bytes) }
-    ensures inside { IfOk result (λ gate. gate ≤ length (state_of disk.new).bytes) }
+    ensures text { IfOk result (λ gate. HasText (text_place newest_version) (text_size newest_version gate) ((state 2).text (seen kept.entry.now))
+        (state_of disk.new).bytes) }
+    ensures inside { IfOk result (λ gate. text_place newest_version + text_size newest_version gate ≤ length (state_of disk.new).bytes) }
 {
     match write_state(kept, disk, &[0; 32], 0, before) {
         Ok(gate) => Ok(gate),

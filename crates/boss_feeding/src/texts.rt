@@ -1,4 +1,4 @@
-ghost use Rattle.std.specs.Prelude.{◌≡◌, ◌+◌, ◌≤◌, ℕ, List, length, take, drop, IfErr};
+ghost use Rattle.std.specs.Prelude.{◌≡◌, ◌+◌, ◌^◌, ◌≤◌, ◌<◌, ℕ, List, length, take, drop, IfErr};
 ghost use Rattle.boss_feeding.specs.Faults.{ActiveCause, IsLate, SinkCause};
 ghost use Rattle.boss_feeding.specs.Held.{HasText};
 ghost use Rattle.boss_feeding.specs.Lines.{line_text, lines_text};
@@ -12,23 +12,25 @@ use boss_disk::Disk;
 use boss_outside::Sink;
 use std::alloc::Global;
 
-/// Where the bytes of a kept state begin on its disk.
+/// The place that is told of a kept state that is damaged.
 pub const STATE_PLACE: u64 = 65;
 
 /// How many bytes of a state a line tells at most.
 const LONGEST_PART: u64 = 16_384;
 
-/// Tells the bytes of a kept state as its disk has them, up to the first gate: so many lines of a part, behind the one that tells after
-/// how many events it is. The disk stays as it is, and of the state no more than a part is in memory at once.
+/// Tells a kept state as its disk has it, by so many bytes from this place on: so many lines of a part, behind the one that tells
+/// after how many events it is. The disk stays as it is, and of the state no more than a part is in memory at once.
 pub fn tell_text<D: Disk, K: Sink>(
     alloc: Global,
     disk: &mut D,
     number: u64,
-    gate: u64,
+    place: u64,
+    size: u64,
     sink: &mut K,
 ) -> Result<(), FeedFault>
-    requires inside { D.tells → gate ≤ length (D.reads disk.old) }
-    ensures told { D.tells → K.tells → (text : List ℕ) → HasText gate text (D.reads disk.old)
+    requires low { place + size < 2 ^ 64 }
+    requires inside { D.tells → place + size ≤ length (D.reads disk.old) }
+    ensures told { D.tells → K.tells → (text : List ℕ) → HasText place size text (D.reads disk.old)
         → Writes (K.taken sink.old) (K.taken sink.new) (lines_text (state_items number text)) result }
     ensures late { IfErr result IsLate }
     ensures reads { D.tells → D.reads disk.new ≡ D.reads disk.old }
@@ -36,12 +38,11 @@ pub fn tell_text<D: Disk, K: Sink>(
     ensures cause { ActiveCause (D.faults disk.old) (D.faults disk.new) result }
     ensures sink { SinkCause (K.faults sink.old) (K.faults sink.new) result }
 {
-    let size = gate.saturating_sub(STATE_PLACE);
     tell_state(alloc, number, size, sink)?;
     let mut done = 0;
     while done < size {
         let count = LONGEST_PART.min(size - done);
-        tell_part_at(alloc, disk, STATE_PLACE + done, count as usize, sink)?;
+        tell_part_at(alloc, disk, place + done, count as usize, sink)?;
         done += count;
     }
     Ok(())

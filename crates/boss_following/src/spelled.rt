@@ -9,8 +9,10 @@ use crate::stop::Stop;
 use boss_model::{Event, Kept, NoMemory};
 use boss_records::read_event;
 use boss_snapshot::read_kept;
-use def_log::NEWEST_VERSION;
 use std::alloc::Global;
+
+/// The version as which a feed spells a state, whatever its disk's version.
+const SPELLED: u8 = 2;
 
 /// The event that these bytes are, to the last of them.
 pub(crate) fn event_of(alloc: Global, bytes: &[u8]) -> Result<Event, Stop>
@@ -36,7 +38,7 @@ pub(crate) fn state_of(alloc: Global, bytes: &[u8]) -> Result<Kept, Stop>
     ensures is { IfOk result (λ kept. SpellsState 2 (seen kept) bytes.now) }
     ensures wrong { IfErr result (λ why. NoState bytes.now why) }
 {
-    match read_kept(alloc, NEWEST_VERSION, bytes) {
+    match read_kept(alloc, SPELLED, bytes) {
         Ok(Some(kept)) => Ok(kept),
         Ok(None) => Err(Stop::BadLine),
         Err(NoMemory) => Err(Stop::NoMemory),

@@ -212,6 +212,11 @@ pub has_version : (digest first reads : List ℕ) (version place : ℕ) (window 
 has_version digest first reads version place window new (inl found) = absurd (found.0.not_new (journal_new digest first new))
 has_version digest first reads version place window new (inr made) = record { kept = made.kept; newest = made.newest }
 
+pub opened_place : (digest first reads : List ℕ) (version place : ℕ) (window : Window) → length digest ≡ 32 → IsNew first → Opens digest first version place reads window →
+    place ≡ 41
+opened_place digest first reads version place window whole new (inl found) = absurd (found.0.not_new (journal_new digest first new))
+opened_place digest first reads version place window whole new (inr made) = let here = made.rests.here in omega (arith, here, whole, length-append digest [])
+
 pub version_known : (digest first : List ℕ) (version : ℕ) → HasVersion digest first version → IsKnown version
 version_known digest first version of =
     ⊎_elim (λ (fresh : (v : ℕ) × IsFresh v digest first). subst IsKnown (sym (of.kept fresh.0 fresh.1)) fresh.1.known) (λ none. let newest = of.newest none in (omega (arith, newest), omega (arith, newest)))

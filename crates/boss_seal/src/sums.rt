@@ -24,7 +24,7 @@ pub fn sum_of(seed: &[u8; 8], place: u64, bytes: &[u8]) -> [u8; 8]
 }
 
 /// The first eight bytes of a digest.
-fn first_eight(digest: &[u8; 32]) -> [u8; 8]
+pub(crate) fn first_eight(digest: &[u8; 32]) -> [u8; 8]
     ensures { result ≡ take 8 digest.now }
 {
     let mut first = [0u8; 8];
@@ -40,8 +40,7 @@ pub fn has_sums(version: u8) -> bool
 }
 
 /// How many bytes a record has without its sum, where this sum is right.
-pub fn unsealed(seed: &[u8; 8], place: u64, whole: &[u8]) -> Option<u32>
-    requires { length whole.now < 2 ^ 32 }
+pub fn unsealed(seed: &[u8; 8], place: u64, whole: &[u8]) -> Option<usize>
     ensures right { IfSome result (λ size. (size ≤ length whole.now) × (whole.now ≡ take size whole.now ++ sum_of seed.now place (take size whole.now))) }
     ensures wrong { result ≡ None → (bytes : List ℕ) → whole.now ≡ bytes ++ sum_of seed.now place bytes → ⊥ }
 {
@@ -52,7 +51,7 @@ pub fn unsealed(seed: &[u8; 8], place: u64, whole: &[u8]) -> Option<u32>
     let (bytes, sum) = whole.split_at(size);
     let wanted = sum_of(seed, place, bytes);
     if are_same(sum, &wanted) {
-        Some(size as u32)
+        Some(size)
     } else {
         None
     }

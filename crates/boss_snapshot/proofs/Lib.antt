@@ -8,5 +8,6 @@ pub mod Drafts
 pub mod KeptProcesses
 pub mod Clearings
 pub mod Writings
+pub mod Fronted
 pub mod Again
 pub mod KeptFronts

@@ -9,9 +9,10 @@ use Rattle.boss_model.specs.State.{Persistent}
 use Rattle.boss_snapshot.specs.declared.fronts.StateHead.{StateHead}
 use Rattle.boss_snapshot.specs.declared.refusal.SnapshotRefusal.{SnapshotRefusal}
 use Rattle.boss_snapshot.specs.declared.refusal.SnapshotRefusal.TheVariants.{Version, Catalogue, Damaged, DiskFault, NoMemory}
-use Rattle.boss_snapshot.specs.Fronts.{version_of, digest_of, events_of, size_of, text_of, HasCounts, IsStateHead}
+use Rattle.boss_snapshot.specs.Fronts.{version_of, digest_of, events_of, size_of, text_place, text_of, HasCounts, IsStateHead}
 use Rattle.def_log.specs.Versions.{IsKnown}
-use Rattle.boss_snapshot.specs.Spells.{SpellsState}
+use Rattle.def_seal.specs.Seals.{seed_of}
+use Rattle.boss_snapshot.specs.Spells.{SpellsSealed}
 
 -- this kind is that of a kept state
 abbrev pub IsState : DiskKind → Type 0
@@ -20,13 +21,13 @@ IsState Plain = ⊥
 IsState (State generation) = Unit {0}
 IsState Other = ⊥
 
--- too many events; else a length that leaves no place for a gate; else bytes that spell no state
+-- too many events; else a length that leaves no place for a gate; else bytes that spell no state, or have a sum that is wrong
 abbrev pub DamagedAt : List ℕ → ℕ → Type 0
 DamagedAt bytes place =
     ((place ≡ 49) × (last_number < events_of bytes))
-    ⊎ (((place ≡ 57) × (events_of bytes ≤ last_number) × (length bytes ≤ 65 + size_of bytes))
-    ⊎ ((place ≡ 65) × (events_of bytes ≤ last_number) × (65 + size_of bytes < length bytes)
-    × ((d : Persistent) → SpellsState (version_of bytes) d (text_of bytes) → ⊥)))
+    ⊎ (((place ≡ 57) × (events_of bytes ≤ last_number) × (length bytes ≤ text_place (version_of bytes) + size_of bytes))
+    ⊎ ((place ≡ 65) × (events_of bytes ≤ last_number) × (text_place (version_of bytes) + size_of bytes < length bytes)
+    × ((d : Persistent) → SpellsSealed (version_of bytes) (seed_of bytes) d (text_of bytes) → ⊥)))
 
 -- the first of these that holds
 abbrev pub Refuses : List ℕ → List ℕ → SnapshotRefusal → Type 0
@@ -47,7 +48,7 @@ ReadCause before now NoMemory = now ≡ before
 
 -- what the first 65 bytes tell
 abbrev pub TellsHead : List ℕ → List ℕ → Result StateHead SnapshotRefusal → Type 0
-TellsHead digest bytes (Ok head) = IsStateHead digest bytes head.version head.events head.size
+TellsHead digest bytes (Ok head) = IsStateHead digest bytes head.version head.events head.size head.seed
 TellsHead digest bytes (Err refusal) = Refuses digest bytes refusal
 
 -- this state stands on the disk, with so many events before it, and its first gate at this place
@@ -57,6 +58,6 @@ pub record IsKeptState (digest bytes : List ℕ) (d : Persistent) (events place 
   pub events_are : events ≡ events_of bytes
   pub few : events ≤ last_number
   pub counts : HasCounts bytes
-  pub spells : SpellsState (version_of bytes) d (text_of bytes)
-  pub behind : place ≡ 65 + size_of bytes
+  pub spells : SpellsSealed (version_of bytes) (seed_of bytes) d (text_of bytes)
+  pub behind : place ≡ text_place (version_of bytes) + size_of bytes
   pub gate : place < length bytes

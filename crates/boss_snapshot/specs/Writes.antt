@@ -7,19 +7,20 @@ use Rattle.def_bytes.specs.Fields.{number_text}
 use Rattle.boss_model.specs.State.{Persistent}
 use Rattle.def_bytes.specs.States.{state}
 use Rattle.def_log.specs.Kinds.{state_mark}
-use Rattle.def_disk_pair.specs.Fronts.{heading, kept_state}
+use Rattle.def_log.specs.Versions.{newest_version}
+use Rattle.def_disk_pair.specs.Fronts.{kept_front}
 
--- a state's spelling in version 2
+-- a state's spelling, as it is from version 2 on
 unfoldable pub state_text : Persistent → List ℕ
 state_text d = (state 2).text d
 
--- a kept state of version 2, by its byte 0
+-- a kept state of the newest version, by its byte 0
 abbrev pub state_front : ℕ → List ℕ → ℕ → ℕ → Persistent → List ℕ
-state_front first digest generation events d = heading first state_mark 2 digest ++ kept_state generation events (state_text d)
+state_front first digest generation events d = kept_front first newest_version digest generation events (state_text d)
 
 -- of a kept state what stands behind byte 0 and before its length
 abbrev pub state_opening : List ℕ → ℕ → ℕ → List ℕ
-state_opening digest generation events = (state_mark ++ 2 ∷ digest) ++ (number_text w64 generation ++ number_text w64 events)
+state_opening digest generation events = (state_mark ++ newest_version ∷ digest) ++ (number_text w64 generation ++ number_text w64 events)
 
 -- the kept state and a closed gate, where nothing else can be after a crash
 pub record IsWritten (digest : List ℕ) (generation events : ℕ) (d : Persistent) (place : ℕ) (bytes : List ℕ) (window : Window) : Type 0 where

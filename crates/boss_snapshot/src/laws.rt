@@ -3,6 +3,7 @@ ghost use Rattle.def_bytes.specs.States.{state};
 ghost use Rattle.boss_disk.specs.Window.{Window};
 ghost use Rattle.def_log.specs.declared.kind.DiskKind.TheVariants.{State};
 ghost use Rattle.def_log.specs.Kinds.{kind_of};
+ghost use Rattle.def_log.specs.Versions.{newest_version};
 ghost use Rattle.boss_model.specs.declared.state.Actuator.{Actuator};
 ghost use Rattle.boss_model.specs.Limits.{last_number};
 ghost use Rattle.boss_model.specs.Sound.{IsSoundPersistent};
@@ -32,7 +33,7 @@ pub fn a_written_state_is_read_again()
 pub fn a_kept_state_is_a_front()
     ensures written { (plant : List Actuator) (digest : List ℕ) (generation events first : ℕ) (d : Persistent) → first ≢ 0 → generation < 2 ^ 64 →
         events ≤ last_number → (state 2).fits d ≡ true → IsSoundPersistent plant d →
-        IsStateFront plant digest 2 generation d events (state_front first digest generation events d) }
+        IsStateFront plant digest newest_version generation d events (state_front first digest generation events d) }
     ensures read { (plant : List Actuator) (digest bytes : List ℕ) (generation events place : ℕ) (d : Persistent) → kind_of bytes ≡ State generation →
         IsKeptState digest bytes d events place → IsSoundPersistent plant d →
         IsStateFront plant digest (version_of bytes) generation d events (take place bytes) }

@@ -17,7 +17,7 @@ mod spilled;
 mod state;
 mod writing;
 
-pub use kinds::kind;
+pub use kinds::{PLAIN_MARK, STATE_MARK, kind};
 pub use laws::{a_kept_state_is_a_front, a_written_state_is_read_again};
 pub use reading::read_state;
 pub use refusal::SnapshotRefusal;

@@ -18,9 +18,9 @@ use Rattle.def_bytes.specs.States.{state}
 use Rattle.def_bytes.proofs.Hex.{hex}
 use Rattle.def_bytes.proofs.StateRows.{write, one_lease}
 use Rattle.def_log.specs.declared.kind.DiskKind.TheVariants.{Other}
-use Rattle.def_log.specs.Kinds.{kind_of, state_mark}
+use Rattle.def_log.specs.Kinds.{kind_of}
 use Rattle.def_log.specs.Log.{framed, spelled}
-use Rattle.def_disk_pair.specs.Fronts.{heading, IsPlainFront, kept_state, IsStateFront}
+use Rattle.def_disk_pair.specs.Fronts.{IsPlainFront, kept_front, IsStateFront}
 use Rattle.def_seal.specs.Seals.{seed_of}
 use Rattle.def_disk_pair.specs.Contents.{record_of, IsNext, IsCourse}
 use Rattle.def_disk_pair.specs.Damage.{LeadsNowhere}
@@ -264,11 +264,11 @@ sound = record {
 
 -- a disk of version 2 with a kept state of this generation
 abbrev kept : ℕ → ℕ → Persistent → List ℕ
-kept generation before d = heading 66 state_mark 2 digest ++ kept_state generation before ((state 2).text d)
+kept generation before d = kept_front 66 2 digest generation before ((state 2).text d)
 
-kept_front : (generation before : ℕ) (d : Persistent) → generation < 2 ^ 64 → before ≤ last_number → (state 2).fits d ≡ true →
+kept_state_front : (generation before : ℕ) (d : Persistent) → generation < 2 ^ 64 → before ≤ last_number → (state 2).fits d ≡ true →
     IsSoundPersistent building d → IsStateFront building digest 2 generation d before (kept generation before d)
-kept_front generation before d counted few fits are = record {
+kept_state_front generation before d counted few fits are = record {
   first = 66;
   written = λ no. omega (arith, no);
   known = (omega arith, omega arith);
@@ -282,18 +282,18 @@ kept_front generation before d counted few fits are = record {
 -- the second disk follows the first: it is in force, whatever the first one has
 follows : OpensCleanly building digest one_lease 2 (kept 3 0 first_persistent ++ 0 ∷ []) (kept 4 2 one_lease ++ 0 ∷ [])
 follows = second_written building digest (kept 4 2 one_lease) (kept 3 0 first_persistent ++ 0 ∷ []) 2 4 2 one_lease refl
-    (inr (3, state_front building digest refl 2 3 first_persistent 0 (kept 3 0 first_persistent) 0 [] (kept_front 3 0 first_persistent (omega arith) (omega arith) refl nothing_yet), omega arith, refl))
-    (kept_front 4 2 one_lease (omega arith) (omega arith) refl sound)
+    (inr (3, state_front building digest refl 2 3 first_persistent 0 (kept 3 0 first_persistent) 0 [] (kept_state_front 3 0 first_persistent (omega arith) (omega arith) refl nothing_yet), omega arith, refl))
+    (kept_state_front 4 2 one_lease (omega arith) (omega arith) refl sound)
 
 -- generation 0 follows the last one
 goes_round : OpensCleanly building digest one_lease 2 (kept 0 2 one_lease ++ 0 ∷ []) (kept 18446744073709551615 0 first_persistent ++ 0 ∷ [])
 goes_round = first_written building digest (kept 0 2 one_lease) (kept 18446744073709551615 0 first_persistent ++ 0 ∷ []) 2 0 2 one_lease refl 18446744073709551615
-    (state_front building digest refl 2 18446744073709551615 first_persistent 0 (kept 18446744073709551615 0 first_persistent) 0 [] (kept_front 18446744073709551615 0 first_persistent (omega arith) (omega arith) refl nothing_yet))
-    (omega arith) refl (kept_front 0 2 one_lease (omega arith) (omega arith) refl sound)
+    (state_front building digest refl 2 18446744073709551615 first_persistent 0 (kept 18446744073709551615 0 first_persistent) 0 [] (kept_state_front 18446744073709551615 0 first_persistent (omega arith) (omega arith) refl nothing_yet))
+    (omega arith) refl (kept_state_front 0 2 one_lease (omega arith) (omega arith) refl sound)
 
 -- a journal of the first disk gives way to a kept state of the second
 gives_way : OpensCleanly building digest one_lease 2 journal (kept 1 2 one_lease ++ 0 ∷ [])
-gives_way = second_written building digest (kept 1 2 one_lease) journal 2 1 2 one_lease refl (inl refl) (kept_front 1 2 one_lease (omega arith) (omega arith) refl sound)
+gives_way = second_written building digest (kept 1 2 one_lease) journal 2 1 2 one_lease refl (inl refl) (kept_state_front 1 2 one_lease (omega arith) (omega arith) refl sound)
 
 -- the header of a kept state, byte for byte
 kept_bytes : take 65 (kept 1 2 one_lease) ≡ hex (codes "42 4f5353534e4150 02") ++ digest ++ hex (codes "0000000000000001 0000000000000002 0000000000000060")

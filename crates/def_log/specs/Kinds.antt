@@ -1,9 +1,10 @@
 -- Source: own.
 -- The kind of a disk by its bytes, and which disk of a pair is in force.
-use Rattle.std.specs.Prelude.{ℕ, ◌+◌, ◌^◌, ◌%◌, ◌==◌, nat_le, Bool, ◌&&◌, ◌||◌, if◌then◌else◌, List, length, take, drop, codes, bytes_eq, slice_index_or}
+use Rattle.std.specs.Prelude.{ℕ, ◌+◌, ◌^◌, ◌%◌, ◌==◌, nat_le, Bool, ◌&&◌, ◌||◌, true, if◌then◌else◌, List, length, take, drop, codes, bytes_eq, slice_index_or}
 use Rattle.std.specs.Int.{w64, from_be_bytes}
 use Rattle.def_log.specs.declared.kind.DiskKind.{DiskKind}
 use Rattle.def_log.specs.declared.kind.DiskKind.TheVariants.{Idle, Plain, State, Other}
+use Rattle.def_seal.specs.Seals.{has_sums, seed_of}
 use Rattle.def_log.specs.InForce.{InForce, Foreign, Neither, First, Second}
 
 -- ---- kinds
@@ -22,6 +23,13 @@ state_mark = codes "OSSSNAP"
 abbrev pub generation_of : List ℕ → ℕ
 generation_of bytes = from_be_bytes w64 (take 8 (drop 41 bytes))
 
+-- from version 3 on a kept state has the seed of its sums behind its length: eight bytes at 65
+abbrev pub is_seeded : List ℕ → Bool
+is_seeded bytes = if has_sums (slice_index_or bytes 8 0) then bytes_eq (take 8 (drop 65 bytes)) (seed_of bytes) else true
+
+abbrev pub is_state : List ℕ → Bool
+is_state bytes = nat_le 66 (length bytes) && (mark_is bytes state_mark && is_seeded bytes)
+
 abbrev pub is_idle : List ℕ → Bool
 is_idle bytes = nat_le (length bytes) 1 || (slice_index_or bytes 0 0 == 0)
 
@@ -29,7 +37,7 @@ abbrev pub kind_of : List ℕ → DiskKind
 kind_of bytes =
     if is_idle bytes then Idle else
     (if nat_le 42 (length bytes) && mark_is bytes plain_mark then Plain else
-    (if nat_le 66 (length bytes) && mark_is bytes state_mark then State (generation_of bytes) else Other))
+    (if is_state bytes then State (generation_of bytes) else Other))
 
 -- ---- pairs
 

@@ -1,13 +1,6 @@
 -- A pair that stands for something is refused for nothing that it holds.
-use Rattle.std.proofs.Common.{◌≡◌, ◌⊎◌, inl, inr, ℕ, ◌+◌, ◌^◌, ◌<◌, ◌≤◌, nat_lt, true, List, [], ◌∷◌, ◌++◌, length, take, drop, refl, sym, ap, subst, ◌∙◌, append_assoc, length-append, arith, ⊎_elim, ◌==◌, false}
-use Rattle.std.specs.Int.{w64, from_be_bytes}
-use Rattle.std.proofs.lemmas.Bool.{cases_lt}
-use Rattle.std.proofs.lemmas.Bool.Decides.{nat_tests}
-use Rattle.std.proofs.lemmas.List.{take_at, drop_at, drop-drop}
-use Rattle.std.proofs.lemmas.Nat.{from_be_bytes-to_be_bytes_8}
-use Rattle.def_bytes.specs.States.{state}
-use Rattle.def_bytes.proofs.OfStates.{state_spelled}
-use Rattle.def_bytes.specs.Fields.{Field, number_text}
+use Rattle.std.proofs.Common.{◌≡◌, ◌⊎◌, inl, inr, ℕ, ◌+◌, ◌≤◌, List, [], ◌∷◌, ◌++◌, length, refl, sym, ap, subst, ◌∙◌, length-append, arith}
+use Rattle.std.proofs.lemmas.List.{take_at}
 use Rattle.boss_pair_find.specs.declared.refusal.DurableRefusal.{DurableRefusal}
 use Rattle.boss_pair_find.specs.declared.refusal.DurableRefusal.TheVariants.{NotAJournal, Version, Catalogue, Damaged, DiskFault, NoMemory}
 use Rattle.boss_pair_find.specs.Holds.{OfOneInForce}
@@ -16,11 +9,10 @@ use Rattle.boss_pair_find.proofs.Apart.{kept_refused, one_reason}
 use Rattle.def_log.specs.declared.kind.DiskKind.{DiskKind}
 use Rattle.def_log.specs.declared.kind.DiskKind.TheVariants.{Plain}
 use Rattle.def_log.specs.InForce.{InForce, Foreign, Neither, First, Second}
-use Rattle.def_log.specs.Kinds.{generation_of, in_force, kind_of, plain_mark, state_mark}
+use Rattle.def_log.specs.Kinds.{in_force, kind_of, plain_mark}
 use Rattle.def_log.specs.Log.{spelled}
 use Rattle.boss_model.specs.declared.event.Event.{Event}
 use Rattle.boss_model.specs.declared.state.Actuator.{Actuator}
-use Rattle.boss_model.specs.Limits.{last_number}
 use Rattle.boss_model.specs.Run.{replay_all}
 use Rattle.boss_model.specs.Settle.{opened}
 use Rattle.boss_model.specs.Sound.{IsSoundPersistent}
@@ -28,54 +20,20 @@ use Rattle.boss_model.specs.State.{Persistent, State, first_persistent}
 use Rattle.boss_opening.specs.Opens.{IsUnsound, OpenedAt, OpenRefuses}
 use Rattle.def_disk_pair.specs.Contents.{records_of}
 use Rattle.def_disk_pair.specs.Damage.{IsDamagedAt}
-use Rattle.def_disk_pair.specs.Fronts.{heading, kept_state, IsFront, IsPlainFront, IsStateFront}
+use Rattle.def_disk_pair.specs.Fronts.{heading, IsFront, IsPlainFront, IsStateFront}
 use Rattle.def_disk_pair.specs.Pairs.{DamagedAt, HasEvents, IsNew, OfPair, OfThatInForce, StandsFor}
 use Rattle.def_disk_pair.proofs.Disks.{damaged_at_one, of_that, stands_for_one, stands_or_damaged}
 use Rattle.def_disk_pair.proofs.OfKinds.{plain_front}
 use Rattle.def_disk_pair.proofs.Replays.{some-is}
 use Rattle.boss_snapshot.specs.declared.refusal.SnapshotRefusal.TheVariants as reading
-use Rattle.boss_snapshot.specs.Fronts.{version_of, digest_of, events_of, size_of, text_of, HasCounts}
+use Rattle.boss_snapshot.specs.Fronts.{version_of, digest_of, size_of, text_place}
 use Rattle.def_log.specs.Versions.{IsKnown}
 use Rattle.boss_snapshot.specs.Refusals.{IsKeptState, IsState, Refuses}
-use Rattle.boss_snapshot.specs.Spells.{SpellsState}
 use Rattle.boss_snapshot.proofs.Again.{kept_alone, kept_taken}
-use Rattle.boss_snapshot.proofs.Writings.{long_word}
+use Rattle.boss_snapshot.proofs.Fronted.{version_is, digest_is, kept_there}
 use Rattle.boss_disk_pair.specs.Rests.{counted}
 
 -- ---- a front with something behind it
-
-word_back : (n : ℕ) (more : List ℕ) → n < 2 ^ 64 → from_be_bytes w64 (take 8 (number_text w64 n ++ more)) ≡ n
-unfolding number_text
-word_back n more small = ap (from_be_bytes w64) (take_at (number_text w64 n) more 8 refl) ∙ from_be_bytes-to_be_bytes_8 n small
-
-below : (m : ℕ) → nat_lt m (2 ^ 64) ≡ true → m < 2 ^ 64
-below m is = grind (arith, nat_tests)
-
-short_of : (version : ℕ) (d : Persistent) → nat_lt (state version).most (2 ^ 64) ≡ true → (state version).fits d ≡ true → length ((state version).text d) < 2 ^ 64
-short_of version d most fits =
-    let short : length ((state version).text d) ≤ (state version).most = (state_spelled version).short.short d fits in
-    let least : (state version).most < 2 ^ 64 = below (state version).most most in
-    omega (arith, short, least)
-
--- from version 2 on a state has one spelling
-later : (version : ℕ) → 2 ≤ version → state version ≡ state 2
-later version many = let no : (version == 1) ≡ false = grind (arith, nat_tests, many) in rw no refl
-
-short_text : (version : ℕ) (d : Persistent) → IsKnown version → (state version).fits d ≡ true → length ((state version).text d) < 2 ^ 64
-short_text version d known fits =
-    ⊎_elim
-    (λ below.
-    let one : version ≡ 1 = omega (arith, below, known.0) in
-    subst (λ v. (state v).fits d ≡ true → length ((state v).text d) < 2 ^ 64) (sym one) (short_of 1 d refl) fits)
-    (λ up. subst (λ (s : Field Persistent). s.fits d ≡ true → length (s.text d) < 2 ^ 64) (sym (later version up)) (short_of 2 d refl) fits)
-    (cases_lt version 2)
-
-regroup : (g e n text z : List ℕ) → (g ++ (e ++ (n ++ text))) ++ z ≡ g ++ (e ++ (n ++ (text ++ z)))
-regroup g e n text z =
-    append_assoc g (e ++ (n ++ text)) z ∙ ap (λ t. g ++ t) (append_assoc e (n ++ text) z ∙ ap (λ t. e ++ t) (append_assoc n text z))
-
-three_first : (g e n z : List ℕ) → g ++ (e ++ (n ++ z)) ≡ (g ++ (e ++ n)) ++ z
-three_first g e n z = ap (λ t. g ++ t) (sym (append_assoc e n z)) ∙ sym (append_assoc g (e ++ n) z)
 
 -- what a heading tells, whatever stands behind it
 pub record TellsHeading (digest bytes : List ℕ) (version : ℕ) : Type 0 where
@@ -89,111 +47,6 @@ plain_tells digest bytes rest first version len is =
       version_is = ap version_of whole;
       digest_is = ap digest_of whole ∙ take_at digest rest 32 len;
     }
-
-module _ (digest bytes rest : List ℕ) (first version generation events : ℕ) (d : Persistent) (len : length digest ≡ 32)
-    (is : bytes ≡ (heading first state_mark version digest ++ kept_state generation events ((state version).text d)) ++ rest) where
-  abbrev text : List ℕ
-  text = (state version).text d
-
-  abbrev behind_size : List ℕ
-  behind_size = text ++ rest
-
-  abbrev behind_events : List ℕ
-  behind_events = number_text w64 (length text) ++ behind_size
-
-  abbrev behind_generation : List ℕ
-  behind_generation = number_text w64 events ++ behind_events
-
-  whole : bytes ≡ first ∷ (state_mark ++ version ∷ (digest ++ (number_text w64 generation ++ behind_generation)))
-  whole =
-      is ∙ append_assoc (heading first state_mark version digest) (kept_state generation events text) rest
-      ∙ ap (λ t. heading first state_mark version digest ++ t)
-      (regroup (number_text w64 generation) (number_text w64 events) (number_text w64 (length text)) text rest)
-
-  at_generation : drop 41 bytes ≡ number_text w64 generation ++ behind_generation
-  at_generation = ap (drop 41) whole ∙ drop_at digest (number_text w64 generation ++ behind_generation) 32 len
-
-  at_events : drop 49 bytes ≡ behind_generation
-  at_events = sym (drop-drop 8 41 bytes) ∙ ap (drop 8) at_generation ∙ drop_at (number_text w64 generation) behind_generation 8 (long_word generation)
-
-  at_size : drop 57 bytes ≡ behind_events
-  at_size = sym (drop-drop 8 49 bytes) ∙ ap (drop 8) at_events ∙ drop_at (number_text w64 events) behind_events 8 (long_word events)
-
-  at_text : drop 65 bytes ≡ behind_size
-  at_text =
-      sym (drop-drop 8 57 bytes) ∙ ap (drop 8) at_size
-      ∙ drop_at (number_text w64 (length text)) behind_size 8 (long_word (length text))
-
-  state_tells : TellsHeading digest bytes version
-  state_tells = record {
-    version_is = ap version_of whole;
-    digest_is = ap digest_of whole ∙ take_at digest (number_text w64 generation ++ behind_generation) 32 len;
-  }
-
-  generation_is : generation < 2 ^ 64 → generation_of bytes ≡ generation
-  generation_is small = ap (λ l. from_be_bytes w64 (take 8 l)) at_generation ∙ word_back generation behind_generation small
-
-  events_is : events ≤ last_number → events_of bytes ≡ events
-  events_is few = ap (λ l. from_be_bytes w64 (take 8 l)) at_events ∙ word_back events behind_events (omega (arith, few))
-
-  module _ (known : IsKnown version) (small : generation < 2 ^ 64) (few : events ≤ last_number) (fits : (state version).fits d ≡ true) where
-    size_is : size_of bytes ≡ length text
-    size_is = ap (λ l. from_be_bytes w64 (take 8 l)) at_size ∙ word_back (length text) behind_size (short_text version d known fits)
-
-    text_is : text_of bytes ≡ text
-    text_is = ap (λ n. take n (drop 65 bytes)) size_is ∙ ap (take (length text)) at_text ∙ take_at text rest (length text) refl
-
-    counts : HasCounts bytes
-    counts =
-        let three = number_text w64 generation ++ (number_text w64 events ++ number_text w64 (length text)) in
-        let long : length three ≡ 24 =
-        omega (
-          arith,
-          length-append (number_text w64 generation) (number_text w64 events ++ number_text w64 (length text)),
-          length-append (number_text w64 events) (number_text w64 (length text)),
-          long_word generation,
-          long_word events,
-          long_word (length text),
-        ) in
-        record {
-          spelled = ap (take 24) (at_generation ∙ three_first (number_text w64 generation) (number_text w64 events) (number_text w64 (length text)) behind_size)
-              ∙ take_at three behind_size 24 long
-              ∙ ap (λ n. number_text w64 n ++ (number_text w64 events ++ number_text w64 (length text))) (sym (generation_is small))
-              ∙ ap (λ n. number_text w64 (generation_of bytes) ++ (number_text w64 n ++ number_text w64 (length text))) (sym (events_is few))
-              ∙ ap (λ n. number_text w64 (generation_of bytes) ++ (number_text w64 (events_of bytes) ++ number_text w64 n)) (sym size_is);
-          counted = subst (λ n. n < 2 ^ 64) (sym (generation_is small)) small;
-        }
-
-    long_bytes : length bytes ≡ 65 + (length text + length rest)
-    long_bytes =
-        omega (
-          arith,
-          ap length whole,
-          length-append digest (number_text w64 generation ++ behind_generation),
-          length-append (number_text w64 generation) behind_generation,
-          length-append (number_text w64 events) behind_events,
-          length-append (number_text w64 (length text)) behind_size,
-          length-append text rest,
-          long_word generation,
-          long_word events,
-          long_word (length text),
-          len,
-        )
-
-    kept_there : 1 ≤ length rest → IsKeptState digest bytes d events (65 + size_of bytes)
-    kept_there some =
-        let size = size_is in
-        let all = long_bytes in
-        record {
-          known = subst IsKnown (sym state_tells.version_is) known;
-          same = state_tells.digest_is;
-          events_are = sym (events_is few);
-          few = few;
-          counts = counts;
-          spells = subst (λ v. SpellsState v d (text_of bytes)) (sym state_tells.version_is) (record { fits = fits; is = text_is });
-          behind = refl;
-          gate = omega (arith, size, all, some);
-        }
 
 -- ---- a disk that has a front of this catalogue, and at least a gate behind it
 
@@ -247,7 +100,13 @@ module _ (plant : List Actuator) (digest : List ℕ) (len : length digest ≡ 32
       (plain_tells digest bytes rest plain.first version len (is ∙ ap (λ f. f ++ rest) plain.is), plain.known)
   tells_known version from before front rest bytes (inr kept) is =
       let state = kept.1 in
-      (state_tells digest bytes rest state.first version kept.0 before from len (is ∙ ap (λ f. f ++ rest) state.is), state.known)
+      let whole = is ∙ ap (λ f. f ++ rest) state.is in (
+        record {
+          version_is = version_is digest bytes rest state.first version kept.0 before from len whole;
+          digest_is = digest_is digest bytes rest state.first version kept.0 before from len whole;
+        },
+        state.known,
+      )
 
   module _ (bytes : List ℕ) (has : HasFront bytes) where
     tells : TellsHeading digest bytes has.version × IsKnown has.version
@@ -266,7 +125,7 @@ module _ (plant : List Actuator) (digest : List ℕ) (len : length digest ≡ 32
       no_plain_state (kind_of bytes) (ap kind_of (is ∙ ap (λ r. front ++ r) left.2) ∙ plain_front digest len version from before front left.0 left.1 plain) state
 
   state_kept : (version generation : ℕ) (from : Persistent) (before : ℕ) (front rest bytes : List ℕ) → IsStateFront plant digest version generation from before front →
-      bytes ≡ front ++ rest → 1 ≤ length rest → IsKeptState digest bytes from before (65 + size_of bytes)
+      bytes ≡ front ++ rest → 1 ≤ length rest → IsKeptState digest bytes from before (text_place (version_of bytes) + size_of bytes)
   state_kept version generation from before front rest bytes state is some =
       kept_there digest bytes rest state.first version generation before from len (is ∙ ap (λ f. f ++ rest) state.is) state.known state.counted state.few state.fits some
 
@@ -279,13 +138,13 @@ module _ (plant : List Actuator) (digest : List ℕ) (len : length digest ≡ 32
       1 ≤ length rest → IsState (kind_of bytes) → Refuses digest bytes (reading.Damaged place) → ⊥
   no_damage version from before front rest bytes place (inl plain) is some state why = plain_no_state version from before front rest bytes plain is some state
   no_damage version from before front rest bytes place (inr kept) is some state why =
-      never_damaged bytes place (kept_taken digest bytes from before (65 + size_of bytes) (state_kept version kept.0 from before front rest bytes kept.1 is some) (reading.Damaged place) why)
+      never_damaged bytes place (kept_taken digest bytes from before (text_place (version_of bytes) + size_of bytes) (state_kept version kept.0 from before front rest bytes kept.1 is some) (reading.Damaged place) why)
 
   no_unsound : (version : ℕ) (from : Persistent) (before : ℕ) (front rest bytes : List ℕ) (d : Persistent) (events place : ℕ) → IsFront plant digest version from before front →
       bytes ≡ front ++ rest → 1 ≤ length rest → IsState (kind_of bytes) → IsKeptState digest bytes d events place → (IsSoundPersistent plant d → ⊥) → ⊥
   no_unsound version from before front rest bytes d events place (inl plain) is some state told unsound = plain_no_state version from before front rest bytes plain is some state
   no_unsound version from before front rest bytes d events place (inr kept) is some state told unsound =
-      let same = kept_alone digest bytes d events place told from before (65 + size_of bytes) (state_kept version kept.0 from before front rest bytes kept.1 is some) in
+      let same = kept_alone digest bytes d events place told from before (text_place (version_of bytes) + size_of bytes) (state_kept version kept.0 from before front rest bytes kept.1 is some) in
       unsound (subst (IsSoundPersistent plant) (sym same.0) kept.1.sound)
 
   -- ---- a pair whose disk in force has such a front, or of which the first is new

@@ -30,13 +30,30 @@ pub const THIRD: &str = "event 3 06000000000000ee48\n";
 pub const STATE: &str =
     "state 2 96\npart 00000000000003e8000000000000000200010161000000000000000000000000000001000000000000000100000001000000000800000000000001000000000000000100000000000008000000000000afc8000000000000ee48000000000000\n";
 
+/// The records of both in version 3, with their sums, the first eight bytes that `sha256sum` gives; the second gate is at 65.
+const SUMMED: &[u8] =
+    b"\x01\0\0\0\x13\x01\0\0\0\0\0\0\0\0\x01a\x99\x4f\x2f\xef\x93\xe0\xe6\xad\x01\0\0\0\x27\x02\0\0\0\0\0\0\x03\xe8\0\0\0\x01\0\0\0\0\0\0\0\0\0\0\xaf\xc8\x08\0\0\xea\x60\0\xe3\xc2\x28\x04\x27\xc3\xb4\xb1";
+
+/// The seed of the kept state in version 3, and its sum.
+const SEED: &[u8] = b"\x05\x97\x10\x21\x2f\x33\x6c\xa9";
+
+const STATE_SUM: &[u8] = b"\x7c\x56\x31\x88\xd2\xfc\x48\xa6";
+
+/// The record of the tick behind it, whose gate is at 177, and a shut gate.
+const SUMMED_TICK: &[u8] =
+    b"\x01\0\0\0\x11\x06\0\0\0\0\0\0\xee\x48\xf0\x28\x53\xf1\xdc\x55\x8b\xbe\0";
+
 /// What a disk holds.
 #[derive(Clone, Copy)]
 pub enum Held {
     Nothing,
     /// The attach and the submit, and this gate behind them, at place 93.
     Log { gate: u8 },
-    /// The state behind them, of version 2, and the tick.
+    /// The same with sums; the gate is at place 109.
+    SummedLog { gate: u8 },
+    /// The state behind them, with its sum, and the tick.
+    SummedKept,
+    /// The state of version 2, and the tick.
     Kept,
     /// The same of version 1, which has no kept replies.
     OldKept,
@@ -75,6 +92,22 @@ pub fn bytes_of(rt: &impl Abort, alloc: Global, held: Held) -> Vec<u8> {
     match held {
         Held::Nothing => Vec::new(alloc),
         Held::Log { gate } => joined(rt, alloc, &[b"BOSSJRNL\x02", DIGEST, WORKED, &[gate]]),
+        Held::SummedLog { gate } => joined(rt, alloc, &[b"BOSSJRNL\x03", DIGEST, SUMMED, &[gate]]),
+        Held::SummedKept => joined(
+            rt,
+            alloc,
+            &[
+                b"BOSSSNAP\x03",
+                DIGEST,
+                b"\0\0\0\0\0\0\0\x01\0\0\0\0\0\0\0\x02\0\0\0\0\0\0\0\x68",
+                SEED,
+                STATE_HEAD,
+                b"\0",
+                STATE_TAIL,
+                STATE_SUM,
+                SUMMED_TICK,
+            ],
+        ),
         Held::Kept => kept(rt, alloc, b"\x02", b"\x60", b"\0"),
         Held::OldKept => kept(rt, alloc, b"\x01", b"\x5f", b""),
     }

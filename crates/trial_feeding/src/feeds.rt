@@ -6,8 +6,10 @@ use boss_pair_find::DurableRefusal;
 
 const SHUT: Held = Held::Log { gate: 0 };
 
+const SUMMED: Held = Held::SummedLog { gate: 0 };
+
 /// A pair, the number above which it is told, and the lines.
-const ROWS: [((Held, Held), u64, &[&str]); 10] = [
+const ROWS: [((Held, Held), u64, &[&str]); 14] = [
     ((Held::Nothing, Held::Nothing), 0, &[]),
     ((SHUT, Held::Nothing), 0, &[FIRST, SECOND]),
     ((SHUT, Held::Nothing), 1, &[SECOND]),
@@ -20,6 +22,11 @@ const ROWS: [((Held, Held), u64, &[&str]); 10] = [
     ((SHUT, Held::Kept), 3, &[]),
     // As version 2 spells it.
     ((SHUT, Held::OldKept), 0, &[STATE, THIRD]),
+    // Without the sums.
+    ((SUMMED, Held::Nothing), 0, &[FIRST, SECOND]),
+    ((SUMMED, Held::Nothing), 1, &[SECOND]),
+    ((SUMMED, Held::SummedKept), 0, &[STATE, THIRD]),
+    ((SHUT, Held::SummedKept), 2, &[THIRD]),
 ];
 
 #[test]
@@ -43,6 +50,11 @@ fn nothing_is_told_of_a_pair_that_is_refused(rt: HostRuntime) {
     let open = Held::Log { gate: 1 };
     let (sink, ended) = told(&rt, alloc, (open, Held::Nothing), 0);
     let damaged = DurableRefusal::Damaged { place: 93 };
+    assert!(rt; ended == Err(FeedFault::Refused(damaged)));
+    assert!(rt; sink.taken().is_empty());
+    let open = Held::SummedLog { gate: 1 };
+    let (sink, ended) = told(&rt, alloc, (open, Held::Nothing), 0);
+    let damaged = DurableRefusal::Damaged { place: 109 };
     assert!(rt; ended == Err(FeedFault::Refused(damaged)));
     assert!(rt; sink.taken().is_empty());
 }

@@ -28,7 +28,7 @@ fn stand(bytes: &[u8], place: usize, these: &[u8]) -> bool {
 pub fn expected_start(bytes: &[u8], digest: &[u8; 32]) -> Expected {
     let count = bytes.len();
     let version = byte(bytes, 8);
-    let known = version == 1 || version == 2;
+    let known = version >= 1 && version <= 3;
     let same = stand(bytes, 9, digest);
     if count <= 1 || (count <= 42 && byte(bytes, 0) == 0) {
         return Expected::New;

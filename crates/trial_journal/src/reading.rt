@@ -92,7 +92,7 @@ fn append_two<R: Abort>(rt: &R, journal: &mut Journal<MemoryDisk>, into: &mut Bu
     requires { 65535 ≤ into.old.capacity }
     ensures { into.new.capacity ≡ into.old.capacity }
 {
-    assert_eq!(rt; journal.version(), 2);
+    assert_eq!(rt; journal.version(), 3);
     assert!(rt; journal.next(into) == NextRecord::Finish);
     assert!(rt; journal.ready().is_ok());
     assert!(rt; journal.append(&ATTACH) == Appended::Done);
@@ -203,7 +203,7 @@ fn begin<R: Abort>(rt: &R, alloc: Global) -> Result<(), Fail> {
 fn journal_has_the_bytes_of_its_format(rt: HostRuntime) -> Result<(), Fail> {
     let alloc = rt.alloc();
     let mut into = Buffer::new(alloc, 65_536)?;
-    let wanted = journal(alloc, 2, &DIGEST, &LOG)?;
+    let wanted = journal(alloc, 3, &DIGEST, &LOG)?;
     assert_eq!(rt; wanted.len(), 94);
     make_journal(&rt, alloc, &wanted, &mut into)?;
     let other = go_on(&rt, alloc, &wanted, &mut into)?;
@@ -231,7 +231,7 @@ fn compare_changed<R: Abort>(rt: &R, alloc: Global, whole: &[u8]) -> Result<(), 
 /// Fresh journals, whose first byte may be any, of a version that is known and of one that is not.
 fn compare_fresh<R: Abort>(rt: &R, alloc: Global, version: u8) -> Result<(), NoMemory> {
     for first in [0, 1, 66, 255] {
-        for version in [version, 3] {
+        for version in [version, 4] {
             let mut fresh = journal(alloc, version, &DIGEST, &[0])?;
             if !fresh.is_empty() {
                 fresh[0] = first;
@@ -260,7 +260,7 @@ fn compare_version<R: Abort>(rt: &R, alloc: Global, version: u8) -> Result<(), N
     compare_changed(rt, alloc, &journal(alloc, version, &DIGEST, &LOG)?)?;
     compare_fresh(rt, alloc, version)?;
     compare_long(rt, alloc, version)?;
-    for (version, digest) in [(version, &DIGEST), (version, &OTHER), (3, &OTHER)] {
+    for (version, digest) in [(version, &DIGEST), (version, &OTHER), (4, &OTHER)] {
         let bytes = journal(alloc, version, digest, &[1, 0, 0, 0, 0, 0])?;
         compare(rt, alloc, &bytes)?;
     }
@@ -269,7 +269,7 @@ fn compare_version<R: Abort>(rt: &R, alloc: Global, version: u8) -> Result<(), N
 
 #[test]
 fn any_bytes_are_read_as_expected(rt: HostRuntime) -> Result<(), Fail> {
-    for version in [1, 2] {
+    for version in [1, 2, 3] {
         compare_version(&rt, rt.alloc(), version)?;
     }
     Ok(())

@@ -26,6 +26,8 @@ mod rotation_stops;
 #[cfg(test)]
 mod stops;
 #[cfg(test)]
+mod sums;
+#[cfg(test)]
 mod together;
 #[cfg(test)]
 mod turns;

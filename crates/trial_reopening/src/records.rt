@@ -6,9 +6,10 @@ ghost use Rattle.boss_model.specs.Catalogue.{actuators};
 ghost use Rattle.boss_model.specs.declared.state.Actuator.{Actuator};
 ghost use Rattle.boss_model.specs.Sound.{IsAllowed};
 
-use crate::bytes::{DIGEST, SHUT, SUBMIT_TAIL, joined, journal, put};
+use crate::bytes::{DIGEST, SUBMIT_TAIL, joined, put};
 use crate::limited::LOG_LIMIT;
 use crate::outside::*;
+use crate::sums::summed;
 use boss_model::{Answer, Command, Items, Name, PointId, Policy, SessionId, Setting, Txn};
 use boss_opening::open;
 use boss_points::Catalogue;
@@ -65,9 +66,9 @@ fn sixteen(rt: &impl Abort, alloc: Global) -> Items<(Command, u64)>
     calls
 }
 
-/// What they make: an open gate, 378 bytes, the attach at 1000, the submit at 1001, and the renewals.
+/// What they make, 378 bytes: the attach at 1000, the submit at 1001, and the renewals.
 fn record(rt: &impl Abort, alloc: Global) -> Vec<u8> {
-    let head: &[u8] = b"\x01\0\0\x01\x7a\x01\0\0\0\0\0\0\x03\xe8\x01a\x02\0\0\0\0\0\0\x03\xe9";
+    let head: &[u8] = b"\x01\0\0\0\0\0\0\x03\xe8\x01a\x02\0\0\0\0\0\0\x03\xe9";
     let mut bytes = joined(rt, alloc, &[head, SUBMIT_TAIL]);
     for moment in 1002..1016u64 {
         put_renewal(rt, &mut bytes, moment);
@@ -119,6 +120,7 @@ fn sixteen_commands_make_one_record(rt: HostRuntime) {
 fn expect_record(rt: &impl Abort, alloc: Global, done: u32, bytes: &[u8]) {
     assert!(rt; done == 16);
     let record = record(rt, alloc);
-    let wanted = journal(rt, alloc, b"\x02", DIGEST, &[&record, SHUT]);
+    assert!(rt; record.len() == 378);
+    let wanted = summed(rt, alloc, DIGEST, &[&record]);
     assert!(rt; bytes == wanted.as_slice());
 }

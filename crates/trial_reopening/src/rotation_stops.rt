@@ -11,52 +11,52 @@ use boss_points::Catalogue;
 use std::alloc::Global;
 use std::process::Abort;
 
-/// So many submits leave a log that has room for one record more: an attach has 16 bytes there, and a submit 36. A new log begins
-/// where less than 65,536 bytes of 131,072 are left, and 16 + 1,820 * 36 = 65,536.
-const SUBMITS: u64 = 1_820;
+/// So many submits leave a log that has room for one record more: an attach has 24 bytes there, and a submit 44. A new log begins
+/// where less than 65,536 bytes of 131,072 are left, and 24 + 1,488 * 44 = 65,496.
+const SUBMITS: u64 = 1_488;
 
 /// The first of the submits has its record behind the others, the second behind a new log's kept state; the read asks for nothing of
 /// a disk.
 const MORE: &str = "{\"op\":\"attach\",\"process\":\"a\"}
-{\"at\":2820,\"op\":\"submit\",\"writes\":[{\"point\":\"ahu1.damper\",\"value\":45000,\"priority\":8,\"lease\":60000}]}
-{\"at\":2821,\"op\":\"submit\",\"writes\":[{\"point\":\"ahu1.damper\",\"value\":45000,\"priority\":8,\"lease\":60000}]}
-{\"at\":2821,\"op\":\"read\",\"point\":\"lamp\"}
+{\"at\":2488,\"op\":\"submit\",\"writes\":[{\"point\":\"ahu1.damper\",\"value\":45000,\"priority\":8,\"lease\":60000}]}
+{\"at\":2489,\"op\":\"submit\",\"writes\":[{\"point\":\"ahu1.damper\",\"value\":45000,\"priority\":8,\"lease\":60000}]}
+{\"at\":2489,\"op\":\"read\",\"point\":\"lamp\"}
 ";
 
 /// What is told of them: where the pair was not opened, where the disk of the new log failed behind the first submit, and where both
-/// were accepted. Each submit before them, but the last, was superseded with two notices: 1,819 * 2.
+/// were accepted. Each submit before them, but the last, was superseded with two notices: 1,487 * 2.
 const TOLD: [&str; 3] = [
     "",
     "write field ahu1.damper 45000 ok
 write field lamp 0 ok
 write field fan 1 ok
-{\"ok\":\"attached\",\"process\":\"a\",\"next\":3639}
-{\"ok\":\"accepted\",\"txn\":1821,\"until\":62820}
+{\"ok\":\"attached\",\"process\":\"a\",\"next\":2975}
+{\"ok\":\"accepted\",\"txn\":1489,\"until\":62488}
 {\"error\":\"stopped\"}
 {\"error\":\"stopped\"}
 ",
     "write field ahu1.damper 45000 ok
 write field lamp 0 ok
 write field fan 1 ok
-{\"ok\":\"attached\",\"process\":\"a\",\"next\":3639}
-{\"ok\":\"accepted\",\"txn\":1821,\"until\":62820}
-{\"ok\":\"accepted\",\"txn\":1822,\"until\":62821}
+{\"ok\":\"attached\",\"process\":\"a\",\"next\":2975}
+{\"ok\":\"accepted\",\"txn\":1489,\"until\":62488}
+{\"ok\":\"accepted\",\"txn\":1490,\"until\":62489}
 {\"ok\":\"read\",\"point\":\"lamp\",\"value\":0,\"from\":\"default\",\"mark\":\"settled\"}
 ",
 ];
 
 /// What a check tells behind each of them where nothing more was done.
 const ANSWERED: [&str; 3] = [
-    "events 1821 now 2819 leases 1 pending 0\n",
-    "events 1822 now 2820 leases 1 pending 0\n",
-    "events 1823 now 2821 leases 1 pending 0\n",
+    "events 1489 now 2487 leases 1 pending 0\n",
+    "events 1490 now 2488 leases 1 pending 0\n",
+    "events 1491 now 2489 leases 1 pending 0\n",
 ];
 
 /// And where the submit that failed was done.
 const UNDER_WAY: [&str; 3] = [
-    "events 1821 now 2819 leases 1 pending 0\n",
-    "events 1823 now 2821 leases 1 pending 0\n",
-    "events 1823 now 2821 leases 1 pending 0\n",
+    "events 1489 now 2487 leases 1 pending 0\n",
+    "events 1491 now 2489 leases 1 pending 0\n",
+    "events 1491 now 2489 leases 1 pending 0\n",
 ];
 
 /// The ways in which bytes that a crash may change are picked.
@@ -171,7 +171,7 @@ fn nothing_is_lost_while_a_new_log_begins(rt: HostRuntime) {
     let alloc = rt.alloc();
     let catalogue = three_points(&rt, alloc);
     let log = log_of(&rt, alloc, SUBMITS);
-    assert!(&rt; log.len() == 41 + 65_536 + 1);
+    assert!(&rt; log.len() == 41 + 65_496 + 1);
     for calls in 0..MANY {
         if try_calls(&rt, alloc, &catalogue, log.as_slice(), calls) {
             return;

@@ -163,7 +163,7 @@ fn try_calls(rt: &impl Abort, alloc: Global, catalogue: &Catalogue, calls: u64) 
 }
 
 /// The last four calls of the first disk are those of the submit: its record, a sync, its gate, a sync. How many events are held where so
-/// many of them were left out, by the pick of what a crash leaves. The gate is byte 57, and 255 less an open gate is a shut one.
+/// many of them were left out, by the pick of what a crash leaves. The gate is byte 65, bit 1 of the pick, and 255 less an open gate is a shut one.
 const APPENDED: [(u64, u64, usize); 14] = [
     (4, 0, 1),
     (4, 1, 1),
@@ -176,7 +176,7 @@ const APPENDED: [(u64, u64, usize); 14] = [
     (1, 1, 2),
     (1, 2, 1),
     (1, 5, 1),
-    (1, 1 << 57, 2),
+    (1, 6, 2),
     (0, 0, 2),
     (0, 2, 2),
 ];

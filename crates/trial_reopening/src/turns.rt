@@ -2,8 +2,12 @@
 ghost use Rattle.boss_model.specs.Catalogue.{actuators};
 ghost use Rattle.boss_scripts.specs.Devices.{HasDevices};
 
-use crate::bytes::{AT_1000, ATTACHED, DIGEST, SHUT, SUBMIT_HEAD, SUBMIT_TAIL, journal, kept};
+use crate::bytes::{
+    AT_1000, ATTACH_EVENT, ATTACHED, DIGEST, SHUT, SUBMIT_HEAD, SUBMIT_TAG, SUBMIT_TAIL, joined,
+    journal, kept, kept_2, kept_as, worked_2,
+};
 use crate::outside::*;
+use crate::sums::summed;
 use boss_manager::Status;
 use boss_points::Catalogue;
 use std::alloc::Global;
@@ -56,7 +60,7 @@ write field fan 1 ok
         told: "write field ahu1.damper 45000 ok
 write field lamp 0 ok
 write field fan 1 ok
-{\"ok\":\"read\",\"point\":\"ahu1.damper\",\"value\":20000,\"from\":\"default\",\"mark\":\"pending\"}
+{\"ok\":\"read\",\"point\":\"ahu1.damper\",\"value\":20000,\"from\":\"default\",\"mark\":\"pending\",\"took\":45000,\"since\":1000}
 write field ahu1.damper 20000 ok
 ",
         held: "events 3 now 61000 leases 0 pending 0\n",
@@ -103,9 +107,9 @@ fn a_lease_goes_from_run_to_run(rt: HostRuntime) {
 
 /// The journal then: the tick that ended the lease stands behind the two records.
 fn ticked(rt: &impl Abort, alloc: Global) -> Vec<u8> {
-    let tick: &[u8] = b"\x01\0\0\0\x09\x06\0\0\0\0\0\0\xee\x48";
-    let log = [ATTACHED, SUBMIT_HEAD, AT_1000, SUBMIT_TAIL, tick, SHUT];
-    journal(rt, alloc, b"\x02", DIGEST, &log)
+    let submit = joined(rt, alloc, &[SUBMIT_TAG, AT_1000, SUBMIT_TAIL]);
+    let tick: &[u8] = b"\x06\0\0\0\0\0\0\xee\x48";
+    summed(rt, alloc, DIGEST, &[ATTACH_EVENT, &submit, tick])
 }
 
 const CARRIED_OVER: Turn = Turn {
@@ -114,7 +118,7 @@ const CARRIED_OVER: Turn = Turn {
     held: "events 2 now 1000 leases 1 pending 0\n",
 };
 
-/// A journal of version 1 stays as it was, and the other disk has what it stands for, in version 2.
+/// A journal of version 1 stays as it was, and the other disk has what it stands for, in version 3.
 #[test]
 fn a_journal_of_version_1_is_carried_over(rt: HostRuntime) {
     let alloc = rt.alloc();
@@ -125,4 +129,21 @@ fn a_journal_of_version_1_is_carried_over(rt: HostRuntime) {
     let (first, second) = take_turn(&rt, alloc, &catalogue, &CARRIED_OVER, disks);
     expect_bytes(&rt, first, &old);
     expect_bytes(&rt, second, &kept(&rt, alloc));
+}
+
+/// So does one of version 2, whether it is a journal or a kept state.
+#[test]
+fn a_journal_of_version_2_is_carried_over(rt: HostRuntime) {
+    let alloc = rt.alloc();
+    let catalogue = three_points(&rt, alloc);
+    let old = worked_2(&rt, alloc);
+    let disks = pair(&rt, alloc, &old, &[]);
+    let (first, second) = take_turn(&rt, alloc, &catalogue, &CARRIED_OVER, disks);
+    expect_bytes(&rt, first, &old);
+    expect_bytes(&rt, second, &kept(&rt, alloc));
+    let state = kept_2(&rt, alloc);
+    let disks = pair(&rt, alloc, &old, &state);
+    let (first, second) = take_turn(&rt, alloc, &catalogue, &CARRIED_OVER, disks);
+    expect_bytes(&rt, first, &kept_as(&rt, alloc, DIGEST, 2));
+    expect_bytes(&rt, second, &state);
 }

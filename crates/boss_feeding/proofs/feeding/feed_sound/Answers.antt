@@ -1,7 +1,7 @@
 use Rattle.std.proofs.Common.{sym, ap, subst, arith, length}
 use Rattle.boss_feeding.specs.Faults.{ActiveCause, SinkCause}
 use Rattle.boss_feeding.specs.Held.{HasLog}
-use Rattle.boss_feeding.proofs.Stood.{feed_with, feed_without}
+use Rattle.boss_feeding.proofs.Stood.{feed_with, feed_without, gate_far}
 use Rattle.boss_feeding.proofs.Writing.{part_told, then_told}
 use Rattle.boss_model.specs.Seen.{seen}
 use Rattle.boss_outside.specs.Streams.{TakesFront, Writes}
@@ -16,10 +16,10 @@ returns-then-from-base-clause-told g c tells takes events has =
     (sym (feed_without c.args.from (seen c.args.base.now.kept) c.args.base.now.before events c.if-from-base.true)) (c.feed_log.ensures.told tells takes events has)
 
 pub feed_log-requires-clause-past : goal.feed_log-requires-clause-past
-feed_log-requires-clause-past g c tells = let behind = (c.requires.kept tells).1.behind in omega (arith, behind)
+feed_log-requires-clause-past g c tells = let far = gate_far _ _ _ _ _ (c.requires.kept tells).1 in omega (arith, far)
 
 pub feed_log-requires-in-Ok-clause-past : goal.feed_log-requires-in-Ok-clause-past
-feed_log-requires-in-Ok-clause-past g c tells = let behind = (c.requires.kept tells).1.behind in omega (arith, behind)
+feed_log-requires-in-Ok-clause-past g c tells = let far = gate_far _ _ _ _ _ (c.requires.kept tells).1 in omega (arith, far)
 
 pub feed_log-requires-in-Ok-clause-inside : goal.feed_log-requires-in-Ok-clause-inside
 feed_log-requires-in-Ok-clause-inside g c tells =

@@ -11,7 +11,7 @@ invariant-loop-done g l = record {
   windows : g.D.Disk.tells → g.D.Disk.story l.disk ≡ g.D.Disk.story l.initial.disk;
   faults : g.D.Disk.faults l.disk ≡ g.D.Disk.faults l.initial.disk;
   sink : g.K.Sink.faults l.sink ≡ g.K.Sink.faults l.initial.sink;
-  told : g.D.Disk.tells → g.K.Sink.tells → (text : List ℕ) → HasText l.gate text (g.D.Disk.reads l.initial.disk) →
+  told : g.D.Disk.tells → g.K.Sink.tells → (text : List ℕ) → HasText l.place l.size text (g.D.Disk.reads l.initial.disk) →
       SoFar (g.K.Sink.taken l.initial.sink) (g.K.Sink.taken l.sink) (parts_text text) (parts_text (drop l.done text));
 }
 

@@ -3,12 +3,11 @@ use Rattle.boss_disk.specs.Legs.{Legs, LeaveBoth}
 use Rattle.boss_pair_find.specs.Makes.{HasVersion}
 use Rattle.boss_pair_find.specs.Refusals.{PairCause}
 use Rattle.boss_pair_find.specs.Two.{two}
-use Rattle.boss_pair_find.proofs.Made.{journal_new, making_legs, made_rests, has_version, version_known, begun_rests}
+use Rattle.boss_pair_find.proofs.Made.{journal_new, making_legs, made_rests, has_version, opened_place, version_known, begun_rests}
 use Rattle.boss_pair_find.proofs.Orders.{at_both, begun_first, begun_second, begun_at, counts_as}
 use Rattle.boss_pair_find.proofs.Told.{journal_cause, only_fault}
 use Rattle.boss_model.specs.State.{first_persistent}
 use Rattle.def_disk_pair.specs.Pairs.{OpensCleanly}
-use Rattle.boss_disk_pair.proofs.Beginnings.{no_sums}
 use Rattle.boss_pair_find.proofs.making.make.Goals as goal
 
 pub returns-in-Ok-clause-rests : goal.returns-in-Ok-clause-rests
@@ -18,7 +17,7 @@ returns-in-Ok-clause-rests g c told synced plant =
     begun_rests c.begin.result c.in-Ok.journal c.args.second c.begin.ensures.order c.begin.ensures.journal c.begin.ensures.spare plant c.args.digest.now
     c.begin.ensures.digest c.begin.ensures.generation c.begin.ensures.events c.begin.ensures.going
     (λ again. made_rests plant c.args.digest.now c.told-digest _ _ _ _ _ _ _ _ (version_known c.args.digest.now _ _ of)
-    (λ on. absurd (no_sums _ (version_known c.args.digest.now _ _ of) on)) opened (c.requires told) synced)
+    (λ on. c.begin.ensures.seed (opened_place c.args.digest.now _ _ _ _ _ c.told-digest (c.requires told).1 opened) 66) opened (c.requires told) synced)
 
 pub returns-in-Ok-clause-images : goal.returns-in-Ok-clause-images
 returns-in-Ok-clause-images g c told one other plant =

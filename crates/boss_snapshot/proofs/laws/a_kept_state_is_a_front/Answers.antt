@@ -5,4 +5,4 @@ pub returns-clause-written : goal.returns-clause-written
 returns-clause-written c plant digest generation events first d marked counted few fits sound = written_front plant digest generation events first d marked counted few fits sound
 
 pub returns-clause-read : goal.returns-clause-read
-returns-clause-read c plant digest bytes generation events place d kind kept sound = read_front digest bytes generation events place d kept plant kind sound
+returns-clause-read c plant digest bytes generation events place d kind kept sound = read_front digest bytes generation events place d kept kind plant sound

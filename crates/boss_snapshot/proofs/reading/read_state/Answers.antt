@@ -12,7 +12,7 @@ returns-clause-finds g c told =
     let head = c.in_ok-head.head in
     subst (λ r. IfOk c.read_spelled.result (λ x. IsKeptState digest r (seen x.0) x.1 x.2)) same
     (c.read_spelled.ensures.finds told digest
-    (subst (λ r. IsStateHead digest r head.version head.events head.size) (sym same) (c.in_ok-head.ensures.finds told)))
+    (subst (λ r. IsStateHead digest r head.version head.events head.size head.seed) (sym same) (c.in_ok-head.ensures.finds told)))
 
 pub returns-clause-refuses : goal.returns-clause-refuses
 returns-clause-refuses g c told =
@@ -21,4 +21,4 @@ returns-clause-refuses g c told =
     let head = c.in_ok-head.head in
     subst (λ r. IfErr c.read_spelled.result (Refuses digest r)) same
     (c.read_spelled.ensures.refuses told digest
-    (subst (λ r. IsStateHead digest r head.version head.events head.size) (sym same) (c.in_ok-head.ensures.finds told)))
+    (subst (λ r. IsStateHead digest r head.version head.events head.size head.seed) (sym same) (c.in_ok-head.ensures.finds told)))
