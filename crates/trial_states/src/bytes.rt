@@ -113,7 +113,64 @@ pub fn leases(rt: &impl Abort, alloc: Global, count: u8) -> Vec<u8> {
     bytes
 }
 
-/// The disk of a state of this generation with so many events before it, and a shut gate.
+/// The seed of a disk of version 3, and the sum of its state: the first eight bytes that `sha256sum` gives.
+pub type Sums = ([u8; 8], [u8; 8]);
+
+/// Of the small state, as generation 3 with five events before it.
+pub const SMALL_SUMS: &Sums = &(
+    *b"\x73\xf8\x81\x97\xc0\x9c\x87\x1a",
+    *b"\x98\xb7\x38\x4b\xeb\xf5\x70\xd0",
+);
+
+/// The same of the state with 250 leases.
+pub const MANY_SUMS: &Sums = &(
+    *b"\x12\x36\xb7\xb3\x1b\x6c\xd6\x71",
+    *b"\xe3\x2e\x50\x76\x81\xf1\xde\x9b",
+);
+
+/// The same of the large state.
+pub const LARGE_SUMS: &Sums = &(
+    *b"\xf5\x73\xaf\x6e\x5e\x36\x14\xe5",
+    *b"\xa0\x2b\x3c\xcf\xd9\x8b\x62\x0b",
+);
+
+/// Of the small state, as generation 4 with seven events before it.
+pub const LATE_SUMS: &Sums = &(
+    *b"\x29\x7e\x53\xd0\x76\x43\x44\x3b",
+    *b"\x5c\x43\x80\x8f\x2f\x2d\xff\x47",
+);
+
+/// The seed of the small state's disk, as generation 3 with five events before it, if its version were 4.
+pub const SEED_OF_4: [u8; 8] = *b"\x4c\x56\xc2\xb6\xe6\x10\xb4\x7e";
+
+/// The disk of a state of this generation with so many events before it, in version 3, and a shut gate.
+pub fn summed_disk(
+    rt: &impl Abort,
+    alloc: Global,
+    generation: u8,
+    events: u8,
+    spelled: &[u8],
+    sums: &Sums,
+) -> Vec<u8> {
+    let size = (spelled.len() as u64).wrapping_add(8).to_be_bytes();
+    joined(
+        rt,
+        alloc,
+        &[
+            b"BOSSSNAP\x03",
+            &DIGEST,
+            &[0, 0, 0, 0, 0, 0, 0, generation],
+            &[0, 0, 0, 0, 0, 0, 0, events],
+            &size,
+            &sums.0,
+            spelled,
+            &sums.1,
+            &[0],
+        ],
+    )
+}
+
+/// The same in version 2, which has no sums.
 pub fn state_disk(
     rt: &impl Abort,
     alloc: Global,

@@ -1,5 +1,6 @@
 //! Trials of kept states: over a disk in memory the bytes that the format spells by its table, a state read as it was written,
-//! each refusal at its place, and a disk that fails or stops at each of its calls; and states adopted under changed catalogues.
+//! each refusal at its place, and a disk that fails or stops at each of its calls; states adopted under changed catalogues; and
+//! states whose moments are moved back.
 #![tactic(auto)]
 
 #[cfg(test)]
@@ -10,6 +11,8 @@ mod bytes;
 mod disks;
 #[cfg(test)]
 mod refusals;
+#[cfg(test)]
+mod shifting;
 #[cfg(test)]
 mod stops;
 #[cfg(test)]

@@ -1,4 +1,4 @@
-use crate::bytes::{DIGEST, OTHER, SMALL, joined, state_disk};
+use crate::bytes::{DIGEST, OTHER, SEED_OF_4, SMALL, SMALL_SUMS, joined, state_disk, summed_disk};
 use crate::disks::{disk_of, failing_disk};
 use boss_disk::MemoryDisk;
 use boss_snapshot::{SnapshotRefusal, kind, read_state};
@@ -34,15 +34,10 @@ fn is_refused_changed(
     is_refused(alloc, &mut disk, wanted)
 }
 
-/// Versions that are none.
-const VERSIONS: &[u8] = &[0, 3, 255];
-
 /// Changes the head of a kept state.
 fn change_head(rt: &impl Abort, alloc: Global, whole: &[u8]) {
-    for found in VERSIONS {
-        let version = SnapshotRefusal::Version { found: *found };
-        assert!(rt; is_refused_changed(rt, alloc, whole, 8, *found, version));
-    }
+    let version = SnapshotRefusal::Version { found: 0 };
+    assert!(rt; is_refused_changed(rt, alloc, whole, 8, 0, version));
     let mut kept = DIGEST;
     kept[31] = 8;
     let catalogue = SnapshotRefusal::Catalogue {
@@ -102,7 +97,7 @@ fn cut_each(rt: &impl Abort, alloc: Global, whole: &[u8]) {
 fn wrong(rt: &impl Abort, alloc: Global, whole: &[u8]) -> Vec<u8> {
     let mut wrong = joined(rt, alloc, &[whole]);
     if wrong.len() > 65 {
-        wrong[8] = 9;
+        wrong[8] = 0;
         wrong[9..41].copy_from_slice(&OTHER);
         wrong[49] = 0x80;
         wrong[57] = 0x80;
@@ -112,7 +107,7 @@ fn wrong(rt: &impl Abort, alloc: Global, whole: &[u8]) -> Vec<u8> {
 
 /// What is told where all is wrong, and where all is wrong but the version.
 fn refuse_wrong(rt: &impl Abort, alloc: Global, wrong: &[u8]) {
-    let version = SnapshotRefusal::Version { found: 9 };
+    let version = SnapshotRefusal::Version { found: 0 };
     assert!(rt; is_refused_changed(rt, alloc, wrong, 65, 1, version));
     let catalogue = SnapshotRefusal::Catalogue {
         kept: OTHER,
@@ -152,4 +147,91 @@ fn each_read_of_the_disk_may_fail(rt: HostRuntime) {
     for call in 3..6 {
         assert!(&rt; has_no_state(&rt, rt.alloc(), &whole, call), "{call}");
     }
+}
+
+/// The small state in version 3.
+fn summed(rt: &impl Abort, alloc: Global) -> Vec<u8> {
+    summed_disk(rt, alloc, 3, 5, SMALL, SMALL_SUMS)
+}
+
+fn is_other(disk: &mut MemoryDisk) -> bool {
+    matches!(kind(disk), Ok(DiskKind::Other))
+}
+
+/// Whether a disk has a kept state that is read.
+fn is_read(alloc: Global, disk: &mut MemoryDisk) -> bool {
+    let Ok(DiskKind::State { .. }) = kind(disk) else {
+        return false;
+    };
+    read_state(alloc, disk, &DIGEST).is_ok()
+}
+
+/// Whether the state of a disk is found as it was changed: in its head the disk is another program's, and behind it the place of the
+/// head's end is told. Version 3 changed to an older one is told so too, as what stands at 65 is no state then. The gate is no part
+/// of the state, and byte 0 may be any but 0.
+fn is_found(disk: &mut MemoryDisk, alloc: Global, place: usize, version: u8) -> bool {
+    let is_plain = place == 0 || place == 177;
+    let is_behind = place >= 73 || version < 3;
+    if is_plain {
+        return is_read(alloc, disk);
+    }
+    if is_behind {
+        return is_refused(alloc, disk, SnapshotRefusal::Damaged { place: 65 });
+    }
+    is_other(disk)
+}
+
+/// Changes one bit of these bytes.
+fn turned(rt: &impl Abort, alloc: Global, bytes: &[u8], place: usize, bit: u8) -> Vec<u8> {
+    let mut bytes = joined(rt, alloc, &[bytes]);
+    if place < bytes.len() {
+        bytes[place] ^= bit;
+    }
+    bytes
+}
+
+const BITS: &[u8] = &[1, 2, 4, 8, 16, 32, 64, 128];
+
+/// Each bit of a kept state with its sum, changed.
+#[test]
+fn each_changed_bit_of_a_state_is_found(rt: HostRuntime) {
+    let alloc = rt.alloc();
+    let whole = summed(&rt, alloc);
+    assert_eq!(&rt; whole.len(), 178);
+    for place in 0..whole.len() {
+        for bit in BITS {
+            let bytes = turned(&rt, alloc, &whole, place, *bit);
+            let version = bytes.get(8).copied().unwrap_or(0);
+            let mut disk = disk_of(&rt, alloc, &bytes);
+            assert!(&rt; is_found(&mut disk, alloc, place, version), "{place} {bit}");
+        }
+    }
+}
+
+/// Cut within its seed it is another program's, and behind it the length is damaged.
+#[test]
+fn summed_state_cut_short_is_refused(rt: HostRuntime) {
+    let alloc = rt.alloc();
+    let whole = summed(&rt, alloc);
+    for size in 66..whole.len() {
+        let mut disk = disk_of(&rt, alloc, &whole[..size]);
+        let found = if size < 73 {
+            is_other(&mut disk)
+        } else {
+            is_refused(alloc, &mut disk, SnapshotRefusal::Damaged { place: 57 })
+        };
+        assert!(&rt; found, "{size}");
+    }
+}
+
+/// A later version is told where its seed is right.
+#[test]
+fn later_version_is_told(rt: HostRuntime) {
+    let alloc = rt.alloc();
+    let mut whole = summed(&rt, alloc);
+    assert!(&rt; whole.len() == 178);
+    whole[8] = 4;
+    whole[65..73].copy_from_slice(&SEED_OF_4);
+    let mut disk = disk_of(&rt, alloc, &whole);
+    assert!(&rt; is_refused(alloc, &mut disk, SnapshotRefusal::Version { found: 4 }));
 }

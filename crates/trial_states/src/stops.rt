@@ -2,7 +2,7 @@ ghost use Rattle.std.specs.Prelude.{◌≡◌, true};
 ghost use Rattle.def_bytes.specs.States.{state};
 ghost use Rattle.boss_model.specs.Seen.{seen};
 
-use crate::bytes::{DIGEST, SMALL, leases, state_disk};
+use crate::bytes::{DIGEST, LATE_SUMS, SMALL, leases, state_disk, summed_disk};
 use crate::disks::{disk_of, failing_disk, spelled};
 use boss_disk::MemoryDisk;
 use boss_model::Kept;
@@ -82,7 +82,7 @@ fn is_left(mut image: MemoryDisk, held: &[u8], wanted: &[u8], done: bool) -> boo
 fn stop_at_each(rt: &impl Abort, alloc: Global, held: &[u8], kept: &Kept, calls: u64)
     requires { (state 2).fits (seen kept.now) ≡ true }
 {
-    let wanted = state_disk(rt, alloc, 4, 7, SMALL);
+    let wanted = summed_disk(rt, alloc, 4, 7, SMALL, LATE_SUMS);
     for stop in 0..=calls {
         let done = write_to_stop(rt, alloc, held, kept, &wanted, stop);
         assert_eq!(rt; done, stop == calls, "stop {stop}");
@@ -101,21 +101,21 @@ fn small(rt: &impl Abort, alloc: Global) -> Kept
 fn stop_at_any_call_leaves_the_old_or_the_new(rt: HostRuntime) {
     let alloc = rt.alloc();
     let kept = small(&rt, alloc);
-    // A length, and byte 0 read where there is one; a write and a sync where it is not 0; a cut; the state, and its length; a
-    // sync, byte 0, and a sync.
-    stop_at_each(&rt, alloc, &[], &kept, 9);
-    stop_at_each(&rt, alloc, &[0, 1, 2], &kept, 8);
+    // A length, and byte 0 read where there is one; a write and a sync where it is not 0; a cut; the state, and its length; what
+    // stands before the seed, and the seed; the state again, and its sum; a sync, byte 0, and a sync.
+    stop_at_each(&rt, alloc, &[], &kept, 13);
+    stop_at_each(&rt, alloc, &[0, 1, 2], &kept, 12);
     let older = state_disk(&rt, alloc, 3, 5, &leases(&rt, alloc, 9));
-    stop_at_each(&rt, alloc, &older, &kept, 10);
+    stop_at_each(&rt, alloc, &older, &kept, 14);
 }
 
-/// Whether a write over an empty disk fails just where one of its first nine calls is the one that fails, with one fault then.
+/// Whether a write over an empty disk fails just where one of its first thirteen calls is the one that fails, with one fault then.
 fn fails_as_its_disk(rt: &impl Abort, alloc: Global, kept: &Kept, call: u64) -> bool
     requires { (state 2).fits (seen kept.now) ≡ true }
 {
     let mut disk = failing_disk(rt, alloc, &[], call);
     let failed = write_state(kept, &mut disk, &DIGEST, 4, 7).is_err();
-    failed == (call < 10) && disk.faults() == u64::from(failed)
+    failed == (call < 14) && disk.faults() == u64::from(failed)
 }
 
 /// Writes this state over disks of which each call fails in turn.
@@ -123,7 +123,7 @@ fn fails_as_its_disk(rt: &impl Abort, alloc: Global, kept: &Kept, call: u64) -> 
 fn each_write_of_the_disk_may_fail(rt: HostRuntime) {
     let alloc = rt.alloc();
     let kept = small(&rt, alloc);
-    for call in 1..11 {
+    for call in 1..15 {
         assert!(&rt; fails_as_its_disk(&rt, alloc, &kept, call), "call {call}");
     }
 }

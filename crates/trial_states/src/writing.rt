@@ -2,7 +2,10 @@ ghost use Rattle.std.specs.Prelude.{◌≡◌, true};
 ghost use Rattle.def_bytes.specs.States.{state};
 ghost use Rattle.boss_model.specs.Seen.{seen};
 
-use crate::bytes::{DIGEST, LARGE, LARGE_TOLD, SMALL, joined, leases, state_disk};
+use crate::bytes::{
+    DIGEST, LARGE, LARGE_SUMS, LARGE_TOLD, MANY_SUMS, SMALL, SMALL_SUMS, Sums, joined, leases,
+    state_disk, summed_disk,
+};
 use crate::disks::{disk_of, spelled};
 use crate::texts::told;
 use boss_disk::MemoryDisk;
@@ -56,12 +59,13 @@ fn is_written_over(
     held: &[u8],
     bytes: &[u8],
     wanted: &str,
+    sums: &Sums,
     place: u64,
 ) -> bool {
     let mut disk = disk_of(rt, alloc, held);
     let written = is_spelled_and_written(alloc, &mut disk, bytes, place)
         && reads_as(rt, alloc, &mut disk, wanted, place);
-    let whole = state_disk(rt, alloc, 3, 5, bytes);
+    let whole = summed_disk(rt, alloc, 3, 5, bytes, sums);
     written && disk.into_bytes().slice() == whole.as_slice()
 }
 
@@ -74,9 +78,9 @@ fn meant(rt: &impl Abort, alloc: Global, bytes: &[u8]) -> String {
 }
 
 /// Whether the state that these bytes spell is read again as it was written over an empty disk.
-fn is_kept(rt: &impl Abort, alloc: Global, bytes: &[u8], place: u64) -> bool {
+fn is_kept(rt: &impl Abort, alloc: Global, bytes: &[u8], sums: &Sums, place: u64) -> bool {
     let wanted = meant(rt, alloc, bytes);
-    is_written_over(rt, alloc, &[], bytes, wanted.as_str(), place)
+    is_written_over(rt, alloc, &[], bytes, wanted.as_str(), sums, place)
 }
 
 /// How many leases the state has that these bytes spell.
@@ -90,10 +94,10 @@ fn leases_in(alloc: Global, bytes: &[u8]) -> usize {
 #[test]
 fn state_has_the_bytes_of_its_format(rt: HostRuntime) {
     let alloc = rt.alloc();
-    assert!(&rt; is_kept(&rt, alloc, SMALL, 161));
+    assert!(&rt; is_kept(&rt, alloc, SMALL, SMALL_SUMS, 177));
     // More than is gathered for one write.
     let many = leases(&rt, alloc, 250);
-    assert!(&rt; is_kept(&rt, alloc, &many, 8_347));
+    assert!(&rt; is_kept(&rt, alloc, &many, MANY_SUMS, 8_363));
     assert_eq!(&rt; leases_in(alloc, &many), 250);
 }
 
@@ -103,10 +107,10 @@ fn state_is_read_as_it_was_written(rt: HostRuntime) {
     let alloc = rt.alloc();
     let bytes = joined(&rt, alloc, LARGE);
     assert_eq!(&rt; meant(&rt, alloc, &bytes).as_str(), LARGE_TOLD);
-    assert!(&rt; is_written_over(&rt, alloc, &[], &bytes, LARGE_TOLD, 436));
+    assert!(&rt; is_written_over(&rt, alloc, &[], &bytes, LARGE_TOLD, LARGE_SUMS, 452));
     let older = state_disk(&rt, alloc, 2, 0, &leases(&rt, alloc, 20));
-    assert!(&rt; is_written_over(&rt, alloc, &older, &bytes, LARGE_TOLD, 436));
-    assert!(&rt; is_written_over(&rt, alloc, &[0, 9, 9], &bytes, LARGE_TOLD, 436));
+    assert!(&rt; is_written_over(&rt, alloc, &older, &bytes, LARGE_TOLD, LARGE_SUMS, 452));
+    assert!(&rt; is_written_over(&rt, alloc, &[0, 9, 9], &bytes, LARGE_TOLD, LARGE_SUMS, 452));
 }
 
 /// The disk of the small state in version 1, which has no byte 30.
@@ -117,6 +121,14 @@ fn older_disk(rt: &impl Abort, alloc: Global) -> MemoryDisk {
         whole[8] = 1;
     }
     disk_of(rt, alloc, &whole)
+}
+
+#[test]
+fn state_of_version_2_is_read(rt: HostRuntime) {
+    let alloc = rt.alloc();
+    let wanted = meant(&rt, alloc, SMALL);
+    let mut disk = disk_of(&rt, alloc, &state_disk(&rt, alloc, 3, 5, SMALL));
+    assert!(&rt; reads_as(&rt, alloc, &mut disk, wanted.as_str(), 161));
 }
 
 #[test]
