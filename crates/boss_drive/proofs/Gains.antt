@@ -1,6 +1,7 @@
 -- What is made in one turn after another.
-use Rattle.std.proofs.Common.{◌≡◌, ℕ, suc, ◌+◌, ◌<◌, Bool, true, false, List, [], ◌∷◌, ◌++◌, length, refl, sym, ap, ◌∙◌, subst, arith, append_assoc, append-nil, length-append}
-use Rattle.boss_model.specs.declared.answer.Answer.{Answer}
+use Rattle.std.proofs.Common.{◌≡◌, ℕ, suc, ◌+◌, ◌<◌, Bool, true, false, List, [], ◌∷◌, ◌++◌, length, Option, Some, None, IfSome, refl, sym, ap, ◌∙◌, subst, arith, append_assoc, append-nil, length-append}
+use Rattle.std.specs.List.{AllByRecursion}
+use Rattle.boss_model.specs.declared.state.Actuator.{Actuator}
 use Rattle.boss_model.specs.DeviceCall.{DeviceCall}
 use Rattle.boss_outside_server.specs.declared.waiter.Woke.{Woke}
 use Rattle.boss_outside_server.specs.declared.waiter.Woke.TheVariants.{Again, Close}
@@ -9,8 +10,9 @@ use Rattle.def_history.specs.declared.entry.Entry.{Entry}
 use Rattle.boss_expiry.specs.declared.end.WorkEnd.{WorkEnd}
 use Rattle.boss_expiry.specs.declared.end.WorkEnd.TheVariants.{Finished, Closed, ClockFault, Stopped, DiskFault}
 use Rattle.def_lanes.specs.Waits.{paused}
+use Rattle.def_lanes.proofs.Lists.{each-append}
 use Rattle.boss_expiry.specs.Ends.{ClockCause, EndCause, TookTurns}
-use Rattle.boss_drive.specs.Driving.{Write, Turn, idle, served, nothing, Made, made_in, left_by, both, made_by, Stand, Gained, is_served, IsTurn, IsCutTurn, IsNoDisk, DiskCause, idles, Driven}
+use Rattle.boss_drive.specs.Driving.{Turn, idle, doubted, served, nothing, Made, made_in, left_by, both, made_by, Stand, Gained, is_served, FitsTurn, IsTurn, IsCutTurn, IsNoDisk, DiskCause, idles, Driven}
 
 abbrev pub none_made : Made
 none_made = record { entries = []; moments = []; calls = [] }
@@ -39,15 +41,21 @@ made_last driver [] last = refl
 made_last driver (t ∷ turns) last = ap (λ m. both (made_in driver t) m) (made_last driver turns last)
     ∙ sym (both_assoc (made_in driver t) (made_by driver turns none_made) last)
 
-idles_idle : (turns : List Turn) (moment : ℕ) → idles (turns ++ idle moment ∷ []) ≡ suc (idles turns)
-idles_idle [] moment = refl
-idles_idle (idle m ∷ turns) moment = ap suc (idles_idle turns moment)
-idles_idle (served w told answer ∷ turns) moment = idles_idle turns moment
+idles_idle : (turns : List Turn) (turn : Turn) → is_served turn ≡ false → idles (turns ++ turn ∷ []) ≡ suc (idles turns)
+idles_idle [] (idle moment) is = refl
+idles_idle [] (doubted moment point differs answer) is = refl
+idles_idle [] (served w told answer) is = absurd cc
+idles_idle (idle m ∷ turns) turn is = ap suc (idles_idle turns turn is)
+idles_idle (doubted m p d a ∷ turns) turn is = ap suc (idles_idle turns turn is)
+idles_idle (served w told answer ∷ turns) turn is = idles_idle turns turn is
 
-idles_served : (turns : List Turn) (w : Write) (told : ℕ) (answer : Answer) → idles (turns ++ served w told answer ∷ []) ≡ idles turns
-idles_served [] w told answer = refl
-idles_served (idle m ∷ turns) w told answer = ap suc (idles_served turns w told answer)
-idles_served (served v t a ∷ turns) w told answer = idles_served turns w told answer
+idles_served : (turns : List Turn) (turn : Turn) → is_served turn ≡ true → idles (turns ++ turn ∷ []) ≡ idles turns
+idles_served [] (idle moment) is = absurd cc
+idles_served [] (doubted moment point differs answer) is = absurd cc
+idles_served [] (served w told answer) is = refl
+idles_served (idle m ∷ turns) turn is = ap suc (idles_served turns turn is)
+idles_served (doubted m p d a ∷ turns) turn is = ap suc (idles_served turns turn is)
+idles_served (served w told answer ∷ turns) turn is = idles_served turns turn is
 
 module _ (clocking recording : Type 0) (old mid new : Stand) where
   gained_both : (first then : Made) → Gained clocking recording old mid first → Gained clocking recording mid new then →
@@ -71,58 +79,52 @@ gained_none clocking recording stand = record {
 }
 
 -- so many turns, whichever they were
-pub record TookSome (driver : ℕ) (clocking recording : Type 0) (old new : Stand) (pausing : Type 0) (pauses pauses' taken : ℕ) : Type 0 where
+pub record TookSome (plant : List Actuator) (driver : ℕ) (clocking recording : Type 0) (old new : Stand) (pausing : Type 0) (pauses pauses' taken : ℕ) : Type 0 where
   pub turns : List Turn
+  pub own : AllByRecursion (FitsTurn plant driver) turns
   pub gained : Gained clocking recording old new (made_by driver turns none_made)
   pub waited : pausing → pauses' ≡ paused (idles turns) pauses
   pub many : length turns ≡ taken
 
-pub took_none : (driver : ℕ) (clocking recording : Type 0) (old : Stand) (pausing : Type 0) (pauses : ℕ) → TookSome driver clocking recording old old pausing pauses pauses 0
-took_none driver clocking recording old pausing pauses = record { turns = []; gained = gained_none clocking recording old; waited = λ _. refl; many = refl }
+pub took_none : (plant : List Actuator) (driver : ℕ) (clocking recording : Type 0) (old : Stand) (pausing : Type 0) (pauses : ℕ) →
+    TookSome plant driver clocking recording old old pausing pauses pauses 0
+took_none plant driver clocking recording old pausing pauses =
+    record { turns = []; own = tt; gained = gained_none clocking recording old; waited = λ _. refl; many = refl }
 
-module _ (driver : ℕ) (clocking recording : Type 0) (old mid new : Stand) (pausing : Type 0) (pauses pauses' pauses'' taken : ℕ) where
-  took_turn : (turns : List Turn) (turn : Turn) → Gained clocking recording old mid (made_by driver turns none_made) → length turns ≡ taken →
-      Gained clocking recording mid new (made_in driver turn) → (pausing → pauses'' ≡ paused (idles (turns ++ turn ∷ [])) pauses) →
-      TookSome driver clocking recording old new pausing pauses pauses'' (taken + 1)
-  took_turn turns turn before many gained waited =
-      let longer : length (turns ++ turn ∷ []) ≡ suc (length turns) = omega (arith, length-append turns (turn ∷ [])) in record {
-        turns = turns ++ turn ∷ [];
-        gained = gained_both_of clocking recording old mid new (made_by driver turns none_made) (made_in driver turn) (made_by driver (turns ++ turn ∷ []) none_made)
-            before gained (sym (made_more driver turns turn));
+module _ (plant : List Actuator) (driver : ℕ) (clocking recording : Type 0) (old mid new : Stand) (pausing : Type 0) (pauses pauses' pauses'' taken : ℕ)
+    (took : TookSome plant driver clocking recording old mid pausing pauses pauses' taken) where
+  took_turn : (rest : Option ℕ) → (turn : IsTurn plant driver clocking recording mid new rest) →
+      (pausing → pauses'' ≡ paused (idles (took.turns ++ turn.turn ∷ [])) pauses) →
+      TookSome plant driver clocking recording old new pausing pauses pauses'' (taken + 1)
+  took_turn rest turn waited =
+      let longer : length (took.turns ++ turn.turn ∷ []) ≡ suc (length took.turns) = omega (arith, length-append took.turns (turn.turn ∷ [])) in
+      let many : length took.turns ≡ taken = took.many in record {
+        turns = took.turns ++ turn.turn ∷ [];
+        own = each-append (FitsTurn plant driver) took.turns (turn.turn ∷ []) took.own (turn.own, tt);
+        gained = gained_both_of clocking recording old mid new (made_by driver took.turns none_made) (made_in driver turn.turn)
+            (made_by driver (took.turns ++ turn.turn ∷ []) none_made) took.gained turn.gained (sym (made_more driver took.turns turn.turn));
         waited = waited;
         many = omega arith;
       }
 
-  took_idle_turn : (turn : Turn) → false ≡ is_served turn → Gained clocking recording mid new (made_in driver turn) →
-      TookSome driver clocking recording old mid pausing pauses pauses' taken → (pausing → pauses'' ≡ one_pause_more pauses') →
-      TookSome driver clocking recording old new pausing pauses pauses'' (taken + 1)
-  took_idle_turn (idle moment) is gained took pause = took_turn took.turns (idle moment) took.gained took.many gained
-      (λ tells. pause tells ∙ ap one_pause_more (took.waited tells) ∙ ap (λ n. paused n pauses) (sym (idles_idle took.turns moment)))
-  took_idle_turn (served w told answer) is gained took pause = absurd cc
+  pub took_idle : (rest : ℕ) → IsTurn plant driver clocking recording mid new (Some rest) → (pausing → pauses'' ≡ one_pause_more pauses') →
+      TookSome plant driver clocking recording old new pausing pauses pauses'' (taken + 1)
+  took_idle rest turn pause = took_turn (Some rest) turn
+      (λ tells. pause tells ∙ ap one_pause_more (took.waited tells) ∙ ap (λ n. paused n pauses) (sym (idles_idle took.turns turn.turn (sym turn.wrote_is))))
 
-  took_served_turn : (turn : Turn) → true ≡ is_served turn → Gained clocking recording mid new (made_in driver turn) →
-      TookSome driver clocking recording old mid pausing pauses pauses' taken → (pausing → pauses'' ≡ pauses') →
-      TookSome driver clocking recording old new pausing pauses pauses'' (taken + 1)
-  took_served_turn (idle moment) is gained took stays = absurd cc
-  took_served_turn (served w told answer) is gained took stays = took_turn took.turns (served w told answer) took.gained took.many gained
-      (λ tells. stays tells ∙ took.waited tells ∙ ap (λ n. paused n pauses) (sym (idles_served took.turns w told answer)))
-
-  pub took_idle : IsTurn driver clocking recording mid new false → TookSome driver clocking recording old mid pausing pauses pauses' taken →
-      (pausing → pauses'' ≡ one_pause_more pauses') → TookSome driver clocking recording old new pausing pauses pauses'' (taken + 1)
-  took_idle turn took pause = took_idle_turn turn.turn turn.wrote_is turn.gained took pause
-
-  pub took_served : IsTurn driver clocking recording mid new true → TookSome driver clocking recording old mid pausing pauses pauses' taken →
-      (pausing → pauses'' ≡ pauses') → TookSome driver clocking recording old new pausing pauses pauses'' (taken + 1)
-  took_served turn took stays = took_served_turn turn.turn turn.wrote_is turn.gained took stays
+  pub took_served : IsTurn plant driver clocking recording mid new None → (pausing → pauses'' ≡ pauses') →
+      TookSome plant driver clocking recording old new pausing pauses pauses'' (taken + 1)
+  took_served turn stays = took_turn None turn
+      (λ tells. stays tells ∙ took.waited tells ∙ ap (λ n. paused n pauses) (sym (idles_served took.turns turn.turn (sym turn.wrote_is))))
 
   -- the end leaves what it leaves of one turn more
-  pub ends_cut : (most : ℕ) (end : WorkEnd) → TookSome driver clocking recording old mid pausing pauses pauses' taken →
-      IsCutTurn driver clocking recording mid new end → TookTurns taken most end →
-      Driven driver clocking recording old new pausing pauses pauses' most end
-  ends_cut most end took cut fits = record {
+  pub ends_cut : (most : ℕ) (end : WorkEnd) → IsCutTurn plant driver clocking recording mid new end → TookTurns taken most end →
+      Driven plant driver clocking recording old new pausing pauses pauses' most end
+  ends_cut most end cut fits = record {
     turns = took.turns;
     last = cut.cut;
     fits = cut.fits;
+    own = (took.own, cut.own);
     made = gained_both_of clocking recording old mid new (made_by driver took.turns none_made) (left_by driver end cut.cut)
         (made_by driver took.turns (left_by driver end cut.cut)) took.gained cut.gained (sym (made_last driver took.turns (left_by driver end cut.cut)));
     waited = took.waited;
@@ -130,13 +132,14 @@ module _ (driver : ℕ) (clocking recording : Type 0) (old mid new : Stand) (pau
   }
 
 -- the end leaves nothing of a turn more
-pub ends_whole : (driver : ℕ) (clocking recording : Type 0) (old new : Stand) (pausing : Type 0) (pauses pauses' taken most : ℕ) (end : WorkEnd) →
-    TookSome driver clocking recording old new pausing pauses pauses' taken → IsNoDisk end → TookTurns taken most end →
-    Driven driver clocking recording old new pausing pauses pauses' most end
-ends_whole driver clocking recording old new pausing pauses pauses' taken most end took no_disk fits = record {
+pub ends_whole : (plant : List Actuator) (driver : ℕ) (clocking recording : Type 0) (old new : Stand) (pausing : Type 0) (pauses pauses' taken most : ℕ) (end : WorkEnd) →
+    TookSome plant driver clocking recording old new pausing pauses pauses' taken → IsNoDisk end → TookTurns taken most end →
+    Driven plant driver clocking recording old new pausing pauses pauses' most end
+ends_whole plant driver clocking recording old new pausing pauses pauses' taken most end took no_disk fits = record {
   turns = took.turns;
   last = nothing;
   fits = no_disk;
+  own = (took.own, tt);
   made = took.gained;
   waited = took.waited;
   taken = subst (λ n. TookTurns n most end) (sym took.many) fits;
@@ -165,3 +168,11 @@ cause_at_cut seen pausing closed before now DiskFault cause same = (cause, same)
 pub not_closed : (woke : Woke) (before now : ℕ) → (woke ≡ Close → ⊥) → CloseCause before now woke → now ≡ before
 not_closed Again before now other cause = cause
 not_closed Close before now other cause = absurd (other refl)
+
+-- what holds of a length, if there is one, holds of this one
+pub if_some : (P : ℕ → Type 0) (found : Option ℕ) (n : ℕ) → found ≡ Some n → IfSome found P → P n
+if_some P found n is holds = subst (λ f. IfSome f P) is holds
+
+pub none_of : (found : Option ℕ) → ((n : ℕ) → found ≡ Some n → ⊥) → found ≡ None
+none_of None never = refl
+none_of (Some n) never = absurd (never n refl)

@@ -1,9 +1,11 @@
 -- Source: own.
 -- The turns of the worker that drives the devices of a driver.
-use Rattle.std.specs.Prelude.{◌≡◌, ℕ, ℤ, suc, Bool, true, false, List, [], ◌∷◌, ◌++◌, length}
+use Rattle.std.specs.Prelude.{◌≡◌, ℕ, ℤ, suc, Bool, true, false, List, [], ◌∷◌, ◌++◌, length, Option, is_none}
+use Rattle.std.specs.List.{AllByRecursion}
 use Rattle.boss_model.specs.declared.answer.Answer.{Answer}
 use Rattle.boss_model.specs.declared.answer.Answer.TheVariants.{Want, Nothing}
-use Rattle.boss_model.specs.declared.command.Command.TheVariants.{Next, Report}
+use Rattle.boss_model.specs.declared.command.Command.TheVariants.{Doubt, Next, Report}
+use Rattle.boss_model.specs.declared.state.Actuator.{Actuator}
 use Rattle.boss_model.specs.DeviceCall.{DeviceCall}
 use Rattle.def_history.specs.declared.entry.Entry.{Entry}
 use Rattle.def_history.specs.declared.entry.Entry.TheVariants.{Did}
@@ -12,6 +14,7 @@ use Rattle.boss_expiry.specs.declared.end.WorkEnd.{WorkEnd}
 use Rattle.boss_expiry.specs.declared.end.WorkEnd.TheVariants.{Finished, Closed, ClockFault, Stopped, DiskFault}
 use Rattle.def_lanes.specs.Waits.{paused}
 use Rattle.boss_expiry.specs.Ends.{mark, TookTurns}
+use Rattle.boss_drive.specs.Looks.{IsDisk, IsOf}
 
 -- a want that was handed out at a moment, and whether its device took it
 pub record Write : Type 0 where
@@ -21,16 +24,19 @@ pub record Write : Type 0 where
   pub value : ℤ
   pub ok : Bool
 
--- A turn at a moment at which there was no want; or one with its write, and the moment and the answer of its report
+-- A turn at a moment at which there was no want; such a one whose look had a point doubted, with the answer to it; or one with
+-- its write, and the moment and the answer of its report
 pub data Turn : Type 0 where
   idle : ℕ → Turn
+  doubted : ℕ → ℕ → Bool → Answer → Turn
   served : Write → ℕ → Answer → Turn
 
--- what the end left of a last turn: nothing; a moment at which the disk failed; a write, where the clock failed after it; or a
--- write and the moment of its report, at which the disk failed
+-- what the end left of a last turn: nothing; a moment at which the disk failed; one without a want, and a doubt at which the disk
+-- failed; a write, where the clock failed after it; or a write and the moment of its report, at which the disk failed
 pub data Cut : Type 0 where
   nothing : Cut
   at_next : ℕ → Cut
+  at_doubt : ℕ → ℕ → Bool → Cut
   at_reading : Write → Cut
   at_report : Write → ℕ → Cut
 
@@ -49,6 +55,11 @@ call_of w = record { point = w.point; value = w.value; ok = w.ok }
 
 abbrev pub made_in : ℕ → Turn → Made
 made_in driver (idle moment) = record { entries = Did 0 (Next driver) moment Nothing ∷ []; moments = moment ∷ []; calls = [] }
+made_in driver (doubted moment point differs answer) = record {
+  entries = Did 0 (Next driver) moment Nothing ∷ Did 0 (Doubt point differs) moment answer ∷ [];
+  moments = moment ∷ [];
+  calls = [];
+}
 made_in driver (served w told answer) = record {
   entries = asked driver w ∷ Did 0 (Report w.point w.version w.ok) told answer ∷ [];
   moments = w.moment ∷ told ∷ [];
@@ -58,6 +69,11 @@ made_in driver (served w told answer) = record {
 abbrev pub left_by : ℕ → WorkEnd → Cut → Made
 left_by driver end nothing = record { entries = []; moments = []; calls = [] }
 left_by driver end (at_next moment) = record { entries = mark (Next driver) moment end; moments = moment ∷ []; calls = [] }
+left_by driver end (at_doubt moment point differs) = record {
+  entries = Did 0 (Next driver) moment Nothing ∷ mark (Doubt point differs) moment end;
+  moments = moment ∷ [];
+  calls = [];
+}
 left_by driver end (at_reading w) = record { entries = asked driver w ∷ []; moments = w.moment ∷ []; calls = call_of w ∷ [] }
 left_by driver end (at_report w told) = record {
   entries = asked driver w ∷ mark (Report w.point w.version w.ok) told end;
@@ -91,19 +107,28 @@ pub record Gained (clocking recording : Type 0) (old new : Stand) (made : Made) 
 
 abbrev pub is_served : Turn → Bool
 is_served (idle moment) = false
+is_served (doubted moment point differs answer) = false
 is_served (served w told answer) = true
 
-pub record IsTurn (driver : ℕ) (clocking recording : Type 0) (old new : Stand) (wrote : Bool) : Type 0 where
-  pub turn : Turn
-  pub wrote_is : wrote ≡ is_served turn
-  pub gained : Gained clocking recording old new (made_in driver turn)
+-- a doubt is of a point of the driver
+abbrev pub FitsTurn : List Actuator → ℕ → Turn → Type 0
+FitsTurn plant driver (idle moment) = Unit {0}
+FitsTurn plant driver (doubted moment point differs answer) = IsOf plant driver point
+FitsTurn plant driver (served w told answer) = Unit {0}
 
-abbrev pub IsDisk : WorkEnd → Type 0
-IsDisk Finished = ⊥
-IsDisk Closed = ⊥
-IsDisk ClockFault = ⊥
-IsDisk Stopped = Unit {0}
-IsDisk DiskFault = Unit {0}
+abbrev pub FitsCut : List Actuator → ℕ → Cut → Type 0
+FitsCut plant driver nothing = Unit {0}
+FitsCut plant driver (at_next moment) = Unit {0}
+FitsCut plant driver (at_doubt moment point differs) = IsOf plant driver point
+FitsCut plant driver (at_reading w) = Unit {0}
+FitsCut plant driver (at_report w told) = Unit {0}
+
+-- it has no pause exactly where a device was written
+pub record IsTurn (plant : List Actuator) (driver : ℕ) (clocking recording : Type 0) (old new : Stand) (rest : Option ℕ) : Type 0 where
+  pub turn : Turn
+  pub own : FitsTurn plant driver turn
+  pub wrote_is : is_none rest ≡ is_served turn
+  pub gained : Gained clocking recording old new (made_in driver turn)
 
 abbrev pub IsNoDisk : WorkEnd → Type 0
 IsNoDisk Finished = Unit {0}
@@ -116,12 +141,14 @@ IsNoDisk DiskFault = ⊥
 abbrev pub Leaves : WorkEnd → Cut → Type 0
 Leaves end nothing = IsNoDisk end
 Leaves end (at_next moment) = IsDisk end
+Leaves end (at_doubt moment point differs) = IsDisk end
 Leaves end (at_reading w) = end ≡ ClockFault
 Leaves end (at_report w told) = IsDisk end
 
-pub record IsCutTurn (driver : ℕ) (clocking recording : Type 0) (old new : Stand) (end : WorkEnd) : Type 0 where
+pub record IsCutTurn (plant : List Actuator) (driver : ℕ) (clocking recording : Type 0) (old new : Stand) (end : WorkEnd) : Type 0 where
   pub cut : Cut
   pub fits : Leaves end cut
+  pub own : FitsCut plant driver cut
   pub gained : Gained clocking recording old new (left_by driver end cut)
 
 -- the clock failed, or the mark of a failed disk is what the pass has seen last
@@ -138,13 +165,15 @@ DiskCause seen DiskFault = is_broken seen ≡ true
 abbrev pub idles : List Turn → ℕ
 idles [] = 0
 idles (idle moment ∷ turns) = suc (idles turns)
+idles (doubted moment point differs answer ∷ turns) = suc (idles turns)
 idles (served w told answer ∷ turns) = idles turns
 
 -- turns, and maybe a last one that was cut
-pub record Driven (driver : ℕ) (clocking recording : Type 0) (old new : Stand) (pausing : Type 0) (pauses pauses' most : ℕ) (end : WorkEnd) : Type 0 where
+pub record Driven (plant : List Actuator) (driver : ℕ) (clocking recording : Type 0) (old new : Stand) (pausing : Type 0) (pauses pauses' most : ℕ) (end : WorkEnd) : Type 0 where
   pub turns : List Turn
   pub last : Cut
   pub fits : Leaves end last
+  pub own : AllByRecursion (FitsTurn plant driver) turns × FitsCut plant driver last
   pub made : Gained clocking recording old new (made_by driver turns (left_by driver end last))
   pub waited : pausing → pauses' ≡ paused (idles turns) pauses
   pub taken : TookTurns (length turns) most end

@@ -1,3 +1,4 @@
 pub mod Drives
 pub mod Driving
+pub mod Looks
 pub mod Wants

@@ -1,5 +1,5 @@
 -- What the worker that lets time pass adds is all in the lane of time.
-use Rattle.std.proofs.Common.{◌≡◌, ℕ, List, [], ◌∷◌, ◌++◌, length, refl, sym, ap, ◌∙◌, subst}
+use Rattle.std.proofs.Common.{◌≡◌, ℕ, false, List, [], ◌∷◌, ◌++◌, length, refl, sym, ap, ◌∙◌, subst}
 use Rattle.std.specs.List.{AllByRecursion}
 use Rattle.std.proofs.lemmas.List.{append-nil}
 use Rattle.boss_model.specs.declared.answer.Answer.{Answer}
@@ -42,7 +42,7 @@ mark-deeds command moment DiskFault = refl
 
 pub expired-added : (plant : List Actuator) (clocking pausing : Type 0) (own own' : List Entry) (given given' : List ℕ) (pauses pauses' most : ℕ) (end : WorkEnd) →
     Expired own own' clocking given given' pausing pauses pauses' most end → (pausing → pauses ≡ 0) →
-    (moments : List ℕ) × Added plant of_time (IsBeatOf pausing pauses' (record { moments = moments; cut = cut_of end })) clocking moments own own' given given'
+    (moments : List ℕ) × Added plant of_time (IsBeatOf pausing pauses' (record { moments = moments; cut = cut_of end; closed = false })) clocking moments own own' given given'
 expired-added plant clocking pausing own own' given given' pauses pauses' most end is fresh =
     let made : deeds (ticks is.turns ++ mark Tick is.last end) ≡ ticks is.turns =
     deeds-append (ticks is.turns) (mark Tick is.last end) ∙ ap (λ rest. deeds (ticks is.turns) ++ rest) (mark-deeds Tick is.last end)

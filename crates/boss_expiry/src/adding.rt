@@ -1,4 +1,4 @@
-ghost use Rattle.std.specs.Prelude.{◌≡◌, ℕ, List};
+ghost use Rattle.std.specs.Prelude.{◌≡◌, ℕ, false, List};
 ghost use Rattle.def_history.specs.declared.entry.Entry.{Entry};
 ghost use Rattle.def_lanes.specs.Lanes.{of_time};
 ghost use Rattle.def_lanes.specs.Parts.{Added};
@@ -15,5 +15,5 @@ use boss_outside_server::{Clock, Waiter};
 pub fn passing_time_adds_to_its_lane<C: Clock, W: Waiter>()
     ensures { (plant : List Actuator) (own own' : List Entry) (given given' : List ℕ) (pauses pauses' most : ℕ) (end : WorkEnd) →
         Expired own own' C.tells given given' W.tells pauses pauses' most end → (W.tells → pauses ≡ 0) →
-        (moments : List ℕ) × Added plant of_time (IsBeatOf W.tells pauses' (record { moments = moments; cut = cut_of end })) C.tells moments own own' given given' }
+        (moments : List ℕ) × Added plant of_time (IsBeatOf W.tells pauses' (record { moments = moments; cut = cut_of end; closed = false })) C.tells moments own own' given given' }
 {}

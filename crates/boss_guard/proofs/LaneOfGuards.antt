@@ -1,8 +1,8 @@
 -- What a guarded worker adds is all in its driver's lane.
-use Rattle.std.proofs.Common.{◌≡◌, ◌⊎◌, inl, inr, ℕ, zero, suc, max, map, List, [], ◌∷◌, ◌++◌, Option, Some, None, refl, sym, ap, ◌∙◌, subst}
+use Rattle.std.proofs.Common.{◌≡◌, ◌⊎◌, inl, inr, ℕ, false, zero, suc, max, map, List, [], ◌∷◌, ◌++◌, Option, Some, None, refl, sym, ap, ◌∙◌, subst}
 use Rattle.std.specs.List.{AllByRecursion}
 use Rattle.boss_model.specs.declared.command.Command.{Command}
-use Rattle.boss_model.specs.declared.command.Command.TheVariants.{Next, Read, Report}
+use Rattle.boss_model.specs.declared.command.Command.TheVariants.{Doubt, Next, Read, Report}
 use Rattle.boss_model.specs.declared.state.Actuator.{Actuator}
 use Rattle.boss_model.specs.Catalogue.{Catalogue, Point, actuators, driver_of}
 use Rattle.boss_model.specs.DeviceCall.{DeviceCall}
@@ -20,7 +20,7 @@ use Rattle.def_lanes.proofs.Wants.{want-driver}
 use Rattle.def_guards.specs.declared.guard.Due.{Due}
 use Rattle.def_guards.specs.Guards.{guard_of, guards_of}
 use Rattle.def_guards.specs.Acts.{Watch, Decision, Reason, passed, shown, Act, wrote, kept, guard_at}
-use Rattle.def_guards.specs.Turns.{Turn, AreTurns, after_turn, after_turns, idles, WriteCut, at_clock, at_report, TryCut, at_read, at_write, Cut, nothing, at_next, in_turn, FitsCut}
+use Rattle.def_guards.specs.Turns.{Turn, Doubt as Doubted, AreTurns, after_turn, after_turns, idles, WriteCut, at_clock, at_report, TryCut, at_read, at_write, Cut, nothing, at_next, in_turn, at_doubt, FitsCut}
 use Rattle.def_guards.proofs.Wants.{OfWant, OfDecision, OfAct, OfTurn, OfCut, AreGiven, GivenCut, Holds, turns_all, cut_all}
 use Rattle.boss_lock.specs.Places.{entries_at}
 use Rattle.boss_expiry.specs.declared.end.WorkEnd.{WorkEnd}
@@ -34,8 +34,8 @@ use Rattle.boss_guard.specs.declared.end.GuardEnd.TheVariants.{Worked, NoMemory}
 use Rattle.boss_guard.specs.GuardDrives.{IsGuardOf}
 use Rattle.def_lanes.specs.Works.{Cut as Cutting, by_memory}
 use Rattle.boss_guard.specs.Guarding.{cut_of_guard, Guarded, start}
-use Rattle.boss_guard.specs.Making.{answer_for, reads, made_by_act, made_by_acts, made_in, made_in_turns, made_by, left_by, left_by_try, left_by_write}
-use Rattle.boss_guard.specs.Trying.{Leaves}
+use Rattle.boss_guard.specs.Making.{answer_for, reads, made_by_act, made_by_acts, doubts, made_before, made_in, made_in_turns, made_by, left_by, left_by_try, left_by_write}
+use Rattle.boss_guard.specs.Trying.{FitsDoubt, IsOwnTurn, Leaves}
 use Rattle.boss_guard.proofs.Timing.{guarded_timed}
 
 module _ (plant : List Actuator) (driver : ℕ) where
@@ -63,6 +63,7 @@ module _ (plant : List Actuator) (driver : ℕ) where
   given_cut end watch nothing legal = tt
   given_cut end watch (at_next reading) legal = tt
   given_cut end watch (in_turn turn d cut) legal = given_of (max watch.now turn.reading) turn.want legal.0
+  given_cut end watch (at_doubt turn point differs) legal = given_of (max watch.now turn.reading) turn.want legal.0
 
   -- ---- the lane of what was made
 
@@ -89,13 +90,23 @@ module _ (plant : List Actuator) (driver : ℕ) where
   acts_own [] mine = tt
   acts_own (act ∷ acts) mine = deeds_both (made_by_act act).entries (made_by_acts acts).entries (act_own act mine.0) (acts_own acts mine.1)
 
-  turn_own : (watch : Watch) (turn : Turn) → OfTurn IsMine turn → AllByRecursion IsOwn (deeds (made_in driver watch turn).entries)
-  turn_own watch turn mine = (refl, acts_own turn.acts mine)
+  -- a turn up to a doubt
+  before_own : (watch : Watch) (turn : Turn) → OfTurn IsMine turn → AllByRecursion IsOwn (deeds (made_before driver watch turn).entries)
+  before_own watch turn mine = (refl, acts_own turn.acts mine)
 
-  turns_own : (turns : List Turn) (watch : Watch) → AllByRecursion (OfTurn IsMine) turns → AllByRecursion IsOwn (deeds (made_in_turns driver watch turns).entries)
-  turns_own [] watch mine = tt
-  turns_own (turn ∷ turns) watch mine = deeds_both (made_in driver watch turn).entries (made_in_turns driver (after_turn turn watch) turns).entries
-      (turn_own watch turn mine.0) (turns_own turns (after_turn turn watch) mine.1)
+  -- a doubt is of a point of the driver
+  doubt_own : (moment : ℕ) (turn : Turn) (doubt : Option Doubted) → FitsDoubt plant driver turn doubt → AllByRecursion IsOwn (deeds (doubts moment doubt))
+  doubt_own moment turn None fits = tt
+  doubt_own moment turn (Some doubt) fits = (ap of_driver fits.0.1, tt)
+
+  turns_own : (turns : List Turn) (watch : Watch) → AllByRecursion (OfTurn IsMine) turns → AllByRecursion (IsOwnTurn plant driver) turns →
+      AllByRecursion IsOwn (deeds (made_in_turns driver watch turns).entries)
+  turns_own [] watch mine own = tt
+  turns_own (turn ∷ turns) watch mine own =
+      let doubt : List Entry = doubts (after_turn turn watch).now turn.doubt in
+      deeds_both (made_in driver watch turn).entries (made_in_turns driver (after_turn turn watch) turns).entries
+      (deeds_both (made_before driver watch turn).entries doubt (before_own watch turn mine.0) (doubt_own (after_turn turn watch).now turn turn.doubt own.0))
+      (turns_own turns (after_turn turn watch) mine.1 own.1)
 
   write_own : (end : WorkEnd) (d : Decision) (cut : WriteCut) → AllByRecursion IsOwn (deeds (left_by_write end d cut).entries)
   write_own end d (at_clock ok) = tt
@@ -108,14 +119,18 @@ module _ (plant : List Actuator) (driver : ℕ) where
   cut_own : (end : WorkEnd) (watch : Watch) (last : Cut) → OfCut IsMine last → AllByRecursion IsOwn (deeds (left_by driver end watch last).entries)
   cut_own end watch nothing mine = tt
   cut_own end watch (at_next reading) mine = mark_own (Next driver) (max watch.now reading) end
-  cut_own end watch (in_turn turn d cut) mine = deeds_both (made_in driver watch turn).entries (left_by_try end d cut).entries (turn_own watch turn mine.0) (try_own end d cut mine.1)
+  cut_own end watch (in_turn turn d cut) mine = deeds_both (made_before driver watch turn).entries (left_by_try end d cut).entries (before_own watch turn mine.0) (try_own end d cut mine.1)
+  cut_own end watch (at_doubt turn point differs) mine =
+      deeds_both (made_before driver watch turn).entries (mark (Doubt point differs) (after_turn turn watch).now end) (before_own watch turn mine)
+      (mark_own (Doubt point differs) (after_turn turn watch).now end)
 
   made_own : (end : WorkEnd) (watch : Watch) (turns : List Turn) (last : Cut) → AllByRecursion (WasLegal plant) (made_by driver end watch turns last).entries →
-      AreTurns watch turns → FitsCut (after_turns turns watch) last → Holds IsMine watch.guards → AllByRecursion IsOwn (deeds (made_by driver end watch turns last).entries)
-  made_own end watch turns last legal are fits holds =
+      AreTurns watch turns → FitsCut (after_turns turns watch) last → AllByRecursion (IsOwnTurn plant driver) turns → Holds IsMine watch.guards →
+      AllByRecursion IsOwn (deeds (made_by driver end watch turns last).entries)
+  made_own end watch turns last legal are fits own holds =
       let parts = each-parts (WasLegal plant) (made_in_turns driver watch turns).entries (left_by driver end (after_turns turns watch) last).entries legal in
       let before = turns_all IsMine turns watch are (given_turns turns watch parts.0) holds in
-      deeds_both (made_in_turns driver watch turns).entries (left_by driver end (after_turns turns watch) last).entries (turns_own turns watch before.0)
+      deeds_both (made_in_turns driver watch turns).entries (left_by driver end (after_turns turns watch) last).entries (turns_own turns watch before.0 own)
       (cut_own end (after_turns turns watch) last (cut_all IsMine last (after_turns turns watch) fits (given_cut end (after_turns turns watch) last parts.1) before.1))
 
 -- ---- what the worker adds
@@ -131,10 +146,10 @@ nothing_held P catalogue place held is = let none : (guard_at (guards_of catalog
 module _ (catalogue : Catalogue) (opening : State) (seen : List Entry) (mine : List ℕ) (driver : ℕ) (clocking recording pausing : Type 0) (old new : Stand) (pauses pauses' : ℕ)
     (pass : IsPassOf (actuators catalogue) opening seen mine) (own : new.own ≡ entries_at seen mine) (fresh : pausing → pauses ≡ 0) where
   turned_adds : (end : WorkEnd) (cut : Cutting) (turns : List Turn) (last : Cut) → (cut ≡ cut_of end) ⊎ ((cut ≡ by_memory) × (turns ≡ [])) → AreTurns (start (guards_of catalogue)) turns → FitsCut (after_turns turns (start (guards_of catalogue))) last →
-      Leaves end last → Gained clocking recording old new (made_by driver end (start (guards_of catalogue)) turns last) → (pausing → pauses' ≡ paused (idles turns) pauses) →
+      AllByRecursion (IsOwnTurn (actuators catalogue) driver) turns → Leaves end last → Gained clocking recording old new (made_by driver end (start (guards_of catalogue)) turns last) → (pausing → pauses' ≡ paused (idles turns) pauses) →
       Added (actuators catalogue) (of_driver driver) (IsGuardOf catalogue driver (made_by driver end (start (guards_of catalogue)) turns last).calls pausing pauses'
-      (record { moments = (made_by driver end (start (guards_of catalogue)) turns last).moments; cut = cut })) clocking (made_by driver end (start (guards_of catalogue)) turns last).moments old.own new.own old.given new.given
-  turned_adds end cut turns last cut_is are fits leaves made waited =
+      (record { moments = (made_by driver end (start (guards_of catalogue)) turns last).moments; cut = cut; closed = false })) clocking (made_by driver end (start (guards_of catalogue)) turns last).moments old.own new.own old.given new.given
+  turned_adds end cut turns last cut_is are fits doubted leaves made waited =
       let all : Made = made_by driver end (start (guards_of catalogue)) turns last in
       let legal : AllByRecursion (WasLegal (actuators catalogue)) all.entries =
       (each-parts (WasLegal (actuators catalogue)) old.own all.entries (subst (AllByRecursion (WasLegal (actuators catalogue))) (sym own ∙ made.entries)
@@ -142,7 +157,7 @@ module _ (catalogue : Catalogue) (opening : State) (seen : List Entry) (mine : L
       record {
         more = deeds all.entries;
         grew = ap deeds made.entries ∙ deeds-append old.own all.entries;
-        of_lane = made_own (actuators catalogue) driver end (start (guards_of catalogue)) turns last legal are fits (nothing_held (IsMine (actuators catalogue) driver) catalogue);
+        of_lane = made_own (actuators catalogue) driver end (start (guards_of catalogue)) turns last legal are fits doubted (nothing_held (IsMine (actuators catalogue) driver) catalogue);
         agrees = record {
           turns = turns;
           last = last;
@@ -160,14 +175,14 @@ module _ (catalogue : Catalogue) (opening : State) (seen : List Entry) (mine : L
         timed = timed-deeds all.moments all.entries (guarded_timed driver end (guards_of catalogue) turns last are fits);
       }
 
-  pub guarded_adds : (most : ℕ) (end : GuardEnd) → Guarded driver (guards_of catalogue) clocking recording old new pausing pauses pauses' most end →
+  pub guarded_adds : (most : ℕ) (end : GuardEnd) → Guarded (actuators catalogue) driver (guards_of catalogue) clocking recording old new pausing pauses pauses' most end →
       (calls : List DeviceCall) × (moments : List ℕ)
-      × Added (actuators catalogue) (of_driver driver) (IsGuardOf catalogue driver calls pausing pauses' (record { moments = moments; cut = cut_of_guard end })) clocking moments old.own new.own old.given new.given
+      × Added (actuators catalogue) (of_driver driver) (IsGuardOf catalogue driver calls pausing pauses' (record { moments = moments; cut = cut_of_guard end; closed = false })) clocking moments old.own new.own old.given new.given
       × (recording → new.whole → old.whole × (new.calls ≡ old.calls ++ calls))
   guarded_adds most (Worked end) is = (
     (made_by driver end (start (guards_of catalogue)) is.turns is.last).calls,
     (made_by driver end (start (guards_of catalogue)) is.turns is.last).moments,
-    turned_adds end (cut_of end) is.turns is.last (inl refl) is.are is.fits is.leaves is.made is.waited,
+    turned_adds end (cut_of end) is.turns is.last (inl refl) is.are is.fits is.own.0 is.leaves is.made is.waited,
     is.made.wrote,
   )
-  guarded_adds most NoMemory is = ([], [], turned_adds Finished by_memory [] nothing (inr (refl, refl)) tt tt tt is.0 is.1, is.0.wrote)
+  guarded_adds most NoMemory is = ([], [], turned_adds Finished by_memory [] nothing (inr (refl, refl)) tt tt tt tt is.0 is.1, is.0.wrote)

@@ -1,11 +1,11 @@
 -- What a guarded worker does is done at moments that its clock gave.
-use Rattle.std.proofs.Common.{◌≡◌, ◌⊎◌, inl, inr, ℕ, max, true, ◌||◌, List, [], ◌∷◌, ◌++◌, refl, ap, ◌∙◌, subst, arith, append_assoc}
+use Rattle.std.proofs.Common.{◌≡◌, ◌⊎◌, inl, inr, ℕ, max, true, ◌||◌, List, [], ◌∷◌, ◌++◌, Option, Some, None, refl, ap, ◌∙◌, subst, arith, append_assoc}
 use Rattle.std.proofs.lemmas.Bool.{cases_lt, or_right}
 use Rattle.std.proofs.Math.Nat.{max-eq_left, max-eq_right, zero-max}
 use Rattle.std.proofs.lemmas.Bool.Decides.{nat_tests}
 use Rattle.std.specs.List.{AllByRecursion}
 use Rattle.boss_model.specs.declared.command.Command.{Command}
-use Rattle.boss_model.specs.declared.command.Command.TheVariants.{Next, Read, Report}
+use Rattle.boss_model.specs.declared.command.Command.TheVariants.{Doubt, Next, Read, Report}
 use Rattle.boss_model.specs.Lists.{member}
 use Rattle.boss_model.proofs.Members.{member-append}
 use Rattle.def_history.specs.declared.entry.Entry.TheVariants.{Did}
@@ -15,12 +15,12 @@ use Rattle.def_lanes.proofs.Moments.{both-timed, one-timed}
 use Rattle.def_guards.specs.declared.guard.Due.{Due}
 use Rattle.def_guards.specs.declared.guard.Guard.{Guard}
 use Rattle.def_guards.specs.Acts.{Watch, Decision, Reason, passed, shown, Act, wrote, kept, Tried, IsAct, after_act, after_acts, after_reading, decided, due_of}
-use Rattle.def_guards.specs.Turns.{Turn, IsTurn, AreTurns, after_turn, after_turns, WriteCut, at_clock, at_report, TryCut, at_read, at_write, Cut, nothing, at_next, in_turn, FitsCut}
+use Rattle.def_guards.specs.Turns.{Turn, Doubt as Doubted, IsTurn, AreTurns, after_turn, after_turns, WriteCut, at_clock, at_report, TryCut, at_read, at_write, Cut, nothing, at_next, in_turn, at_doubt, FitsCut}
 use Rattle.boss_expiry.specs.declared.end.WorkEnd.{WorkEnd}
 use Rattle.boss_expiry.specs.declared.end.WorkEnd.TheVariants.{Finished, Closed, ClockFault, Stopped, DiskFault}
 use Rattle.boss_expiry.specs.Ends.{mark}
 use Rattle.boss_guard.specs.Guarding.{start}
-use Rattle.boss_guard.specs.Making.{answer_for, reads, made_by_act, made_by_acts, made_in, made_in_turns, made_by, left_by, left_by_try, left_by_write}
+use Rattle.boss_guard.specs.Making.{answer_for, reads, made_by_act, made_by_acts, doubts, made_before, made_in, made_in_turns, made_by, left_by, left_by_try, left_by_write}
 
 -- the moments were all given
 abbrev pub AreIn : List ℕ → List ℕ → Type 0
@@ -98,14 +98,28 @@ module _ (gains : List ℕ) where
 
   -- ---- turns
 
-  turn_timed : (driver : ℕ) (watch : Watch) (turn : Turn) (left : List Due) → Begun gains watch.now → AreIn gains (made_in driver watch turn).moments → IsTurn watch turn left →
-      AreTimed gains (made_in driver watch turn).entries × (member (after_turn turn watch).now gains ≡ true)
-  turn_timed driver watch turn left begun among is =
+  -- a turn up to a doubt
+  before_timed : (driver : ℕ) (watch : Watch) (turn : Turn) (left : List Due) → Begun gains watch.now → AreIn gains (made_before driver watch turn).moments → IsTurn watch turn left →
+      AreTimed gains (made_before driver watch turn).entries × (member (after_turn turn watch).now gains ≡ true)
+  before_timed driver watch turn left begun among is =
       let there : member (max watch.now turn.reading) gains ≡ true = read_in gains watch.now turn.reading begun among.0 in
       let acts = acts_timed turn.acts (after_reading turn.reading watch) (due_of turn.want watch.guards) left there among.1 is in (
         both-timed gains (Did 0 (Next driver) (max watch.now turn.reading) (answer_for turn.want) ∷ []) (made_by_acts turn.acts).entries
             (one-timed gains 0 (max watch.now turn.reading) (Next driver) (answer_for turn.want) there) acts.0,
         acts.1,
+      )
+
+  doubt_timed : (moment : ℕ) (doubt : Option Doubted) → member moment gains ≡ true → AreTimed gains (doubts moment doubt)
+  doubt_timed moment None there = refl
+  doubt_timed moment (Some d) there = one-timed gains 0 moment (Doubt d.point d.differs) d.answer there
+
+  turn_timed : (driver : ℕ) (watch : Watch) (turn : Turn) → Begun gains watch.now → AreIn gains (made_in driver watch turn).moments → IsTurn watch turn [] →
+      AreTimed gains (made_in driver watch turn).entries × (member (after_turn turn watch).now gains ≡ true)
+  turn_timed driver watch turn begun among is =
+      let before = before_timed driver watch turn [] begun among is in (
+        both-timed gains (made_before driver watch turn).entries (doubts (after_turn turn watch).now turn.doubt) before.0
+            (doubt_timed (after_turn turn watch).now turn.doubt before.1),
+        before.1,
       )
 
   turns_timed : (driver : ℕ) (turns : List Turn) (watch : Watch) → Begun gains watch.now → AreIn gains (made_in_turns driver watch turns).moments → AreTurns watch turns →
@@ -114,7 +128,7 @@ module _ (gains : List ℕ) where
   turns_timed driver [] watch begun among are = (refl, begun)
   turns_timed driver (turn ∷ turns) watch begun among are =
       let parts = each-parts (λ moment. member moment gains ≡ true) (made_in driver watch turn).moments (made_in_turns driver (after_turn turn watch) turns).moments among in
-      let one = turn_timed driver watch turn [] begun parts.0 are.0 in
+      let one = turn_timed driver watch turn begun parts.0 are.0 in
       let more = turns_timed driver turns (after_turn turn watch) (inr one.1) parts.1 are.1 in
       (both-timed gains (made_in driver watch turn).entries (made_in_turns driver (after_turn turn watch) turns).entries one.0 more.0, more.1)
 
@@ -134,10 +148,13 @@ module _ (gains : List ℕ) where
   cut_timed driver end watch nothing begun among fits = refl
   cut_timed driver end watch (at_next reading) begun among fits = mark_timed gains (Next driver) (max watch.now reading) end
   cut_timed driver end watch (in_turn turn d cut) begun among fits =
-      let parts = each-parts (λ moment. member moment gains ≡ true) (made_in driver watch turn).moments (left_by_try end d cut).moments among in
-      let one = turn_timed driver watch turn (fits.want ∷ fits.left) begun parts.0 fits.tried in
-      both-timed gains (made_in driver watch turn).entries (left_by_try end d cut).entries one.0
+      let parts = each-parts (λ moment. member moment gains ≡ true) (made_before driver watch turn).moments (left_by_try end d cut).moments among in
+      let one = before_timed driver watch turn (fits.want ∷ fits.left) begun parts.0 fits.tried in
+      both-timed gains (made_before driver watch turn).entries (left_by_try end d cut).entries one.0
       (try_timed end d cut (at_decision (after_turn turn watch) fits.want d fits.decides one.1))
+  cut_timed driver end watch (at_doubt turn point differs) begun among fits =
+      both-timed gains (made_before driver watch turn).entries (mark (Doubt point differs) (after_turn turn watch).now end)
+      (before_timed driver watch turn [] begun among fits).0 (mark_timed gains (Doubt point differs) (after_turn turn watch).now end)
 
   made_timed : (driver : ℕ) (end : WorkEnd) (watch : Watch) (turns : List Turn) (last : Cut) → Begun gains watch.now → AreIn gains (made_by driver end watch turns last).moments →
       AreTurns watch turns → FitsCut (after_turns turns watch) last → AreTimed gains (made_by driver end watch turns last).entries

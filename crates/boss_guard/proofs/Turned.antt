@@ -1,5 +1,7 @@
 -- One turn after another.
-use Rattle.std.proofs.Common.{◌≡◌, ℕ, suc, ◌+◌, Bool, true, false, cond, List, [], ◌∷◌, ◌++◌, length, refl, sym, ap, ◌∙◌, subst, arith, length-append}
+use Rattle.std.proofs.Common.{◌≡◌, ℕ, suc, ◌+◌, true, false, cond, List, [], ◌∷◌, ◌++◌, length, Option, Some, None, refl, sym, ap, ◌∙◌, subst, arith, length-append}
+use Rattle.std.specs.List.{AllByRecursion}
+use Rattle.boss_model.specs.declared.state.Actuator.{Actuator}
 use Rattle.boss_outside_server.specs.Waits.{one_pause_more}
 use Rattle.def_guards.specs.declared.guard.Guard.{Guard}
 use Rattle.def_guards.specs.Acts.{Watch}
@@ -7,11 +9,12 @@ use Rattle.def_guards.specs.Turns.{Turn, IsTurn, AreTurns, after_turn, after_tur
 use Rattle.boss_expiry.specs.declared.end.WorkEnd.{WorkEnd}
 use Rattle.boss_expiry.specs.Ends.{TookTurns}
 use Rattle.def_lanes.specs.Waits.{paused}
+use Rattle.def_lanes.proofs.Lists.{each-append}
 use Rattle.boss_drive.specs.Driving.{Stand, Gained, IsNoDisk, both}
 use Rattle.boss_drive.proofs.Gains.{both_assoc, both_none, gained_both_of, gained_none}
 use Rattle.boss_guard.specs.Guarding.{Turned, start}
 use Rattle.boss_guard.specs.Making.{made_by, made_in, made_in_turns, left_by}
-use Rattle.boss_guard.specs.Trying.{TookTurn, CutTurn}
+use Rattle.boss_guard.specs.Trying.{IsOwnTurn, TookTurn, CutTurn}
 
 -- ---- one turn more in a list
 
@@ -45,34 +48,36 @@ idles_written (t ∷ turns) turn written = elim (has_wrote t.acts) as (λ b. con
 
 -- ---- so many turns, whichever they were
 
-pub record TookSome (driver : ℕ) (guards : List Guard) (clocking recording : Type 0) (old new : Stand) (pausing : Type 0) (pauses pauses' taken : ℕ) (now : Watch) : Type 0 where
+pub record TookSome (plant : List Actuator) (driver : ℕ) (guards : List Guard) (clocking recording : Type 0) (old new : Stand) (pausing : Type 0) (pauses pauses' taken : ℕ) (now : Watch) : Type 0 where
   pub turns : List Turn
   pub are : AreTurns (start guards) turns
+  pub own : AllByRecursion (IsOwnTurn plant driver) turns
   pub now_is : now ≡ after_turns turns (start guards)
   pub gained : Gained clocking recording old new (made_in_turns driver (start guards) turns)
   pub waited : pausing → pauses' ≡ paused (idles turns) pauses
   pub many : length turns ≡ taken
 
-pub took_none : (driver : ℕ) (guards : List Guard) (clocking recording : Type 0) (old : Stand) (pausing : Type 0) (pauses : ℕ) →
-    TookSome driver guards clocking recording old old pausing pauses pauses 0 (start guards)
-took_none driver guards clocking recording old pausing pauses =
-    record { turns = []; are = tt; now_is = refl; gained = gained_none clocking recording old; waited = λ _. refl; many = refl }
+pub took_none : (plant : List Actuator) (driver : ℕ) (guards : List Guard) (clocking recording : Type 0) (old : Stand) (pausing : Type 0) (pauses : ℕ) →
+    TookSome plant driver guards clocking recording old old pausing pauses pauses 0 (start guards)
+took_none plant driver guards clocking recording old pausing pauses =
+    record { turns = []; are = tt; own = tt; now_is = refl; gained = gained_none clocking recording old; waited = λ _. refl; many = refl }
 
-module _ (driver : ℕ) (guards : List Guard) (clocking recording : Type 0) (old mid new : Stand) (pausing : Type 0) (pauses pauses' pauses'' taken : ℕ) (now : Watch)
-    (took : TookSome driver guards clocking recording old mid pausing pauses pauses' taken now) where
+module _ (plant : List Actuator) (driver : ℕ) (guards : List Guard) (clocking recording : Type 0) (old mid new : Stand) (pausing : Type 0) (pauses pauses' pauses'' taken : ℕ) (now : Watch)
+    (took : TookSome plant driver guards clocking recording old mid pausing pauses pauses' taken now) where
   -- a turn, as it is after those before it
-  took_at : (later : Watch) (written : Bool) → TookTurn clocking recording mid new driver now later written →
-      TookTurn clocking recording mid new driver (after_turns took.turns (start guards)) later written
-  took_at later written turn = subst (λ w. TookTurn clocking recording mid new driver w later written) took.now_is turn
+  took_at : (later : Watch) (rest : Option ℕ) → TookTurn clocking recording mid new plant driver now later rest →
+      TookTurn clocking recording mid new plant driver (after_turns took.turns (start guards)) later rest
+  took_at later rest turn = subst (λ w. TookTurn clocking recording mid new plant driver w later rest) took.now_is turn
 
-  took_turn : (later : Watch) (written : Bool) → (turn : TookTurn clocking recording mid new driver (after_turns took.turns (start guards)) later written) →
+  took_turn : (later : Watch) (rest : Option ℕ) → (turn : TookTurn clocking recording mid new plant driver (after_turns took.turns (start guards)) later rest) →
       (pausing → pauses'' ≡ paused (idles (took.turns ++ turn.turn ∷ [])) pauses) →
-      TookSome driver guards clocking recording old new pausing pauses pauses'' (taken + 1) later
-  took_turn later written turn waited =
+      TookSome plant driver guards clocking recording old new pausing pauses pauses'' (taken + 1) later
+  took_turn later rest turn waited =
       let longer : length (took.turns ++ turn.turn ∷ []) ≡ suc (length took.turns) = omega (arith, length-append took.turns (turn.turn ∷ [])) in
       let many : length took.turns ≡ taken = took.many in record {
         turns = took.turns ++ turn.turn ∷ [];
         are = are_more took.turns turn.turn (start guards) took.are turn.is;
+        own = each-append (IsOwnTurn plant driver) took.turns (turn.turn ∷ []) took.own (turn.own, tt);
         now_is = turn.after_is ∙ sym (after_more took.turns turn.turn (start guards));
         gained = gained_both_of clocking recording old mid new (made_in_turns driver (start guards) took.turns) (made_in driver (after_turns took.turns (start guards)) turn.turn)
             (made_in_turns driver (start guards) (took.turns ++ turn.turn ∷ [])) took.gained turn.gained (sym (made_more driver took.turns turn.turn (start guards)));
@@ -80,31 +85,32 @@ module _ (driver : ℕ) (guards : List Guard) (clocking recording : Type 0) (old
         many = omega arith;
       }
 
-  pub took_idle : (later : Watch) → TookTurn clocking recording mid new driver now later false → (pausing → pauses'' ≡ one_pause_more pauses') →
-      TookSome driver guards clocking recording old new pausing pauses pauses'' (taken + 1) later
-  took_idle later turn pause =
-      let at : TookTurn clocking recording mid new driver (after_turns took.turns (start guards)) later false = took_at later false turn in
-      took_turn later false at
+  pub took_idle : (later : Watch) (milliseconds : ℕ) → TookTurn clocking recording mid new plant driver now later (Some milliseconds) → (pausing → pauses'' ≡ one_pause_more pauses') →
+      TookSome plant driver guards clocking recording old new pausing pauses pauses'' (taken + 1) later
+  took_idle later milliseconds turn pause =
+      let at : TookTurn clocking recording mid new plant driver (after_turns took.turns (start guards)) later (Some milliseconds) = took_at later (Some milliseconds) turn in
+      took_turn later (Some milliseconds) at
       (λ tells. pause tells ∙ ap one_pause_more (took.waited tells) ∙ ap (λ n. paused n pauses) (sym (idles_idle took.turns at.turn (sym at.written_is))))
 
-  pub took_written : (later : Watch) → TookTurn clocking recording mid new driver now later true → (pausing → pauses'' ≡ pauses') →
-      TookSome driver guards clocking recording old new pausing pauses pauses'' (taken + 1) later
+  pub took_written : (later : Watch) → TookTurn clocking recording mid new plant driver now later None → (pausing → pauses'' ≡ pauses') →
+      TookSome plant driver guards clocking recording old new pausing pauses pauses'' (taken + 1) later
   took_written later turn stays =
-      let at : TookTurn clocking recording mid new driver (after_turns took.turns (start guards)) later true = took_at later true turn in
-      took_turn later true at
+      let at : TookTurn clocking recording mid new plant driver (after_turns took.turns (start guards)) later None = took_at later None turn in
+      took_turn later None at
       (λ tells. stays tells ∙ took.waited tells ∙ ap (λ n. paused n pauses) (sym (idles_written took.turns at.turn (sym at.written_is))))
 
   -- the end leaves what it leaves of one turn more
-  pub ends_cut : (most : ℕ) (end : WorkEnd) → CutTurn clocking recording mid new driver now end → TookTurns taken most end →
-      Turned driver guards clocking recording old new pausing pauses pauses' most end
+  pub ends_cut : (most : ℕ) (end : WorkEnd) → CutTurn clocking recording mid new plant driver now end → TookTurns taken most end →
+      Turned plant driver guards clocking recording old new pausing pauses pauses' most end
   ends_cut most end cut fits =
-      let at : CutTurn clocking recording mid new driver (after_turns took.turns (start guards)) end =
-      subst (λ w. CutTurn clocking recording mid new driver w end) took.now_is cut in record {
+      let at : CutTurn clocking recording mid new plant driver (after_turns took.turns (start guards)) end =
+      subst (λ w. CutTurn clocking recording mid new plant driver w end) took.now_is cut in record {
         turns = took.turns;
         last = at.cut;
         are = took.are;
         fits = at.fits;
         leaves = at.leaves;
+        own = (took.own, at.own);
         made = gained_both_of clocking recording old mid new (made_in_turns driver (start guards) took.turns) (left_by driver end (after_turns took.turns (start guards)) at.cut)
             (made_by driver end (start guards) took.turns at.cut) took.gained at.gained refl;
         waited = took.waited;
@@ -112,15 +118,16 @@ module _ (driver : ℕ) (guards : List Guard) (clocking recording : Type 0) (old
       }
 
 -- the end leaves nothing of a turn more
-pub ends_whole : (driver : ℕ) (guards : List Guard) (clocking recording : Type 0) (old new : Stand) (pausing : Type 0) (pauses pauses' taken most : ℕ) (now : Watch) (end : WorkEnd) →
-    TookSome driver guards clocking recording old new pausing pauses pauses' taken now → IsNoDisk end → TookTurns taken most end →
-    Turned driver guards clocking recording old new pausing pauses pauses' most end
-ends_whole driver guards clocking recording old new pausing pauses pauses' taken most now end took no_disk fits = record {
+pub ends_whole : (plant : List Actuator) (driver : ℕ) (guards : List Guard) (clocking recording : Type 0) (old new : Stand) (pausing : Type 0) (pauses pauses' taken most : ℕ) (now : Watch) (end : WorkEnd) →
+    TookSome plant driver guards clocking recording old new pausing pauses pauses' taken now → IsNoDisk end → TookTurns taken most end →
+    Turned plant driver guards clocking recording old new pausing pauses pauses' most end
+ends_whole plant driver guards clocking recording old new pausing pauses pauses' taken most now end took no_disk fits = record {
   turns = took.turns;
   last = nothing;
   are = took.are;
   fits = tt;
   leaves = no_disk;
+  own = (took.own, tt);
   made = subst (λ made. Gained clocking recording old new made) (sym (both_none (made_in_turns driver (start guards) took.turns))) took.gained;
   waited = took.waited;
   taken = subst (λ n. TookTurns n most end) (sym took.many) fits;

@@ -7,14 +7,14 @@ use Rattle.boss_model.specs.DeviceCall.{DeviceCall}
 use Rattle.def_guards.specs.declared.guard.Guard.{Guard}
 use Rattle.def_guards.specs.Guards.{guard_of, guards_of, minimum, times_for}
 use Rattle.def_guards.specs.Acts.{Watch, Decision, Reason, Act, wrote, kept, guard_at}
-use Rattle.def_guards.specs.Turns.{Turn, after_turn, after_turns, at_clock, at_report, TryCut, at_read, at_write, Cut, nothing, at_next, in_turn}
+use Rattle.def_guards.specs.Turns.{Turn, after_turn, after_turns, at_clock, at_report, TryCut, at_read, at_write, Cut, nothing, at_next, in_turn, at_doubt}
 use Rattle.def_guards.specs.Spacing.{Call, KeepsTimes, call_to, is_shown, calls_by, calls_on, calls_in, calls_at, calls_cut}
 use Rattle.def_guards.proofs.Spaced.{keeps_times}
 use Rattle.boss_expiry.specs.declared.end.WorkEnd.{WorkEnd}
 use Rattle.def_lanes.specs.Works.{Course}
 use Rattle.boss_guard.specs.GuardDrives.{IsGuardOf, values_at}
 use Rattle.boss_guard.specs.Guarding.{start}
-use Rattle.boss_guard.specs.Making.{made_by_act, made_by_acts, made_in, made_in_turns, made_by, left_by, left_by_try}
+use Rattle.boss_guard.specs.Making.{made_by_act, made_by_acts, made_before, made_in, made_in_turns, made_by, left_by, left_by_try}
 
 module _ (point : ℕ) where
   values_both : (first next : List DeviceCall) → values_at point (first ++ next) ≡ values_at point first ++ values_at point next
@@ -60,8 +60,9 @@ module _ (point : ℕ) where
   cut_is : (driver : ℕ) (end : WorkEnd) (watch : Watch) (last : Cut) → map (λ write. write.value) (calls_cut point last) ≡ values_at point (left_by driver end watch last).calls
   cut_is driver end watch nothing = refl
   cut_is driver end watch (at_next reading) = refl
-  cut_is driver end watch (in_turn turn d cut) = both_are (calls_on point turn.acts) (calls_at point d cut) (made_in driver watch turn).calls (left_by_try end d cut).calls
+  cut_is driver end watch (in_turn turn d cut) = both_are (calls_on point turn.acts) (calls_at point d cut) (made_before driver watch turn).calls (left_by_try end d cut).calls
       (acts_are turn.acts) (try_is end d cut)
+  cut_is driver end watch (at_doubt turn other differs) = acts_are turn.acts
 
   all_are : (driver : ℕ) (end : WorkEnd) (watch : Watch) (turns : List Turn) (last : Cut) →
       map (λ write. write.value) (calls_in point turns ++ calls_cut point last) ≡ values_at point (made_by driver end watch turns last).calls

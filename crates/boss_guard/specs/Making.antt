@@ -1,15 +1,15 @@
 -- Source: own.
 -- What the turns of a guarded worker make: entries, moments that the clock gave, and calls of devices. All that is made at a
 -- moment is made at the greatest reading so far.
-use Rattle.std.specs.Prelude.{ℕ, max, Bool, List, [], ◌∷◌, Option, Some, None}
+use Rattle.std.specs.Prelude.{ℕ, max, Bool, List, [], ◌∷◌, ◌++◌, Option, Some, None}
 use Rattle.boss_model.specs.declared.answer.Answer.{Answer}
 use Rattle.boss_model.specs.declared.answer.Answer.TheVariants.{Want, Nothing}
-use Rattle.boss_model.specs.declared.command.Command.TheVariants.{Next, Read, Report}
+use Rattle.boss_model.specs.declared.command.Command.TheVariants.{Doubt, Next, Read, Report}
 use Rattle.def_history.specs.declared.entry.Entry.{Entry}
 use Rattle.def_history.specs.declared.entry.Entry.TheVariants.{Did}
 use Rattle.def_guards.specs.declared.guard.Due.{Due}
 use Rattle.def_guards.specs.Acts.{Watch, Decision, Reason, passed, shown, Act, wrote, kept}
-use Rattle.def_guards.specs.Turns.{Turn, WriteCut, at_clock, at_report, TryCut, at_read, at_write, Cut, nothing, at_next, in_turn, after_turn, after_turns}
+use Rattle.def_guards.specs.Turns.{Turn, Doubt as Doubted, WriteCut, at_clock, at_report, TryCut, at_read, at_write, Cut, nothing, at_next, in_turn, at_doubt, after_turn, after_turns}
 use Rattle.boss_expiry.specs.declared.end.WorkEnd.{WorkEnd}
 use Rattle.boss_expiry.specs.Ends.{mark}
 use Rattle.boss_drive.specs.Driving.{Made, both}
@@ -68,13 +68,26 @@ asked driver watch turn = record {
   calls = [];
 }
 
+-- a turn up to a doubt
+abbrev pub made_before : ℕ → Watch → Turn → Made
+made_before driver watch turn = both (asked driver watch turn) (made_by_acts turn.acts)
+
+abbrev pub doubts : ℕ → Option Doubted → List Entry
+doubts moment None = []
+doubts moment (Some d) = Did 0 (Doubt d.point d.differs) moment d.answer ∷ []
+
+-- entries without a reading of the clock or a call
+abbrev pub with_more : Made → List Entry → Made
+with_more made more = record { entries = made.entries ++ more; moments = made.moments; calls = made.calls }
+
 abbrev pub made_in : ℕ → Watch → Turn → Made
-made_in driver watch turn = both (asked driver watch turn) (made_by_acts turn.acts)
+made_in driver watch turn = with_more (made_before driver watch turn) (doubts (after_turn turn watch).now turn.doubt)
 
 abbrev pub left_by : ℕ → WorkEnd → Watch → Cut → Made
 left_by driver end watch nothing = no_more
 left_by driver end watch (at_next reading) = record { entries = mark (Next driver) (max watch.now reading) end; moments = reading ∷ []; calls = [] }
-left_by driver end watch (in_turn turn d cut) = both (made_in driver watch turn) (left_by_try end d cut)
+left_by driver end watch (in_turn turn d cut) = both (made_before driver watch turn) (left_by_try end d cut)
+left_by driver end watch (at_doubt turn point differs) = with_more (made_before driver watch turn) (mark (Doubt point differs) (after_turn turn watch).now end)
 
 abbrev pub made_in_turns : ℕ → Watch → List Turn → Made
 made_in_turns driver watch [] = no_more

@@ -1,19 +1,21 @@
 -- Source: own.
 -- What the parts of a turn do: one want, the wants of some points, and the whole turn.
-use Rattle.std.specs.Prelude.{◌≡◌, ℕ, ◌+◌, max, Bool, true, false, List, [], ◌∷◌, ◌++◌, Option, Some, None, drop}
+use Rattle.std.specs.Prelude.{◌≡◌, ℕ, ◌+◌, max, Bool, true, false, List, [], ◌∷◌, ◌++◌, Option, Some, None, is_none, drop}
 use Rattle.boss_model.specs.declared.answer.Answer.{Answer}
 use Rattle.boss_model.specs.declared.command.Command.TheVariants.{Read}
+use Rattle.boss_model.specs.declared.state.Actuator.{Actuator}
 use Rattle.def_history.specs.declared.entry.Entry.{Entry}
 use Rattle.def_history.specs.declared.entry.Entry.TheVariants.{Did}
 use Rattle.def_guards.specs.declared.guard.Guard.{Guard}
 use Rattle.def_guards.specs.Guards.{is_free, shown_by}
 use Rattle.def_guards.specs.declared.guard.Due.{Due}
 use Rattle.def_guards.specs.Acts.{Watch, Decision, Reason, Act, IsReason, IsAct, Tried, after_act, after_acts, decided, due_from, guard_at, is_write}
-use Rattle.def_guards.specs.Turns.{Turn, IsTurn, after_turn, has_wrote, WriteCut, at_clock, at_report, TryCut, at_read, at_write, FitsTry, Cut, nothing, at_next, in_turn, FitsCut}
+use Rattle.def_guards.specs.Turns.{Turn, Doubt, IsTurn, after_turn, has_wrote, WriteCut, at_clock, at_report, TryCut, at_read, at_write, FitsTry, Cut, nothing, at_next, in_turn, at_doubt, FitsCut}
 use Rattle.boss_expiry.specs.declared.end.WorkEnd.{WorkEnd}
 use Rattle.boss_expiry.specs.declared.end.WorkEnd.TheVariants.{ClockFault}
 use Rattle.boss_expiry.specs.Ends.{IsCut}
-use Rattle.boss_drive.specs.Driving.{Stand, Gained, IsDisk, IsNoDisk, both}
+use Rattle.boss_drive.specs.Driving.{Stand, Gained, IsNoDisk, both}
+use Rattle.boss_drive.specs.Looks.{IsDisk, IsOf}
 use Rattle.boss_guard.specs.Making.{reads, made_by_write, made_by_act, made_by_acts, made_in, left_by, left_by_try, left_by_write}
 
 -- a want, or none
@@ -35,6 +37,26 @@ abbrev pub Leaves : WorkEnd → Cut → Type 0
 Leaves end nothing = IsNoDisk end
 Leaves end (at_next reading) = IsDisk end
 Leaves end (in_turn turn d cut) = LeavesTry end cut
+Leaves end (at_doubt turn point differs) = IsDisk end
+
+-- ---- doubts
+
+-- a doubt is of a point of the driver, in a turn that was given no want and wrote none
+abbrev pub DoubtsOwn : List Actuator → ℕ → Turn → ℕ → Type 0
+DoubtsOwn plant driver turn point = IsOf plant driver point × (turn.want ≡ None) × (has_wrote turn.acts ≡ false)
+
+abbrev pub FitsDoubt : List Actuator → ℕ → Turn → Option Doubt → Type 0
+FitsDoubt plant driver turn None = Unit {0}
+FitsDoubt plant driver turn (Some doubt) = DoubtsOwn plant driver turn doubt.point
+
+abbrev pub IsOwnTurn : List Actuator → ℕ → Turn → Type 0
+IsOwnTurn plant driver turn = FitsDoubt plant driver turn turn.doubt
+
+abbrev pub IsOwnCut : List Actuator → ℕ → Cut → Type 0
+IsOwnCut plant driver nothing = Unit {0}
+IsOwnCut plant driver (at_next reading) = Unit {0}
+IsOwnCut plant driver (in_turn turn d cut) = Unit {0}
+IsOwnCut plant driver (at_doubt turn point differs) = DoubtsOwn plant driver turn point
 
 -- ---- one want
 
@@ -107,15 +129,18 @@ module _ (clocking recording : Type 0) (old new : Stand) where
 
   -- ---- a turn
 
-  pub record TookTurn (driver : ℕ) (before after : Watch) (written : Bool) : Type 0 where
+  -- it has no pause exactly where a want was written
+  pub record TookTurn (plant : List Actuator) (driver : ℕ) (before after : Watch) (rest : Option ℕ) : Type 0 where
     pub turn : Turn
     pub is : IsTurn before turn []
+    pub own : IsOwnTurn plant driver turn
     pub after_is : after ≡ after_turn turn before
-    pub written_is : written ≡ has_wrote turn.acts
+    pub written_is : is_none rest ≡ has_wrote turn.acts
     pub gained : Gained clocking recording old new (made_in driver before turn)
 
-  pub record CutTurn (driver : ℕ) (before : Watch) (end : WorkEnd) : Type 0 where
+  pub record CutTurn (plant : List Actuator) (driver : ℕ) (before : Watch) (end : WorkEnd) : Type 0 where
     pub cut : Cut
     pub fits : FitsCut before cut
+    pub own : IsOwnCut plant driver cut
     pub leaves : Leaves end cut
     pub gained : Gained clocking recording old new (left_by driver end before cut)

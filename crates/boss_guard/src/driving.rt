@@ -9,7 +9,7 @@ ghost use Rattle.boss_expiry.specs.Ends.{ClockCause, EndCause};
 ghost use Rattle.boss_guard.specs.Guarding.{Guarded, GuardCause, GuardClock, Turned};
 
 use crate::GuardEnd;
-use crate::guards::{guards_of, rest_of};
+use crate::guards::guards_of;
 use crate::turn::turn;
 use boss_expiry::WorkEnd;
 use boss_model::DriverId;
@@ -25,7 +25,9 @@ use std::alloc::Global;
 /// In each turn the clock is read and the driver's next want asked for. That want, and then each one that was held, by rising
 /// point, is written where it may be: the point has this value, or has kept another one for its minimum time, or a reading of the
 /// point shows the value under a lease of the levels 1 to 5. After a write the clock is read again and the outcome reported. Any
-/// other want is held, in place of one that its point held. A turn without a write makes a pause, a short one where a want is held.
+/// other want is held, in place of one that its point held. Where there was no want and none was written, its devices look after
+/// what they took, and a point of the driver that they name is doubted. A turn without a write makes a pause, a short one where a
+/// want is held or a device is to be looked after.
 ///
 /// Each call is made at the greatest reading so far. Memory is wanted before the first turn only.
 pub fn guarded_drive<G: Desk, A: Actuators, C: Clock, W: Waiter>(
@@ -43,7 +45,7 @@ pub fn guarded_drive<G: Desk, A: Actuators, C: Clock, W: Waiter>(
     requires plant { actuators catalogue.now ≡ G.plant desk.now }
     ensures own { G.owns desk.now pass.new }
     ensures parts { G.parts pass.new ≡ G.parts pass.old }
-    ensures guarded { Guarded driver (guards_of catalogue.now) C.tells A.tells
+    ensures guarded { Guarded (G.plant desk.now) driver (guards_of catalogue.now) C.tells A.tells
         (record { own = entries_at (G.seen pass.old) (G.mine pass.old); given = C.given clock.old; whole = A.whole devices.old; calls = A.calls devices.old })
         (record { own = entries_at (G.seen pass.new) (G.mine pass.new); given = C.given clock.new; whole = A.whole devices.new; calls = A.calls devices.new })
         W.tells (W.waited waiter.old).pauses (W.waited waiter.new).pauses turns result }
@@ -56,6 +58,7 @@ pub fn guarded_drive<G: Desk, A: Actuators, C: Clock, W: Waiter>(
         Ok(mut guards) => GuardEnd::Worked(take_turns(
             desk,
             pass,
+            catalogue,
             driver,
             devices,
             clock,
@@ -70,6 +73,7 @@ pub fn guarded_drive<G: Desk, A: Actuators, C: Clock, W: Waiter>(
 fn take_turns<G: Desk, A: Actuators, C: Clock, W: Waiter>(
     desk: &G,
     pass: &mut G::Pass,
+    catalogue: &Catalogue,
     driver: DriverId,
     devices: &mut A,
     clock: &mut C,
@@ -78,11 +82,12 @@ fn take_turns<G: Desk, A: Actuators, C: Clock, W: Waiter>(
     guards: &mut [Guard],
 ) -> WorkEnd
     requires own { G.owns desk.now pass.old }
+    requires plant { actuators catalogue.now ≡ G.plant desk.now }
     requires long { length guards.old ≡ length (G.plant desk.now) }
     requires few { length guards.old ≤ most_points }
     ensures own { G.owns desk.now pass.new }
     ensures parts { G.parts pass.new ≡ G.parts pass.old }
-    ensures turned { Turned driver guards.old C.tells A.tells
+    ensures turned { Turned (G.plant desk.now) driver guards.old C.tells A.tells
         (record { own = entries_at (G.seen pass.old) (G.mine pass.old); given = C.given clock.old; whole = A.whole devices.old; calls = A.calls devices.old })
         (record { own = entries_at (G.seen pass.new) (G.mine pass.new); given = C.given clock.new; whole = A.whole devices.new; calls = A.calls devices.new })
         W.tells (W.waited waiter.old).pauses (W.waited waiter.new).pauses turns result }
@@ -92,12 +97,14 @@ fn take_turns<G: Desk, A: Actuators, C: Clock, W: Waiter>(
 {
     let mut now = 0;
     for number in 0..turns {
-        let written = match turn(desk, pass, driver, devices, clock, &mut now, guards) {
+        let rest = match turn(
+            desk, pass, catalogue, driver, devices, clock, &mut now, guards,
+        ) {
             Err(end) => return end,
-            Ok(written) => written,
+            Ok(rest) => rest,
         };
-        if !written {
-            if let Woke::Close = waiter.pause(rest_of(guards)) {
+        if let Some(milliseconds) = rest {
+            if let Woke::Close = waiter.pause(milliseconds) {
                 if number + 1 < turns {
                     return WorkEnd::Closed;
                 }

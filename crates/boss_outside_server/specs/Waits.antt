@@ -30,6 +30,11 @@ abbrev pub is_close : Woke → Bool
 is_close Again = false
 is_close Close = true
 
+-- how many pauses said so, with one more that ended so
+abbrev pub closes_after : Woke → ℕ → ℕ
+closes_after Again closes = closes
+closes_after Close closes = one_pause_more closes
+
 -- a pause says Close exactly where the count of closes rose in it
 abbrev pub CloseCause : ℕ → ℕ → Woke → Type 0
 CloseCause before now Again = now ≡ before
@@ -38,7 +43,7 @@ CloseCause before now Close = Rose before now
 -- what is noted of a worker: nothing yet, where so many workers are waited for; that so many are; that its pauses end at a bell
 -- from now on; one pause more, and how it ended; and that the worker leaves, when it has served so many connections
 abbrev pub new_waited : ℕ → Waited
-new_waited expected = record { pauses = 0; lengths = NoPause; closed = false; expected = expected; leaving = NotYet; bell = None }
+new_waited expected = record { pauses = 0; lengths = NoPause; closed = false; closes = 0; expected = expected; leaving = NotYet; bell = None }
 
 abbrev pub expecting : ℕ → Waited → Waited
 expecting workers waited = record waited { expected = workers }
@@ -51,6 +56,7 @@ after_pause milliseconds woke waited = record waited {
   pauses = one_pause_more waited.pauses;
   lengths = lengths_after waited.lengths milliseconds;
   closed = is_close woke;
+  closes = closes_after woke waited.closes;
 }
 
 abbrev pub after_leave : ℕ → Waited → Waited

@@ -1,5 +1,5 @@
 ghost use Rattle.std.specs.Prelude.{◌≡◌};
-ghost use Rattle.boss_outside_server.specs.Waits.{after_leave, after_pause, leaving_after, lengths_after, listening, new_waited, one_pause_more};
+ghost use Rattle.boss_outside_server.specs.Waits.{after_leave, after_pause, closes_after, leaving_after, lengths_after, listening, new_waited, one_pause_more};
 
 use crate::Woke;
 
@@ -61,6 +61,8 @@ pub struct Waited {
     pub lengths: Lengths,
     /// Whether the last one said Close.
     pub closed: bool,
+    /// How many of them said Close, up to `2 ^ 62`, where it stands still.
+    pub closes: u64,
     /// How many workers were said to be waited for, before this one began; 0 where nothing was said.
     pub expected: u32,
     /// Whether it has left.
@@ -78,6 +80,7 @@ impl Waited {
             pauses: 0,
             lengths: Lengths::NoPause,
             closed: false,
+            closes: 0,
             expected,
             leaving: Leaving::NotYet,
             bell: None,
@@ -89,9 +92,10 @@ impl Waited {
         ensures { result ≡ after_pause milliseconds woke self }
     {
         Waited {
-            pauses: self.pauses.saturating_add(1).min(LAST_PAUSE),
+            pauses: one_more(self.pauses),
             lengths: self.lengths.after(milliseconds),
             closed: matches!(woke, Woke::Close),
+            closes: closes_after(self.closes, woke),
             ..self
         }
     }
@@ -105,6 +109,7 @@ impl Waited {
             ..self
         }
     }
+
     /// This, and that its pauses end at this bell from now on.
     pub(crate) fn after_listen(self, bell: u32) -> Waited
         ensures { result ≡ listening bell self }
@@ -113,5 +118,22 @@ impl Waited {
             bell: Some(bell),
             ..self
         }
+    }
+}
+
+/// One pause more.
+fn one_more(pauses: u64) -> u64
+    ensures { result ≡ one_pause_more pauses }
+{
+    pauses.saturating_add(1).min(LAST_PAUSE)
+}
+
+/// How many pauses said Close, with one pause more that ended so.
+fn closes_after(closes: u64, woke: Woke) -> u64
+    ensures { result ≡ closes_after woke closes }
+{
+    match woke {
+        Woke::Again => closes,
+        Woke::Close => one_more(closes),
     }
 }

@@ -18,9 +18,8 @@ use Rattle.boss_outside_server.specs.declared.waiter.Waiter as waiter
 use Rattle.boss_jobs.specs.Journals.{Pair}
 use Rattle.boss_shared.specs.Gates.{Gate}
 use Rattle.boss_worker.specs.Visits.{sessions_in, GoBySteps}
-use Rattle.def_lanes.specs.Works.{Work, visit, beat, drive, owner, served_in}
+use Rattle.def_lanes.specs.Works.{Work, visit, beat, drive, owner, served_in, works_of}
 use Rattle.boss_server.specs.Hosted.{RoseBy}
-use Rattle.boss_server.specs.Together.{works_of}
 use Rattle.boss_server.proofs.TogetherLemmas.{rose-both, rose-none}
 use Rattle.boss_serve_jobs.specs.Serving.{Begins, CameBack, Outside, ServedFrom, ServesMemory, ServesOver}
 

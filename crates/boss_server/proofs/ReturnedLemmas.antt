@@ -140,7 +140,7 @@ module _ {H A : Type 0} (a : actuators.Ghosts A) (terms : Terms) (pausing : Type
   pub returned-next : (n : ℕ) (duty : Duty H A) (works others : List Work) (own part own' : List Entry) (waits waits' waits'' : List Waited) (was now : List A) (note : Waited) (unrun ran : Bool) →
       Returned a.calls (λ device. a.tells × a.whole device) terms pausing n works own waits waits' was now unrun →
       Agreed terms.plant terms.says own works → Agreed terms.plant terms.says part others → AreOf terms.workers 0 n works → AreOf terms.workers n (suc n) others → Joined own part own' →
-      IsPlaced terms.workers n duty → HasCalls a others duty → AllByRecursion (IsNoteOf note) others → (pausing → WaitedAt terms.workers n (length others) note) →
+      IsPlaced terms.workers n duty → HasCalls a others duty → AllByRecursion (IsNoteOf note) others → (pausing → WaitedAt terms.workers n others note) →
       (ran ≡ true → terms.workers ≤ n → is_worked terms.workers n others ≡ true) → AreEnded terms.plant pausing part others → (pausing → waits'' ≡ waits' ++ note ∷ []) →
       Returned a.calls (λ device. a.tells × a.whole device) terms pausing (suc n) (works ++ others) own' waits waits'' (was ++ was_at duty) (now ++ devices_at duty) (unrun || not ran)
   returned-next n duty works others own part own' waits waits' waits'' was now note unrun ran returned agreed also of_first of_next joined placed called paired kept then_worked then_ended noted = record {
@@ -151,7 +151,7 @@ module _ {H A : Type 0} (a : actuators.Ghosts A) (terms : Terms) (pausing : Type
     waited = waited-next terms.workers returned.notes note works others returned.waited (subst (λ m. AreOf terms.workers m (suc m) others) (sym returned.each) of_next) paired;
     noted = λ told. noted told ∙ ap (λ list. list ++ note ∷ []) (returned.noted told) ∙ append_assoc waits returned.notes (note ∷ []);
     kept = λ told. waited-at-next terms.workers returned.notes note works others (returned.kept told) (subst (λ m. AreOf terms.workers 0 m works) (sym returned.each) of_first)
-        (subst (λ m. AreOf terms.workers m (suc m) others) (sym returned.each) of_next) (subst (λ m. WaitedAt terms.workers m (length others) note) (sym returned.each) (kept told));
+        (subst (λ m. AreOf terms.workers m (suc m) others) (sym returned.each) of_next) (subst (λ m. WaitedAt terms.workers m others note) (sym returned.each) (kept told));
     ended = ended-next a.calls (λ device. a.tells × a.whole device) terms pausing n works others own part own' returned.ended then_ended agreed also of_first of_next joined;
     worked = worked-next terms.workers n works others unrun ran returned.worked then_worked;
   }

@@ -1,16 +1,13 @@
 -- Workers taken together: at first none, and then one more.
 use Rattle.std.proofs.Common.{◌≡◌, ◌⊎◌, inl, inr, ℕ, suc, ◌+◌, ◌-◌, ◌^◌, ◌<◌, ◌≤◌, ◌==◌, ◌||◌, min, not, Bool, true, false, List, [], ◌∷◌, ◌++◌, length, refl, ap, sym, ◌∙◌, subst, arith, length-append}
-use Rattle.std.proofs.lemmas.Bool.{or_parts, cases_Bool, cases_lt, cond-true, cond-false}
-use Rattle.std.proofs.lemmas.Bool.Decides.{nat_tests}
-use Rattle.std.proofs.lemmas.List.{append-nil}
-use Rattle.std.proofs.lemmas.List.Elements.{filter-append}
+use Rattle.std.proofs.lemmas.Bool.{or_parts, cases_Bool, cases_lt}
 use Rattle.boss_outside.specs.Counts.{Rose, Joins}
 use Rattle.def_history.specs.declared.entry.Entry.{Entry}
 use Rattle.def_history.specs.History.{deeds, is_broken}
 use Rattle.def_lanes.specs.Parts.{Terms, Part, Joined}
-use Rattle.def_lanes.specs.Works.{Work, clock_cuts, owner, served_in, AreOf}
+use Rattle.def_lanes.specs.Works.{Work, clock_cuts, served_in, works_of, AreOf}
 use Rattle.def_lanes.proofs.Lists.{each-append}
-use Rattle.def_lanes.proofs.Owners.{clock_cuts-append, served_in-append}
+use Rattle.def_lanes.proofs.Owners.{clock_cuts-append, served_in-append, works-behind, works-first, works-last}
 use Rattle.def_lanes.proofs.PartLemmas.{part-nothing, part-next}
 use Rattle.boss_lock.specs.Places.{IsLonger}
 use Rattle.boss_outside_server.specs.Hosts.{Served}
@@ -19,7 +16,7 @@ use Rattle.boss_worker.specs.Troubles.{no_flags, both_flags, Counts}
 use Rattle.boss_worker.specs.Visits.{sessions_in, GoBySteps, IsFlagged, Left}
 use Rattle.boss_worker.proofs.FlagLemmas.{flagged-more}
 use Rattle.boss_server.specs.Hosted.{Hosted, RoseBy}
-use Rattle.boss_server.specs.Together.{works_of, RoseWhere, Together}
+use Rattle.boss_server.specs.Together.{RoseWhere, Together}
 use Rattle.boss_server.proofs.DeskJoins.{broken-longer}
 
 -- what one flag says is said of both
@@ -48,55 +45,24 @@ rose-both first then before between now once again = omega (arith, once, again)
 pub rose-none : (count : ℕ) → RoseBy 0 count count
 rose-none count = omega arith
 
--- ---- the works of one worker
-
--- others did none of them
-works-none : (workers number first end : ℕ) (works : List Work) → AreOf workers first end works → (number < first) ⊎ (end ≤ number) → works_of workers number works ≡ []
-works-none workers number first end [] are other = refl
-works-none workers number first end (work ∷ works) are other =
-    cond-false (owner workers work == number) (work ∷ works_of workers number works) (works_of workers number works) (differ other) ∙ works-none workers number first end works are.1 other
-  where
-    differ : (number < first) ⊎ (end ≤ number) → (owner workers work == number) ≡ false
-    differ (inl less) = let low = are.0.0 in grind (arith, nat_tests)
-    differ (inr more) = let high = are.0.1 in grind (arith, nat_tests)
-
--- it did all of its own
-works-own : (workers number : ℕ) (works : List Work) → AreOf workers number (suc number) works → works_of workers number works ≡ works
-works-own workers number [] are = refl
-works-own workers number (work ∷ works) are =
-    let low = are.0.0 in
-    let high = are.0.1 in
-    let own : (owner workers work == number) ≡ true = grind (arith, nat_tests) in
-    cond-true (owner workers work == number) (work ∷ works_of workers number works) (works_of workers number works) own
-    ∙ ap (λ rest. work ∷ rest) (works-own workers number works are.1)
-
 -- one worker more, whose sessions go by steps
 numbered-next : (workers n : ℕ) (works others : List Work) → AreOf workers 0 n works → AreOf workers n (suc n) others →
     ((number : ℕ) → GoBySteps workers (1 + number) (sessions_in (works_of workers number works))) → GoBySteps workers (1 + n) (sessions_in others) →
     (number : ℕ) → GoBySteps workers (1 + number) (sessions_in (works_of workers number (works ++ others)))
 numbered-next workers n works others of_first of_next numbered also number = placed (cases_lt number n)
   where
-    both : works_of workers number (works ++ others) ≡ works_of workers number works ++ works_of workers number others
-    both = filter-append (λ work. owner workers work == number) works others
-
     so : (all : List Work) → works_of workers number (works ++ others) ≡ all → GoBySteps workers (1 + number) (sessions_in all) → GoBySteps workers (1 + number) (sessions_in (works_of workers number (works ++ others)))
     so all is go = subst (λ list. GoBySteps workers (1 + number) (sessions_in list)) (sym is) go
 
     behind : (n < number) ⊎ (number ≤ n) → n ≤ number → GoBySteps workers (1 + number) (sessions_in (works_of workers number (works ++ others)))
-    behind (inl later) from =
-        let none = works-none workers number 0 n works of_first (inr (omega (arith, later))) in
-        let nor = works-none workers number n (suc n) others of_next (inr (omega (arith, later))) in
-        so [] (both ∙ ap (λ front. front ++ works_of workers number others) none ∙ nor) tt
+    behind (inl later) from = so [] (works-behind workers number n works others of_first of_next later) tt
     behind (inr here) from =
         let same : n ≡ number = omega (arith, here, from) in
-        let none = works-none workers number 0 n works of_first (inr from) in
-        let own = works-own workers number others (subst (λ m. AreOf workers m (suc m) others) same of_next) in
-        so others (both ∙ ap (λ front. front ++ works_of workers number others) none ∙ own) (subst (λ m. GoBySteps workers (1 + m) (sessions_in others)) same also)
+        subst (λ m. GoBySteps workers (1 + m) (sessions_in (works_of workers m (works ++ others)))) same
+        (subst (λ list. GoBySteps workers (1 + n) (sessions_in list)) (sym (works-last workers n works others of_first of_next)) also)
 
     placed : (number < n) ⊎ (n ≤ number) → GoBySteps workers (1 + number) (sessions_in (works_of workers number (works ++ others)))
-    placed (inl before) =
-        let none = works-none workers number n (suc n) others of_next (inl before) in
-        so (works_of workers number works) (both ∙ ap (λ rest. works_of workers number works ++ rest) none ∙ append-nil (works_of workers number works)) (numbered number)
+    placed (inl before) = so (works_of workers number works) (works-first workers number n works others of_next before) (numbered number)
     placed (inr from) = behind (cases_lt n number) from
 
 module _ (terms : Terms) where

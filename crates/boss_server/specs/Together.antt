@@ -1,11 +1,11 @@
 -- Source: own.
 -- What several workers left, taken together.
-use Rattle.std.specs.Prelude.{◌≡◌, ℕ, ◌+◌, ◌-◌, ◌^◌, ◌≤◌, ◌==◌, min, Bool, true, false, List, filter, length}
+use Rattle.std.specs.Prelude.{◌≡◌, ℕ, ◌+◌, ◌-◌, ◌^◌, ◌≤◌, min, Bool, true, false, List, length}
 use Rattle.boss_outside.specs.Counts.{Rose}
 use Rattle.def_history.specs.declared.entry.Entry.{Entry}
 use Rattle.def_history.specs.History.{is_broken}
 use Rattle.def_lanes.specs.Parts.{Terms, Part}
-use Rattle.def_lanes.specs.Works.{Work, clock_cuts, owner, served_in}
+use Rattle.def_lanes.specs.Works.{Work, clock_cuts, served_in, works_of}
 use Rattle.boss_outside_server.specs.Hosts.{Served}
 use Rattle.boss_worker.specs.declared.flags.Flags.{Flags}
 use Rattle.boss_worker.specs.Visits.{sessions_in, AreFlagged, GoBySteps}
@@ -15,10 +15,6 @@ use Rattle.boss_server.specs.Hosted.{Hosted, RoseBy}
 abbrev pub RoseWhere : Bool → ℕ → ℕ → Type 0
 RoseWhere true before now = Rose before now
 RoseWhere false before now = now ≡ before
-
--- the works of the worker with this number
-abbrev pub works_of : ℕ → ℕ → List Work → List Work
-works_of workers number works = filter (λ work. owner workers work == number) works
 
 -- the workers with the numbers below n, whose parts are taken back: their works agree with the entries that the pass now has made;
 -- as many connections were given back as the host handed out, and as they were to serve, unless one did not run, an accept failed, or

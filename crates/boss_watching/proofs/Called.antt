@@ -2,10 +2,11 @@
 use Rattle.std.proofs.Common.{◌≡◌, ℕ, ◌+◌, ◌<◌, ◌≤◌, true, false, List, [], ◌∷◌, ◌++◌, length, ap, arith, length-append}
 use Rattle.def_history.specs.declared.entry.Entry.{Entry}
 use Rattle.def_history.specs.History.{deeds}
+use Rattle.def_connection.specs.Watching.{quiet_in}
 use Rattle.boss_watching.specs.declared.end.WatchEnd.{WatchEnd}
 use Rattle.boss_watching.specs.declared.end.WatchEnd.TheVariants.{Idle, Closed, WriteFault, ClockFault, Stopped, DiskFault, NoMemory}
 use Rattle.boss_watching.specs.Ends.{is_unanswered_end, HasCalled, IsCall, IsCut}
-use Rattle.boss_watching.specs.Turns.{quiet_in, Lasts}
+use Rattle.boss_watching.specs.Turns.{Lasts}
 
 pub grown-longer : (old new more : List Entry) → deeds new ≡ deeds old ++ more → length (deeds new) ≡ length (deeds old) + length more
 grown-longer old new more grew = let same : length (deeds new) ≡ length (deeds old ++ more) = ap length grew in omega (arith, same, length-append (deeds old) more)

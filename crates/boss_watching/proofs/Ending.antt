@@ -8,12 +8,13 @@ use Rattle.def_history.specs.History.{deeds}
 use Rattle.boss_outside_server.specs.declared.waiter.Woke.{Woke}
 use Rattle.boss_outside_server.specs.declared.waiter.Woke.TheVariants.{Again, Close}
 use Rattle.boss_outside_server.specs.Waits.{one_pause_more, CloseCause}
-use Rattle.def_lanes.specs.Waits.{paused}
+use Rattle.def_lanes.specs.Waits.{HasClosed, paused}
+use Rattle.def_connection.specs.Watching.{quiet_after, quiet_in, IsAwake}
 use Rattle.boss_watching.specs.declared.end.WatchEnd.{WatchEnd}
 use Rattle.boss_watching.specs.declared.end.WatchEnd.TheVariants.{Idle, Closed, WriteFault, ClockFault, Stopped, DiskFault, NoMemory}
-use Rattle.boss_watching.specs.Ends.{IdleCause, IsCut, Lasted}
+use Rattle.boss_watching.specs.Ends.{is_closed_end, IdleCause, IsCut, Lasted}
 use Rattle.boss_watching.specs.Notes.{GoesOn}
-use Rattle.boss_watching.specs.Turns.{quiet_after, quiet_in, pauses_in, IsAwake, Lasts, AddsTurn, AddsTold}
+use Rattle.boss_watching.specs.Turns.{pauses_in, Lasts, AddsTurn, AddsTold}
 
 -- ---- entries one after another
 
@@ -148,6 +149,16 @@ comes-less from next before now some small on =
     cond_both (nat_le from (before + 1)) (2 ^ 64 - from) (2 ^ 64) (λ n. to_come next now < n)
     (λ near. let more = on.more (grind (arith, nat_tests)) refl in omega (arith, later, more, small))
     (λ far. omega (arith, later, first, small))
+
+-- before its pause no turn is ended by one
+pub closed-cut : (end : WatchEnd) (before now : ℕ) → IsCut end → HasClosed false before now → HasClosed (is_closed_end end) before now
+closed-cut Idle before now cut stays = absurd cut
+closed-cut Closed before now cut stays = absurd cut
+closed-cut WriteFault before now cut stays = stays
+closed-cut ClockFault before now cut stays = stays
+closed-cut Stopped before now cut stays = stays
+closed-cut DiskFault before now cut stays = stays
+closed-cut NoMemory before now cut stays = stays
 
 -- a pause that did not say Close leaves the count of closes as it was
 pub not-closed : (woke : Woke) (before now : ℕ) → (woke ≡ Close → ⊥) → CloseCause before now woke → now ≡ before

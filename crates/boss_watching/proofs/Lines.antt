@@ -7,7 +7,7 @@ use Rattle.std.proofs.lemmas.List.{take-append-drop}
 use Rattle.boss_model.specs.declared.notice.Notice.{Notice}
 use Rattle.boss_outside.specs.Counts.{HasCause, Rose}
 use Rattle.boss_outside.specs.Streams.{TakesFront, Writes}
-use Rattle.boss_watching.specs.Notes.{is_some_list}
+use Rattle.def_connection.specs.Watching.{is_some_list}
 
 pub some-at : (ns : List Notice) (i : ℕ) → i < length ns → is_some_list ns ≡ true
 some-at [] i within = absurd (omega arith)

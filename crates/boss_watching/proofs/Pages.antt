@@ -17,7 +17,8 @@ use Rattle.def_history.specs.declared.entry.Entry.TheVariants.{Did}
 use Rattle.def_history.specs.History.{after_entry, run, IsEntryAt, IsLegal}
 use Rattle.def_history.proofs.Going.{run_append}
 use Rattle.def_history.proofs.Sound.{legal-sound}
-use Rattle.boss_watching.specs.Notes.{GoesOn, is_some_list, sent}
+use Rattle.def_connection.specs.Watching.{is_some_list}
+use Rattle.boss_watching.specs.Notes.{GoesOn, sent}
 use Rattle.boss_watching.proofs.Growing.{Grown, run-grows}
 use Rattle.boss_watching.proofs.Sent.{count_of, sent-grown, start-first, start-on, end-within}
 
@@ -111,7 +112,7 @@ only-page from before now (answer.Ticked at) is other = is
 only-page from before now (answer.Want point version value) is other = is
 only-page from before now answer.Nothing is other = is
 only-page from before now (answer.Noted current) is other = is
-only-page from before now (answer.Reading point value basis mark differed) is other = is
+only-page from before now (answer.Reading point value basis mark differed took) is other = is
 only-page from before now (answer.Array point slots) is other = is
 only-page from before now (answer.Status txn owner stage live pending) is other = is
 only-page from before now (answer.Points place most) is other = is

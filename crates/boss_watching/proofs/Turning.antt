@@ -10,9 +10,8 @@ use Rattle.def_history.specs.declared.entry.Entry.{Entry}
 use Rattle.def_history.specs.declared.entry.Entry.TheVariants.{Did}
 use Rattle.def_history.specs.History.{deeds}
 use Rattle.def_connection.specs.Talks.{Told, Standing}
-use Rattle.def_connection.specs.Watching.{next_from, Watched, Watches}
+use Rattle.def_connection.specs.Watching.{next_from, Watched, Watches, is_some_list}
 use Rattle.def_connection.proofs.WatchLemmas.{watches-nothing, watched-of}
-use Rattle.boss_watching.specs.Notes.{is_some_list}
 use Rattle.boss_watching.specs.Turns.{AddsTurn}
 
 told-nothing : (old new : List ℕ) (before now : ℕ) → new ≡ old → Told old new before now []

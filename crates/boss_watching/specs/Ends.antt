@@ -29,6 +29,11 @@ CloseCause pausing closed before now Idle = Unit {0}
 CloseCause pausing closed before now Closed = (pausing → closed ≡ true) × Rose before now
 CloseCause pausing closed before now other = now ≡ before
 
+-- a pause ended it, and said Close
+abbrev pub is_closed_end : WatchEnd → Bool
+is_closed_end Closed = true
+is_closed_end other = false
+
 -- so many turns in a row had no notice exactly where it says Idle; where nothing could be set up there was no turn
 abbrev pub IdleCause : ℕ → ℕ → WatchEnd → Type 0
 IdleCause idle quiet Idle = quiet ≡ idle

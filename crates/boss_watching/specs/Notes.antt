@@ -1,6 +1,6 @@
 -- Source: own.
 -- The notices that a process was sent, and those that an answer has.
-use Rattle.std.specs.Prelude.{◌≡◌, ℕ, ◌+◌, ◌≤◌, ◌<◌, Bool, true, false, List, [], ◌∷◌}
+use Rattle.std.specs.Prelude.{◌≡◌, ℕ, ◌+◌, ◌≤◌, ◌<◌, Bool, true, List, []}
 use Rattle.std.specs.List.{flat_map}
 use Rattle.std.specs.Option.{option_map_or}
 use Rattle.boss_model.specs.declared.answer.Answer.{Answer}
@@ -19,14 +19,6 @@ note_line catalogue notice = line_of (notice_text catalogue notice)
 abbrev pub notes : Catalogue → Answer → List ℕ
 notes catalogue (answer.Notices first next list) = flat_map (note_line catalogue) list
 notes catalogue other = []
-
-abbrev pub is_some_list : List Notice → Bool
-is_some_list [] = false
-is_some_list (notice ∷ notices) = true
-
-abbrev pub has_notices : Answer → Bool
-has_notices (answer.Notices first next list) = is_some_list list
-has_notices other = false
 
 -- how many the process of this name was sent, none where there is no such process
 abbrev pub sent : List ℕ → State → ℕ

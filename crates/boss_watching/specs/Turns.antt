@@ -1,29 +1,10 @@
 -- Source: own.
 -- Turns in a row without a notice, each of which pauses.
-use Rattle.std.specs.Prelude.{◌≡◌, ◌⊎◌, ℕ, ◌+◌, ◌<◌, Bool, true, false, if◌then◌else◌, List, [], ◌∷◌, ◌++◌}
+use Rattle.std.specs.Prelude.{◌≡◌, ◌⊎◌, ℕ, ◌+◌, Bool, true, if◌then◌else◌, List, [], ◌∷◌, ◌++◌}
 use Rattle.def_history.specs.declared.entry.Entry.{Entry}
-use Rattle.def_history.specs.declared.entry.Entry.TheVariants.{Did, Broke}
 use Rattle.def_history.specs.History.{deeds}
 use Rattle.def_lanes.specs.Waits.{paused}
-use Rattle.boss_watching.specs.Notes.{has_notices}
-
--- the turn of this entry had a notice
-abbrev pub has_told : Entry → Bool
-has_told (Did session command moment answer) = has_notices answer
-has_told (Broke session commands others) = false
-
--- how many turns in a row had none, after one more and after several
-abbrev pub quiet_after : ℕ → Entry → ℕ
-quiet_after quiet entry = if has_told entry then 0 else quiet + 1
-
-abbrev pub quiet_in : ℕ → List Entry → ℕ
-quiet_in quiet [] = quiet
-quiet_in quiet (entry ∷ entries) = quiet_in (quiet_after quiet entry) entries
-
--- before each turn fewer than `idle` in a row had none
-abbrev pub IsAwake : ℕ → ℕ → List Entry → Type 0
-IsAwake idle quiet [] = Unit {0}
-IsAwake idle quiet (entry ∷ entries) = (quiet < idle) × IsAwake idle (quiet_after quiet entry) entries
+use Rattle.def_connection.specs.Watching.{has_told, quiet_in, IsAwake}
 
 -- the pauses: one behind each turn that had none
 abbrev pub pauses_of : Entry → ℕ

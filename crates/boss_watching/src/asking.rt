@@ -9,7 +9,8 @@ ghost use Rattle.boss_lock.specs.Places.{entries_at};
 ghost use Rattle.def_history.specs.declared.entry.Entry.TheVariants.{Did};
 ghost use Rattle.def_history.specs.History.{deeds, run};
 ghost use Rattle.boss_watching.specs.Ends.{DiskCause, IsCall};
-ghost use Rattle.boss_watching.specs.Notes.{GoesOn, is_some_list, sent};
+ghost use Rattle.def_connection.specs.Watching.{is_some_list};
+ghost use Rattle.boss_watching.specs.Notes.{GoesOn, sent};
 
 use crate::WatchEnd;
 use boss_model::{Answer, Command, Items, MOST_TOLD, Name, Notice, SessionId};

@@ -4,7 +4,8 @@ ghost use Rattle.std.specs.List.{flat_map, AllByRecursion};
 ghost use Rattle.boss_model.specs.Tellable.{IsTellableNotice};
 ghost use Rattle.boss_outside.specs.Counts.{HasCause};
 ghost use Rattle.boss_outside.specs.Streams.{Writes};
-ghost use Rattle.boss_watching.specs.Notes.{is_some_list, note_line};
+ghost use Rattle.def_connection.specs.Watching.{is_some_list};
+ghost use Rattle.boss_watching.specs.Notes.{note_line};
 
 use boss_answers::write_notice;
 use boss_model::{Buffer, Notice};

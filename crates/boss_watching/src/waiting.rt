@@ -4,10 +4,10 @@ ghost use Rattle.boss_outside_server.specs.Pauses.{watch_pause};
 ghost use Rattle.boss_model.specs.Catalogue.{actuators};
 ghost use Rattle.boss_lock.specs.Places.{entries_at};
 ghost use Rattle.def_history.specs.History.{run};
-ghost use Rattle.def_lanes.specs.Waits.{PausedFor};
+ghost use Rattle.def_lanes.specs.Waits.{HasClosed, PausedFor};
 ghost use Rattle.def_connection.specs.Talks.{standing};
 ghost use Rattle.def_connection.specs.Watching.{Watched, Watches};
-ghost use Rattle.boss_watching.specs.Ends.{is_unanswered_end, ClockCause, CloseCause, DiskCause, HasCalled, Lasted, WriteCause};
+ghost use Rattle.boss_watching.specs.Ends.{is_closed_end, is_unanswered_end, ClockCause, CloseCause, DiskCause, HasCalled, Lasted, WriteCause};
 ghost use Rattle.boss_watching.specs.Notes.{GoesOn, notes, sent};
 ghost use Rattle.boss_watching.specs.Turns.{Lasts};
 
@@ -62,6 +62,7 @@ pub fn await_notices<G: Desk, K: Sink, C: Clock, W: Waiter>(
     ensures clock_cause { IfErr result (ClockCause (C.faults clock.old) (C.faults clock.new)) }
     ensures write_cause { IfErr result (WriteCause (K.faults sink.old) (K.faults sink.new)) }
     ensures disk_cause { IfErr result (DiskCause (G.seen pass.new)) }
+    ensures closes { W.tells → IfErr result (λ end. HasClosed (is_closed_end end) (W.waited waiter.old).closes (W.waited waiter.new).closes) }
     ensures close_cause { IfErr result (CloseCause W.tells (W.waited waiter.new).closed (W.closes waiter.old) (W.closes waiter.new)) }
 {
     let mut next = from;

@@ -2,10 +2,10 @@ ghost use Rattle.std.specs.Prelude.{◌≡◌, ◌≤◌, false};
 ghost use Rattle.boss_model.specs.Catalogue.{actuators};
 ghost use Rattle.boss_outside_server.specs.Pauses.{watch_idle, watch_pause};
 ghost use Rattle.boss_lock.specs.Places.{entries_at};
-ghost use Rattle.def_lanes.specs.Waits.{PausedFor};
+ghost use Rattle.def_lanes.specs.Waits.{HasClosed, PausedFor};
 ghost use Rattle.def_connection.specs.Talks.{standing};
 ghost use Rattle.def_connection.specs.Watching.{Watched};
-ghost use Rattle.boss_watching.specs.Ends.{is_unanswered_end, ClockCause, CloseCause, DiskCause, HasCalled, Lasted, WriteCause};
+ghost use Rattle.boss_watching.specs.Ends.{is_closed_end, is_unanswered_end, ClockCause, CloseCause, DiskCause, HasCalled, Lasted, WriteCause};
 ghost use Rattle.boss_watching.specs.Notes.{notes};
 
 use crate::WatchEnd;
@@ -50,6 +50,7 @@ pub fn watch_connection<G: Desk, K: Sink, C: Clock, W: Waiter>(
     ensures write { WriteCause (K.faults sink.old) (K.faults sink.new) result }
     ensures disk { DiskCause (G.seen pass.new) result }
     ensures close { CloseCause W.tells (W.waited waiter.new).closed (W.closes waiter.old) (W.closes waiter.new) result }
+    ensures closes { W.tells → HasClosed (is_closed_end result) (W.waited waiter.old).closes (W.waited waiter.new).closes }
 {
     let Ok(mut text) = Buffer::new(alloc, ANSWER_ROOM) else {
         return WatchEnd::NoMemory;

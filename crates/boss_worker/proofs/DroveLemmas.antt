@@ -1,6 +1,7 @@
 -- What the worker of a driver did, whether it kept minimum times or not.
 use Rattle.std.proofs.Common.{◌≡◌, ℕ, ◌+◌, ◌≤◌, Bool, true, false, List, [], ◌∷◌, ◌++◌, length, length-append, ap, sym, ◌∙◌, subst, arith}
 use Rattle.boss_model.specs.Catalogue.{actuators, Catalogue}
+use Rattle.boss_model.specs.declared.state.Actuator.{Actuator}
 use Rattle.boss_model.specs.DeviceCall.{DeviceCall}
 use Rattle.boss_model.specs.State.{State}
 use Rattle.def_history.specs.declared.entry.Entry.{Entry}
@@ -22,7 +23,7 @@ use Rattle.def_guards.specs.Turns.{Turn as GuardTurn, after_turn, after_turns}
 use Rattle.boss_guard.specs.declared.end.GuardEnd.{GuardEnd}
 use Rattle.boss_guard.specs.declared.end.GuardEnd.TheVariants as guard
 use Rattle.boss_guard.specs.Guarding.{cut_of_guard, Guarded, GuardCause, GuardClock, Turned, start}
-use Rattle.boss_guard.specs.Making.{made_by_acts, made_in_turns, left_by as left_by_guard}
+use Rattle.boss_guard.specs.Making.{doubts, made_by_acts, made_in_turns, left_by as left_by_guard}
 use Rattle.boss_guard.proofs.LaneOfGuards.{guarded_adds}
 use Rattle.boss_worker.specs.declared.trouble.Trouble.TheVariants.{Disk, Memory}
 use Rattle.boss_worker.specs.Drove.{Drove, WasTold}
@@ -35,11 +36,11 @@ use Rattle.boss_worker.proofs.EndedLemmas.{told-to-end, turns-long}
 
 module _ (catalogue : Catalogue) (opening : State) (seen : List Entry) (mine : List ℕ) (driver : ℕ) (clocking recording : Type 0) (old new : Stand) (pausing : Type 0) (pauses pauses' most : ℕ)
     (pass : IsPassOf (actuators catalogue) opening seen mine) (own : new.own ≡ entries_at seen mine) (fresh : pausing → pauses ≡ 0) where
-  pub drove-plain : (end : WorkEnd) → is_guarded catalogue driver ≡ false → Driven driver clocking recording old new pausing pauses pauses' most end →
+  pub drove-plain : (end : WorkEnd) → is_guarded catalogue driver ≡ false → Driven (actuators catalogue) driver clocking recording old new pausing pauses pauses' most end →
       Drove catalogue driver clocking recording old new pausing pauses' (trouble_of_work end)
   drove-plain end is driven =
       let calls : List DeviceCall = (made_by driver driven.turns (left_by driver end driven.last)).calls in
-      let course : Course = record { moments = (made_by driver driven.turns (left_by driver end driven.last)).moments; cut = cut_of end } in record {
+      let course : Course = record { moments = (made_by driver driven.turns (left_by driver end driven.last)).moments; cut = cut_of end; closed = false } in record {
         calls = calls;
         course = course;
         cut_is = cut-worked end;
@@ -48,14 +49,14 @@ module _ (catalogue : Catalogue) (opening : State) (seen : List Entry) (mine : L
         wrote = driven.made.wrote;
       }
 
-  pub drove-guarded : (end : GuardEnd) → is_guarded catalogue driver ≡ true → Guarded driver (guards_of catalogue) clocking recording old new pausing pauses pauses' most end →
+  pub drove-guarded : (end : GuardEnd) → is_guarded catalogue driver ≡ true → Guarded (actuators catalogue) driver (guards_of catalogue) clocking recording old new pausing pauses pauses' most end →
       Drove catalogue driver clocking recording old new pausing pauses' (trouble_of_guard end)
   drove-guarded end is guarded =
       let adds = guarded_adds catalogue opening seen mine driver clocking recording pausing old new pauses pauses' pass own fresh most end guarded in record {
         calls = adds.0;
-        course = record { moments = adds.1; cut = cut_of_guard end };
+        course = record { moments = adds.1; cut = cut_of_guard end; closed = false };
         cut_is = cut-guarded end;
-        added = subst (λ kept. Added (actuators catalogue) (of_driver driver) (IsDriven kept catalogue driver adds.0 pausing pauses' (record { moments = adds.1; cut = cut_of_guard end })) clocking adds.1 old.own new.own old.given new.given) (sym is) adds.2;
+        added = subst (λ kept. Added (actuators catalogue) (of_driver driver) (IsDriven kept catalogue driver adds.0 pausing pauses' (record { moments = adds.1; cut = cut_of_guard end; closed = false })) clocking adds.1 old.own new.own old.given new.given) (sym is) adds.2;
         wrote = adds.3;
       }
 
@@ -75,7 +76,7 @@ broken-guarded guard.NoMemory seen pausing closed before now cause is = absurd (
 guard-turns-long : (driver : ℕ) (turns : List GuardTurn) (watch : Watch) → length turns ≤ length (deeds (made_in_turns driver watch turns).entries)
 guard-turns-long driver [] watch = omega arith
 guard-turns-long driver (turn ∷ turns) watch =
-    let acts : List Entry = (made_by_acts turn.acts).entries in
+    let acts : List Entry = (made_by_acts turn.acts).entries ++ doubts (after_turn turn watch).now turn.doubt in
     let rest : List Entry = (made_in_turns driver (after_turn turn watch) turns).entries in
     let more : length turns ≤ length (deeds rest) = guard-turns-long driver turns (after_turn turn watch) in
     let all : length (deeds (acts ++ rest)) ≡ length (deeds acts) + length (deeds rest) = ap length (deeds-append acts rest) ∙ length-append (deeds acts) (deeds rest) in
@@ -85,8 +86,8 @@ guard-turns-long driver (turn ∷ turns) watch =
 all-new : (own own' more : List Entry) → own' ≡ own ++ more → deeds own ≡ [] → deeds own' ≡ deeds more
 all-new own own' more grew empty = ap deeds grew ∙ deeds-append own more ∙ ap (λ front. front ++ deeds more) empty
 
-module _ (driver : ℕ) (clocking recording : Type 0) (old new : Stand) (pausing : Type 0) (pauses pauses' most : ℕ) (seen : List Entry) (closed : Bool) (before now : ℕ) where
-  pub told-plain : (end : WorkEnd) → Driven driver clocking recording old new pausing pauses pauses' most end → EndCause seen pausing closed before now end →
+module _ (plant : List Actuator) (driver : ℕ) (clocking recording : Type 0) (old new : Stand) (pausing : Type 0) (pauses pauses' most : ℕ) (seen : List Entry) (closed : Bool) (before now : ℕ) where
+  pub told-plain : (end : WorkEnd) → Driven plant driver clocking recording old new pausing pauses pauses' most end → EndCause seen pausing closed before now end →
       WasTold old.own new.own pausing closed most (trouble_of_work end)
   told-plain end driven cause empty enough uncut told few =
       let made = made_by driver driven.turns (left_by driver end driven.last) in
@@ -95,7 +96,7 @@ module _ (driver : ℕ) (clocking recording : Type 0) (old new : Stand) (pausing
       told-to-end end (length driven.turns) most (length (deeds new.own)) seen pausing closed before now enough driven.taken cause
       (subst (λ done. length driven.turns ≤ length done) (sym all) long) uncut told few
 
-  told-turned : (guards : List Guard) (end : WorkEnd) → Turned driver guards clocking recording old new pausing pauses pauses' most end → EndCause seen pausing closed before now end →
+  told-turned : (guards : List Guard) (end : WorkEnd) → Turned plant driver guards clocking recording old new pausing pauses pauses' most end → EndCause seen pausing closed before now end →
       WasTold old.own new.own pausing closed most (trouble_of_work end)
   told-turned guards end turned cause empty enough uncut told few =
       let whole : List Entry = (made_in_turns driver (start guards) turned.turns).entries in
@@ -107,7 +108,7 @@ module _ (driver : ℕ) (clocking recording : Type 0) (old new : Stand) (pausing
       told-to-end end (length turned.turns) most (length (deeds new.own)) seen pausing closed before now enough turned.taken cause
       (subst (λ done. length turned.turns ≤ length done) (sym all) long) uncut told few
 
-  pub told-guarded : (guards : List Guard) (end : GuardEnd) → Guarded driver guards clocking recording old new pausing pauses pauses' most end → GuardCause seen pausing closed before now end →
+  pub told-guarded : (guards : List Guard) (end : GuardEnd) → Guarded plant driver guards clocking recording old new pausing pauses pauses' most end → GuardCause seen pausing closed before now end →
       WasTold old.own new.own pausing closed most (trouble_of_guard end)
   told-guarded guards (guard.Worked end) guarded cause empty enough uncut told few = told-turned guards end guarded cause empty enough uncut told few
   told-guarded guards guard.NoMemory guarded cause empty enough uncut told few = absurd (let no : by_memory ≡ not_cut = uncut in cc)

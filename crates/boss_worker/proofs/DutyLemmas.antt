@@ -1,5 +1,5 @@
 -- What a worker left that let time pass, or drove devices.
-use Rattle.std.proofs.Common.{◌≡◌, ℕ, suc, ◌+◌, ◌<◌, ◌≤◌, Bool, true, List, [], ◌∷◌, ◌++◌, length, refl, ap, sym, ◌∙◌, subst, arith}
+use Rattle.std.proofs.Common.{◌≡◌, ℕ, suc, ◌+◌, ◌<◌, ◌≤◌, Bool, true, false, List, [], ◌∷◌, ◌++◌, length, refl, ap, sym, ◌∙◌, subst, arith}
 use Rattle.std.specs.List.{AllByRecursion}
 use Rattle.boss_model.specs.Catalogue.{actuators, Catalogue}
 use Rattle.boss_model.specs.declared.command.Command.TheVariants.{Tick}
@@ -55,7 +55,7 @@ module _ (catalogue : Catalogue) (gates : List Gate) (workers number : ℕ) (hee
       (course : Course) × (course.cut ≡ cut_of end) × Left true (terms_of catalogue gates workers heeds tells hosting clocking pausing) number 0 (beat waited course ∷ []) own' seen [] [] [] given' 0 0 misses' (flags_after (trouble_of_work end) flags)
   left-time owned expired =
       let adds = expired-added (actuators catalogue) clocking pausing own own' given given' pauses waited.pauses most end expired no_pause in
-      let course : Course = record { moments = adds.0; cut = cut_of end } in (
+      let course : Course = record { moments = adds.0; cut = cut_of end; closed = false } in (
         course,
         refl,
         left-one (terms_of catalogue gates workers heeds tells hosting clocking pausing) number (beat waited course) own own' seen given given' misses misses' flags (trouble_of_work end)
@@ -84,7 +84,7 @@ module _ (plant : List Actuator) (clocking pausing : Type 0) (own own' seen : Li
   pub time-ended : Expired own own' clocking given given' pausing pauses pauses' most end → length (done_in plant of_time own') < last_number → cut_of end ≡ not_cut → closed ≡ true
   time-ended expired few uncut =
       let adds = expired-added plant clocking pausing own own' given given' pauses pauses' most end expired no_pause in
-      let whole = lane-whole plant of_time (IsBeatOf pausing pauses' (record { moments = adds.0; cut = cut_of end })) clocking adds.0 own own' given given' adds.1 (ap deeds empty) in
+      let whole = lane-whole plant of_time (IsBeatOf pausing pauses' (record { moments = adds.0; cut = cut_of end; closed = false })) clocking adds.0 own own' given given' adds.1 (ap deeds empty) in
       let all : own' ≡ ticks expired.turns ++ mark Tick expired.last end = expired.entries ∙ ap (λ front. front ++ (ticks expired.turns ++ mark Tick expired.last end)) empty in
       let long : length expired.turns ≤ length (deeds own') = rw all (ticks-long expired.turns (mark Tick expired.last end)) in
       told-to-end end (length expired.turns) most (length (deeds own')) seen pausing closed before now enough expired.taken cause long (sym (cut-worked end) ∙ uncut) told (let same = ap length whole in omega (arith, same))

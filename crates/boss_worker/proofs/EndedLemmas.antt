@@ -16,7 +16,7 @@ use Rattle.boss_expiry.specs.declared.end.WorkEnd.{WorkEnd}
 use Rattle.boss_expiry.specs.declared.end.WorkEnd.TheVariants as work
 use Rattle.boss_expiry.specs.Ends.{EndCause, TookTurns}
 use Rattle.boss_expiry.specs.Ticking.{ticks}
-use Rattle.boss_drive.specs.Driving.{Turn, idle, served, Made, made_by}
+use Rattle.boss_drive.specs.Driving.{Turn, idle, doubted, served, Made, made_by}
 use Rattle.boss_worker.specs.Ended.{is_worked, HasEnded, AreEnded}
 use Rattle.boss_worker.specs.Troubles.{cut_by, trouble_of_work}
 
@@ -53,6 +53,7 @@ ticks-long (turn ∷ turns) rest = let more = ticks-long turns rest in omega (ar
 pub turns-long : (driver : ℕ) (turns : List Turn) (last : Made) → length turns ≤ length (deeds (made_by driver turns last).entries)
 turns-long driver [] last = omega arith
 turns-long driver (idle moment ∷ turns) last = let more = turns-long driver turns last in omega (arith, more)
+turns-long driver (doubted moment point differs answer ∷ turns) last = let more = turns-long driver turns last in omega (arith, more)
 turns-long driver (served w told answer ∷ turns) last = let more = turns-long driver turns last in omega (arith, more)
 
 -- where nothing cut it off and there were fewer than all turns, a pause said so

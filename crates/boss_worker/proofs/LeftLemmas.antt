@@ -36,27 +36,27 @@ module _ (terms : Terms) (number : ℕ) where
   }
 
   pub so-far-more : (works : List Work) (own own' : List Entry) (served served' served'' : List Served) (given given' given'' : List ℕ) (handed handed' next later : ℕ) (flags : Flags)
-      (trouble : Trouble) (one : Served) (moments : List ℕ) → SoFar terms number works own served served' given given' handed next flags →
-      Added terms.plant (of_session one.session) (terms.says (visit one (course_by moments trouble))) terms.clocking moments own own' given' given'' →
+      (trouble : Trouble) (one : Served) (moments : List ℕ) (closed : Bool) → SoFar terms number works own served served' given given' handed next flags →
+      Added terms.plant (of_session one.session) (terms.says (visit one (course_by moments trouble closed))) terms.clocking moments own own' given' given'' →
       (terms.hosting → served'' ≡ served' ++ one ∷ []) → one.session ≡ next → number < terms.workers → handed' ≡ handed + 1 → later ≡ next + terms.workers →
-      SoFar terms number (works ++ visit one (course_by moments trouble) ∷ []) own' served served'' given given'' handed' later (flags_after trouble flags)
-  so-far-more works own own' served served' served'' given given' given'' handed handed' next later flags trouble one moments so_far added back is low one_more further =
-      let owned = owner-session terms.workers number handed one (course_by moments trouble) low (is ∙ so_far.next_is) in
-      let grown : length (served_in (works ++ visit one (course_by moments trouble) ∷ [])) ≡ length (served_in works) + 1 =
-      ap length (served_in-append works (visit one (course_by moments trouble) ∷ [])) ∙ length-append (served_in works) (one ∷ []) in
-      let all : sessions_in (works ++ visit one (course_by moments trouble) ∷ []) ≡ sessions_in works ++ one.session ∷ [] =
-      ap (map (λ (served : Served). served.session)) (served_in-append works (visit one (course_by moments trouble) ∷ []))
+      SoFar terms number (works ++ visit one (course_by moments trouble closed) ∷ []) own' served served'' given given'' handed' later (flags_after trouble flags)
+  so-far-more works own own' served served' served'' given given' given'' handed handed' next later flags trouble one moments closed so_far added back is low one_more further =
+      let owned = owner-session terms.workers number handed one (course_by moments trouble closed) low (is ∙ so_far.next_is) in
+      let grown : length (served_in (works ++ visit one (course_by moments trouble closed) ∷ [])) ≡ length (served_in works) + 1 =
+      ap length (served_in-append works (visit one (course_by moments trouble closed) ∷ [])) ∙ length-append (served_in works) (one ∷ []) in
+      let all : sessions_in (works ++ visit one (course_by moments trouble closed) ∷ []) ≡ sessions_in works ++ one.session ∷ [] =
+      ap (map (λ (served : Served). served.session)) (served_in-append works (visit one (course_by moments trouble closed) ∷ []))
       ∙ map-append (λ (served : Served). served.session) (served_in works) (one ∷ []) in
       let many : length (sessions_in works) ≡ handed = length-map (served_in works) (λ (served : Served). served.session) ∙ so_far.each in
       record {
-        part = part-more terms number (suc number) works (visit one (course_by moments trouble)) own own' served served' served'' given given' given'' so_far.part added
+        part = part-more terms number (suc number) works (visit one (course_by moments trouble closed)) own own' served served' served'' given given' given'' so_far.part added
             (omega (arith, owned)) (omega (arith, owned)) (subst (λ s. AllByRecursion (λ work. ¬ (lane_of_work work ≡ of_session s)) works) (sym is) (before-absent next works so_far.before)) back;
         each = omega (arith, grown, so_far.each, one_more);
         next_is = next-turn (so_far.next_is);
         numbered = subst (GoBySteps terms.workers (1 + number)) (sym all) (steps-more terms.workers (1 + number) (sessions_in works) one.session so_far.numbered
             (is ∙ so_far.next_is ∙ ap (λ n. 1 + number + terms.workers * n) (sym many)));
-        before = before-more next later works one (course_by moments trouble) so_far.before is (omega (arith, further, low));
-        flagged = each-append (IsFlagged (flags_after trouble flags)) works (visit one (course_by moments trouble) ∷ []) (flagged-after trouble flags works so_far.flagged) (marked-after trouble flags, tt);
+        before = before-more next later works one (course_by moments trouble closed) so_far.before is (omega (arith, further, low));
+        flagged = each-append (IsFlagged (flags_after trouble flags)) works (visit one (course_by moments trouble closed) ∷ []) (flagged-after trouble flags works so_far.flagged) (marked-after trouble flags, tt);
       }
     where
       next-turn : next ≡ 1 + number + terms.workers * handed → later ≡ 1 + number + terms.workers * handed'

@@ -1,6 +1,6 @@
 -- What a connection added, by how it was served, or watched.
-use Rattle.std.proofs.Common.{◌≡◌, inl, inr, ℕ, ◌<◌, Bool, false, List, [], ◌++◌, length, Option, Some, refl, ap, sym, ◌∙◌, subst, arith}
-use Rattle.std.proofs.lemmas.List.{append-nil}
+use Rattle.std.proofs.Common.{◌≡◌, ◌⊎◌, inl, inr, ℕ, ◌<◌, lit<, Bool, true, false, List, [], ◌++◌, length, Option, Some, refl, ap, sym, ◌∙◌, subst, arith}
+use Rattle.std.proofs.lemmas.List.{append_cancel_left, append-nil}
 use Rattle.boss_model.specs.declared.answer.Answer.{Answer}
 use Rattle.boss_model.specs.Catalogue.{actuators, Catalogue}
 use Rattle.def_history.specs.declared.entry.Entry.{Entry}
@@ -13,12 +13,13 @@ use Rattle.boss_outside.specs.declared.source.ReadAt.{ReadAt}
 use Rattle.boss_outside.specs.Notes.{AllRead, IsUnread}
 use Rattle.boss_outside.proofs.Noting.{notes-all}
 use Rattle.boss_outside_server.specs.Hosts.{Served}
+use Rattle.boss_outside_server.specs.Pauses.{watch_idle}
 use Rattle.def_connection.specs.Answered.{IsAnswered}
 use Rattle.def_connection.specs.Speech.{Speech, Exchange}
 use Rattle.def_connection.specs.Losing.{spoken_of, Lost}
 use Rattle.def_connection.specs.Stopping.{Stop, watching}
 use Rattle.def_connection.specs.Talks.{Told, standing, Exchanged, Talked, IsEnded, IsTalkOf}
-use Rattle.def_connection.specs.Watching.{notes_in, is_unanswered, Watched, Noticed, IsWatchOf}
+use Rattle.def_connection.specs.Watching.{notes_in, is_unanswered, quiet_in, EndsWatch, IsAwake, Watched, Noticed, IsWatchOf}
 use Rattle.def_connection.proofs.OfSession.{talk-says, talk-silent, watch-added, watch-line}
 use Rattle.boss_shared.specs.Gates.{Gate}
 use Rattle.boss_sessions.specs.Speaking.{speech_of}
@@ -29,7 +30,7 @@ use Rattle.boss_sessions.specs.Ends.{cut_of, is_stop_end, is_watch, ReadCause, W
 use Rattle.boss_sessions.proofs.EndedLemmas.{has-ended, watch-stop}
 use Rattle.boss_watching.specs.declared.end.WatchEnd.{WatchEnd}
 use Rattle.boss_watching.specs.declared.end.WatchEnd.TheVariants as watch
-use Rattle.boss_watching.specs.Ends.{is_unanswered_end, HasCalled}
+use Rattle.boss_watching.specs.Ends.{is_closed_end, is_unanswered_end, HasCalled, IdleCause, Lasted, WriteCause as WroteOf}
 use Rattle.boss_watching.specs.Notes.{notes}
 use Rattle.boss_worker.specs.declared.trouble.Trouble.{Trouble}
 use Rattle.boss_worker.specs.Saying.{IsVisit}
@@ -87,6 +88,27 @@ called-longer idle old new watch.Stopped some called whole = absurd (let no : by
 called-longer idle old new watch.DiskFault some called whole = absurd (let no : by_disk ≡ not_cut = whole in cc)
 called-longer idle old new watch.NoMemory some called whole = absurd (let no : by_memory ≡ not_cut = whole in cc)
 
+-- why a watch ended that took these turns
+watch-ends : (mid own' more : List Entry) (pausing : Type 0) (pauses pauses' before faults : ℕ) (end : WatchEnd) → before ≡ 0 → deeds own' ≡ deeds mid ++ more →
+    Lasted watch_idle mid own' pausing pauses pauses' end → WroteOf before faults end → EndsWatch (cut_by (trouble_of_watch end)) (is_closed_end end) faults more
+watch-ends mid own' more pausing pauses pauses' before faults end none grew lasted wrote = record {
+  awake = subst (IsAwake watch_idle 0) same lasted.lasts.awake;
+  why = by end lasted.is_idle wrote;
+}
+  where
+    same : lasted.lasts.more ≡ more
+    same = append_cancel_left (deeds mid) lasted.lasts.more more (sym lasted.lasts.grew ∙ grew)
+
+    by : (end : WatchEnd) → IdleCause watch_idle lasted.quiet end → WroteOf before faults end → cut_by (trouble_of_watch end) ≡ not_cut →
+        (quiet_in 0 more ≡ watch_idle) ⊎ (0 < faults) ⊎ (is_closed_end end ≡ true)
+    by watch.Idle idle wrote uncut = inl (ap (quiet_in 0) (sym same) ∙ sym lasted.lasts.counted ∙ idle)
+    by watch.Closed idle wrote uncut = inr (inr refl)
+    by watch.WriteFault idle wrote uncut = inr (inl (omega (arith, wrote, none)))
+    by watch.ClockFault idle wrote uncut = absurd (let no : by_clock ≡ not_cut = uncut in cc)
+    by watch.Stopped idle wrote uncut = absurd (let no : by_disk ≡ not_cut = uncut in cc)
+    by watch.DiskFault idle wrote uncut = absurd (let no : by_disk ≡ not_cut = uncut in cc)
+    by watch.NoMemory idle wrote uncut = absurd (let no : by_memory ≡ not_cut = uncut in cc)
+
 longer-some : (old new more : List Entry) → new ≡ old ++ more → length old < length new → ¬ (more ≡ [])
 longer-some old new more grew longer none = let same : length new ≡ length old = ap length (grew ∙ ap (λ rest. old ++ rest) none ∙ append-nil old) in omega (arith, same)
 
@@ -97,11 +119,11 @@ module _ (catalogue : Catalogue) (gates : List Gate) (heeds tells ticks : Type 0
       (connected : Connected (speech_of catalogue gates) served.session heeds tells ticks bytes served.left begun served.reads
       (standing own before count given false 0) (standing own' served.taken served.write_faults given' false 0) end) →
       reads ≡ 0 → ReadCause reads served.read_faults (Some end) → WriteCause count served.write_faults (Some end) → is_watch end ≡ false →
-      Added (actuators catalogue) (of_session served.session) (λ entries. heeds → IsVisit catalogue gates tells served (course_by connected.talked.moments (trouble_of end)) entries) ticks connected.talked.moments own own' given given'
+      Added (actuators catalogue) (of_session served.session) (λ entries. heeds → IsVisit catalogue gates tells served (course_by connected.talked.moments (trouble_of end) false) entries) ticks connected.talked.moments own own' given given'
   talk-visit begun reads end unheard connected unread read write watched =
       talk-says (actuators catalogue) (speech_of catalogue gates) served.session tells ticks some (spoken_of connected.taken) connected.stop (is_stop_end end)
       (standing own before count given false 0) (standing own' served.taken served.write_faults given' false 0) connected.talked
-      (λ entries. heeds → IsVisit catalogue gates tells served (course_by connected.talked.moments (trouble_of end)) entries) (λ told. inl (talk-of told))
+      (λ entries. heeds → IsVisit catalogue gates tells served (course_by connected.talked.moments (trouble_of end) false) entries) (λ told. inl (talk-of told))
     where
       answered : heeds → tells → AllRead (IsAnswered (speech_of catalogue gates) served.held 0 connected.talked.exchanged.talk) served.reads
       answered told now =
@@ -109,7 +131,7 @@ module _ (catalogue : Catalogue) (gates : List Gate) (heeds tells ticks : Type 0
           (subst (λ n. AllRead (IsAnswered (speech_of catalogue gates) bytes n connected.talked.exchanged.talk) served.reads) (ap length empty)
           (notes-all (IsAnswered (speech_of catalogue gates) bytes (length before) connected.talked.exchanged.talk) begun served.reads unheard (connected.answered told now)))
 
-      talk-of : heeds → IsTalkOf (speech_of catalogue gates) tells served (course_by connected.talked.moments (trouble_of end)) connected.talked.more
+      talk-of : heeds → IsTalkOf (speech_of catalogue gates) tells served (course_by connected.talked.moments (trouble_of end) false) connected.talked.more
       talk-of told =
           let lost : Lost served.held served.left connected.taken connected.stop =
           subst (λ b. Lost b served.left connected.taken connected.stop) (sym (held told)) (connected.lost told) in
@@ -138,19 +160,19 @@ module _ (catalogue : Catalogue) (gates : List Gate) (heeds tells ticks : Type 0
       × (talked.moments ≡ connected.talked.moments)) (watch-stop name from connected.stop (connected.end_is refl)) (connected.talked, refl)
 
   -- a connection whose first line asked to watch, and which then did
-  pub watch-visit : (begun reads : Option (List ReadAt)) (mid : List Entry) (between : List ℕ) (counted : ℕ) (gave : List ℕ) (name : List ℕ) (from idle : ℕ) (end : WatchEnd) →
+  pub watch-visit : (begun reads : Option (List ReadAt)) (mid : List Entry) (between : List ℕ) (counted : ℕ) (gave : List ℕ) (name : List ℕ) (from : ℕ) (end : WatchEnd) (pausing : Type 0) (pauses pauses' : ℕ) →
       (connected : Connected (speech_of catalogue gates) served.session heeds tells ticks bytes served.left begun reads (standing own before count given false 0) (standing mid between counted gave false 0) (session.Watch name from)) →
       counted ≡ count → (watched : Watched (notes catalogue) served.session name tells ticks (is_unanswered_end end) from (standing mid between counted gave false 0) (standing own' served.taken served.write_faults given' false 0)) →
-      0 < idle → HasCalled idle mid own' end →
-      Added (actuators catalogue) (of_session served.session) (λ entries. heeds → IsVisit catalogue gates tells served (course_by watched.moments (trouble_of_watch end)) entries) ticks watched.moments own own' given given'
-  watch-visit begun reads mid between counted gave name from idle end connected calm watched some_turns called =
+      HasCalled watch_idle mid own' end → Lasted watch_idle mid own' pausing pauses pauses' end → WroteOf counted served.write_faults end →
+      Added (actuators catalogue) (of_session served.session) (λ entries. heeds → IsVisit catalogue gates tells served (course_by watched.moments (trouble_of_watch end) (is_closed_end end)) entries) ticks watched.moments own own' given given'
+  watch-visit begun reads mid between counted gave name from end pausing pauses pauses' connected calm watched called lasted wrote =
       let silent = talk-silent (speech_of catalogue gates) served.session tells ticks (spoken_of connected.taken) name from false (standing own before count given false 0)
       (standing mid between counted gave false 0) (talked-watch begun reads mid between counted gave name from connected).0 in
-      subst (λ moments. Added (actuators catalogue) (of_session served.session) (λ entries. heeds → IsVisit catalogue gates tells served (course_by watched.moments (trouble_of_watch end)) entries) ticks moments own own' given given')
+      subst (λ moments. Added (actuators catalogue) (of_session served.session) (λ entries. heeds → IsVisit catalogue gates tells served (course_by watched.moments (trouble_of_watch end) (is_closed_end end)) entries) ticks moments own own' given given')
       (ap (λ none. none ++ watched.moments) (sym (talked-watch begun reads mid between counted gave name from connected).1 ∙ silent.2))
       (added-then (actuators catalogue) (of_session served.session) ticks connected.talked.moments watched.moments (λ entries. entries ≡ [])
       (λ more. (deeds own' ≡ deeds mid ++ more) × Noticed (notes catalogue) served.session name tells (is_unanswered_end end) from between served.taken counted served.write_faults more watched.moments)
-      (λ entries. heeds → IsVisit catalogue gates tells served (course_by watched.moments (trouble_of_watch end)) entries)
+      (λ entries. heeds → IsVisit catalogue gates tells served (course_by watched.moments (trouble_of_watch end) (is_closed_end end)) entries)
       (λ none more nothing said told. inr (watch-of silent.1 (none ++ more) more (ap (λ front. front ++ more) nothing) said.0 said.1 told))
       own mid own' given gave given'
       (added-nothing (actuators catalogue) (of_session served.session) ticks (λ entries. entries ≡ []) own mid given gave connected.talked.moments silent.0 refl connected.talked.gave)
@@ -159,7 +181,7 @@ module _ (catalogue : Catalogue) (gates : List Gate) (heeds tells ticks : Type 0
     where
       watch-of : (tells → between ≡ before) → (all more : List Entry) → all ≡ more → deeds own' ≡ deeds mid ++ more →
           Noticed (notes catalogue) served.session name tells (is_unanswered_end end) from between served.taken counted served.write_faults more watched.moments → heeds →
-          IsWatchOf (speech_of catalogue gates) (notes catalogue) tells served (course_by watched.moments (trouble_of_watch end)) all
+          IsWatchOf (speech_of catalogue gates) (notes catalogue) tells served (course_by watched.moments (trouble_of_watch end) (is_closed_end end)) all
       watch-of same all more is grew noticed told =
           let is_watching = watch-stop name from connected.stop (connected.end_is refl) in
           let lost : Lost served.held served.left connected.taken (watching name from) =
@@ -173,7 +195,8 @@ module _ (catalogue : Catalogue) (gates : List Gate) (heeds tells ticks : Type 0
             line = first.0;
             lines = first.1;
             asked = first.2;
-            some = λ whole none. longer-some (deeds mid) (deeds own') more grew (called-longer idle mid own' end some_turns called whole) (sym is ∙ none);
+            some = λ whole none. longer-some (deeds mid) (deeds own') more grew (called-longer watch_idle mid own' end (lit< tt) called whole) (sym is ∙ none);
+            ends = watch-ends mid own' all pausing pauses pauses' counted served.write_faults end (calm ∙ quiet) (grew ∙ ap (λ back. deeds mid ++ back) (sym is)) lasted wrote;
             noticed = subst (λ entries. Noticed (notes catalogue) served.session name tells (is_unanswered (cut_by (trouble_of_watch end))) from [] served.taken 0 served.write_faults entries watched.moments) (sym is)
                 (subst (λ un. Noticed (notes catalogue) served.session name tells un from [] served.taken 0 served.write_faults more watched.moments) (unanswered-trouble end)
                 (noticed-fresh (notes catalogue) served.session name tells (is_unanswered_end end) from between served.taken counted served.write_faults more watched.moments (λ t. same t ∙ empty) (calm ∙ quiet) noticed));
@@ -193,9 +216,9 @@ module _ (catalogue : Catalogue) (gates : List Gate) (heeds tells ticks : Type 0
       }
 
 -- what a connection added was called at moments that the clock gave for it
-pub visit-timed : (catalogue : Catalogue) (gates : List Gate) (heeds tells ticks : Type 0) (served : Served) (trouble : Trouble) (moments : List ℕ) (own own' : List Entry) (given given' : List ℕ) →
-    Added (actuators catalogue) (of_session served.session) (λ entries. heeds → IsVisit catalogue gates tells served (course_by moments trouble) entries) ticks moments own own' given given' →
-    Added (actuators catalogue) (of_session served.session) (λ entries. AreTimed moments entries × (heeds → IsVisit catalogue gates tells served (course_by moments trouble) entries)) ticks moments own own' given given'
-visit-timed catalogue gates heeds tells ticks served trouble moments own own' given given' added =
-    added-says (actuators catalogue) (of_session served.session) ticks moments (λ entries. heeds → IsVisit catalogue gates tells served (course_by moments trouble) entries)
-    (λ entries. AreTimed moments entries × (heeds → IsVisit catalogue gates tells served (course_by moments trouble) entries)) (λ more timed said. (timed, said)) own own' given given' added
+pub visit-timed : (catalogue : Catalogue) (gates : List Gate) (heeds tells ticks : Type 0) (served : Served) (trouble : Trouble) (closed : Bool) (moments : List ℕ) (own own' : List Entry) (given given' : List ℕ) →
+    Added (actuators catalogue) (of_session served.session) (λ entries. heeds → IsVisit catalogue gates tells served (course_by moments trouble closed) entries) ticks moments own own' given given' →
+    Added (actuators catalogue) (of_session served.session) (λ entries. AreTimed moments entries × (heeds → IsVisit catalogue gates tells served (course_by moments trouble closed) entries)) ticks moments own own' given given'
+visit-timed catalogue gates heeds tells ticks served trouble closed moments own own' given given' added =
+    added-says (actuators catalogue) (of_session served.session) ticks moments (λ entries. heeds → IsVisit catalogue gates tells served (course_by moments trouble closed) entries)
+    (λ entries. AreTimed moments entries × (heeds → IsVisit catalogue gates tells served (course_by moments trouble closed) entries)) (λ more timed said. (timed, said)) own own' given given' added

@@ -2,22 +2,11 @@
 use Rattle.std.proofs.Common.{◌≡◌, ℕ, suc, ◌+◌, ◌<◌, ◌≤◌, List, [], ◌∷◌, length, Option, Some, refl, ap, sym, ◌∙◌, subst, arith}
 use Rattle.boss_outside.specs.Bells.{driver_bell, time_bell}
 use Rattle.boss_outside_server.specs.Pauses.{drive_pause, held_pause, tick_pause, watch_pause}
-use Rattle.def_lanes.specs.Waits.{AreWithin, IsSteady, PausedAround, PausedFor, PausedWithin, WaitedAt}
-use Rattle.def_lanes.proofs.WaitLemmas.{within-wider}
+use Rattle.def_lanes.specs.Waits.{CountsClosed, IsSteady, PausedAround, PausedFor, PausedWithin, WaitedAt}
 use Rattle.def_lanes.specs.Works.{Work, visit, beat, drive, owner, AreOf, served_in}
-use Rattle.boss_outside_server.specs.declared.waited.Leaving.TheVariants.{NotYet}
+use Rattle.boss_outside_server.specs.declared.waited.Leaving.TheVariants.{NotYet, Once}
 use Rattle.boss_outside_server.specs.declared.waited.Waited.{Waited}
 use Rattle.boss_outside_server.specs.Waits.{after_leave, leaving_after, listening, new_waited}
-
--- pauses behind none, within wider lengths
-pub within-first : (least low high most : ℕ) (old new : Waited) → old.pauses ≡ 0 → least ≤ low → high ≤ most → PausedWithin low high old new → PausedWithin least most old new
-within-first least low high most old new none less more paused = record {
-  steady = λ is. within-wider new.pauses least low high most new.lengths less more
-      (paused.steady (subst (λ pauses. AreWithin pauses low high old.lengths) (sym none) (subst (λ pauses. AreWithin pauses least most old.lengths) none is)));
-  expected = paused.expected;
-  leaving = paused.leaving;
-  bell = paused.bell;
-}
 
 -- a fresh waiter, whose worker may have listened at a bell
 abbrev pub listening_at : ℕ → Option ℕ → Waited
@@ -36,16 +25,17 @@ fresh-stays workers least most bell old new fresh paused = paused.leaving ∙ ap
 fresh-hears : (workers least most : ℕ) (bell : Option ℕ) (old new : Waited) → old ≡ listening_at workers bell → PausedWithin least most old new → new.bell ≡ bell
 fresh-hears workers least most bell old new fresh paused = paused.bell ∙ ap (λ (it : Waited). it.bell) fresh
 
-pub waited-connections : (workers number : ℕ) (old new : Waited) (fresh : old ≡ new_waited workers) (connections : ℕ) (left : Waited) → number < workers →
-    PausedAround watch_pause old new → left ≡ after_leave connections new → WaitedAt workers number connections left
-waited-connections workers number old new fresh connections left low paused is =
+pub waited-connections : (workers number : ℕ) (old new : Waited) (fresh : old ≡ new_waited workers) (connections : ℕ) (own : List Work) (left : Waited) → number < workers →
+    PausedAround watch_pause old new → left ≡ after_leave connections new → connections ≡ length own → CountsClosed own new → WaitedAt workers number own left
+waited-connections workers number old new fresh connections own left low paused is many counted =
     let behind : record old { bell = new.bell } ≡ listening_at workers new.bell = ap (λ (it : Waited). record it { bell = new.bell }) fresh in
-    subst (WaitedAt workers number connections) (sym is) (record {
+    subst (WaitedAt workers number own) (sym is) (record {
       told = fresh-told workers watch_pause watch_pause new.bell (record old { bell = new.bell }) new behind paused;
       serves = λ less. record {
         steady = fresh-steady workers watch_pause watch_pause new.bell (record old { bell = new.bell }) new behind paused;
-        left = ap (λ leaving. leaving_after leaving connections) (fresh-stays workers watch_pause watch_pause new.bell (record old { bell = new.bell }) new behind paused);
+        left = ap (λ leaving. leaving_after leaving connections) (fresh-stays workers watch_pause watch_pause new.bell (record old { bell = new.bell }) new behind paused) ∙ ap Once many;
       };
+      closes = λ less. counted;
       ticks = λ here. absurd (omega (arith, low, here));
       drives = λ beyond. absurd (omega (arith, low, beyond));
       hears_time = λ here. absurd (omega (arith, low, here));
@@ -53,10 +43,11 @@ waited-connections workers number old new fresh connections left low paused is =
     })
 
 module _ (workers number : ℕ) (old new : Waited) where
-  pub waited-time : old ≡ listening time_bell (new_waited workers) → (connections : ℕ) → number ≡ workers → PausedFor tick_pause old new → WaitedAt workers number connections new
-  waited-time fresh connections here paused = record {
+  pub waited-time : old ≡ listening time_bell (new_waited workers) → (own : List Work) → number ≡ workers → PausedFor tick_pause old new → WaitedAt workers number own new
+  waited-time fresh own here paused = record {
     told = fresh-told workers tick_pause tick_pause (Some time_bell) old new fresh paused;
     serves = λ less. absurd (omega (arith, here, less));
+    closes = λ less. absurd (omega (arith, here, less));
     ticks = λ is. record {
       steady = fresh-steady workers tick_pause tick_pause (Some time_bell) old new fresh paused;
       left = fresh-stays workers tick_pause tick_pause (Some time_bell) old new fresh paused;
@@ -66,11 +57,12 @@ module _ (workers number : ℕ) (old new : Waited) where
     hears_driver = λ driver is. absurd (omega (arith, here, is));
   }
 
-  pub waited-drive : (connections driver : ℕ) → old ≡ listening (driver_bell driver) (new_waited workers) → number ≡ workers + 1 + driver →
-      PausedWithin held_pause drive_pause old new → WaitedAt workers number connections new
-  waited-drive connections driver fresh here paused = record {
+  pub waited-drive : (own : List Work) (driver : ℕ) → old ≡ listening (driver_bell driver) (new_waited workers) → number ≡ workers + 1 + driver →
+      PausedWithin held_pause drive_pause old new → WaitedAt workers number own new
+  waited-drive own driver fresh here paused = record {
     told = fresh-told workers held_pause drive_pause (Some (driver_bell driver)) old new fresh paused;
     serves = λ less. absurd (omega (arith, here, less));
+    closes = λ less. absurd (omega (arith, here, less));
     ticks = λ is. absurd (omega (arith, here, is));
     drives = λ beyond. record {
       steady = fresh-steady workers held_pause drive_pause (Some (driver_bell driver)) old new fresh paused;
@@ -82,10 +74,11 @@ module _ (workers number : ℕ) (old new : Waited) where
   }
 
 -- a worker that serves no connection, before its first pause
-pub waited-unrun : (workers number : ℕ) (old : Waited) → old ≡ new_waited workers → workers ≤ number → WaitedAt workers number 0 old
-waited-unrun workers number old fresh behind = subst (WaitedAt workers number 0) (sym fresh) (record {
+pub waited-unrun : (workers number : ℕ) (old : Waited) → old ≡ new_waited workers → workers ≤ number → WaitedAt workers number [] old
+waited-unrun workers number old fresh behind = subst (WaitedAt workers number []) (sym fresh) (record {
   told = refl;
   serves = λ less. absurd (omega (arith, behind, less));
+  closes = λ less. absurd (omega (arith, behind, less));
   ticks = λ is. record { steady = refl; left = refl };
   drives = λ beyond. record { steady = refl; left = refl };
   hears_time = λ is some. absurd (omega (arith, some));

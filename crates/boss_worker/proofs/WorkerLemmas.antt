@@ -76,7 +76,7 @@ module _ {G Pass H In Out C W Bells A : Type 0} (g : desk.Ghosts G Pass) (h : ho
     pub no-pause : w.tells → (w.waited tuned).pauses ≡ 0
     no-pause told = ap (λ (it : Waited). it.pauses) (tuned-fresh told)
 
-  pub has-left-nothing : (wait' : W) → (w.tells → WaitedAt workers number 0 (w.waited wait')) → HasLeft g h k w a false (terms_of catalogue (g.denies it) workers heeds tells h.tells k.tells w.tells) it number pass duty tick wait' flags
+  pub has-left-nothing : (wait' : W) → (w.tells → WaitedAt workers number [] (w.waited wait')) → HasLeft g h k w a false (terms_of catalogue (g.denies it) workers heeds tells h.tells k.tells w.tells) it number pass duty tick wait' flags
   has-left-nothing wait' waits = record {
     own = ready.own;
     one = ready.one;
@@ -108,7 +108,7 @@ module _ {G Pass H In Out C W Bells A : Type 0} (g : desk.Ghosts G Pass) (h : ho
           left = left.2;
           called = tt;
           noted = (refl, tt);
-          waits = λ told. waited-time workers number (w.waited tuned) (w.waited wait') (tuned-fresh time_bell tuned listened told) 1 (subst (IsFreshDuty h workers number) is ready.fresh) (paused told);
+          waits = λ told. waited-time workers number (w.waited tuned) (w.waited wait') (tuned-fresh time_bell tuned listened told) (beat (w.waited wait') left.0 ∷ []) (subst (IsFreshDuty h workers number) is ready.fresh) (paused told);
           placed = subst (IsFreshDuty h workers number) is ready.fresh;
           worked = λ ran low. worked-one workers number (beat (w.waited wait') left.0) (subst (IsFreshDuty h workers number) is ready.fresh);
           ended = (
@@ -138,7 +138,7 @@ module _ {G Pass H In Out C W Bells A : Type 0} (g : desk.Ghosts G Pass) (h : ho
               ready.empty ready.given ready.clock_faults ready.unmarked clock broken driver drove fresh.0;
           called = λ told whole. calls-driven driver (w.waited wait') drove.course (a.calls was.value) (a.calls devices) (a.calls devices') drove.calls (ap a.calls fresh.1) (drove.wrote told whole).1;
           noted = (refl, tt);
-          waits = λ told. waited-drive workers number (w.waited tuned) (w.waited wait') 1 driver (tuned-fresh (driver_bell driver) tuned listened told) fresh.0 (paused told);
+          waits = λ told. waited-drive workers number (w.waited tuned) (w.waited wait') (drive driver drove.calls (w.waited wait') drove.course ∷ []) driver (tuned-fresh (driver_bell driver) tuned listened told) fresh.0 (paused told);
           placed = fresh.0;
           worked = λ ran low. worked-one workers number (drive driver drove.calls (w.waited wait') drove.course) fresh.0;
           ended = (

@@ -48,9 +48,9 @@ cut_by Disk = by_disk
 cut_by Clock = by_clock
 cut_by Memory = by_memory
 
--- how a connection went that was cut off so
-abbrev pub course_by : List ℕ → Trouble → Course
-course_by moments trouble = record { moments = moments; cut = cut_by trouble }
+-- how a connection went that was cut off so, and whether a pause ended it
+abbrev pub course_by : List ℕ → Trouble → Bool → Course
+course_by moments trouble closed = record { moments = moments; cut = cut_by trouble; closed = closed }
 
 -- ---- flags
 

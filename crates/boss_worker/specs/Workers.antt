@@ -101,7 +101,7 @@ module _ {G Pass H In Out C W Bells A : Type 0} (g : desk.Ghosts G Pass) (h : ho
         (handed_at h duty) (faults_at h duty) (k.faults clock) flags
     pub called : HasCalls a works duty
     pub noted : AllByRecursion (IsNoteOf (w.waited waiter)) works
-    pub waits : w.tells → WaitedAt terms.workers number (length works) (w.waited waiter)
+    pub waits : w.tells → WaitedAt terms.workers number works (w.waited waiter)
     pub placed : IsPlaced terms.workers number duty
     pub worked : ran ≡ true → terms.workers ≤ number → is_worked terms.workers number works ≡ true
     pub ended : AreEnded terms.plant w.tells (own_of g pass) works

@@ -51,6 +51,6 @@ pub(crate) fn drive_devices<G: Desk, A: Actuators, C: Clock, W: Waiter>(
             alloc, desk, pass, catalogue, driver, devices, clock, waiter, turns,
         ))
     } else {
-        work_trouble(drive(desk, pass, driver, devices, clock, waiter, turns))
+        work_trouble(drive(desk, pass, catalogue, driver, devices, clock, waiter, turns))
     }
 }

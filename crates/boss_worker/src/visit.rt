@@ -1,10 +1,10 @@
-ghost use Rattle.std.specs.Prelude.{◌≡◌, ◌<◌, ℕ, List, true, None};
+ghost use Rattle.std.specs.Prelude.{◌≡◌, ◌<◌, ℕ, Bool, List, true, None};
 ghost use Rattle.boss_model.specs.Catalogue.{actuators};
 ghost use Rattle.boss_outside_server.specs.Pauses.{watch_pause};
 ghost use Rattle.def_history.specs.History.{is_broken};
 ghost use Rattle.def_lanes.specs.Lanes.{of_session};
 ghost use Rattle.def_lanes.specs.Parts.{Added};
-ghost use Rattle.def_lanes.specs.Waits.{PausedAround};
+ghost use Rattle.def_lanes.specs.Waits.{HasClosed, PausedAround};
 ghost use Rattle.boss_outside_server.specs.Hosts.{IsUntouched, served_of};
 ghost use Rattle.boss_sessions.specs.Holding.{Holds, LeavesOthers};
 ghost use Rattle.boss_worker.specs.declared.trouble.Trouble.TheVariants.{Disk};
@@ -43,9 +43,10 @@ pub(crate) fn attend<G: Desk, S: Hears<K>, K: Sink, C: Clock, W: Waiter>(
     requires fresh { IsUntouched S.Source K.Sink input.old output.old }
     ensures own { G.owns desk.now pass.new }
     ensures parts { G.parts pass.new ≡ G.parts pass.old }
-    ensures added { (moments : List ℕ) × Added (actuators catalogue.now) (of_session session)
-        (λ entries. S.tells → IsVisit catalogue.now (G.denies desk.now) K.tells (served_of S.Source K.Sink session input.new output.new) (course_by moments result) entries)
-        C.tells moments (own_of G.Desk pass.old) (own_of G.Desk pass.new) (C.given clock.old) (C.given clock.new) }
+    ensures added { (moments : List ℕ) × (closed : Bool) × Added (actuators catalogue.now) (of_session session)
+        (λ entries. S.tells → IsVisit catalogue.now (G.denies desk.now) K.tells (served_of S.Source K.Sink session input.new output.new) (course_by moments result closed) entries)
+        C.tells moments (own_of G.Desk pass.old) (own_of G.Desk pass.new) (C.given clock.old) (C.given clock.new)
+        × (W.tells → HasClosed closed (W.waited waiter.old).closes (W.waited waiter.new).closes) }
     ensures others { LeavesOthers (G.denies desk.now) session (G.held pass.old) (G.held pass.new) }
     ensures waited { W.tells → PausedAround watch_pause (W.waited waiter.old) (W.waited waiter.new) }
     ensures clocked { ClockTrouble (C.faults clock.old) (C.faults clock.new) result }

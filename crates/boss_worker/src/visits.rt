@@ -3,7 +3,7 @@ ghost use Rattle.boss_model.specs.Catalogue.{actuators};
 ghost use Rattle.boss_model.specs.Limits.{most_workers};
 ghost use Rattle.boss_outside_server.specs.Pauses.{watch_pause};
 ghost use Rattle.def_history.specs.History.{deeds};
-ghost use Rattle.def_lanes.specs.Waits.{PausedAround};
+ghost use Rattle.def_lanes.specs.Waits.{CountsClosed, PausedAround};
 ghost use Rattle.def_lanes.specs.Works.{Work};
 ghost use Rattle.boss_shared.specs.Gates.{AreFree};
 ghost use Rattle.boss_worker.specs.Desks.{own_of};
@@ -42,7 +42,8 @@ pub(crate) fn attend_all<G: Desk, H: Host, C: Clock, W: Waiter>(
     ensures share { H.share host.new ≡ H.share host.old }
     ensures left { (works : List Work) × Left true (terms_of server.now.catalogue.now (G.denies server.now.desk) server.now.workers H.In.tells H.Out.tells H.tells C.tells W.tells) number (H.share host.old) works
         (own_of G.Desk pass.new) (G.seen pass.new) (H.served host.old) (H.served host.new) (C.given clock.old) (C.given clock.new)
-        (H.handed host.new) (H.faults host.new) (C.faults clock.new) result.0 }
+        (H.handed host.new) (H.faults host.new) (C.faults clock.new) result.0
+        × (W.tells → CountsClosed works (W.waited waiter.new)) }
     ensures count { result.1 ≡ H.handed host.new }
     ensures waited { W.tells → PausedAround watch_pause (W.waited waiter.old) (W.waited waiter.new) }
 {

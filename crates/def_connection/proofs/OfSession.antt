@@ -23,7 +23,7 @@ use Rattle.def_connection.specs.Speech.{Reply, of_answer, of_memory, of_stop, of
 use Rattle.def_connection.specs.Losing.{spoken_of, Lost}
 use Rattle.def_connection.specs.Stopping.{Stop, watching, Leaves, moments_with}
 use Rattle.def_connection.specs.Talks.{Told, Standing, Talked, Exchanged, IsEnded, IsTalkOf}
-use Rattle.def_connection.specs.Watching.{Watched, Noticed, watched_in, next_from, most_watched, is_unanswered, IsWatchOf}
+use Rattle.def_connection.specs.Watching.{Watched, Noticed, watched_in, next_from, most_watched, is_unanswered, EndsWatch, IsWatchOf}
 use Rattle.def_connection.proofs.Lasting.{first-alone}
 
 -- ---- lanes
@@ -155,10 +155,10 @@ module _ (plant : List Actuator) (speech : Speech) (session : ℕ) (tells ticks 
 pub talk-agrees : (plant : List Actuator) (speech : Speech) (tells ticks : Type 0) (served : Served) (taken_are : List (List ℕ)) (stop : Stop) (broken : Bool) (cut : Cut) (old new : Standing) →
     0 < served.session → (talked : Talked speech served.session tells ticks (spoken_of taken_are) stop broken old new) → old.taken ≡ [] → old.faults ≡ 0 → new.taken ≡ served.taken →
     new.faults ≡ served.write_faults → IsEnded served taken_are stop broken cut → (tells → AllRead (IsAnswered speech served.held 0 talked.exchanged.talk) served.reads) →
-    Added plant (of_session served.session) (IsTalkOf speech tells served (record { moments = talked.moments; cut = cut })) ticks talked.moments old.own new.own old.given new.given
+    Added plant (of_session served.session) (IsTalkOf speech tells served (record { moments = talked.moments; cut = cut; closed = false })) ticks talked.moments old.own new.own old.given new.given
 talk-agrees plant speech tells ticks served taken_are stop broken cut old new some talked empty quiet taken faults ended answered =
     let said = moved old.taken [] new.taken served.taken old.faults 0 new.faults served.write_faults empty taken quiet faults talked.more talked.moments talked.exchanged answered in
-    talk-says plant speech served.session tells ticks some (spoken_of taken_are) stop broken old new talked (IsTalkOf speech tells served (record { moments = talked.moments; cut = cut })) (record {
+    talk-says plant speech served.session tells ticks some (spoken_of taken_are) stop broken old new talked (IsTalkOf speech tells served (record { moments = talked.moments; cut = cut; closed = false })) (record {
       taken = taken_are;
       stop = stop;
       broken = broken;
@@ -177,11 +177,12 @@ talk-agrees plant speech tells ticks served taken_are stop broken cut old new so
         (subst (λ x. (said : Exchanged speech served.session tells (spoken_of taken_are) stop broken a' x f g entries moments) × (tells → AllRead (IsAnswered speech served.held 0 said.talk) served.reads)) q
         (subst (λ x. (said : Exchanged speech served.session tells (spoken_of taken_are) stop broken x b f g entries moments) × (tells → AllRead (IsAnswered speech served.held 0 said.talk) served.reads)) p (is, holds))))
 
-pub watch-agrees : (plant : List Actuator) (speech : Speech) (notes : Answer → List ℕ) (tells ticks : Type 0) (served : Served) (taken_are : List (List ℕ)) (line : List ℕ) (name : List ℕ) (from : ℕ) (cut : Cut) (old new : Standing) →
+pub watch-agrees : (plant : List Actuator) (speech : Speech) (notes : Answer → List ℕ) (tells ticks : Type 0) (served : Served) (taken_are : List (List ℕ)) (line : List ℕ) (name : List ℕ) (from : ℕ) (cut : Cut) (closed : Bool) (old new : Standing) →
     0 < served.session → (watched : Watched notes served.session name tells ticks (is_unanswered cut) from old new) → spoken_of taken_are ≡ line ∷ [] → speech.reading false line ≡ watches name from →
     old.taken ≡ [] → old.faults ≡ 0 → new.taken ≡ served.taken → new.faults ≡ served.write_faults → Lost served.held served.left taken_are (watching name from) →
-    (cut ≡ not_cut → ¬ (deeds new.own ≡ deeds old.own)) → Added plant (of_session served.session) (IsWatchOf speech notes tells served (record { moments = watched.moments; cut = cut })) ticks watched.moments old.own new.own old.given new.given
-watch-agrees plant speech notes tells ticks served taken_are line name from cut old new some watched heard asked empty quiet taken faults lost answered =
+    (cut ≡ not_cut → ¬ (deeds new.own ≡ deeds old.own)) → ((more : List Entry) → deeds new.own ≡ deeds old.own ++ more → EndsWatch cut closed served.write_faults more) →
+    Added plant (of_session served.session) (IsWatchOf speech notes tells served (record { moments = watched.moments; cut = cut; closed = closed })) ticks watched.moments old.own new.own old.given new.given
+watch-agrees plant speech notes tells ticks served taken_are line name from cut closed old new some watched heard asked empty quiet taken faults lost answered ends =
     let added = watch-added plant speech served.session tells ticks some notes (is_unanswered cut) name from old new watched in
     record {
       more = added.more;
@@ -196,6 +197,7 @@ watch-agrees plant speech notes tells ticks served taken_are line name from cut 
         lines = heard;
         asked = asked;
         some = λ whole none. answered whole (added.grew ∙ ap (λ more. deeds old.own ++ more) none ∙ append-nil (deeds old.own));
+        ends = ends added.more added.grew;
         noticed = moved old.taken [] new.taken served.taken old.faults 0 new.faults served.write_faults empty taken quiet faults added.more watched.moments added.agrees;
       };
       gave = added.gave;

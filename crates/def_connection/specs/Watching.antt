@@ -1,18 +1,22 @@
 -- Source: own.
 -- The notices of a process, told on a connection that watches it.
-use Rattle.std.specs.Prelude.{◌≡◌, ℕ, ◌≤◌, Bool, true, false, List, [], ◌∷◌, ◌++◌, map, length, Some}
+use Rattle.std.specs.Prelude.{◌≡◌, ◌⊎◌, ℕ, ◌+◌, ◌<◌, ◌≤◌, Bool, true, false, if◌then◌else◌, List, [], ◌∷◌, ◌++◌, map, length, Some}
 use Rattle.boss_model.specs.declared.answer.Answer.{Answer}
 use Rattle.boss_model.specs.declared.answer.Answer.TheVariants as answer
 use Rattle.boss_model.specs.declared.command.Command.TheVariants as command
+use Rattle.boss_model.specs.declared.notice.Notice.{Notice}
 use Rattle.def_history.specs.declared.entry.Entry.{Entry}
-use Rattle.def_history.specs.declared.entry.Entry.TheVariants.{Did}
+use Rattle.def_history.specs.declared.entry.Entry.TheVariants.{Did, Broke}
 use Rattle.def_history.specs.History.{deeds}
 use Rattle.boss_outside_server.specs.Hosts.{Served}
+use Rattle.boss_outside_server.specs.Pauses.{watch_idle}
 use Rattle.def_lanes.specs.Works.{Course, Cut, not_cut, by_disk, by_clock, by_memory}
 use Rattle.def_connection.specs.Losing.{spoken_of, Lost}
 use Rattle.def_connection.specs.Speech.{Speech, watches}
 use Rattle.def_connection.specs.Stopping.{watching}
 use Rattle.def_connection.specs.Talks.{Told, Standing}
+
+-- ---- turns
 
 -- in one call at most so many notices are asked for
 abbrev pub most_watched : ℕ
@@ -22,6 +26,15 @@ most_watched = 64
 abbrev pub next_from : ℕ → Answer → ℕ
 next_from from (answer.Notices first next list) = next
 next_from from other = from
+
+-- an answer has notices
+abbrev pub is_some_list : List Notice → Bool
+is_some_list [] = false
+is_some_list (notice ∷ notices) = true
+
+abbrev pub has_notices : Answer → Bool
+has_notices (answer.Notices first next list) = is_some_list list
+has_notices other = false
 
 -- the entries of turns, each a moment and an answer
 abbrev pub watched_in : ℕ → List ℕ → ℕ → List (ℕ × Answer) → List Entry
@@ -38,6 +51,32 @@ from_after from (turn ∷ turns) = from_after (next_from from turn.1) turns
 abbrev pub notes_in : (Answer → List ℕ) → List (ℕ × Answer) → List ℕ
 notes_in notes [] = []
 notes_in notes (turn ∷ turns) = notes turn.1 ++ notes_in notes turns
+
+-- the turn of this entry had a notice
+abbrev pub has_told : Entry → Bool
+has_told (Did session command moment answer) = has_notices answer
+has_told (Broke session commands others) = false
+
+-- how many turns in a row had none, after one more and after several
+abbrev pub quiet_after : ℕ → Entry → ℕ
+quiet_after quiet entry = if has_told entry then 0 else quiet + 1
+
+abbrev pub quiet_in : ℕ → List Entry → ℕ
+quiet_in quiet [] = quiet
+quiet_in quiet (entry ∷ entries) = quiet_in (quiet_after quiet entry) entries
+
+-- before each turn fewer than so many in a row had none
+abbrev pub IsAwake : ℕ → ℕ → List Entry → Type 0
+IsAwake idle quiet [] = Unit {0}
+IsAwake idle quiet (entry ∷ entries) = (quiet < idle) × IsAwake idle (quiet_after quiet entry) entries
+
+-- why a watch ended: before each turn fewer in a row had no notice than end a watch; and where it was not cut off as many had none, or a
+-- write failed, or a pause said that the worker is to end
+pub record EndsWatch (cut : Cut) (closed : Bool) (write_faults : ℕ) (entries : List Entry) : Type 0 where
+  pub awake : IsAwake watch_idle 0 entries
+  pub why : cut ≡ not_cut → (quiet_in 0 entries ≡ watch_idle) ⊎ (0 < write_faults) ⊎ (closed ≡ true)
+
+-- ---- what was watched
 
 -- turns of which each was told whole
 pub record Watches (notes : Answer → List ℕ) (session : ℕ) (name : List ℕ) (tells ticks : Type 0) (from next : ℕ) (old new : Standing) : Type 0 where
@@ -74,7 +113,8 @@ is_unanswered by_clock = false
 is_unanswered by_memory = true
 
 -- an ended connection agrees with these entries: the first line of its input that is not passed over asks to watch, and is the last one
--- that was taken; they are what was then watched, and its output took the notices. Where it was not cut off, there is an entry
+-- that was taken; they are what was then watched, and its output took the notices. Where it was not cut off, there is an entry, and it
+-- ended for one of three reasons
 pub record IsWatchOf (speech : Speech) (notes : Answer → List ℕ) (tells : Type 0) (served : Served) (course : Course) (entries : List Entry) : Type 0 where
   pub name : List ℕ
   pub from : ℕ
@@ -84,4 +124,5 @@ pub record IsWatchOf (speech : Speech) (notes : Answer → List ℕ) (tells : Ty
   pub lines : spoken_of taken ≡ line ∷ []
   pub asked : speech.reading false line ≡ watches name from
   pub some : course.cut ≡ not_cut → ¬ (entries ≡ [])
+  pub ends : EndsWatch course.cut course.closed served.write_faults entries
   pub noticed : Noticed notes served.session name tells (is_unanswered course.cut) from [] served.taken 0 served.write_faults entries course.moments

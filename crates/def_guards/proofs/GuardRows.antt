@@ -21,21 +21,21 @@ on = record { point = 0; version = 2; value = pos 1 }
 
 -- the reading of the pump under a lease of this level
 abbrev read : ℕ → Answer
-read level = Reading 0 (pos 1) (Lease level 1) Pending 0
+read level = Reading 0 (pos 1) (Lease level 1) Pending 0 None
 
 abbrev stood : Turn
-stood = record { reading = 0; want = Some off; acts = wrote (decided off 0) passed true 0 (Noted true) ∷ [] }
+stood = record { reading = 0; want = Some off; acts = wrote (decided off 0) passed true 0 (Noted true) ∷ []; doubt = None }
 
 -- ---- at level 8
 
 abbrev given : Turn
-given = record { reading = 1000; want = Some on; acts = kept (decided on 1000) (read 8) ∷ [] }
+given = record { reading = 1000; want = Some on; acts = kept (decided on 1000) (read 8) ∷ []; doubt = None }
 
 abbrev waited : Turn
-waited = record { reading = 29999; want = None; acts = kept (decided on 29999) (read 8) ∷ [] }
+waited = record { reading = 29999; want = None; acts = kept (decided on 29999) (read 8) ∷ []; doubt = None }
 
 abbrev ran : Turn
-ran = record { reading = 30000; want = None; acts = wrote (decided on 30000) passed true 30001 (Noted true) ∷ [] }
+ran = record { reading = 30000; want = None; acts = wrote (decided on 30000) passed true 30001 (Noted true) ∷ []; doubt = None }
 
 held_rows : AreTurns start (stood ∷ given ∷ waited ∷ ran ∷ [])
 held_rows = (((refl, refl), refl), (((refl, refl, refl), refl), (((refl, refl, refl), refl), (((refl, refl), refl), tt))))
@@ -50,17 +50,17 @@ idles_row = refl
 
 -- it is not written before, and not held then
 early_row : IsTurn (after_turns (stood ∷ given ∷ []) start)
-    (record { reading = 29999; want = None; acts = wrote (decided on 29999) passed true 29999 (Noted true) ∷ [] }) [] → ⊥
+    (record { reading = 29999; want = None; acts = wrote (decided on 29999) passed true 29999 (Noted true) ∷ []; doubt = None }) [] → ⊥
 early_row turn = absurd cc
 
 late_row : IsTurn (after_turns (stood ∷ given ∷ waited ∷ []) start)
-    (record { reading = 30000; want = None; acts = kept (decided on 30000) (read 8) ∷ [] }) [] → ⊥
+    (record { reading = 30000; want = None; acts = kept (decided on 30000) (read 8) ∷ []; doubt = None }) [] → ⊥
 late_row turn = absurd cc
 
 -- ---- at level 3
 
 abbrev ran_at_once : Turn
-ran_at_once = record { reading = 1000; want = Some on; acts = wrote (decided on 1000) (shown (read 3)) true 1000 (Noted true) ∷ [] }
+ran_at_once = record { reading = 1000; want = Some on; acts = wrote (decided on 1000) (shown (read 3)) true 1000 (Noted true) ∷ []; doubt = None }
 
 shown_rows : AreTurns start (stood ∷ ran_at_once ∷ [])
 shown_rows = (((refl, refl), refl), (((refl, (refl, refl)), refl), tt))
@@ -74,7 +74,7 @@ abbrev off_again : Due
 off_again = record { point = 0; version = 3; value = pos 0 }
 
 abbrev replaced : Turn
-replaced = record { reading = 2000; want = Some off_again; acts = wrote (decided off_again 2000) passed true 2000 (Noted true) ∷ [] }
+replaced = record { reading = 2000; want = Some off_again; acts = wrote (decided off_again 2000) passed true 2000 (Noted true) ∷ []; doubt = None }
 
 replaced_rows : AreTurns start (stood ∷ given ∷ replaced ∷ [])
 replaced_rows = (((refl, refl), refl), (((refl, refl, refl), refl), (((refl, refl), refl), tt)))

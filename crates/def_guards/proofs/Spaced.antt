@@ -6,7 +6,7 @@ use Rattle.def_guards.specs.declared.guard.Guard.{Guard}
 use Rattle.def_guards.specs.Guards.{guard_for, minimum, times_for, written, holding}
 use Rattle.def_guards.specs.declared.guard.Due.{Due}
 use Rattle.def_guards.specs.Acts.{Watch, Decision, Reason, passed, shown, Act, wrote, kept, IsReason, IsAct, Tried, after_act, after_acts, after_reading, due_of, guard_at, held_by}
-use Rattle.def_guards.specs.Turns.{Turn, IsTurn, AreTurns, after_turn, after_turns, at_read, at_write, Cut, nothing, at_next, in_turn, FitsCut}
+use Rattle.def_guards.specs.Turns.{Turn, IsTurn, AreTurns, after_turn, after_turns, at_read, at_write, Cut, nothing, at_next, in_turn, at_doubt, FitsCut}
 use Rattle.def_guards.specs.Spacing.{Call, KeepsTimes, is_shown, call_to, calls_by, calls_on, calls_in, calls_cut}
 use Rattle.def_guards.proofs.Stretches.{IsOpen, Spaced, last_after, last_after_both, spaced_both, keeps}
 
@@ -136,6 +136,7 @@ cut_follows watch (in_turn turn d (at_write reason cut)) point known fits =
           (calls_on point turn.acts) (call_to point d reason) (turn_follows watch turn (fits.want ∷ fits.left) point known fits.tried)
           (write_follows guards point d reason (subst (λ n. point < n) (sym (turn_long turn watch)) known) fits.fits),
     )
+cut_follows watch (at_doubt turn other differs) point known fits = (guard_at (after_turn turn watch).guards point, turn_follows watch turn [] point known fits)
 
 pub keeps_times : (point : ℕ) (watch : Watch) (turns : List Turn) (last : Cut) → point < length watch.guards → (guard_at watch.guards point).last ≡ None →
     AreTurns watch turns → FitsCut (after_turns turns watch) last → KeepsTimes (minimum (guard_at watch.guards point)) (calls_in point turns ++ calls_cut point last)

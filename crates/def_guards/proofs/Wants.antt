@@ -8,7 +8,7 @@ use Rattle.def_guards.specs.declared.guard.Held.{Held}
 use Rattle.def_guards.specs.Guards.{guard_for, holding, written}
 use Rattle.def_guards.specs.declared.guard.Due.{Due}
 use Rattle.def_guards.specs.Acts.{Watch, Decision, Act, wrote, kept, IsAct, Tried, after_act, after_acts, after_reading, decided, due_from, due_of, guard_at, held_at, held_by, is_skipped, want_of}
-use Rattle.def_guards.specs.Turns.{Turn, AreTurns, IsTurn, after_turn, after_turns, Cut, nothing, at_next, in_turn, FitsCut}
+use Rattle.def_guards.specs.Turns.{Turn, AreTurns, IsTurn, after_turn, after_turns, Cut, nothing, at_next, in_turn, at_doubt, FitsCut}
 
 module _ (P : Due → Type 0) where
   abbrev pub OfWant : Option Due → Type 0
@@ -32,11 +32,13 @@ module _ (P : Due → Type 0) where
   GivenCut nothing = Unit {0}
   GivenCut (at_next reading) = Unit {0}
   GivenCut (in_turn turn d cut) = OfWant turn.want
+  GivenCut (at_doubt turn point differs) = OfWant turn.want
 
   abbrev pub OfCut : Cut → Type 0
   OfCut nothing = Unit {0}
   OfCut (at_next reading) = Unit {0}
   OfCut (in_turn turn d cut) = OfTurn turn × OfDecision d
+  OfCut (at_doubt turn point differs) = OfTurn turn
 
   -- of each want that is held
   abbrev pub Holds : List Guard → Type 0
@@ -142,3 +144,4 @@ module _ (P : Due → Type 0) where
   cut_all (in_turn turn d cut) watch fits given holds =
       let one = turn_all turn watch (fits.want ∷ fits.left) fits.tried given holds in
       (one.0, of_decided fits.want d (after_turn turn watch).now fits.decides one.2.0)
+  cut_all (at_doubt turn point differs) watch fits given holds = (turn_all turn watch [] fits given holds).0

@@ -45,7 +45,7 @@ is_ahead (Lease priority txn) = nat_le 1 priority && nat_le priority 5
 is_ahead other = false
 
 abbrev pub shown_by : Answer → ℤ → Bool
-shown_by (Reading point read basis mark differed) value = int_eq read value && is_ahead basis
+shown_by (Reading point read basis mark differed took) value = int_eq read value && is_ahead basis
 shown_by other value = false
 
 -- ---- the points of a catalogue

@@ -4,7 +4,7 @@
 use Rattle.std.specs.Prelude.{◌≡◌, ◌⊎◌, ℕ, ◌-◌, ◌≤◌, ℤ, ◌==◌, Bool, true, false, if◌then◌else◌, List, [], ◌∷◌, ◌++◌}
 use Rattle.std.specs.List.{AllByRecursion}
 use Rattle.def_guards.specs.Acts.{Decision, Reason, passed, shown, Act, wrote, kept}
-use Rattle.def_guards.specs.Turns.{Turn, TryCut, at_read, at_write, Cut, nothing, at_next, in_turn}
+use Rattle.def_guards.specs.Turns.{Turn, TryCut, at_read, at_write, Cut, nothing, at_next, in_turn, at_doubt}
 
 -- a write: its value, the moment at which it was decided, and whether a reading had just shown its value under a lease of the
 -- levels 1 to 5
@@ -40,6 +40,7 @@ abbrev pub calls_cut : ℕ → Cut → List Call
 calls_cut point nothing = []
 calls_cut point (at_next reading) = []
 calls_cut point (in_turn turn d cut) = calls_on point turn.acts ++ calls_at point d cut
+calls_cut point (at_doubt turn other differs) = calls_on point turn.acts
 
 -- the last of these has another value, or there is none
 abbrev pub ChangesTo : ℤ → List Call → Type 0

@@ -1,5 +1,5 @@
 -- Devices come back one after another, each with the calls of its own driver's work.
-use Rattle.std.proofs.Common.{◌≡◌, ◌⊎◌, inl, inr, ℕ, suc, ◌+◌, ◌<◌, ◌≤◌, ◌==◌, List, [], ◌∷◌, ◌++◌, length, refl, ap, sym, ◌∙◌, subst, arith, append_assoc}
+use Rattle.std.proofs.Common.{false, ◌≡◌, ◌⊎◌, inl, inr, ℕ, suc, ◌+◌, ◌<◌, ◌≤◌, ◌==◌, List, [], ◌∷◌, ◌++◌, length, refl, ap, sym, ◌∙◌, subst, arith, append_assoc}
 use Rattle.std.proofs.lemmas.Bool.{cond-true, cond-false, false_from_ne_true}
 use Rattle.std.proofs.lemmas.Bool.Decides.{nat_tests}
 use Rattle.std.proofs.lemmas.List.{append-nil, map-append}
@@ -30,7 +30,7 @@ calls-absent driver (work ∷ works) absent = ap (λ front. front ++ calls_in dr
 calls-others : (workers first end driver : ℕ) (works : List Work) → AreOf workers first end works → (workers + 1 + driver < first) ⊎ (end ≤ workers + 1 + driver) → calls_in driver works ≡ []
 calls-others workers first end driver works of_them outside = calls-absent driver works
     (each-map (λ work. (first ≤ owner workers work) × (owner workers work < end)) (λ work. ¬ (lane_of_work work ≡ of_driver driver))
-    (λ work within same. apart-from (owner workers work) (workers + 1 + driver) first end within outside (same-owner workers work (drive driver [] (new_waited 0) (record { moments = []; cut = not_cut })) same)) works of_them)
+    (λ work within same. apart-from (owner workers work) (workers + 1 + driver) first end within outside (same-owner workers work (drive driver [] (new_waited 0) (record { moments = []; cut = not_cut; closed = false })) same)) works of_them)
   where
     apart-from : (mine other first end : ℕ) → (first ≤ mine) × (mine < end) → (other < first) ⊎ (end ≤ other) → mine ≡ other → ⊥
     apart-from mine other first end within (inl below) same = omega (arith, within.0)

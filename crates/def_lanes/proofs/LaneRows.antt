@@ -1,5 +1,5 @@
 -- A history of two workers and a failed disk, taken apart lane by lane, and what each part of it is.
-use Rattle.std.proofs.Common.{◌≡◌, ℕ, pos, true, List, [], ◌∷◌, None, refl}
+use Rattle.std.proofs.Common.{◌≡◌, ℕ, pos, true, false, List, [], ◌∷◌, None, refl}
 use Rattle.boss_model.specs.declared.answer.Answer.TheVariants as answer
 use Rattle.boss_model.specs.declared.command.Command.TheVariants as command
 use Rattle.boss_model.specs.declared.point.Kind.TheVariants.{Binary}
@@ -69,7 +69,7 @@ abbrev ended : ℕ → Served
 ended session = record { session = session; held = []; left = []; taken = []; read_faults = 0; write_faults = 0; reads = None }
 
 abbrev course : Cut → Course
-course cut = record { moments = []; cut = cut }
+course cut = record { moments = []; cut = cut; closed = false }
 
 owner-row : owner 2 (visit (ended 3) (course not_cut)) ≡ 0
 owner-row = refl

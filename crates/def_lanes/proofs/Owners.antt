@@ -1,10 +1,13 @@
 -- Two workers never share a lane: each lane's work is that of one worker.
-use Rattle.std.proofs.Common.{◌≡◌, ℕ, ◌+◌, ◌-◌, ◌*◌, ◌%◌, ◌<◌, ◌≤◌, true, List, [], ◌∷◌, ◌++◌, refl, ap, sym, ◌∙◌, arith, append_assoc}
+use Rattle.std.proofs.Common.{◌≡◌, ◌⊎◌, inl, inr, ℕ, suc, ◌+◌, ◌-◌, ◌*◌, ◌%◌, ◌<◌, ◌≤◌, ◌==◌, true, false, List, [], ◌∷◌, ◌++◌, refl, ap, sym, ◌∙◌, arith, append_assoc}
+use Rattle.std.proofs.lemmas.Bool.{cond-true, cond-false}
 use Rattle.std.proofs.lemmas.Bool.Decides.{nat_tests}
+use Rattle.std.proofs.lemmas.List.{append-nil}
+use Rattle.std.proofs.lemmas.List.Elements.{filter-append}
 use Rattle.std.proofs.lemmas.Nat.{mod-mul-add}
 use Rattle.boss_outside_server.specs.Hosts.{Served}
 use Rattle.def_lanes.specs.Lanes.{Lane, of_session, of_driver, of_time, of_nobody, is_lane}
-use Rattle.def_lanes.specs.Works.{Course, Work, visit, beat, drive, clock_cuts, course_of, lane_of_work, moments_in, owner, AreOf, IsBefore, AreBefore, IsAbsent, AreApart, AreStrange, served_by, served_in}
+use Rattle.def_lanes.specs.Works.{Course, Work, visit, beat, drive, clock_cuts, course_of, lane_of_work, moments_in, owner, works_of, AreOf, IsBefore, AreBefore, IsAbsent, AreApart, AreStrange, served_by, served_in}
 use Rattle.def_lanes.proofs.Lists.{each-append, each-map, each-turned}
 
 -- ---- lanes are told apart
@@ -108,3 +111,47 @@ pub before-more : (next later : ℕ) (works : List Work) (served : Served) (cour
     AreBefore later (works ++ visit served course ∷ [])
 before-more next later works served course before is less =
     each-append (IsBefore later) works (visit served course ∷ []) (each-map (IsBefore next) (IsBefore later) (before-later next later less) works before) (omega arith, tt)
+
+-- ---- the works of one worker
+
+-- others did none of them
+pub works-none : (workers number first end : ℕ) (works : List Work) → AreOf workers first end works → (number < first) ⊎ (end ≤ number) → works_of workers number works ≡ []
+works-none workers number first end [] are other = refl
+works-none workers number first end (work ∷ works) are other =
+    cond-false (owner workers work == number) (work ∷ works_of workers number works) (works_of workers number works) (differ other) ∙ works-none workers number first end works are.1 other
+  where
+    differ : (number < first) ⊎ (end ≤ number) → (owner workers work == number) ≡ false
+    differ (inl less) = let low = are.0.0 in grind (arith, nat_tests)
+    differ (inr more) = let high = are.0.1 in grind (arith, nat_tests)
+
+-- it did all of its own
+pub works-own : (workers number : ℕ) (works : List Work) → AreOf workers number (suc number) works → works_of workers number works ≡ works
+works-own workers number [] are = refl
+works-own workers number (work ∷ works) are =
+    let low = are.0.0 in
+    let high = are.0.1 in
+    let own : (owner workers work == number) ≡ true = grind (arith, nat_tests) in
+    cond-true (owner workers work == number) (work ∷ works_of workers number works) (works_of workers number works) own
+    ∙ ap (λ rest. work ∷ rest) (works-own workers number works are.1)
+
+works-both : (workers number : ℕ) (works others : List Work) → works_of workers number (works ++ others) ≡ works_of workers number works ++ works_of workers number others
+works-both workers number works others = filter-append (λ work. owner workers work == number) works others
+
+-- behind those of the workers with the numbers below n come those of the n-th
+pub works-first : (workers number n : ℕ) (works others : List Work) → AreOf workers n (suc n) others → number < n →
+    works_of workers number (works ++ others) ≡ works_of workers number works
+works-first workers number n works others of_next less =
+    works-both workers number works others ∙ ap (λ rest. works_of workers number works ++ rest) (works-none workers number n (suc n) others of_next (inl less))
+    ∙ append-nil (works_of workers number works)
+
+pub works-last : (workers n : ℕ) (works others : List Work) → AreOf workers 0 n works → AreOf workers n (suc n) others → works_of workers n (works ++ others) ≡ others
+works-last workers n works others of_first of_next =
+    works-both workers n works others ∙ ap (λ front. front ++ works_of workers n others) (works-none workers n 0 n works of_first (inr (omega arith)))
+    ∙ works-own workers n others of_next
+
+-- and of those behind nobody has any
+pub works-behind : (workers number n : ℕ) (works others : List Work) → AreOf workers 0 n works → AreOf workers n (suc n) others → n < number →
+    works_of workers number (works ++ others) ≡ []
+works-behind workers number n works others of_first of_next more =
+    works-both workers number works others ∙ ap (λ front. front ++ works_of workers number others) (works-none workers number 0 n works of_first (inr (omega arith)))
+    ∙ works-none workers number n (suc n) others of_next (inr (omega arith))

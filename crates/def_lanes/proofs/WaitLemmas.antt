@@ -1,7 +1,5 @@
 -- What waiters noted stands at the places of their workers; and pauses are counted, and keep their lengths.
-use Rattle.std.proofs.Common.{◌≡◌, ◌⊎◌, inl, inr, ℕ, zero, suc, ◌+◌, ◌<◌, ◌≤◌, ◌==◌, min, max, Bool, List, [], ◌∷◌, ◌++◌, length, cond, true, false, Some, refl, sym, ap, ◌∙◌, subst, arith}
-use Rattle.std.proofs.lemmas.Bool.{cond-true, cond-false}
-use Rattle.std.proofs.lemmas.Bool.Decides.{nat_tests}
+use Rattle.std.proofs.Common.{◌≡◌, ◌⊎◌, inl, inr, ℕ, zero, suc, ◌+◌, ◌<◌, ◌≤◌, ◌||◌, min, max, Bool, List, [], ◌∷◌, ◌++◌, length, cond, true, false, Some, refl, sym, ap, ◌∙◌, subst, arith}
 use Rattle.std.specs.List.{AllByRecursion, filter, slice_get}
 use Rattle.boss_model.specs.Limits.{last_number}
 use Rattle.def_history.specs.declared.entry.Entry.{Entry}
@@ -11,11 +9,13 @@ use Rattle.boss_outside_server.specs.declared.waited.Lengths.{Lengths}
 use Rattle.boss_outside_server.specs.declared.waited.Lengths.TheVariants.{Within}
 use Rattle.boss_outside_server.specs.declared.waited.Waited.{Waited}
 use Rattle.boss_outside_server.specs.declared.waiter.Woke.{Woke}
-use Rattle.boss_outside_server.specs.Waits.{after_pause, lengths_after, listening, one_pause_more}
+use Rattle.boss_outside_server.specs.declared.waiter.Woke.TheVariants.{Again, Close}
+use Rattle.boss_outside_server.specs.Waits.{after_pause, closes_after, lengths_after, listening, one_pause_more}
 use Rattle.def_lanes.specs.Lanes.{only}
-use Rattle.def_lanes.specs.Waits.{AreWaited, AreWaitedAt, AreWithin, IsNoteOf, IsWaited, PausedAround, PausedFor, PausedWithin, WaitedAt, paused}
-use Rattle.def_lanes.specs.Works.{Work, visit, beat, drive, owner, count_of, AreOf}
+use Rattle.def_lanes.specs.Waits.{AreWaited, AreWaitedAt, AreWithin, CountsClosed, HasClosed, IsNoteOf, IsWaited, PausedAround, PausedFor, PausedWithin, WaitedAt, paused}
+use Rattle.def_lanes.specs.Works.{Work, visit, beat, drive, closed_in, course_of, owner, works_of, AreOf}
 use Rattle.def_lanes.proofs.Lists.{each-append, each-map, each-both}
+use Rattle.def_lanes.proofs.Owners.{works-first, works-last}
 
 slice_get-front : {X : Type 0} (xs ys : List X) (i : ℕ) (x : X) → slice_get xs i ≡ Some x → slice_get (xs ++ ys) i ≡ Some x
 slice_get-front [] ys i x is = absurd cc
@@ -51,36 +51,6 @@ waited-next workers notes note xs ys waited of_next are =
     (each-both (IsNoteOf note) (λ work. (length notes ≤ owner workers work) × (owner workers work < suc (length notes))) (IsWaited workers (notes ++ note ∷ []))
     (waited-last workers notes note) ys are of_next)
 
--- ---- how many works each worker did
-
-count-append : (workers number : ℕ) (xs ys : List Work) → count_of workers number (xs ++ ys) ≡ count_of workers number xs + count_of workers number ys
-count-append workers number [] ys = omega arith
-count-append workers number (x ∷ xs) ys =
-    let rest : count_of workers number (xs ++ ys) ≡ count_of workers number xs + count_of workers number ys = count-append workers number xs ys in
-    omega arith
-
--- a worker did none of the works of others, and all of its own
-count-none : (workers number first end : ℕ) (xs : List Work) → AreOf workers first end xs → (number < first) ⊎ (end ≤ number) → count_of workers number xs ≡ 0
-count-none workers number first end [] are other = refl
-count-none workers number first end (x ∷ xs) are other =
-    let rest : count_of workers number xs ≡ 0 = count-none workers number first end xs are.1 other in
-    let no : cond {A = ℕ} (owner workers x == number) 1 0 ≡ 0 = cond-false (owner workers x == number) 1 0 (differ other) in
-    omega (arith, no, rest)
-  where
-    differ : (number < first) ⊎ (end ≤ number) → (owner workers x == number) ≡ false
-    differ (inl less) = let low = are.0.0 in grind (arith, nat_tests)
-    differ (inr more) = let high = are.0.1 in grind (arith, nat_tests)
-
-count-own : (workers number : ℕ) (xs : List Work) → AreOf workers number (suc number) xs → count_of workers number xs ≡ length xs
-count-own workers number [] are = refl
-count-own workers number (x ∷ xs) are =
-    let rest : count_of workers number xs ≡ length xs = count-own workers number xs are.1 in
-    let low = are.0.0 in
-    let high = are.0.1 in
-    let own : (owner workers x == number) ≡ true = grind (arith, nat_tests) in
-    let yes : cond {A = ℕ} (owner workers x == number) 1 0 ≡ 1 = cond-true (owner workers x == number) 1 0 own in
-    omega (arith, yes, rest)
-
 -- ---- each note is that of its worker
 
 -- a note behind others stands before the last place or there
@@ -97,27 +67,18 @@ front-or-last (first ∷ notes) note waited (suc place) is = later (front-or-las
     later (inr last) = inr (ap suc last.0, last.1)
 
 pub waited-at-next : (workers : ℕ) (notes : List Waited) (note : Waited) (xs ys : List Work) → AreWaitedAt workers notes xs →
-    AreOf workers 0 (length notes) xs → AreOf workers (length notes) (suc (length notes)) ys → WaitedAt workers (length notes) (length ys) note →
+    AreOf workers 0 (length notes) xs → AreOf workers (length notes) (suc (length notes)) ys → WaitedAt workers (length notes) ys note →
     AreWaitedAt workers (notes ++ note ∷ []) (xs ++ ys)
 waited-at-next workers notes note xs ys before of_first of_next last number waited is = placed (front-or-last notes note waited number is)
   where
     placed : ((number < length notes) × (slice_get notes number ≡ Some waited)) ⊎ ((number ≡ length notes) × (note ≡ waited)) →
-        WaitedAt workers number (count_of workers number (xs ++ ys)) waited
+        WaitedAt workers number (works_of workers number (xs ++ ys)) waited
     placed (inl front) =
-        let less = front.0 in
-        let none : count_of workers number ys ≡ 0 = count-none workers number (length notes) (suc (length notes)) ys of_next (inl less) in
-        let all : count_of workers number (xs ++ ys) ≡ count_of workers number xs + count_of workers number ys = count-append workers number xs ys in
-        let same : count_of workers number xs ≡ count_of workers number (xs ++ ys) = omega arith in
-        subst (λ count. WaitedAt workers number count waited) same (before number waited front.1)
+        subst (λ own. WaitedAt workers number own waited) (sym (works-first workers number (length notes) xs ys of_next front.0)) (before number waited front.1)
     placed (inr here) =
-        let place = here.0 in
-        let none : count_of workers (length notes) xs ≡ 0 = count-none workers (length notes) 0 (length notes) xs of_first (inr (omega arith)) in
-        let own : count_of workers (length notes) ys ≡ length ys = count-own workers (length notes) ys of_next in
-        let all : count_of workers (length notes) (xs ++ ys) ≡ count_of workers (length notes) xs + count_of workers (length notes) ys = count-append workers (length notes) xs ys in
-        let same : length ys ≡ count_of workers (length notes) (xs ++ ys) = omega arith in
-        subst (λ place. WaitedAt workers place (count_of workers place (xs ++ ys)) waited) (sym place)
-        (subst (WaitedAt workers (length notes) (count_of workers (length notes) (xs ++ ys))) here.1
-        (subst (λ count. WaitedAt workers (length notes) count note) same last))
+        subst (λ place. WaitedAt workers place (works_of workers place (xs ++ ys)) waited) (sym here.0)
+        (subst (WaitedAt workers (length notes) (works_of workers (length notes) (xs ++ ys))) here.1
+        (subst (λ own. WaitedAt workers (length notes) own note) (sym (works-last workers (length notes) xs ys of_first of_next)) last))
 
 -- ---- pauses of a length from a least to a most
 
@@ -141,19 +102,55 @@ within-wider zero least low high most lengths less more is = is
 within-wider (suc pauses) least low high most lengths less more (from, to, is, fits, ordered, ends) =
     (from, to, is, omega arith, ordered, omega arith)
 
+-- ---- pauses that said Close
+
+closed-behind : (works : List Work) (work : Work) → closed_in (works ++ work ∷ []) ≡ closed_in works + cond {A = ℕ} (course_of work).closed 1 0
+closed-behind [] work = omega arith
+closed-behind (first ∷ works) work = let rest = closed-behind works work in omega (arith, rest)
+
+closes-more : (woke : Woke) (closes : ℕ) → HasClosed false closes (closes_after woke closes)
+closes-more Again closes = omega arith
+closes-more Close closes = omega arith
+
+pub closed-close : (woke : Woke) (milliseconds : ℕ) (old new : Waited) → woke ≡ Close → new ≡ after_pause milliseconds woke old → HasClosed true old.closes new.closes
+closed-close Again milliseconds old new close is = absurd cc
+closed-close Close milliseconds old new close is = let counted : new.closes ≡ one_pause_more old.closes = ap (λ (it : Waited). it.closes) is in omega (arith, counted)
+
+-- one connection more
+pub closed-more : (works : List Work) (work : Work) (old new : Waited) → CountsClosed works old → HasClosed (course_of work).closed old.closes new.closes →
+    CountsClosed (works ++ work ∷ []) new
+closed-more works work old new before one =
+    let all : closed_in (works ++ work ∷ []) ≡ closed_in works + cond {A = ℕ} (course_of work).closed 1 0 = closed-behind works work in
+    by (course_of work).closed one all
+  where
+    by : (closed : Bool) → HasClosed closed old.closes new.closes → closed_in (works ++ work ∷ []) ≡ closed_in works + cond {A = ℕ} closed 1 0 →
+        CountsClosed (works ++ work ∷ []) new
+    by true one all = omega (arith, before, one, all)
+    by false one all = omega (arith, before, one, all)
+
+-- what one call counted, and then another
+pub closed-both : (first then : Bool) (old between new : ℕ) → HasClosed first old between → HasClosed then between new → HasClosed (first || then) old new
+closed-both true true old between new once again = omega (arith, once, again)
+closed-both true false old between new once again = omega (arith, once, again)
+closed-both false true old between new once again = omega (arith, once, again)
+closed-both false false old between new once again = omega (arith, once, again)
+
+-- ---- calls one after another
+
 pub none-within : (least most : ℕ) (waited : Waited) → PausedWithin least most waited waited
-none-within least most waited = record { steady = λ is. is; expected = refl; leaving = refl; bell = refl }
+none-within least most waited = record { steady = λ is. is; closes = omega arith; expected = refl; leaving = refl; bell = refl }
 
 pub one-within : (least most milliseconds : ℕ) (woke : Woke) (old new : Waited) → least ≤ milliseconds → milliseconds ≤ most →
     new ≡ after_pause milliseconds woke old → PausedWithin least most old new
 one-within least most milliseconds woke old new less more is =
     subst (PausedWithin least most old) (sym is)
-    (record { steady = within-more old.pauses least most milliseconds old.lengths less more; expected = refl; leaving = refl; bell = refl })
+    (record { steady = within-more old.pauses least most milliseconds old.lengths less more; closes = closes-more woke old.closes; expected = refl; leaving = refl; bell = refl })
 
 pub both-within : (least most : ℕ) (old between new : Waited) → PausedWithin least most old between → PausedWithin least most between new →
     PausedWithin least most old new
 both-within least most old between new first then = record {
   steady = λ is. then.steady (first.steady is);
+  closes = closed-both false false old.closes between.closes new.closes first.closes then.closes;
   expected = then.expected ∙ first.expected;
   leaving = then.leaving ∙ first.leaving;
   bell = then.bell ∙ first.bell;
@@ -174,17 +171,18 @@ paused-both milliseconds old between new first then = both-within milliseconds m
 -- where bells are listened at
 
 pub around-none : (milliseconds : ℕ) (waited : Waited) → PausedAround milliseconds waited waited
-around-none milliseconds waited = record { steady = λ is. is; expected = refl; leaving = refl; bell = refl }
+around-none milliseconds waited = record { steady = λ is. is; closes = omega arith; expected = refl; leaving = refl; bell = refl }
 
 pub around-at : (milliseconds bell : ℕ) (old between new : Waited) → between ≡ listening bell old → PausedFor milliseconds between new → PausedAround milliseconds old new
 around-at milliseconds bell old between new heard paused =
     let after : PausedFor milliseconds (listening bell old) new = subst (λ at. PausedFor milliseconds at new) heard paused in
-    record { steady = after.steady; expected = after.expected; leaving = after.leaving; bell = refl }
+    record { steady = after.steady; closes = after.closes; expected = after.expected; leaving = after.leaving; bell = refl }
 
 pub around-both : (milliseconds : ℕ) (old between new : Waited) → PausedAround milliseconds old between → PausedAround milliseconds between new →
     PausedAround milliseconds old new
 around-both milliseconds old between new first then = record {
   steady = λ is. then.steady (first.steady is);
+  closes = closed-both false false old.closes between.closes new.closes first.closes then.closes;
   expected = then.expected ∙ first.expected;
   leaving = then.leaving ∙ first.leaving;
   bell = refl;

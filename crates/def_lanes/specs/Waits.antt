@@ -1,7 +1,8 @@
 -- Source: own.
 -- How workers waited, as their waiters noted it.
-use Rattle.std.specs.Prelude.{◌≡◌, ℕ, zero, suc, ◌+◌, ◌<◌, ◌≤◌, List, Some, slice_get}
+use Rattle.std.specs.Prelude.{◌≡◌, ℕ, zero, suc, ◌+◌, ◌<◌, ◌≤◌, min, Bool, false, List, Some, slice_get, length, if◌then◌else◌}
 use Rattle.std.specs.List.{AllByRecursion}
+use Rattle.boss_model.specs.Limits.{last_number}
 use Rattle.boss_outside.specs.Bells.{driver_bell, time_bell}
 use Rattle.boss_outside_server.specs.Pauses.{drive_pause, held_pause, tick_pause, watch_pause}
 use Rattle.boss_outside_server.specs.declared.waited.Leaving.{Leaving}
@@ -10,7 +11,7 @@ use Rattle.boss_outside_server.specs.declared.waited.Lengths.{Lengths}
 use Rattle.boss_outside_server.specs.declared.waited.Lengths.TheVariants.{NoPause, Within}
 use Rattle.boss_outside_server.specs.declared.waited.Waited.{Waited}
 use Rattle.boss_outside_server.specs.Waits.{one_pause_more}
-use Rattle.def_lanes.specs.Works.{Work, visit, beat, drive, count_of}
+use Rattle.def_lanes.specs.Works.{Work, visit, beat, drive, closed_in, works_of}
 
 -- ---- pauses
 
@@ -27,9 +28,14 @@ AreWithin (suc pauses) least most lengths = (low : ℕ) × (high : ℕ) × (leng
 abbrev pub IsSteady : ℕ → ℕ → Waited → Type 0
 IsSteady least most waited = AreWithin waited.pauses least most waited.lengths
 
+-- pauses that said Close were counted, one at least where this stands, as far as that counts
+abbrev pub HasClosed : Bool → ℕ → ℕ → Type 0
+HasClosed closed before now = min (before + (if closed then 1 else 0)) last_number ≤ now
+
 -- A call did no more with a waiter than to make pauses, each of which was so long at least and so long at most
 pub record PausedWithin (least most : ℕ) (old new : Waited) : Type 0 where
   pub steady : IsSteady least most old → IsSteady least most new
+  pub closes : HasClosed false old.closes new.closes
   pub expected : new.expected ≡ old.expected
   pub leaving : new.leaving ≡ old.leaving
   pub bell : new.bell ≡ old.bell
@@ -68,12 +74,17 @@ pub record WaitedSo (least most : ℕ) (leaving : Leaving) (waited : Waited) : T
   pub steady : IsSteady least most waited
   pub left : waited.leaving ≡ leaving
 
--- A worker of a server, with this number, that has so many workers for connections. Before it began it was told how many of
--- them are waited for. One that serves connections, here so many, leaves once, behind the last; no other ever leaves. The workers for
--- time and for a driver listen at bells of their own
-pub record WaitedAt (workers number connections : ℕ) (waited : Waited) : Type 0 where
+-- each of these connections that a pause ended had a pause of its own that said Close
+abbrev pub CountsClosed : List Work → Waited → Type 0
+CountsClosed own waited = min (closed_in own) last_number ≤ waited.closes
+
+-- A worker of a server, with this number, that has so many workers for connections, and what it did. Before it began it was told how
+-- many of them are waited for. One that serves connections leaves once, behind the last; no other ever leaves. The workers for time and
+-- for a driver listen at bells of their own
+pub record WaitedAt (workers number : ℕ) (own : List Work) (waited : Waited) : Type 0 where
   pub told : waited.expected ≡ workers
-  pub serves : number < workers → WaitedSo watch_pause watch_pause (Once connections) waited
+  pub serves : number < workers → WaitedSo watch_pause watch_pause (Once (length own)) waited
+  pub closes : number < workers → CountsClosed own waited
   pub ticks : number ≡ workers → WaitedSo tick_pause tick_pause NotYet waited
   pub drives : workers < number → WaitedSo held_pause drive_pause NotYet waited
   pub hears_time : number ≡ workers → Listened time_bell waited
@@ -82,4 +93,4 @@ pub record WaitedAt (workers number connections : ℕ) (waited : Waited) : Type 
 -- the same of each worker, and of what it did
 abbrev pub AreWaitedAt : ℕ → List Waited → List Work → Type 0
 AreWaitedAt workers notes works =
-    (number : ℕ) (waited : Waited) → slice_get notes number ≡ Some waited → WaitedAt workers number (count_of workers number works) waited
+    (number : ℕ) (waited : Waited) → slice_get notes number ≡ Some waited → WaitedAt workers number (works_of workers number works) waited

@@ -1,6 +1,6 @@
 -- Source: own.
 -- What a worker of a server has done in one lane, and which worker that is.
-use Rattle.std.specs.Prelude.{◌≡◌, ℕ, ◌+◌, ◌-◌, ◌%◌, ◌<◌, ◌≤◌, ◌==◌, Bool, true, false, ◌||◌, List, [], ◌∷◌, ◌++◌, if◌then◌else◌}
+use Rattle.std.specs.Prelude.{◌≡◌, ℕ, ◌+◌, ◌-◌, ◌%◌, ◌<◌, ◌≤◌, ◌==◌, Bool, true, false, ◌||◌, List, [], ◌∷◌, ◌++◌, filter, if◌then◌else◌}
 use Rattle.std.specs.List.{AllByRecursion}
 use Rattle.boss_model.specs.DeviceCall.{DeviceCall}
 use Rattle.boss_outside_server.specs.declared.waited.Waited.{Waited}
@@ -14,10 +14,12 @@ pub data Cut : Type 0 where
   by_clock : Cut
   by_memory : Cut
 
--- How a work went: the moments that its worker's clock gave for it, in order, and what cut it off
+-- How a work went: the moments that its worker's clock gave for it, in order; what cut it off; and of a connection, whether it ended
+-- since a pause said that the worker is to end
 pub record Course : Type 0 where
   pub moments : List ℕ
   pub cut : Cut
+  pub closed : Bool
 
 -- a connection that ended; or what the waiter of the worker that watches time noted; or that of a worker that drives the devices of a
 -- driver, with the calls of its devices
@@ -47,10 +49,9 @@ owner workers (drive driver calls waited course) = workers + 1 + driver
 abbrev pub AreOf : ℕ → ℕ → ℕ → List Work → Type 0
 AreOf workers first end works = AllByRecursion (λ work. (first ≤ owner workers work) × (owner workers work < end)) works
 
--- how many of them the worker with this number did
-abbrev pub count_of : ℕ → ℕ → List Work → ℕ
-count_of workers number [] = 0
-count_of workers number (work ∷ works) = (if owner workers work == number then 1 else 0) + count_of workers number works
+-- those of them that the worker with this number did
+abbrev pub works_of : ℕ → ℕ → List Work → List Work
+works_of workers number works = filter (λ work. owner workers work == number) works
 
 -- each is a connection with a session before this one
 abbrev pub IsBefore : ℕ → Work → Type 0
@@ -106,6 +107,11 @@ is_clock other = false
 abbrev pub clock_cuts : List Work → ℕ
 clock_cuts [] = 0
 clock_cuts (work ∷ works) = (if is_clock (course_of work).cut then 1 else 0) + clock_cuts works
+
+-- how many of them a pause ended
+abbrev pub closed_in : List Work → ℕ
+closed_in [] = 0
+closed_in (work ∷ works) = (if (course_of work).closed then 1 else 0) + closed_in works
 
 -- each connection has a session of its own
 abbrev pub HaveOwnSessions : List Served → Type 0

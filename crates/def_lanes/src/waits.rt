@@ -17,7 +17,7 @@ pub fn notes_stand_at_their_places()
         AreWaited workers (notes ++ note ∷ []) (works ++ others) }
     ensures places { (workers : ℕ) (notes : List Waited) (note : Waited) (works others : List Work) → AreWaitedAt workers notes works →
         AreOf workers 0 (length notes) works → AreOf workers (length notes) (suc (length notes)) others →
-        WaitedAt workers (length notes) (length others) note → AreWaitedAt workers (notes ++ note ∷ []) (works ++ others) }
+        WaitedAt workers (length notes) others note → AreWaitedAt workers (notes ++ note ∷ []) (works ++ others) }
 {}
 
 /// Pauses of a length from a least to a most, in milliseconds: none; one; those of one call and then of another. Lengths within

@@ -5,7 +5,7 @@ use Rattle.std.proofs.lemmas.Bool.{cond_both}
 use Rattle.std.proofs.lemmas.Bool.Decides.{nat_tests}
 use Rattle.std.proofs.lemmas.List.{length-map, length-set, get_or-set_same, get_or-set_other}
 use Rattle.boss_model.specs.declared.answer.Answer.{Answer}
-use Rattle.boss_model.specs.declared.command.Command.TheVariants.{Next, Read, Report}
+use Rattle.boss_model.specs.declared.command.Command.TheVariants.{Doubt, Next, Read, Report}
 use Rattle.boss_model.specs.Catalogue.{Catalogue, Point}
 use Rattle.boss_model.specs.DeviceCall.{DeviceCall}
 use Rattle.def_history.specs.declared.entry.Entry.{Entry}
@@ -15,7 +15,7 @@ use Rattle.def_guards.specs.declared.guard.Guard.{Guard}
 use Rattle.def_guards.specs.declared.guard.Held.{Held}
 use Rattle.def_guards.specs.Guards.{guard_for, guard_of, guards_of, holding, written}
 use Rattle.def_guards.specs.Acts.{Watch, Decision, Reason, passed, shown, Act, wrote, kept, IsAct, Tried, after_act, after_acts, after_reading, decided, due_from, due_of, guard_at, held_at, held_by, is_skipped}
-use Rattle.def_guards.specs.Turns.{Turn, IsTurn, AreTurns, after_turn, after_turns, at_clock, at_report, TryCut, at_read, at_write, Cut, nothing, at_next, in_turn, FitsCut}
+use Rattle.def_guards.specs.Turns.{Turn, Doubt as Doubted, IsTurn, AreTurns, after_turn, after_turns, at_clock, at_report, TryCut, at_read, at_write, Cut, nothing, at_next, in_turn, at_doubt, FitsCut}
 use Rattle.def_lanes.proofs.Lists.{each-append}
 use Rattle.boss_expiry.specs.declared.end.WorkEnd.{WorkEnd}
 use Rattle.boss_expiry.specs.Ends.{mark}
@@ -23,7 +23,7 @@ use Rattle.boss_drive.specs.Driving.{Made, both}
 use Rattle.def_lanes.specs.Works.{Course}
 use Rattle.boss_guard.specs.GuardDrives.{IsGuardOf}
 use Rattle.boss_guard.specs.Guarding.{start}
-use Rattle.boss_guard.specs.Making.{answer_for, reads, made_by_act, made_by_acts, made_in, made_in_turns, left_by, left_by_try}
+use Rattle.boss_guard.specs.Making.{answer_for, reads, made_by_act, made_by_acts, doubts, made_before, made_in, made_in_turns, left_by, left_by_try}
 use Rattle.law_settled.specs.Settled.{last_from}
 use Rattle.law_settled.proofs.Told.{Told, asked_for, if_asked, is_noted, reports, told_by, told_in, told-append, told-deeds}
 use Rattle.law_settled.proofs.Agreeing.{Agrees, IsOpen, agrees-want, open-want, agrees-report, agrees-call, last-append, mark-told}
@@ -248,9 +248,10 @@ module _ (driver point : ℕ) (Before : ℤ → Type 0) where
       stands-both (made_by_act act) (made_by_acts acts) told last (after_acts acts (after_act act watch)).guards left
       (tried-stands acts (after_act act watch) due left _ _ tried.1 (act-stands watch want act due told last tried.0 stands))
 
-  turn-stands : (watch : Watch) (turn : Turn) (left : List Due) (told : Told) (last : Option DeviceCall) → IsTurn watch turn left → Stands told last watch.guards [] →
-      Stands (told_behind (made_in driver watch turn) told) (last_behind (made_in driver watch turn) last) (after_turn turn watch).guards left
-  turn-stands watch turn left told last is stands =
+  -- a turn up to a doubt
+  before-stands : (watch : Watch) (turn : Turn) (left : List Due) (told : Told) (last : Option DeviceCall) → IsTurn watch turn left → Stands told last watch.guards [] →
+      Stands (told_behind (made_before driver watch turn) told) (last_behind (made_before driver watch turn) last) (after_turn turn watch).guards left
+  before-stands watch turn left told last is stands =
       let next : Told = if_asked (asked_for point (answer_for turn.want)) told in
       let given = given-open turn.want watch.guards told stands.holds in
       tried-stands turn.acts (after_reading turn.reading watch) (due_of turn.want watch.guards) left next last is
@@ -261,12 +262,26 @@ module _ (driver point : ℕ) (Before : ℤ → Type 0) where
         known = stands.known;
       })
 
+  -- a doubt tells nothing
+  doubt-told : (moment : ℕ) (doubt : Option Doubted) (told : Told) → told_in point (doubts moment doubt) told ≡ told
+  doubt-told moment None told = refl
+  doubt-told moment (Some doubt) told = refl
+
+  turn-stands : (watch : Watch) (turn : Turn) (told : Told) (last : Option DeviceCall) → IsTurn watch turn [] → Stands told last watch.guards [] →
+      Stands (told_behind (made_in driver watch turn) told) (last_behind (made_in driver watch turn) last) (after_turn turn watch).guards []
+  turn-stands watch turn told last is stands =
+      let made : Made = made_before driver watch turn in
+      let more : List Entry = doubts (after_turn turn watch).now turn.doubt in
+      subst (λ t. Stands t (last_behind made last) (after_turn turn watch).guards [])
+      (sym (told-append point made.entries more told ∙ doubt-told (after_turn turn watch).now turn.doubt (told_behind made told)))
+      (before-stands watch turn [] told last is stands)
+
   turns-stand : (turns : List Turn) (watch : Watch) (told : Told) (last : Option DeviceCall) → AreTurns watch turns → Stands told last watch.guards [] →
       Stands (told_behind (made_in_turns driver watch turns) told) (last_behind (made_in_turns driver watch turns) last) (after_turns turns watch).guards []
   turns-stand [] watch told last are stands = stands
   turns-stand (turn ∷ turns) watch told last are stands =
       stands-both (made_in driver watch turn) (made_in_turns driver (after_turn turn watch) turns) told last (after_turns turns (after_turn turn watch)).guards []
-      (turns-stand turns (after_turn turn watch) _ _ are.1 (turn-stands watch turn [] told last are.0 stands))
+      (turns-stand turns (after_turn turn watch) _ _ are.1 (turn-stands watch turn told last are.0 stands))
 
   -- ---- what an end cut
 
@@ -290,12 +305,18 @@ module _ (driver point : ℕ) (Before : ℤ → Type 0) where
   cut-agrees end watch (at_next reading) told last fits stands =
       subst (λ t. Agrees point Before t last) (sym (mark-told point (max watch.now reading) (Next driver) end told)) stands.agrees
   cut-agrees end watch (in_turn turn d cut) told last fits stands =
-      let turned = turn-stands watch turn (fits.want ∷ fits.left) told last fits.tried stands in
-      let made : Made = made_in driver watch turn in
+      let turned = before-stands watch turn (fits.want ∷ fits.left) told last fits.tried stands in
+      let made : Made = made_before driver watch turn in
       subst (λ t. Agrees point Before t (last_behind (both made (left_by_try end d cut)) last)) (sym (told-append point made.entries (left_by_try end d cut).entries told))
       (subst (λ l. Agrees point Before (told_behind (left_by_try end d cut) (told_behind made told)) l) (sym (last-append point last made.calls (left_by_try end d cut).calls))
       (try-agrees end d cut (told_behind made told) (last_behind made last)
       (λ same. (turned.opens.0 (ap (λ e. e.point) (sym fits.decides) ∙ same)).0.1) turned.agrees))
+  cut-agrees end watch (at_doubt turn other differs) told last fits stands =
+      let made : Made = made_before driver watch turn in
+      let moment : ℕ = (after_turn turn watch).now in
+      subst (λ t. Agrees point Before t (last_behind made last))
+      (sym (told-append point made.entries (mark (Doubt other differs) moment end) told ∙ mark-told point moment (Doubt other differs) end (told_behind made told)))
+      (before-stands watch turn [] told last fits stands).agrees
 
   -- ---- the whole work
 

@@ -38,7 +38,7 @@ module _ (plant : List Actuator) (point : ℕ) where
   asked-none driver moment s (answer.Ticked now) is apart = refl
   asked-none driver moment s answer.Nothing is apart = refl
   asked-none driver moment s (answer.Noted counts) is apart = refl
-  asked-none driver moment s (answer.Reading p value basis stands differed) is apart = refl
+  asked-none driver moment s (answer.Reading p value basis stands differed took) is apart = refl
   asked-none driver moment s (answer.Array p slots) is apart = refl
   asked-none driver moment s (answer.Status txn owner stage live pending) is apart = refl
   asked-none driver moment s (answer.Notices first next list) is apart = refl

@@ -77,7 +77,7 @@ none_of false = refl
 
 pub no-calls : (driver : ℕ) (works : List Work) → IsAbsent (of_driver driver) works → AreApart works → calls_in driver works ≡ []
 no-calls driver works absent apart =
-    ap (λ first. first ++ calls_in driver works) (sym (none_of (driver == driver))) ∙ calls-one driver [] (new_waited 0) (record { moments = []; cut = not_cut }) [] works (absent, apart)
+    ap (λ first. first ++ calls_in driver works) (sym (none_of (driver == driver))) ∙ calls-one driver [] (new_waited 0) (record { moments = []; cut = not_cut; closed = false }) [] works (absent, apart)
 
 module _ (P : Work → Type 0) (driver : ℕ) where
   -- the one work of the driver

@@ -149,19 +149,19 @@ at-report n point other version true s told is =
     (λ here _. let same : other ≡ point = grind (arith, nat_tests) in
     let away : member other s.wants ≡ false = grind (arith, nat_tests) in
     let off : member point s.wants ≡ false = subst (λ k. member k s.wants ≡ false) same away in
-    let there : proxy_of (set s.proxies other (taken (proxy_of s.proxies other))) point ≡ taken (proxy_of s.proxies point) =
-    subst (λ k. proxy_of (set s.proxies k (taken (proxy_of s.proxies k))) point ≡ taken (proxy_of s.proxies point)) (sym same)
-    (proxy_of-set s.proxies point (taken (proxy_of s.proxies point)) is.known) in
+    let there : proxy_of (set s.proxies other (taken n (proxy_of s.proxies other))) point ≡ taken n (proxy_of s.proxies point) =
+    subst (λ k. proxy_of (set s.proxies k (taken n (proxy_of s.proxies k))) point ≡ taken n (proxy_of s.proxies point)) (sym same)
+    (proxy_of-set s.proxies point (taken n (proxy_of s.proxies point)) is.known) in
     record {
-      known = subst (λ k. point < k) (sym (length-set s.proxies other (taken (proxy_of s.proxies other)))) is.known;
+      known = subst (λ k. point < k) (sym (length-set s.proxies other (taken n (proxy_of s.proxies other)))) is.known;
       pending = λ wants. let both : true ≡ false = sym wants ∙ off in cc;
       asked = λ _. is.asked off ∙ ap (λ q. Some q.commanded) (sym there);
       took = λ _. is.asked off ∙ ap (λ q. Some q.commanded) (sym there);
     })
-    (λ apart _. let there : proxy_of (set s.proxies other (taken (proxy_of s.proxies other))) point ≡ proxy_of s.proxies point =
-    proxy_of-other s.proxies other point (taken (proxy_of s.proxies other)) (grind (arith, nat_tests)) in
+    (λ apart _. let there : proxy_of (set s.proxies other (taken n (proxy_of s.proxies other))) point ≡ proxy_of s.proxies point =
+    proxy_of-other s.proxies other point (taken n (proxy_of s.proxies other)) (grind (arith, nat_tests)) in
     record {
-      known = subst (λ k. point < k) (sym (length-set s.proxies other (taken (proxy_of s.proxies other)))) is.known;
+      known = subst (λ k. point < k) (sym (length-set s.proxies other (taken n (proxy_of s.proxies other)))) is.known;
       pending = λ wants. ap (λ q. q.mark) there ∙ is.pending wants;
       asked = λ away. is.asked away ∙ ap (λ q. Some q.commanded) (sym there);
       took = λ settled. is.took (ap (λ q. q.mark) (sym there) ∙ settled) ∙ ap (λ q. Some q.commanded) (sym there);

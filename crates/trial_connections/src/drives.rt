@@ -168,7 +168,7 @@ const RUNS: &[Drive] = &[
             DONE,
             DONE,
             r#"{"ok":"notices","first":1,"next":2,"list":[{"n":1,"at":1000,"txn":1,"kind":"fault","point":"lamp"}]}"#,
-            r#"{"ok":"read","point":"lamp","value":1,"from":"lease","priority":8,"txn":1,"mark":"failed"}"#,
+            r#"{"ok":"read","point":"lamp","value":1,"from":"lease","priority":8,"txn":1,"mark":"failed","took":0,"since":0}"#,
         ],
         ..OPENED
     },
@@ -288,17 +288,20 @@ struct Driven {
 fn take<G: Desk>(
     desk: &G,
     pass: &mut G::Pass,
+    catalogue: &Catalogue,
     devices: &mut SimActuators,
     own: &mut Own,
     turns: u64,
 ) -> Option<WorkEnd>
     requires own { G.owns desk.now pass.old }
+    requires plant { actuators catalogue.now ≡ G.plant desk.now }
     ensures own { G.owns desk.now pass.new }
     ensures parts { G.parts pass.new ≡ G.parts pass.old }
 {
     Some(drive(
         desk,
         pass,
+        catalogue,
         DriverId(0),
         devices,
         &mut own.clock,
@@ -319,11 +322,25 @@ impl Trial for Driving<'_> {
         };
         if prepare(alloc, catalogue, desk, pass, &[], run.machine.broken) {
             let devices = &mut self.devices;
-            driven.first = take(desk, pass, devices, &mut self.first, run.first.turns);
+            driven.first = take(
+                desk,
+                pass,
+                catalogue,
+                devices,
+                &mut self.first,
+                run.first.turns,
+            );
         }
         if prepare(alloc, catalogue, desk, pass, run.lines, false) {
             let devices = &mut self.devices;
-            driven.then = take(desk, pass, devices, &mut self.then, run.then.turns);
+            driven.then = take(
+                desk,
+                pass,
+                catalogue,
+                devices,
+                &mut self.then,
+                run.then.turns,
+            );
         }
         let _ = self
             .question

@@ -5,9 +5,10 @@ ghost use Rattle.std.specs.Prelude.{◌≡◌, ◌≤◌, IsTrue};
 ghost use Rattle.std.specs.List.{AllByRecursion};
 ghost use Rattle.boss_drive.specs.Driving.{Driven};
 ghost use Rattle.boss_lock.specs.Places.{entries_at};
+ghost use Rattle.boss_model.specs.Catalogue.{actuators};
 ghost use Rattle.boss_model.specs.Limits.{last_moment};
-ghost use Rattle.boss_outside_server.specs.Pauses.{drive_pause};
-ghost use Rattle.def_lanes.specs.Waits.{PausedFor};
+ghost use Rattle.boss_outside_server.specs.Pauses.{drive_pause, held_pause};
+ghost use Rattle.def_lanes.specs.Waits.{PausedWithin};
 
 use boss_drive::drive;
 use boss_expiry::WorkEnd;
@@ -103,15 +104,17 @@ struct Worker {
 fn take<G: Desk, L: Link>(
     desk: &G,
     pass: &mut G::Pass,
+    catalogue: &Catalogue,
     devices: &mut Noted<ModbusDevice<L>>,
     clock: &mut ListClock,
     waiter: &mut TurnWaiter,
     turns: u64,
 ) -> WorkEnd
     requires own { G.owns desk.now pass.old }
+    requires plant { actuators catalogue.now ≡ G.plant desk.now }
     ensures own { G.owns desk.now pass.new }
     ensures parts { G.parts pass.new ≡ G.parts pass.old }
-    ensures driven { Driven 0 (Unit {0}) (Unit {0})
+    ensures driven { Driven (G.plant desk.now) 0 (Unit {0}) (Unit {0})
         (record {
           own = entries_at (G.seen pass.old) (G.mine pass.old);
           given = ⟦<ListClock as Clock>⟧.given clock.old;
@@ -125,19 +128,29 @@ fn take<G: Desk, L: Link>(
           calls = devices.new.calls.items;
         })
         ⟦<TurnWaiter as Waiter>⟧.tells (⟦<TurnWaiter as Waiter>⟧.waited waiter.old).pauses (⟦<TurnWaiter as Waiter>⟧.waited waiter.new).pauses turns result }
-    ensures waited { PausedFor drive_pause (⟦<TurnWaiter as Waiter>⟧.waited waiter.old) (⟦<TurnWaiter as Waiter>⟧.waited waiter.new) }
+    ensures waited { PausedWithin held_pause drive_pause (⟦<TurnWaiter as Waiter>⟧.waited waiter.old) (⟦<TurnWaiter as Waiter>⟧.waited waiter.new) }
 {
-    drive(desk, pass, DriverId(0), devices, clock, waiter, turns)
+    drive(
+        desk,
+        pass,
+        catalogue,
+        DriverId(0),
+        devices,
+        clock,
+        waiter,
+        turns,
+    )
 }
 
 impl Trial for Worker {
     type Told = WorkEnd;
 
     /// A turn for each of the three points, and one without a want.
-    fn run<G: Desk>(&mut self, _catalogue: &Catalogue, desk: &G, pass: &mut G::Pass) -> WorkEnd {
+    fn run<G: Desk>(&mut self, catalogue: &Catalogue, desk: &G, pass: &mut G::Pass) -> WorkEnd {
         take(
             desk,
             pass,
+            catalogue,
             &mut self.devices,
             &mut self.clock,
             &mut self.waiter,

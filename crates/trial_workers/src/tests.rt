@@ -117,6 +117,7 @@ fn note(
         pauses,
         lengths,
         closed,
+        closes: u64::from(closed),
         expected: 3,
         leaving,
         bell,

@@ -1,24 +1,24 @@
-use Rattle.std.proofs.Common.{◌+◌, refl, sym, ap, subst, arith, ◌∙◌}
-use Rattle.boss_outside_server.specs.Pauses.{drive_pause}
+use Rattle.std.proofs.Common.{◌+◌, ◌≤◌, refl, sym, ap, subst, arith, ◌∙◌}
+use Rattle.boss_outside_server.specs.Pauses.{drive_pause, held_pause}
 use Rattle.boss_outside_server.specs.declared.waited.Waited.{Waited}
-use Rattle.def_lanes.specs.Waits.{PausedFor}
-use Rattle.def_lanes.proofs.WaitLemmas.{paused-none, paused-one, paused-both}
+use Rattle.def_lanes.specs.Waits.{PausedWithin}
+use Rattle.def_lanes.proofs.WaitLemmas.{both-within, none-within, one-within}
 use Rattle.boss_lock.specs.Places.{entries_at}
 use Rattle.boss_expiry.specs.declared.end.WorkEnd.TheVariants.{Closed}
 use Rattle.boss_drive.specs.Driving.{Stand, IsTurn}
-use Rattle.boss_drive.proofs.Gains.{took_none, took_idle, took_served, ends_cut, ends_whole, less_at_cut, not_closed}
+use Rattle.boss_drive.proofs.Gains.{took_none, took_idle, took_served, ends_cut, ends_whole, less_at_cut, not_closed, if_some, none_of}
+use Rattle.boss_drive.proofs.driving.drive.Goals.{in-Some+in-Close+else-number-turns, in_default, in-Some+in_default-pause}
 use Rattle.boss_drive.proofs.driving.drive.Goals as goal
-use Rattle.boss_drive.proofs.driving.drive.Goals.{then-not-wrote+in-Close+else-number-turns, then-not-wrote+in_default, else-not-wrote}
 
 -- no turn yet
 pub loop-number-init : goal.loop-number-init
 loop-number-init g c = record {
   own = c.requires.own;
   parts = refl;
-  took = took_none c.args.driver g.C.Clock.tells g.A.Actuators.tells
+  took = took_none (g.G.Desk.plant c.args.desk.now) c.args.driver g.C.Clock.tells g.A.Actuators.tells
       (record { own = entries_at (g.G.Desk.seen c.args.pass.now) (g.G.Desk.mine c.args.pass.now); given = g.C.Clock.given c.args.clock.now; whole = g.A.Actuators.whole c.args.devices.now; calls = g.A.Actuators.calls c.args.devices.now })
       g.W.Waiter.tells (g.W.Waiter.waited c.args.waiter.now).pauses;
-  waited = λ tells. paused-none drive_pause (g.W.Waiter.waited c.args.waiter.now);
+  waited = λ tells. none-within held_pause drive_pause (g.W.Waiter.waited c.args.waiter.now);
   clock = refl;
   closes = λ _. refl;
 }
@@ -31,7 +31,7 @@ returns-in-Err-clause-driven g c =
     let new : Stand = record { own = entries_at (g.G.Desk.seen c.turn.new.pass) (g.G.Desk.mine c.turn.new.pass); given = g.C.Clock.given c.turn.new.clock; whole = g.A.Actuators.whole c.turn.new.devices; calls = g.A.Actuators.calls c.turn.new.devices } in
     let pauses = (g.W.Waiter.waited c.args.waiter.now).pauses in
     let pauses' = (g.W.Waiter.waited c.loop-number.waiter).pauses in
-    ends_cut c.args.driver g.C.Clock.tells g.A.Actuators.tells old mid new g.W.Waiter.tells pauses pauses' pauses' c.loop-number.number c.args.turns c.in-Err.end c.loop-number.invariant.took c.in-Err.ensures.cut
+    ends_cut (g.G.Desk.plant c.args.desk.now) c.args.driver g.C.Clock.tells g.A.Actuators.tells old mid new g.W.Waiter.tells pauses pauses' pauses' c.loop-number.number c.loop-number.invariant.took c.args.turns c.in-Err.end c.in-Err.ensures.cut
     (less_at_cut (g.G.Desk.seen c.turn.new.pass) c.loop-number.number c.args.turns c.in-Err.end c.in-Err.ensures.disk_cause c.loop-number-test.true)
 
 -- the turns up to this pause were whole
@@ -43,14 +43,14 @@ returns-then-number-turns-clause-driven g c =
     let pauses = (g.W.Waiter.waited c.args.waiter.now).pauses in
     let pauses' = (g.W.Waiter.waited c.loop-number.waiter).pauses in
     let pauses'' = (g.W.Waiter.waited c.pause.new.self).pauses in
-    let turn = subst (λ wrote. IsTurn c.args.driver g.C.Clock.tells g.A.Actuators.tells mid new wrote) c.if-not-wrote.true c.in-Ok.ensures.served in
-    let took = took_idle c.args.driver g.C.Clock.tells g.A.Actuators.tells old mid new g.W.Waiter.tells pauses pauses' pauses'' c.loop-number.number turn c.loop-number.invariant.took (λ tells. ap (λ (it : Waited). it.pauses) (c.pause.ensures.counted tells).0) in
-    ends_whole c.args.driver g.C.Clock.tells g.A.Actuators.tells old new g.W.Waiter.tells pauses pauses'' (c.loop-number.number + 1) c.args.turns Closed took tt
+    let took = took_idle (g.G.Desk.plant c.args.desk.now) c.args.driver g.C.Clock.tells g.A.Actuators.tells old mid new g.W.Waiter.tells pauses pauses' pauses'' c.loop-number.number c.loop-number.invariant.took
+    c.in-Some.milliseconds (subst (IsTurn (g.G.Desk.plant c.args.desk.now) c.args.driver g.C.Clock.tells g.A.Actuators.tells mid new) c.in-Some.is c.in-Ok.ensures.served) (λ tells. ap (λ (it : Waited). it.pauses) (c.pause.ensures.counted tells).0) in
+    ends_whole (g.G.Desk.plant c.args.desk.now) c.args.driver g.C.Clock.tells g.A.Actuators.tells old new g.W.Waiter.tells pauses pauses'' (c.loop-number.number + 1) c.args.turns Closed took tt
     (omega (arith, c.if-number-turns.true))
 
 pub returns-then-number-turns-clause-waited : goal.returns-then-number-turns-clause-waited
-returns-then-number-turns-clause-waited g c = λ tells. paused-both drive_pause (g.W.Waiter.waited c.args.waiter.now) (g.W.Waiter.waited c.loop-number.waiter) (g.W.Waiter.waited c.pause.new.self)
-    (c.loop-number.invariant.waited tells) (paused-one drive_pause c.pause.result (g.W.Waiter.waited c.loop-number.waiter) (g.W.Waiter.waited c.pause.new.self) (c.pause.ensures.counted tells).0)
+returns-then-number-turns-clause-waited g c = λ tells. both-within held_pause drive_pause (g.W.Waiter.waited c.args.waiter.now) (g.W.Waiter.waited c.loop-number.waiter) (g.W.Waiter.waited c.pause.new.self)
+    (c.loop-number.invariant.waited tells) (one-within held_pause drive_pause c.in-Some.milliseconds c.pause.result (g.W.Waiter.waited c.loop-number.waiter) (g.W.Waiter.waited c.pause.new.self) (if_some (λ rest. held_pause ≤ rest) c.in-Ok.rest c.in-Some.milliseconds c.in-Some.is c.in-Ok.ensures.least) (if_some (λ rest. rest ≤ drive_pause) c.in-Ok.rest c.in-Some.milliseconds c.in-Some.is c.in-Ok.ensures.most) (c.pause.ensures.counted tells).0)
 
 -- one turn more was whole
 pub loop-number-preserved : goal.loop-number-preserved
@@ -63,28 +63,35 @@ loop-number-preserved g c =
     record {
       own = c.turn.ensures.own;
       parts = c.turn.ensures.parts ∙ c.loop-number.invariant.parts;
-      took = elim c.if-not-wrote.branch [
-        | then-not-wrote+in-Close+else-number-turns w ↦ took_idle c.args.driver g.C.Clock.tells g.A.Actuators.tells old mid new g.W.Waiter.tells pauses pauses' (g.W.Waiter.waited c.if-not-wrote.waiter).pauses c.loop-number.number (subst (λ wrote. IsTurn c.args.driver g.C.Clock.tells g.A.Actuators.tells mid new wrote) w.if-not-wrote.true c.in-Ok.ensures.served) c.loop-number.invariant.took
+      took = elim c.match-rest.branch [
+        | in-Some+in-Close+else-number-turns w ↦ took_idle (g.G.Desk.plant c.args.desk.now) c.args.driver g.C.Clock.tells g.A.Actuators.tells old mid new g.W.Waiter.tells pauses pauses' (g.W.Waiter.waited c.match-rest.waiter).pauses c.loop-number.number c.loop-number.invariant.took
+            w.in-Some.milliseconds (subst (IsTurn (g.G.Desk.plant c.args.desk.now) c.args.driver g.C.Clock.tells g.A.Actuators.tells mid new) w.in-Some.is c.in-Ok.ensures.served)
             (λ tells. ap (λ it. (g.W.Waiter.waited it).pauses) w.waiter-is ∙ ap (λ (it : Waited). it.pauses) (w.pause.ensures.counted tells).0)
-        | then-not-wrote+in_default w ↦ took_idle c.args.driver g.C.Clock.tells g.A.Actuators.tells old mid new g.W.Waiter.tells pauses pauses' (g.W.Waiter.waited c.if-not-wrote.waiter).pauses c.loop-number.number (subst (λ wrote. IsTurn c.args.driver g.C.Clock.tells g.A.Actuators.tells mid new wrote) w.if-not-wrote.true c.in-Ok.ensures.served) c.loop-number.invariant.took
+        | in-Some+in_default-pause w ↦ took_idle (g.G.Desk.plant c.args.desk.now) c.args.driver g.C.Clock.tells g.A.Actuators.tells old mid new g.W.Waiter.tells pauses pauses' (g.W.Waiter.waited c.match-rest.waiter).pauses c.loop-number.number c.loop-number.invariant.took
+            w.in-Some.milliseconds (subst (IsTurn (g.G.Desk.plant c.args.desk.now) c.args.driver g.C.Clock.tells g.A.Actuators.tells mid new) w.in-Some.is c.in-Ok.ensures.served)
             (λ tells. ap (λ it. (g.W.Waiter.waited it).pauses) w.waiter-is ∙ ap (λ (it : Waited). it.pauses) (w.pause.ensures.counted tells).0)
-        | else-not-wrote w ↦ took_served c.args.driver g.C.Clock.tells g.A.Actuators.tells old mid new g.W.Waiter.tells pauses pauses' (g.W.Waiter.waited c.if-not-wrote.waiter).pauses c.loop-number.number (subst (λ wrote. IsTurn c.args.driver g.C.Clock.tells g.A.Actuators.tells mid new wrote) w.if-not-wrote.false c.in-Ok.ensures.served) c.loop-number.invariant.took
+        | in_default w ↦ took_served (g.G.Desk.plant c.args.desk.now) c.args.driver g.C.Clock.tells g.A.Actuators.tells old mid new g.W.Waiter.tells pauses pauses' (g.W.Waiter.waited c.match-rest.waiter).pauses c.loop-number.number c.loop-number.invariant.took
+            (subst (IsTurn (g.G.Desk.plant c.args.desk.now) c.args.driver g.C.Clock.tells g.A.Actuators.tells mid new) (none_of c.in-Ok.rest (λ n is. w.in_default.not-Some n is)) c.in-Ok.ensures.served)
             (λ tells. ap (λ it. (g.W.Waiter.waited it).pauses) w.waiter-is)
       ];
-      waited = λ tells. elim c.if-not-wrote.branch [
-        | then-not-wrote+in-Close+else-number-turns w ↦ subst (PausedFor drive_pause (g.W.Waiter.waited c.args.waiter.now)) (sym (ap g.W.Waiter.waited w.waiter-is))
-            (paused-both drive_pause (g.W.Waiter.waited c.args.waiter.now) (g.W.Waiter.waited c.loop-number.waiter) (g.W.Waiter.waited w.pause.new.self)
-            (c.loop-number.invariant.waited tells) (paused-one drive_pause w.pause.result (g.W.Waiter.waited c.loop-number.waiter) (g.W.Waiter.waited w.pause.new.self) (w.pause.ensures.counted tells).0))
-        | then-not-wrote+in_default w ↦ subst (PausedFor drive_pause (g.W.Waiter.waited c.args.waiter.now)) (sym (ap g.W.Waiter.waited w.waiter-is))
-            (paused-both drive_pause (g.W.Waiter.waited c.args.waiter.now) (g.W.Waiter.waited c.loop-number.waiter) (g.W.Waiter.waited w.pause.new.self)
-            (c.loop-number.invariant.waited tells) (paused-one drive_pause w.pause.result (g.W.Waiter.waited c.loop-number.waiter) (g.W.Waiter.waited w.pause.new.self) (w.pause.ensures.counted tells).0))
-        | else-not-wrote w ↦ subst (PausedFor drive_pause (g.W.Waiter.waited c.args.waiter.now)) (sym (ap g.W.Waiter.waited w.waiter-is)) (c.loop-number.invariant.waited tells)
+      waited = λ tells. elim c.match-rest.branch [
+        | in-Some+in-Close+else-number-turns w ↦ subst (PausedWithin held_pause drive_pause (g.W.Waiter.waited c.args.waiter.now)) (sym (ap g.W.Waiter.waited w.waiter-is))
+            (both-within held_pause drive_pause (g.W.Waiter.waited c.args.waiter.now) (g.W.Waiter.waited c.loop-number.waiter) (g.W.Waiter.waited w.pause.new.self)
+            (c.loop-number.invariant.waited tells) (one-within held_pause drive_pause w.in-Some.milliseconds w.pause.result (g.W.Waiter.waited c.loop-number.waiter) (g.W.Waiter.waited w.pause.new.self)
+            (if_some (λ rest. held_pause ≤ rest) c.in-Ok.rest w.in-Some.milliseconds w.in-Some.is c.in-Ok.ensures.least) (if_some (λ rest. rest ≤ drive_pause) c.in-Ok.rest w.in-Some.milliseconds w.in-Some.is c.in-Ok.ensures.most)
+            (w.pause.ensures.counted tells).0))
+        | in-Some+in_default-pause w ↦ subst (PausedWithin held_pause drive_pause (g.W.Waiter.waited c.args.waiter.now)) (sym (ap g.W.Waiter.waited w.waiter-is))
+            (both-within held_pause drive_pause (g.W.Waiter.waited c.args.waiter.now) (g.W.Waiter.waited c.loop-number.waiter) (g.W.Waiter.waited w.pause.new.self)
+            (c.loop-number.invariant.waited tells) (one-within held_pause drive_pause w.in-Some.milliseconds w.pause.result (g.W.Waiter.waited c.loop-number.waiter) (g.W.Waiter.waited w.pause.new.self)
+            (if_some (λ rest. held_pause ≤ rest) c.in-Ok.rest w.in-Some.milliseconds w.in-Some.is c.in-Ok.ensures.least) (if_some (λ rest. rest ≤ drive_pause) c.in-Ok.rest w.in-Some.milliseconds w.in-Some.is c.in-Ok.ensures.most)
+            (w.pause.ensures.counted tells).0))
+        | in_default w ↦ subst (PausedWithin held_pause drive_pause (g.W.Waiter.waited c.args.waiter.now)) (sym (ap g.W.Waiter.waited w.waiter-is)) (c.loop-number.invariant.waited tells)
       ];
       clock = c.in-Ok.ensures.clock ∙ c.loop-number.invariant.clock;
-      closes = λ less. elim c.if-not-wrote.branch [
-        | then-not-wrote+in-Close+else-number-turns w ↦ absurd (omega (arith, less, w.if-number-turns.false))
-        | then-not-wrote+in_default w ↦ ap g.W.Waiter.closes w.waiter-is ∙ not_closed w.pause.result (g.W.Waiter.closes c.loop-number.waiter)
-            (g.W.Waiter.closes w.pause.new.self) (λ is. w.in_default.not-Close is) w.pause.ensures.cause ∙ c.loop-number.invariant.closes (omega (arith, less))
-        | else-not-wrote w ↦ ap g.W.Waiter.closes w.waiter-is ∙ c.loop-number.invariant.closes (omega (arith, less))
+      closes = λ less. elim c.match-rest.branch [
+        | in-Some+in-Close+else-number-turns w ↦ absurd (omega (arith, less, w.if-number-turns.false))
+        | in-Some+in_default-pause w ↦ ap g.W.Waiter.closes w.waiter-is ∙ not_closed w.pause.result (g.W.Waiter.closes c.loop-number.waiter)
+            (g.W.Waiter.closes w.pause.new.self) (λ is. w.in_default-pause.not-Close is) w.pause.ensures.cause ∙ c.loop-number.invariant.closes (omega (arith, less))
+        | in_default w ↦ ap g.W.Waiter.closes w.waiter-is ∙ c.loop-number.invariant.closes (omega (arith, less))
       ];
     }

@@ -11,7 +11,7 @@ abbrev pub invariant-loop-number : goal.invariant-loop-number
 invariant-loop-number g l = record {
   own : g.G.Desk.owns l.desk l.pass;
   parts : g.G.Desk.parts l.pass ≡ g.G.Desk.parts l.fn.pass;
-  took : TookSome l.driver l.fn.guards g.C.Clock.tells g.A.Actuators.tells
+  took : TookSome (g.G.Desk.plant l.desk) l.driver l.fn.guards g.C.Clock.tells g.A.Actuators.tells
       (record { own = entries_at (g.G.Desk.seen l.fn.pass) (g.G.Desk.mine l.fn.pass); given = g.C.Clock.given l.fn.clock; whole = g.A.Actuators.whole l.fn.devices; calls = g.A.Actuators.calls l.fn.devices })
       (record { own = entries_at (g.G.Desk.seen l.pass) (g.G.Desk.mine l.pass); given = g.C.Clock.given l.clock; whole = g.A.Actuators.whole l.devices; calls = g.A.Actuators.calls l.devices })
       g.W.Waiter.tells (g.W.Waiter.waited l.fn.waiter).pauses (g.W.Waiter.waited l.waiter).pauses l.number (record { now = l.now; guards = l.guards });

@@ -3,8 +3,9 @@ use Rattle.std.specs.List.{flat_map}
 use Rattle.boss_model.specs.declared.answer.Answer.TheVariants as answer
 use Rattle.boss_lock.specs.Places.{entries_at}
 use Rattle.def_connection.specs.Talks.{standing, Told}
+use Rattle.def_connection.specs.Watching.{is_some_list}
 use Rattle.boss_watching.specs.Ends.{is_unanswered_end}
-use Rattle.boss_watching.specs.Notes.{is_some_list, note_line, notes}
+use Rattle.boss_watching.specs.Notes.{note_line, notes}
 use Rattle.boss_watching.proofs.Called.{called-call, one-longer, unanswered-call}
 use Rattle.boss_watching.proofs.Lines.{err-front, err-rose, err-said, ok-calm, ok-whole}
 use Rattle.boss_watching.proofs.Turning.{adds-turn, told-cut, watched-turn, watched-unused, watches-turn}

@@ -1,8 +1,8 @@
-use Rattle.std.proofs.Common.{◌+◌, ◌∙◌, ap, refl, subst, arith, false}
+use Rattle.std.proofs.Common.{◌+◌, ◌∙◌, ap, refl, subst, arith, true, false}
 use Rattle.boss_outside_server.specs.Pauses.{watch_pause}
 use Rattle.boss_outside_server.specs.declared.waited.Waited.{Waited}
 use Rattle.boss_lock.specs.Places.{entries_at}
-use Rattle.def_lanes.proofs.WaitLemmas.{paused-none, paused-one, paused-both}
+use Rattle.def_lanes.proofs.WaitLemmas.{closed-both, closed-close, paused-none, paused-one, paused-both}
 use Rattle.def_history.specs.History.{run}
 use Rattle.def_connection.specs.Talks.{standing}
 use Rattle.def_connection.proofs.WatchLemmas.{watches-nothing, watches-then}
@@ -10,7 +10,7 @@ use Rattle.boss_watching.specs.Ends.{is_unanswered_end}
 use Rattle.boss_watching.specs.Notes.{GoesOn, notes, sent}
 use Rattle.boss_watching.specs.Turns.{AddsTurn}
 use Rattle.boss_watching.proofs.Called.{called-cut, lasts-called, lasts-longer, one-longer}
-use Rattle.boss_watching.proofs.Ending.{began-more, lasted-cut, not-closed, lasts-nothing, lasts-quiet, lasts-then, lasts-told}
+use Rattle.boss_watching.proofs.Ending.{began-more, closed-cut, lasted-cut, not-closed, lasts-nothing, lasts-quiet, lasts-then, lasts-told}
 use Rattle.boss_watching.proofs.Turning.{watched-behind, watched-whole}
 use Rattle.boss_watching.proofs.waiting.await_notices.Goals as goal
 use Rattle.boss_watching.proofs.waiting.await_notices.Goals.{in-Close+else-quiet-idle, in_default}
@@ -86,6 +86,21 @@ loop-quiet-preserved g c = record {
         ∙ c.loop-quiet.invariant.closes (omega (arith, less))
   ];
 }
+
+-- ---- pauses that said Close
+
+pub returns-in-Err-clause-closes : goal.returns-in-Err-clause-closes
+returns-in-Err-clause-closes g c = λ tells. closed-cut c.in-Err.end (g.W.Waiter.waited c.args.waiter.now).closes (g.W.Waiter.waited c.loop-quiet.waiter).closes c.in-Err.ensures.cut
+    (c.loop-quiet.invariant.waited tells).closes
+
+pub returns-then-quiet-idle-clause-closes : goal.returns-then-quiet-idle-clause-closes
+returns-then-quiet-idle-clause-closes g c = λ tells.
+    closed-both false true (g.W.Waiter.waited c.args.waiter.now).closes (g.W.Waiter.waited c.loop-quiet.waiter).closes (g.W.Waiter.waited c.pause.new.self).closes
+    (c.loop-quiet.invariant.waited tells).closes
+    (closed-close c.pause.result watch_pause (g.W.Waiter.waited c.loop-quiet.waiter) (g.W.Waiter.waited c.pause.new.self) c.in-Close.is (c.pause.ensures.counted tells).0)
+
+pub returns-clause-closes : goal.returns-clause-closes
+returns-clause-closes g c = λ tells. (c.loop-quiet.invariant.waited tells).closes
 
 -- a call at least was answered
 pub returns-in-Err-clause-called : goal.returns-in-Err-clause-called

@@ -2,11 +2,11 @@ use Rattle.std.proofs.Common.{◌≡◌, ◌∙◌, ap, refl, subst, arith, fals
 use Rattle.boss_model.specs.Held.{Held}
 use Rattle.boss_outside_server.specs.Pauses.{watch_idle, watch_pause}
 use Rattle.boss_lock.specs.Places.{entries_at}
-use Rattle.def_lanes.proofs.WaitLemmas.{paused-none, paused-both}
+use Rattle.def_lanes.proofs.WaitLemmas.{closed-both, paused-none, paused-both}
 use Rattle.def_history.specs.History.{run}
 use Rattle.def_connection.specs.Talks.{standing}
 use Rattle.def_connection.proofs.WatchLemmas.{watches-nothing, watches-then}
-use Rattle.boss_watching.specs.Ends.{is_unanswered_end, ClockCause, CloseCause, WriteCause}
+use Rattle.boss_watching.specs.Ends.{is_closed_end, is_unanswered_end, ClockCause, CloseCause, WriteCause}
 use Rattle.boss_watching.specs.Notes.{notes, sent}
 use Rattle.boss_watching.proofs.Called.{called-behind, lasts-longer}
 use Rattle.boss_watching.proofs.Ending.{comes-less, lasted-behind, lasts-nothing, lasts-then}
@@ -22,6 +22,14 @@ returns-in_default-clause-lasted g c = record { quiet = 0; lasts = lasts-nothing
 
 pub returns-in_default-clause-waited : goal.returns-in_default-clause-waited
 returns-in_default-clause-waited g c = λ tells. paused-none watch_pause (g.W.Waiter.waited c.args.waiter.now)
+
+pub returns-in_default-clause-closes : goal.returns-in_default-clause-closes
+returns-in_default-clause-closes g c = λ tells. (paused-none watch_pause (g.W.Waiter.waited c.args.waiter.now)).closes
+
+pub returns-in-Err-clause-closes : goal.returns-in-Err-clause-closes
+returns-in-Err-clause-closes g c = λ tells.
+    closed-both false (is_closed_end c.in-Err.end) (g.W.Waiter.waited c.args.waiter.now).closes (g.W.Waiter.waited c.loop-later.waiter).closes (g.W.Waiter.waited c.await_notices.new.waiter).closes
+    (c.loop-later.invariant.waited tells).closes (c.in-Err.ensures.closes tells)
 
 pub returns-in-Err-clause-waited : goal.returns-in-Err-clause-waited
 returns-in-Err-clause-waited g c = λ tells. paused-both watch_pause (g.W.Waiter.waited c.args.waiter.now) (g.W.Waiter.waited c.loop-later.waiter) (g.W.Waiter.waited c.await_notices.new.waiter)

@@ -1,6 +1,6 @@
 use Rattle.std.proofs.Common.{◌+◌, [], ◌++◌, true, ◌∷◌, refl, sym, ap, ◌∙◌, subst, arith}
 use Rattle.boss_outside_server.specs.Pauses.{watch_pause}
-use Rattle.def_lanes.proofs.WaitLemmas.{around-both, around-none}
+use Rattle.def_lanes.proofs.WaitLemmas.{around-both, around-none, closed-more}
 use Rattle.def_lanes.specs.Works.{visit}
 use Rattle.boss_outside_server.specs.Hosts.{served_of}
 use Rattle.boss_worker.specs.declared.flags.Flags.{Flags}
@@ -34,6 +34,7 @@ connections-init g c = record {
   no_disk = ap (λ (f : Flags). f.disk) c.none-flags.ensures;
   ticked = subst (λ (f : Flags). Counts f.clock (g.C.Clock.faults c.args.clock.now)) (sym c.none-flags.ensures) c.requires.quiet;
   cuts = omega arith;
+  closes = λ tells. omega arith;
 }
 
 pub connections-preserved : goal.connections-preserved
@@ -49,16 +50,16 @@ connections-preserved g c =
       back = omega (arith, c.give_back.ensures.counts.2, c.in-Conn.ensures.count.2);
       share = c.give_back.ensures.counts.1 ∙ c.accept.ensures.share ∙ inv.share;
       within = omega (arith, c.give_back.ensures.counts.0, c.in-Conn.ensures.count.0, c.in-Conn.ensures.count.1, inv.share);
-      works = inv.works ++ visit one (course_by c.attend-trouble.ensures.added.0 c.attend-trouble.result) ∷ [];
-      so_far = subst (λ f. SoFar (terms_of c.args.server.now.catalogue.now (g.G.Desk.denies c.args.server.now.desk) c.args.server.now.workers g.H.In.Source.tells g.H.Out.Sink.tells g.H.Host.tells g.C.Clock.tells g.W.Waiter.tells) c.args.number (inv.works ++ visit one (course_by c.attend-trouble.ensures.added.0 c.attend-trouble.result) ∷ [])
+      works = inv.works ++ visit one (course_by c.attend-trouble.ensures.added.0 c.attend-trouble.result c.attend-trouble.ensures.added.1) ∷ [];
+      so_far = subst (λ f. SoFar (terms_of c.args.server.now.catalogue.now (g.G.Desk.denies c.args.server.now.desk) c.args.server.now.workers g.H.In.Source.tells g.H.Out.Sink.tells g.H.Host.tells g.C.Clock.tells g.W.Waiter.tells) c.args.number (inv.works ++ visit one (course_by c.attend-trouble.ensures.added.0 c.attend-trouble.result c.attend-trouble.ensures.added.1) ∷ [])
           (own_of g.G.Desk c.attend-trouble.new.pass) (g.H.Host.served c.args.host.now) (g.H.Host.served c.give_back.new.self) (g.C.Clock.given c.args.clock.now) (g.C.Clock.given c.attend-trouble.new.clock)
           (g.H.Host.handed c.give_back.new.self) (c.connections.next + c.from-next-in-Conn.result) f) (sym c.after-flags.ensures)
           (so-far-more (terms_of c.args.server.now.catalogue.now (g.G.Desk.denies c.args.server.now.desk) c.args.server.now.workers g.H.In.Source.tells g.H.Out.Sink.tells g.H.Host.tells g.C.Clock.tells g.W.Waiter.tells) c.args.number inv.works
           (own_of g.G.Desk c.connections.pass) (own_of g.G.Desk c.attend-trouble.new.pass) (g.H.Host.served c.args.host.now) (g.H.Host.served c.connections.host) (g.H.Host.served c.give_back.new.self)
           (g.C.Clock.given c.args.clock.now) (g.C.Clock.given c.connections.clock) (g.C.Clock.given c.attend-trouble.new.clock) (g.H.Host.handed c.connections.host) (g.H.Host.handed c.give_back.new.self)
-          c.connections.next (c.connections.next + c.from-next-in-Conn.result) c.connections.flags c.attend-trouble.result one c.attend-trouble.ensures.added.0 inv.so_far
-          (visit-timed c.args.server.now.catalogue.now (g.G.Desk.denies c.args.server.now.desk) g.H.In.Source.tells g.H.Out.Sink.tells g.C.Clock.tells one c.attend-trouble.result c.attend-trouble.ensures.added.0
-          (own_of g.G.Desk c.connections.pass) (own_of g.G.Desk c.attend-trouble.new.pass) (g.C.Clock.given c.connections.clock) (g.C.Clock.given c.attend-trouble.new.clock) c.attend-trouble.ensures.added.1)
+          c.connections.next (c.connections.next + c.from-next-in-Conn.result) c.connections.flags c.attend-trouble.result one c.attend-trouble.ensures.added.0 c.attend-trouble.ensures.added.1 inv.so_far
+          (visit-timed c.args.server.now.catalogue.now (g.G.Desk.denies c.args.server.now.desk) g.H.In.Source.tells g.H.Out.Sink.tells g.C.Clock.tells one c.attend-trouble.result c.attend-trouble.ensures.added.1 c.attend-trouble.ensures.added.0
+          (own_of g.G.Desk c.connections.pass) (own_of g.G.Desk c.attend-trouble.new.pass) (g.C.Clock.given c.connections.clock) (g.C.Clock.given c.attend-trouble.new.clock) c.attend-trouble.ensures.added.2)
           (λ told. c.give_back.ensures.connections told ∙ ap (λ list. list ++ one ∷ []) (c.accept.ensures.connections told)) refl c.requires.number
           (c.give_back.ensures.counts.0 ∙ c.in-Conn.ensures.count.1) (ap (λ n. c.connections.next + n) c.from-next-in-Conn.ensures));
       small = omega (arith, inv.small, c.requires.few, c.give_back.ensures.counts.0, c.in-Conn.ensures.count.1, c.from-next-in-Conn.ensures);
@@ -70,8 +71,10 @@ connections-preserved g c =
       ticked = subst (λ (f : Flags). Counts f.clock (g.C.Clock.faults c.attend-trouble.new.clock)) (sym c.after-flags.ensures)
           (clock-after c.attend-trouble.result c.connections.flags (g.C.Clock.faults c.connections.clock) (g.C.Clock.faults c.attend-trouble.new.clock) (λ is. c.in_default.not-Disk is)
           c.attend-trouble.ensures.clocked inv.ticked);
-      cuts = cuts-more c.attend-trouble.result (visit one (course_by c.attend-trouble.ensures.added.0 c.attend-trouble.result)) inv.works (g.C.Clock.faults c.connections.clock) (g.C.Clock.faults c.attend-trouble.new.clock)
+      cuts = cuts-more c.attend-trouble.result (visit one (course_by c.attend-trouble.ensures.added.0 c.attend-trouble.result c.attend-trouble.ensures.added.1)) inv.works (g.C.Clock.faults c.connections.clock) (g.C.Clock.faults c.attend-trouble.new.clock)
           refl (λ is. c.in_default.not-Disk is) c.attend-trouble.ensures.clocked inv.cuts;
+      closes = λ tells. closed-more inv.works (visit one (course_by c.attend-trouble.ensures.added.0 c.attend-trouble.result c.attend-trouble.ensures.added.1))
+          (g.W.Waiter.waited c.connections.waiter) (g.W.Waiter.waited c.attend-trouble.new.waiter) (inv.closes tells) (c.attend-trouble.ensures.added.3 tells);
     }
 
 pub returns-in-Disk-clause-count : goal.returns-in-Disk-clause-count
@@ -85,26 +88,28 @@ pub returns-in-Disk-clause-left : goal.returns-in-Disk-clause-left
 returns-in-Disk-clause-left g c =
     let inv = c.connections.invariant in
     let one = served_of g.H.In.Source g.H.Out.Sink c.connections.next c.attend-trouble.new.input c.attend-trouble.new.output in (
-      inv.works ++ visit one (course_by c.attend-trouble.ensures.added.0 c.attend-trouble.result) ∷ [],
-      left-broken (terms_of c.args.server.now.catalogue.now (g.G.Desk.denies c.args.server.now.desk) c.args.server.now.workers g.H.In.Source.tells g.H.Out.Sink.tells g.H.Host.tells g.C.Clock.tells g.W.Waiter.tells) c.args.number (g.H.Host.share c.args.host.now) (inv.works ++ visit one (course_by c.attend-trouble.ensures.added.0 c.attend-trouble.result) ∷ [])
+      inv.works ++ visit one (course_by c.attend-trouble.ensures.added.0 c.attend-trouble.result c.attend-trouble.ensures.added.1) ∷ [],
+      left-broken (terms_of c.args.server.now.catalogue.now (g.G.Desk.denies c.args.server.now.desk) c.args.server.now.workers g.H.In.Source.tells g.H.Out.Sink.tells g.H.Host.tells g.C.Clock.tells g.W.Waiter.tells) c.args.number (g.H.Host.share c.args.host.now) (inv.works ++ visit one (course_by c.attend-trouble.ensures.added.0 c.attend-trouble.result c.attend-trouble.ensures.added.1) ∷ [])
           (own_of g.G.Desk c.attend-trouble.new.pass) (g.G.Desk.seen c.attend-trouble.new.pass) (g.H.Host.served c.args.host.now) (g.H.Host.served c.give_back.new.self)
           (g.C.Clock.given c.args.clock.now) (g.C.Clock.given c.attend-trouble.new.clock) (g.H.Host.handed c.give_back.new.self) (c.connections.next + c.args.server.now.workers)
           (g.H.Host.faults c.give_back.new.self) (g.C.Clock.faults c.attend-trouble.new.clock) c.after-flags.result
-          (subst (λ f. SoFar (terms_of c.args.server.now.catalogue.now (g.G.Desk.denies c.args.server.now.desk) c.args.server.now.workers g.H.In.Source.tells g.H.Out.Sink.tells g.H.Host.tells g.C.Clock.tells g.W.Waiter.tells) c.args.number (inv.works ++ visit one (course_by c.attend-trouble.ensures.added.0 c.attend-trouble.result) ∷ [])
+          (subst (λ f. SoFar (terms_of c.args.server.now.catalogue.now (g.G.Desk.denies c.args.server.now.desk) c.args.server.now.workers g.H.In.Source.tells g.H.Out.Sink.tells g.H.Host.tells g.C.Clock.tells g.W.Waiter.tells) c.args.number (inv.works ++ visit one (course_by c.attend-trouble.ensures.added.0 c.attend-trouble.result c.attend-trouble.ensures.added.1) ∷ [])
           (own_of g.G.Desk c.attend-trouble.new.pass) (g.H.Host.served c.args.host.now) (g.H.Host.served c.give_back.new.self) (g.C.Clock.given c.args.clock.now) (g.C.Clock.given c.attend-trouble.new.clock)
           (g.H.Host.handed c.give_back.new.self) (c.connections.next + c.args.server.now.workers) f) (sym c.after-flags.ensures)
           (so-far-more (terms_of c.args.server.now.catalogue.now (g.G.Desk.denies c.args.server.now.desk) c.args.server.now.workers g.H.In.Source.tells g.H.Out.Sink.tells g.H.Host.tells g.C.Clock.tells g.W.Waiter.tells) c.args.number inv.works
           (own_of g.G.Desk c.connections.pass) (own_of g.G.Desk c.attend-trouble.new.pass) (g.H.Host.served c.args.host.now) (g.H.Host.served c.connections.host) (g.H.Host.served c.give_back.new.self)
           (g.C.Clock.given c.args.clock.now) (g.C.Clock.given c.connections.clock) (g.C.Clock.given c.attend-trouble.new.clock) (g.H.Host.handed c.connections.host) (g.H.Host.handed c.give_back.new.self)
-          c.connections.next (c.connections.next + c.args.server.now.workers) c.connections.flags c.attend-trouble.result one c.attend-trouble.ensures.added.0 inv.so_far
-          (visit-timed c.args.server.now.catalogue.now (g.G.Desk.denies c.args.server.now.desk) g.H.In.Source.tells g.H.Out.Sink.tells g.C.Clock.tells one c.attend-trouble.result c.attend-trouble.ensures.added.0
-          (own_of g.G.Desk c.connections.pass) (own_of g.G.Desk c.attend-trouble.new.pass) (g.C.Clock.given c.connections.clock) (g.C.Clock.given c.attend-trouble.new.clock) c.attend-trouble.ensures.added.1)
+          c.connections.next (c.connections.next + c.args.server.now.workers) c.connections.flags c.attend-trouble.result one c.attend-trouble.ensures.added.0 c.attend-trouble.ensures.added.1 inv.so_far
+          (visit-timed c.args.server.now.catalogue.now (g.G.Desk.denies c.args.server.now.desk) g.H.In.Source.tells g.H.Out.Sink.tells g.C.Clock.tells one c.attend-trouble.result c.attend-trouble.ensures.added.1 c.attend-trouble.ensures.added.0
+          (own_of g.G.Desk c.connections.pass) (own_of g.G.Desk c.attend-trouble.new.pass) (g.C.Clock.given c.connections.clock) (g.C.Clock.given c.attend-trouble.new.clock) c.attend-trouble.ensures.added.2)
           (λ told. c.give_back.ensures.connections told ∙ ap (λ list. list ++ one ∷ []) (c.accept.ensures.connections told)) refl c.requires.number
           (c.give_back.ensures.counts.0 ∙ c.in-Conn.ensures.count.1) refl))
           (ap (λ (f : Flags). f.host) c.after-flags.ensures ∙ host-after c.attend-trouble.result c.connections.flags ∙ inv.no_host)
           (c.give_back.ensures.counts.3 ∙ c.in-Conn.ensures.cause ∙ inv.hosted)
           (ap (λ (f : Flags). f.disk) c.after-flags.ensures ∙ ap (λ trouble. (flags_after trouble c.connections.flags).disk) c.in-Disk.is)
           (c.attend-trouble.ensures.broken c.in-Disk.is),
+      λ tells. closed-more inv.works (visit one (course_by c.attend-trouble.ensures.added.0 c.attend-trouble.result c.attend-trouble.ensures.added.1))
+          (g.W.Waiter.waited c.connections.waiter) (g.W.Waiter.waited c.attend-trouble.new.waiter) (inv.closes tells) (c.attend-trouble.ensures.added.3 tells),
     )
 
 pub returns-in-Failed-clause-left : goal.returns-in-Failed-clause-left
@@ -123,6 +128,7 @@ returns-in-Failed-clause-left g c =
           (g.H.Host.served c.args.host.now) (g.H.Host.served c.connections.host) (g.H.Host.served c.accept.new.self) (g.C.Clock.given c.args.clock.now) (g.C.Clock.given c.connections.clock)
           (g.H.Host.handed c.connections.host) (g.H.Host.handed c.accept.new.self) c.connections.next c.connections.flags inv.so_far c.accept.ensures.connections c.in-Failed.ensures.count.1)
           inv.no_disk (omega (arith, c.in-Failed.ensures.cause)) inv.ticked inv.cuts),
+      inv.closes,
     )
 
 pub attend-trouble-requires-clause-unheld : goal.attend-trouble-requires-clause-unheld

@@ -1,7 +1,7 @@
 use Rattle.std.proofs.Common.{◌≡◌, ℕ, ◌+◌, ◌*◌, ◌-◌, ◌^◌, ◌≤◌, min, false, List, None}
 use Rattle.boss_model.specs.Limits.{most_workers}
 use Rattle.boss_outside_server.specs.Pauses.{watch_pause}
-use Rattle.def_lanes.specs.Waits.{PausedAround}
+use Rattle.def_lanes.specs.Waits.{CountsClosed, PausedAround}
 use Rattle.def_lanes.specs.Works.{Work, clock_cuts}
 use Rattle.boss_sessions.specs.Holding.{Holds}
 use Rattle.boss_worker.specs.Desks.{own_of}
@@ -32,6 +32,7 @@ invariant-connections g l = record {
   no_disk : l.flags.disk ≡ false;
   ticked : Counts l.flags.clock (g.C.Clock.faults l.clock);
   cuts : min (clock_cuts works) (2 ^ 64 - 1) ≤ g.C.Clock.faults l.clock;
+  closes : g.W.Waiter.tells → CountsClosed works (g.W.Waiter.waited l.waiter);
 }
 
 abbrev pub decreases-connections : goal.decreases-connections

@@ -1,4 +1,4 @@
-use Rattle.std.proofs.Common.{refl, subst}
+use Rattle.std.proofs.Common.{[], refl, subst, arith}
 use Rattle.boss_outside_server.specs.Pauses.{watch_pause}
 use Rattle.def_lanes.proofs.WaitLemmas.{around-none}
 use Rattle.boss_worker.specs.Workers.{IsFreshDuty}
@@ -14,8 +14,8 @@ returns-in-Connections g c = (
   refl,
   has-left-nothing g.G.Desk g.H.Host g.C.Clock g.W.Waiter g.A.Actuators c.args.self.now.server.now.catalogue.now g.H.In.Source.tells g.H.Out.Sink.tells c.args.self.now.server.now.desk c.args.self.now.server.now.workers c.args.self.now.number c.args.self.now.pass c.args.self.now.duty c.args.self.now.clock c.args.self.now.waiter c.args.self.now.flags c.requires c.leave.new.self
       (λ told. waited-connections c.args.self.now.server.now.workers c.args.self.now.number (g.W.Waiter.waited c.args.self.now.waiter) (g.W.Waiter.waited c.args.self.now.waiter) (c.requires.waited told)
-      0 (g.W.Waiter.waited c.leave.new.self) (subst (IsFreshDuty {A = g.row.A.Denot} g.H.Host c.args.self.now.server.now.workers c.args.self.now.number) c.in-Connections.is c.requires.fresh).0
-      (around-none watch_pause (g.W.Waiter.waited c.args.self.now.waiter)) (c.leave.ensures.leaves told).0),
+      0 [] (g.W.Waiter.waited c.leave.new.self) (subst (IsFreshDuty {A = g.row.A.Denot} g.H.Host c.args.self.now.server.now.workers c.args.self.now.number) c.in-Connections.is c.requires.fresh).0
+      (around-none watch_pause (g.W.Waiter.waited c.args.self.now.waiter)) (c.leave.ensures.leaves told).0 refl (omega arith)),
 )
 
 pub returns-in_default : goal.returns-in_default

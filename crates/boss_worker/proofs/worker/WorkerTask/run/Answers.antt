@@ -10,7 +10,6 @@ use Rattle.boss_worker.proofs.DutyLemmas.{visits-noted}
 use Rattle.boss_worker.proofs.EndedLemmas.{visits-ended}
 use Rattle.boss_worker.proofs.LeftLemmas.{left-fresh}
 use Rattle.boss_worker.proofs.WorkerLemmas.{has-left-devices, has-left-time}
-use Rattle.def_lanes.specs.Waits.{WaitedAt}
 use Rattle.boss_outside_server.specs.declared.waited.Waited.{Waited}
 use Rattle.boss_outside_server.specs.Waits.{listening}
 use Rattle.boss_worker.proofs.WaitedLemmas.{visits-counted, waited-connections}
@@ -39,10 +38,10 @@ returns-in-Connections g c =
             (g.C.Clock.faults c.attend_all-connections.new.clock) c.attend_all-connections.result.0) (sym c.attend_all-connections.ensures.share) left) fresh.2 c.requires.given;
         called = tt;
         noted = visits-noted c.args.self.now.server.now.workers c.args.self.now.number (g.W.Waiter.waited c.leave.new.self) fresh.0 works left.part.of_them;
-        waits = λ told. subst (λ n. WaitedAt c.args.self.now.server.now.workers c.args.self.now.number n (g.W.Waiter.waited c.leave.new.self))
+        waits = λ told. waited-connections c.args.self.now.server.now.workers c.args.self.now.number (g.W.Waiter.waited c.args.self.now.waiter) (g.W.Waiter.waited c.attend_all-connections.new.waiter) (c.requires.waited told)
+            c.attend_all-connections.result.1 works (g.W.Waiter.waited c.leave.new.self) fresh.0 (c.attend_all-connections.ensures.waited told) (c.leave.ensures.leaves told).0
             (c.attend_all-connections.ensures.count ∙ sym left.each ∙ visits-counted c.args.self.now.server.now.workers c.args.self.now.number fresh.0 works left.part.of_them)
-            (waited-connections c.args.self.now.server.now.workers c.args.self.now.number (g.W.Waiter.waited c.args.self.now.waiter) (g.W.Waiter.waited c.attend_all-connections.new.waiter) (c.requires.waited told)
-            c.attend_all-connections.result.1 (g.W.Waiter.waited c.leave.new.self) fresh.0 (c.attend_all-connections.ensures.waited told) (c.leave.ensures.leaves told).0);
+            (c.attend_all-connections.ensures.left.2 told);
         placed = fresh.0;
         worked = λ ran low. absurd (omega (arith, fresh.0, low));
         ended = visits-ended (actuators c.args.self.now.server.now.catalogue.now) g.W.Waiter.tells (own_of g.G.Desk c.attend_all-connections.new.pass) c.args.self.now.server.now.workers c.args.self.now.number fresh.0 works left.part.of_them;
