@@ -11,7 +11,7 @@ use Rattle.boss_files.specs.declared.files.Files as files
 use Rattle.boss_outside.specs.declared.sink.Sink as sink
 use Rattle.boss_outside.specs.declared.source.Source as source
 use Rattle.boss_points.specs.declared.CatalogueRefusal.{CatalogueRefusal}
-use Rattle.boss_answers.specs.Refused.{refusal_line, usage_line}
+use Rattle.boss_answers.specs.Refused.{help_text, refusal_line, usage_line, version_line}
 use Rattle.boss_jobs.specs.Ends.{EndsScript}
 use Rattle.boss_scripts.specs.Ends.{has_too_long}
 use Rattle.boss_scripts.specs.Outside.{outside}
@@ -43,6 +43,19 @@ module _ {F D S K A : Type 0} (f : files.Ghosts F D) (s : source.Ghosts S) (k : 
     pub files : new.files ≡ old.files
     pub source : new.source ≡ old.source
     pub devices : new.devices ≡ old.devices
+
+  -- a text is told, and all is done: no file is asked for, nothing read and no device called
+  pub record SaysText (text : List ℕ) (old new : World F S K A) (status : ℕ) : Type 0 where
+    pub tells : TellsLine k text 0 old.sink new.sink status
+    pub files : new.files ≡ old.files
+    pub source : new.source ≡ old.source
+    pub devices : new.devices ≡ old.devices
+
+  abbrev pub SaysHelp : World F S K A → World F S K A → ℕ → Type 0
+  SaysHelp = SaysText help_text
+
+  abbrev pub SaysVersion : World F S K A → World F S K A → ℕ → Type 0
+  SaysVersion = SaysText version_line
 
   -- what the file under this name comes to, for so many devices, if files tell what they hold
   abbrev pub Spells : List ℕ → ℕ → F → Result Catalogue CatalogueRefusal → Type 0

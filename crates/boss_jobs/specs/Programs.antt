@@ -9,7 +9,7 @@ use Rattle.boss_points.specs.declared.CatalogueRefusal.{CatalogueRefusal}
 use Rattle.boss_points.specs.declared.CatalogueRefusal.TheVariants.{UnknownDriver}
 use Rattle.boss_points.specs.Reading.{catalogue_of, ◌>>=◌}
 use Rattle.boss_words.specs.declared.Job.{Job}
-use Rattle.boss_words.specs.declared.Job.TheVariants.{Script, Serve, Check, Adopt, Feed, Standby, Load}
+use Rattle.boss_words.specs.declared.Job.TheVariants.{Script, Serve, Check, Adopt, Feed, Standby, Load, Help, Version}
 use Rattle.boss_words.specs.Words.{job_of}
 
 -- the catalogue's file of a script whose journal is in memory alone
@@ -21,6 +21,8 @@ catalogue_word (Adopt old new journal) = None
 catalogue_word (Feed catalogue journal from) = None
 catalogue_word (Standby catalogue journal) = None
 catalogue_word (Load count seed) = None
+catalogue_word Help = None
+catalogue_word Version = None
 
 abbrev pub script_of_words : List (List ℕ) → Option (List ℕ)
 script_of_words words = option_and_then catalogue_word (job_of words)
@@ -34,6 +36,8 @@ is_served (Some (Serve catalogue journal address workers connections rules plan)
 is_served (Some (Feed catalogue journal from)) = true
 is_served (Some (Standby catalogue journal)) = true
 is_served (Some (Load count seed)) = true
+is_served (Some Help) = true
+is_served (Some Version) = true
 is_served None = false
 
 -- the point's driver has none of these devices

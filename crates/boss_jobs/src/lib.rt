@@ -20,6 +20,6 @@ pub use kept_jobs::{check_kept, do_kept_script};
 pub use laws::a_second_script_goes_on;
 pub use load_job::do_load;
 pub use memory_jobs::{check_memory, do_script};
-pub use saying::{say, say_refusal, say_usage};
+pub use saying::{say, say_help, say_refusal, say_usage, say_version};
 pub use script::script_run;
 pub use status::Status;

@@ -1,9 +1,9 @@
 ghost use Rattle.std.specs.Prelude.{◌≡◌, IfOk};
-ghost use Rattle.boss_answers.specs.Refused.{refusal_line, usage_line};
+ghost use Rattle.boss_answers.specs.Refused.{help_text, refusal_line, usage_line, version_line};
 ghost use Rattle.boss_jobs.specs.Jobs.{TellsLine};
 
 use crate::Status;
-use boss_answers::{refusal_line, tell_usage};
+use boss_answers::{refusal_line, tell_help, tell_usage, tell_version};
 use boss_outside::Sink;
 use boss_points::CatalogueRefusal;
 use std::alloc::Global;
@@ -14,6 +14,26 @@ pub fn say_usage<K: Sink>(sink: &mut K) -> Status
 {
     match tell_usage(sink) {
         Ok(()) => Status::USAGE,
+        Err(_) => Status::WRITE_FAULT,
+    }
+}
+
+/// Tells which jobs there are.
+pub fn say_help<K: Sink>(sink: &mut K) -> Status
+    ensures { TellsLine ⟦<K as Sink>⟧ help_text 0 sink.old sink.new result.0 }
+{
+    match tell_help(sink) {
+        Ok(()) => Status::DONE,
+        Err(_) => Status::WRITE_FAULT,
+    }
+}
+
+/// Tells which version of the program it is.
+pub fn say_version<K: Sink>(sink: &mut K) -> Status
+    ensures { TellsLine ⟦<K as Sink>⟧ version_line 0 sink.old sink.new result.0 }
+{
+    match tell_version(sink) {
+        Ok(()) => Status::DONE,
         Err(_) => Status::WRITE_FAULT,
     }
 }

@@ -7,7 +7,7 @@ use Rattle.boss_adopt_jobs.specs.AdoptJobs.{AdoptsJournal, AdoptsMemory}
 use Rattle.boss_adopt_jobs.proofs.Completing.{does-adopt, does-adopt-memory}
 use Rattle.boss_files.specs.declared.files.Files as files
 use Rattle.boss_jobs.specs.Checks.{ChecksJournal, ChecksMemory}
-use Rattle.boss_jobs.specs.Jobs.{DoesScript, SaysUsage, World}
+use Rattle.boss_jobs.specs.Jobs.{DoesScript, SaysHelp, SaysUsage, SaysVersion, World}
 use Rattle.boss_jobs.specs.KeptScripts.{DoesKeptScript}
 use Rattle.boss_jobs.specs.LoadJobs.{DoesLoad}
 use Rattle.boss_jobs.specs.Programs.{catalogue_word, is_served}
@@ -17,7 +17,7 @@ use Rattle.boss_manager.specs.declared.next.Next.TheVariants as next
 use Rattle.boss_manager.specs.declared.next.ServeJob.{ServeJob}
 use Rattle.boss_manager.specs.ByWords.{ByJournal, DoesJob}
 use Rattle.boss_manager.specs.Nexts.{IfDone, IsLeft, OnDone, server_of}
-use Rattle.boss_manager.proofs.Statuses.{NotUsage, of-adopt, of-adopt_memory, of-check, of-check_memory, of-feed, of-feed_memory, of-kept, of-load, of-script, of-standby, of-standby_memory, wrong}
+use Rattle.boss_manager.proofs.Statuses.{NotUsage, of-adopt, of-adopt_memory, of-check, of-check_memory, of-feed, of-feed_memory, of-kept, of-load, of-script, of-standby, of-standby_memory, of-text, wrong}
 use Rattle.boss_outside.specs.declared.actuators.Actuators as actuators
 use Rattle.boss_outside.specs.declared.sink.Sink as sink
 use Rattle.boss_outside.specs.declared.source.Source as source
@@ -25,7 +25,7 @@ use Rattle.boss_standby_jobs.specs.FeedJobs.{FeedsJournal, FeedsMemory}
 use Rattle.boss_standby_jobs.specs.StandbyJobs.{DoesStandby, StandbyMemory}
 use Rattle.boss_standby_jobs.proofs.Completed.{does-standby, feeds-kept, feeds-memory, standby-memory}
 use Rattle.boss_words.specs.declared.job.Job.{Job}
-use Rattle.boss_words.specs.declared.job.Job.TheVariants.{Script, Serve, Check, Adopt, Feed, Standby, Load}
+use Rattle.boss_words.specs.declared.job.Job.TheVariants.{Script, Serve, Check, Adopt, Feed, Standby, Load, Help, Version}
 
 -- ---- options and journals
 
@@ -80,6 +80,8 @@ module _ {F D S K A : Type 0} (f : files.Ghosts F D) (s : source.Ghosts S) (k : 
         by-job (Some (Feed catalogue journal from)) done is = none-some is
         by-job (Some (Standby catalogue journal)) done is = none-some is
         by-job (Some (Load many seed)) done is = none-some is
+        by-job (Some Help) done is = none-some is
+        by-job (Some Version) done is = none-some is
         by-job None done is = none-some is
 
     pub asked-kept : (name journal : List ℕ) → job ≡ Some (Script name journal) → journal ≢ codes "-" → IfDone left (DoesKeptScript f s k a name journal count old new)
@@ -113,6 +115,12 @@ module _ {F D S K A : Type 0} (f : files.Ghosts F D) (s : source.Ghosts S) (k : 
     pub asked-load : (many seed : ℕ) → job ≡ Some (Load many seed) → IfDone left (DoesLoad f s k a many seed old new)
     asked-load many seed is = subst Done is did
 
+    pub asked-help : job ≡ Some Help → IfDone left (SaysHelp f s k a old new)
+    asked-help is = subst Done is did
+
+    pub asked-version : job ≡ Some Version → IfDone left (SaysVersion f s k a old new)
+    asked-version is = subst Done is did
+
     pub asked-serve : (server : ServeJob) → server_of job ≡ Some server → IsLeft server left × (new ≡ old)
     asked-serve server is = by-job job did is
       where
@@ -125,6 +133,8 @@ module _ {F D S K A : Type 0} (f : files.Ghosts F D) (s : source.Ghosts S) (k : 
         by-job (Some (Feed catalogue journal from)) done is = none-some is
         by-job (Some (Standby catalogue journal)) done is = none-some is
         by-job (Some (Load many seed)) done is = none-some is
+        by-job (Some Help) done is = none-some is
+        by-job (Some Version) done is = none-some is
         by-job None done is = none-some is
 
     -- ---- all jobs
@@ -140,6 +150,8 @@ module _ {F D S K A : Type 0} (f : files.Ghosts F D) (s : source.Ghosts S) (k : 
         by-job (Some (Feed catalogue journal from)) done is = wrong is
         by-job (Some (Standby catalogue journal)) done is = wrong is
         by-job (Some (Load many seed)) done is = wrong is
+        by-job (Some Help) done is = wrong is
+        by-job (Some Version) done is = wrong is
         by-job None done is = done
 
     pub asked-usage_only : OnDone left (λ status. status ≡ 2 → is_served job ≡ false)
@@ -162,6 +174,8 @@ module _ {F D S K A : Type 0} (f : files.Ghosts F D) (s : source.Ghosts S) (k : 
         by-job (Some (Standby catalogue journal)) done = done-on left done (λ status each. served (Some (Standby catalogue journal))
             (either-way journal each (of-standby f s k a count old new status) (of-standby_memory f s k a count old new status)))
         by-job (Some (Load many seed)) done = done-on left done (λ status each. served (Some (Load many seed)) (of-load f s k a count old new status each))
+        by-job (Some Help) done = done-on left done (λ status each. served (Some Help) (of-text f s k a count old new status each))
+        by-job (Some Version) done = done-on left done (λ status each. served (Some Version) (of-text f s k a count old new status each))
         by-job None done = done-on left done (λ status each two. refl)
 
 -- ---- no memory for the words
@@ -204,4 +218,6 @@ module _ {F D S K A : Type 0} (f : files.Ghosts F D) (s : source.Ghosts S) (k : 
   )
   nothing-done (Some (Serve catalogue journal address workers connections rules plan)) = (none _, refl)
   nothing-done (Some (Load many seed)) = done _ (record { tells = inr (refl, refl); files = refl; source = refl; devices = refl })
+  nothing-done (Some Help) = done _ (record { tells = inr (inr (refl, refl)); files = refl; source = refl; devices = refl })
+  nothing-done (Some Version) = done _ (record { tells = inr (inr (refl, refl)); files = refl; source = refl; devices = refl })
   nothing-done None = done _ (record { tells = inr (inr (refl, refl)); files = refl; source = refl; devices = refl })

@@ -9,7 +9,7 @@ use Rattle.boss_following.specs.declared.stop.FollowEnd.{FollowEnd}
 use Rattle.boss_following.specs.declared.stop.FollowEnd.TheVariants as end
 use Rattle.boss_jobs.specs.Checks.{ChecksJournal, ChecksMemory}
 use Rattle.boss_jobs.specs.Ends.{status_of}
-use Rattle.boss_jobs.specs.Jobs.{DoesScript, HadNoCatalogue, RefusedCatalogue, TellsLine, World}
+use Rattle.boss_jobs.specs.Jobs.{DoesScript, HadNoCatalogue, RefusedCatalogue, SaysText, TellsLine, World}
 use Rattle.boss_jobs.specs.Journals.{Pair}
 use Rattle.boss_jobs.specs.KeptScripts.{DoesKeptScript}
 use Rattle.boss_jobs.specs.LoadJobs.{DoesLoad}
@@ -192,6 +192,11 @@ module _ {F D S K A : Type 0} (f : files.Ghosts F D) (s : source.Ghosts S) (k : 
 
   pub of-load : {many seed : ℕ} → DoesLoad f s k a many seed old new status → NotUsage status
   of-load it = elim it.tells [ inl told ↦ by-line k old.sink new.sink status _ 0 refl told.2 | inr lack ↦ other status 8 lack.0 refl ]
+
+  -- ---- a text
+
+  pub of-text : {text : List ℕ} → SaysText f s k a text old new status → NotUsage status
+  of-text it = by-line k old.sink new.sink status _ 0 refl it.tells
 
 -- ---- servers
 

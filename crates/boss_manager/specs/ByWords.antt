@@ -4,7 +4,7 @@ use Rattle.std.specs.Prelude.{◌≡◌, ◌≢◌, ℕ, List, codes, Option, So
 use Rattle.boss_adopt_jobs.specs.AdoptJobs.{AdoptsJournal, AdoptsMemory}
 use Rattle.boss_files.specs.declared.files.Files as files
 use Rattle.boss_jobs.specs.Checks.{ChecksJournal, ChecksMemory}
-use Rattle.boss_jobs.specs.Jobs.{DoesScript, SaysUsage, World}
+use Rattle.boss_jobs.specs.Jobs.{DoesScript, SaysHelp, SaysUsage, SaysVersion, World}
 use Rattle.boss_jobs.specs.KeptScripts.{DoesKeptScript}
 use Rattle.boss_jobs.specs.LoadJobs.{DoesLoad}
 use Rattle.boss_outside.specs.declared.actuators.Actuators as actuators
@@ -13,7 +13,7 @@ use Rattle.boss_outside.specs.declared.source.Source as source
 use Rattle.boss_standby_jobs.specs.FeedJobs.{FeedsJournal, FeedsMemory}
 use Rattle.boss_standby_jobs.specs.StandbyJobs.{DoesStandby, StandbyMemory}
 use Rattle.boss_words.specs.declared.job.Job.{Job}
-use Rattle.boss_words.specs.declared.job.Job.TheVariants.{Script, Serve, Check, Adopt, Feed, Standby, Load}
+use Rattle.boss_words.specs.declared.job.Job.TheVariants.{Script, Serve, Check, Adopt, Feed, Standby, Load, Help, Version}
 use Rattle.boss_manager.specs.declared.next.Next.{Next}
 use Rattle.boss_manager.specs.Nexts.{IfDone, IsLeft}
 
@@ -38,4 +38,6 @@ module _ {F D S K A : Type 0} (f : files.Ghosts F D) (s : source.Ghosts S) (k : 
   DoesJob (Some (Serve catalogue journal address workers connections rules plan)) old new next =
       IsLeft (record { catalogue = catalogue; journal = journal; address = address; workers = workers; connections = connections; rules = rules; plan = plan }) next × (new ≡ old)
   DoesJob (Some (Load many seed)) old new next = IfDone next (DoesLoad f s k a many seed old new)
+  DoesJob (Some Help) old new next = IfDone next (SaysHelp f s k a old new)
+  DoesJob (Some Version) old new next = IfDone next (SaysVersion f s k a old new)
   DoesJob None old new next = IfDone next (SaysUsage f s k a old new)

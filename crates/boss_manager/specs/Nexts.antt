@@ -3,7 +3,7 @@
 use Rattle.std.specs.Prelude.{◌≡◌, ℕ, ◌≤◌, Option, Some, None}
 use Rattle.boss_model.specs.Limits.{most_workers}
 use Rattle.boss_words.specs.declared.job.Job.{Job}
-use Rattle.boss_words.specs.declared.job.Job.TheVariants.{Script, Serve, Check, Adopt, Feed, Standby, Load}
+use Rattle.boss_words.specs.declared.job.Job.TheVariants.{Script, Serve, Check, Adopt, Feed, Standby, Load, Help, Version}
 use Rattle.boss_manager.specs.declared.next.Next.{Next}
 use Rattle.boss_manager.specs.declared.next.Next.TheVariants as next
 use Rattle.boss_manager.specs.declared.next.ServeJob.{ServeJob}
@@ -45,4 +45,6 @@ server_of (Some (Adopt old new journal)) = None
 server_of (Some (Feed catalogue journal from)) = None
 server_of (Some (Standby catalogue journal)) = None
 server_of (Some (Load count seed)) = None
+server_of (Some Help) = None
+server_of (Some Version) = None
 server_of None = None

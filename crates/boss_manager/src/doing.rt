@@ -7,7 +7,7 @@ ghost use Rattle.boss_words.specs.Words.{job_of, texts};
 use crate::jobs::{adopt, check, feed, script, standby};
 use crate::{Next, ServeJob};
 use boss_files::Files;
-use boss_jobs::{Status, do_load, say_usage};
+use boss_jobs::{Status, do_load, say_help, say_usage, say_version};
 use boss_outside::{Actuators, Hears, Sink};
 use boss_words::{Job, WordsRefusal, read_words};
 use std::alloc::Global;
@@ -67,6 +67,8 @@ pub fn do_words<F: Files, S: Hears<K>, K: Sink, A: Actuators>(
             alloc, &catalogue, &journal, files, source, sink, devices,
         )),
         Ok(Job::Load { count, seed }) => Next::Done(do_load(alloc, count, seed, sink)),
+        Ok(Job::Help) => Next::Done(say_help(sink)),
+        Ok(Job::Version) => Next::Done(say_version(sink)),
         Err(WordsRefusal::Usage) => Next::Done(say_usage(sink)),
         Err(WordsRefusal::NoMemory) => Next::Done(Status::NO_MEMORY),
     }

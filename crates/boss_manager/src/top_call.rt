@@ -3,7 +3,7 @@ ghost use Rattle.boss_words.specs.declared.job.Job.TheVariants as job;
 ghost use Rattle.boss_words.specs.Words.{job_of, texts};
 ghost use Rattle.boss_adopt_jobs.specs.AdoptJobs.{AdoptsJournal, AdoptsMemory};
 ghost use Rattle.boss_jobs.specs.Checks.{ChecksJournal, ChecksMemory};
-ghost use Rattle.boss_jobs.specs.Jobs.{DoesScript, SaysUsage, world};
+ghost use Rattle.boss_jobs.specs.Jobs.{DoesScript, SaysHelp, SaysUsage, SaysVersion, world};
 ghost use Rattle.boss_jobs.specs.KeptScripts.{DoesKeptScript};
 ghost use Rattle.boss_jobs.specs.LoadJobs.{DoesLoad};
 ghost use Rattle.boss_jobs.specs.Programs.{is_served, script_of_words};
@@ -29,7 +29,7 @@ use std::sync::Wait;
 /// own name. It is given no clock, no network and nothing to wait by, and it returns, whatever the words are.
 ///
 /// This is a script, `script CATALOGUE JOURNAL`, a check, `check CATALOGUE JOURNAL`, an adoption of a changed catalogue, `adopt OLD NEW
-/// JOURNAL`, a feed, `feed CATALOGUE JOURNAL FROM`, a standby, `standby CATALOGUE JOURNAL`, or a generated load, `load COUNT SEED`. A
+/// JOURNAL`, a feed, `feed CATALOGUE JOURNAL FROM`, a standby, `standby CATALOGUE JOURNAL`, or a generated load, `load COUNT SEED`; `help` tells these, and `version` the program's. A
 /// script reads the catalogue, opens the journal, answers the lines of the source to the sink and drives the devices, the d-th of them for
 /// driver d. A check tells what the journal stands for. An adoption takes that over under the new catalogue, where no removed point is in
 /// use and each point takes all values that it holds. A feed tells the journal's events above FROM, and a standby does again in its own
@@ -76,6 +76,10 @@ pub fn boss<F: Files, S: Hears<K>, K: Sink, A: Actuators>(
         (world files.old source.old sink.old devices.old.items) (world files.new source.new sink.new devices.new.items)) }
     ensures load { (count seed : ℕ) → job_of (texts words.now.items) ≡ Some (job.Load count seed)
         → IfDone result (DoesLoad F.Files S.Source K.Sink A.Actuators count seed
+        (world files.old source.old sink.old devices.old.items) (world files.new source.new sink.new devices.new.items)) }
+    ensures help { job_of (texts words.now.items) ≡ Some job.Help → IfDone result (SaysHelp F.Files S.Source K.Sink A.Actuators
+        (world files.old source.old sink.old devices.old.items) (world files.new source.new sink.new devices.new.items)) }
+    ensures version { job_of (texts words.now.items) ≡ Some job.Version → IfDone result (SaysVersion F.Files S.Source K.Sink A.Actuators
         (world files.old source.old sink.old devices.old.items) (world files.new source.new sink.new devices.new.items)) }
     // A server is left to be served, or there was no memory to read the words; nothing was touched.
     ensures serves { (job : ServeJob) → server_of (job_of (texts words.now.items)) ≡ Some job

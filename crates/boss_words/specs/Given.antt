@@ -2,7 +2,7 @@
 use Rattle.std.specs.Prelude.{◌≡◌, ◌≤◌, Option, Some, None, Result, Ok, Err}
 use Rattle.boss_model.specs.Limits.{most_workers}
 use Rattle.boss_words.specs.declared.job.Job.{Job}
-use Rattle.boss_words.specs.declared.job.Job.TheVariants.{Script, Serve, Check, Adopt, Feed, Standby, Load}
+use Rattle.boss_words.specs.declared.job.Job.TheVariants.{Script, Serve, Check, Adopt, Feed, Standby, Load, Help, Version}
 use Rattle.boss_words.specs.declared.read.WordsRefusal.{WordsRefusal}
 use Rattle.boss_words.specs.declared.read.WordsRefusal.TheVariants.{Usage, NoMemory}
 
@@ -21,3 +21,5 @@ HasWorkers (Adopt old new journal) = Unit {0}
 HasWorkers (Feed catalogue journal from) = Unit {0}
 HasWorkers (Standby catalogue journal) = Unit {0}
 HasWorkers (Load count seed) = Unit {0}
+HasWorkers Help = Unit {0}
+HasWorkers Version = Unit {0}

@@ -1,5 +1,5 @@
 -- Source: own.
--- The table of words. No word is an option, and the number of words is exactly the row's.
+-- The table of words. No word is an option, but for `--help` and `--version`, and the number of words is exactly the row's.
 use Rattle.std.specs.Prelude.{ℕ, ◌^◌, Bool, nat_le, nat_lt, ◌&&◌, if◌then◌else◌, List, [], ◌∷◌, length, map, codes, Option, Some, None, String, string_bytes}
 use Rattle.std.specs.Option.{option_and_then}
 use Rattle.std.specs.Char.{is_ascii_digit}
@@ -9,7 +9,7 @@ use Rattle.std.specs.Str.Parse.{digits_value}
 use Rattle.std.specs.declared.alloc.Global.{Global}
 use Rattle.boss_model.specs.Limits.{most_workers}
 use Rattle.boss_words.specs.declared.job.Job.{Job}
-use Rattle.boss_words.specs.declared.job.Job.TheVariants.{Script, Serve, Check, Adopt, Feed, Standby, Load}
+use Rattle.boss_words.specs.declared.job.Job.TheVariants.{Script, Serve, Check, Adopt, Feed, Standby, Load, Help, Version}
 
 abbrev pub texts : List (String Global) → List (List ℕ)
 texts words = map (λ word. string_bytes word) words
@@ -118,6 +118,11 @@ load_of (count ∷ seed ∷ []) = do
   Some (Load count seed)
 load_of _ = None
 
+-- a job that has no words but its own
+abbrev pub alone_of : Job → List (List ℕ) → Option Job
+alone_of job [] = Some job
+alone_of job _ = None
+
 -- what the words ask for, or nothing where they are in no row
 abbrev pub job_of : List (List ℕ) → Option Job
 job_of [] = None
@@ -128,4 +133,8 @@ job_of (job ∷ arguments) =
     (if bytes_eq job (codes "adopt") then adopt_of arguments else
     (if bytes_eq job (codes "feed") then feed_of arguments else
     (if bytes_eq job (codes "standby") then standby_of arguments else
-    (if bytes_eq job (codes "load") then load_of arguments else None))))))
+    (if bytes_eq job (codes "load") then load_of arguments else
+    (if bytes_eq job (codes "help") then alone_of Help arguments else
+    (if bytes_eq job (codes "--help") then alone_of Help arguments else
+    (if bytes_eq job (codes "version") then alone_of Version arguments else
+    (if bytes_eq job (codes "--version") then alone_of Version arguments else None))))))))))

@@ -66,4 +66,8 @@ pub enum Job {
         /// What the values that it sets are drawn from.
         seed: u32,
     },
+    /// Tell how the program is used.
+    Help,
+    /// Tell which version of the program it is.
+    Version,
 }

@@ -1,4 +1,4 @@
-ghost use Rattle.boss_words.specs.Words.{texts, job_of, script_of, serve_of, check_of, adopt_of, feed_of, standby_of, load_of, optional_of, file_of};
+ghost use Rattle.boss_words.specs.Words.{texts, job_of, script_of, serve_of, check_of, adopt_of, feed_of, standby_of, load_of, alone_of, optional_of, file_of};
 ghost use Rattle.boss_words.specs.Given.{Gives, HasWorkers};
 ghost use Rattle.boss_words.specs.declared.read.WordsRefusal.TheVariants.{NoMemory};
 ghost use Rattle.std.specs.Prelude.{◌≡◌, IfOk};
@@ -38,7 +38,8 @@ impl From<AllocError> for WordsRefusal {
     }
 }
 
-/// The job that the words ask for; they do not include the program's own name. No word is an option. A server has 1 to 1,024 workers.
+/// The job that the words ask for; they do not include the program's own name. No word is an option, but for `--help` and `--version`,
+/// which are `help` and `version` too. A server has 1 to 1,024 workers.
 pub fn read_words(alloc: Global, words: &Vec<String>) -> Result<Job, WordsRefusal>
     ensures job { Gives result (job_of (texts words.now.items)) }
     ensures workers { IfOk result HasWorkers }
@@ -54,6 +55,10 @@ pub fn read_words(alloc: Global, words: &Vec<String>) -> Result<Job, WordsRefusa
         "feed" => feed(alloc, arguments),
         "standby" => standby(alloc, arguments),
         "load" => load(arguments),
+        "help" => alone(Job::Help, arguments),
+        "--help" => alone(Job::Help, arguments),
+        "version" => alone(Job::Version, arguments),
+        "--version" => alone(Job::Version, arguments),
         _ => Err(WordsRefusal::Usage),
     }
 }
@@ -206,4 +211,16 @@ fn load(arguments: &[String]) -> Result<Job, WordsRefusal>
     let count = number(count.as_str(), 1, 10_000).ok_or(WordsRefusal::Usage)?;
     let seed = number(seed.as_str(), 0, u32::MAX).ok_or(WordsRefusal::Usage)?;
     Ok(Job::Load { count, seed })
+}
+
+/// A job that has no words but its own.
+fn alone(job: Job, arguments: &[String]) -> Result<Job, WordsRefusal>
+    requires { HasWorkers job }
+    ensures job { Gives result (alone_of job (texts arguments.now)) }
+    ensures workers { IfOk result HasWorkers }
+{
+    let [] = arguments else {
+        return Err(WordsRefusal::Usage);
+    };
+    Ok(job)
 }

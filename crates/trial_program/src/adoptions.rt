@@ -134,14 +134,16 @@ const HOLD: &str = r#"{"op":"attach","process":"a"}
 "#;
 
 /// The second file of the journal then: generation 1 under the new catalogue, whose digest begins behind byte 9, two events before the
-/// state, and the state, whose one point has the number that it had.
+/// state, the seed of the sums, and the state, whose one point has the number that it had, with its sum, by `sha256sum`.
 const ADOPTED: &[&[u8]] = &[
-    b"BOSSSNAP\x02",
+    b"BOSSSNAP\x03",
     b"\xea\xdc\x84\x8d\xa1\x33\x05\xe3\x55\x49\x57\x4e\xeb\xc2\x96\x75\xc3\x9e\xaa\x34\x18\x66\x93\x89\xe7\xab\x21\x50\xbf\x57\x22\x0d",
-    b"\0\0\0\0\0\0\0\x01\0\0\0\0\0\0\0\x02\0\0\0\0\0\0\0\x60",
+    b"\0\0\0\0\0\0\0\x01\0\0\0\0\0\0\0\x02\0\0\0\0\0\0\0\x68",
+    b"\x9c\x68\xd5\xe0\x21\x8b\x65\x9b",
     b"\0\0\0\0\0\0\x03\xe8\0\0\0\0\0\0\0\x02\0\x01\x01a\0\0\0\0\0\0\0\0\0\0\0",
     b"\0\0\0\x01\0\0\0\0\0\0\0\x01\0\0\0\x01\0\0\0\0\x08\0\0\0",
     b"\0\0\0\x01\0\0\0\0\0\0\0\x01\0\0\0\0\0\0\x08\0\0\0\0\0\0\xaf\xc8\0\0\0\0\0\0\xee\x48\0\0\0\0\0\0",
+    b"\x3a\xbd\x76\x4a\x10\x37\x2e\xa9",
     b"\0",
 ];
 
@@ -153,13 +155,13 @@ fn joined(rt: &impl Abort, alloc: Global, parts: &[&[u8]]) -> Vec<u8> {
     bytes
 }
 
-/// The second file has these 162 bytes, and the first is as it was.
+/// The second file has these 178 bytes, and the first is as it was.
 fn expect_adopted(rt: &impl Abort, files: &MemoryFiles, wanted: &[u8]) {
-    assert_eq!(rt; wanted.len(), 162);
+    assert_eq!(rt; wanted.len(), 178);
     let second = files.bytes_under("j.b").expect(rt, "the second file");
     assert!(rt; second == wanted);
     let first = files.bytes_under("j").expect(rt, "the first file");
-    assert_eq!(rt; first.len(), 94);
+    assert_eq!(rt; first.len(), 110);
 }
 
 #[test]

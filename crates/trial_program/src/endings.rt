@@ -47,6 +47,19 @@ point=[
 {name='fan',driver='field',kind='multi',states=3,default=1}]
 ";
 
+/// The jobs of the table of words in PROTOCOL, one a line, and what a journal, the rules and the plan are.
+const HELP: &str =
+    "script CATALOGUE JOURNAL: answer commands that come line by line on the standard input
+serve CATALOGUE JOURNAL ADDRESS WORKERS CONNECTIONS [RULES [PLAN]]: serve control programs over TCP
+check CATALOGUE JOURNAL: tell what a journal stands for, and write nothing
+adopt OLD NEW JOURNAL: take a journal over under a changed catalogue
+feed CATALOGUE JOURNAL FROM: tell the events of a journal above a number
+standby CATALOGUE JOURNAL: follow a feed that comes on the standard input
+load COUNT SEED: play a generated day
+version: tell which version this is
+JOURNAL is a file with a second one beside it that ends with .b, or - for memory alone; RULES and PLAN are files, or - for none
+";
+
 const ATTACH: &str = "{\"op\":\"attach\",\"process\":\"a\"}\n";
 
 const ENDINGS: &[Ending] = &[
@@ -63,6 +76,32 @@ const ENDINGS: &[Ending] = &[
     Ending {
         shows: "a script without its journal",
         words: "script site.toml",
+        ..EARLY
+    },
+    Ending {
+        shows: "the version",
+        words: "version",
+        status: 0,
+        output: "bossd 0.3.0\n",
+        ..EARLY
+    },
+    Ending {
+        shows: "the version is asked for as of other programs",
+        words: "--version",
+        status: 0,
+        output: "bossd 0.3.0\n",
+        ..EARLY
+    },
+    Ending {
+        shows: "the version has no words behind it",
+        words: "version site.toml",
+        ..EARLY
+    },
+    Ending {
+        shows: "the jobs, one a line",
+        words: "--help",
+        status: 0,
+        output: HELP,
         ..EARLY
     },
     Ending {

@@ -32,7 +32,7 @@ $ script three j
 write field ahu1.damper 45000 ok
 write field lamp 0 ok
 write field fan 1 ok
-{"ok":"read","point":"ahu1.damper","value":20000,"from":"default","mark":"pending"}
+{"ok":"read","point":"ahu1.damper","value":20000,"from":"default","mark":"pending","took":45000,"since":1000}
 write field ahu1.damper 20000 ok
 status 0
 $ check three j

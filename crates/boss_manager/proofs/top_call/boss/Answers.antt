@@ -1,7 +1,7 @@
 use Rattle.std.proofs.Common.{vec_len}
 use Rattle.boss_jobs.specs.Jobs.{world}
 use Rattle.boss_words.specs.Words.{job_of, texts}
-use Rattle.boss_manager.proofs.Asked.{asked-adopt, asked-adopt_memory, asked-check, asked-check_memory, asked-feed, asked-feed_memory, asked-kept, asked-load, asked-script, asked-serve, asked-standby, asked-standby_memory, asked-usage, asked-usage_only}
+use Rattle.boss_manager.proofs.Asked.{asked-adopt, asked-adopt_memory, asked-check, asked-check_memory, asked-feed, asked-feed_memory, asked-help, asked-kept, asked-load, asked-script, asked-serve, asked-standby, asked-standby_memory, asked-usage, asked-usage_only, asked-version}
 use Rattle.boss_manager.proofs.top_call.boss.Goals as goal
 
 pub returns-clause-script : goal.returns-clause-script
@@ -66,6 +66,18 @@ returns-clause-standby_memory g c = asked-standby_memory g.F.Files g.S.Source g.
 
 pub returns-clause-load : goal.returns-clause-load
 returns-clause-load g c = asked-load g.F.Files g.S.Source g.K.Sink g.A.Actuators (vec_len c.args.devices.now)
+    (world c.args.files.now c.args.source.now c.args.sink.now c.args.devices.now.items)
+    (world c.do_words.new.files c.do_words.new.source c.do_words.new.sink c.do_words.new.devices.items)
+    c.do_words.result (job_of (texts c.args.words.now.items)) c.do_words.ensures.does
+
+pub returns-clause-help : goal.returns-clause-help
+returns-clause-help g c = asked-help g.F.Files g.S.Source g.K.Sink g.A.Actuators (vec_len c.args.devices.now)
+    (world c.args.files.now c.args.source.now c.args.sink.now c.args.devices.now.items)
+    (world c.do_words.new.files c.do_words.new.source c.do_words.new.sink c.do_words.new.devices.items)
+    c.do_words.result (job_of (texts c.args.words.now.items)) c.do_words.ensures.does
+
+pub returns-clause-version : goal.returns-clause-version
+returns-clause-version g c = asked-version g.F.Files g.S.Source g.K.Sink g.A.Actuators (vec_len c.args.devices.now)
     (world c.args.files.now c.args.source.now c.args.sink.now c.args.devices.now.items)
     (world c.do_words.new.files c.do_words.new.source c.do_words.new.sink c.do_words.new.devices.items)
     c.do_words.result (job_of (texts c.args.words.now.items)) c.do_words.ensures.does
