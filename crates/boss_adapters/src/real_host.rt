@@ -3,7 +3,7 @@ ghost use Rattle.boss_outside.specs.Counts.{one_more};
 
 use crate::aside::say_aside;
 use crate::peers::keep_alive;
-use crate::{RealSink, RealSource};
+use crate::{Door, RealSink, RealSource};
 use boss_model::{NoMemory, PROGRAM_VERSION, SessionId};
 use boss_outside::Failed;
 use boss_outside_server::{Accepted, Announcement, Host};
@@ -30,11 +30,15 @@ const MOST_PAUSES: u32 = 3_600;
 /// Where the system is short of something, as of descriptors, an accept fails that could succeed later. So it is tried again, each second
 /// for an hour, unless the listener itself is wrong. Peers that are gone without a word are found out by the system (`keep_alive`),
 /// one that reads nothing by its sink, and one that says nothing by its source (`RealSink`, `RealSource`).
+///
+/// Where it has a door (`stand_at`), a connection for which no part accepts is turned away there. That was handed to nobody and counts
+/// nowhere.
 #[derive(Drop)]
 pub struct RealHost<R> {
     alloc: Global,
     rt: R,
     listener: Option<Arc<TcpListener, Global>>,
+    door: Option<Arc<Door, Global>>,
     handed: u64,
     share: u32,
     away: u64,
@@ -53,11 +57,22 @@ impl<R: Net<Listener = TcpListener, Stream = TcpStream> + Eprint + Clock + Copy>
             alloc,
             rt,
             listener: None,
+            door: None,
             handed: 0,
             share: 0,
             away: 0,
             faults: 0,
         }
+    }
+
+    /// From now on it and the parts that are split off it stand at this door, and the door's queue is that of where it listens next.
+    pub fn stand_at(&mut self, door: Arc<Door, Global>)
+        ensures handed { ⟦<RealHost<R> as Host>⟧.handed self.new ≡ ⟦<RealHost<R> as Host>⟧.handed self.old }
+        ensures share { ⟦<RealHost<R> as Host>⟧.share self.new ≡ ⟦<RealHost<R> as Host>⟧.share self.old }
+        ensures away { ⟦<RealHost<R> as Host>⟧.away self.new ≡ ⟦<RealHost<R> as Host>⟧.away self.old }
+        ensures faults { ⟦<RealHost<R> as Host>⟧.faults self.new ≡ ⟦<RealHost<R> as Host>⟧.faults self.old }
+    {
+        self.door = Some(door);
     }
 
     /// The address at which it listens, where it does.
@@ -77,7 +92,24 @@ impl<R: Net<Listener = TcpListener, Stream = TcpStream> + Eprint + Clock + Copy>
     fn listen(&self, address: &str) -> io::Result<Arc<TcpListener, Global>> {
         let listener = TcpListener::bind(&self.rt, address)?;
         keep_alive(&listener);
-        Ok(Arc::new(self.alloc, listener)?)
+        let listener = Arc::new(self.alloc, listener)?;
+        if let Some(door) = &self.door {
+            door.open(Arc::try_clone(&listener)?);
+        }
+        Ok(listener)
+    }
+
+    /// The two ends of the next connection. While it waits for that, none is turned away.
+    fn meet(&self) -> io::Result<(RealSource, RealSink)>
+        ensures { IfOk result (λ ends. (ends.0.faults ≡ 0) × (ends.1.faults ≡ 0)) }
+    {
+        let Some(door) = &self.door else {
+            return self.connect();
+        };
+        door.go_in(&self.rt);
+        let ends = self.connect();
+        door.come_out();
+        ends
     }
 
     /// The two ends of the next connection, which is asked for again after a pause where the accept failed and may succeed later.
@@ -213,10 +245,15 @@ impl<R: Net<Listener = TcpListener, Stream = TcpStream> + Eprint + Clock + Copy>
             Some(listener) => Some(Arc::try_clone(listener)?),
             None => None,
         };
+        let door = match &self.door {
+            Some(door) => Some(Arc::try_clone(door)?),
+            None => None,
+        };
         Ok(RealHost {
             alloc,
             rt: self.rt,
             listener,
+            door,
             handed: 0,
             share: connections,
             away: 0,
@@ -228,7 +265,7 @@ impl<R: Net<Listener = TcpListener, Stream = TcpStream> + Eprint + Clock + Copy>
         if self.handed >= u64::from(self.share) {
             return Accepted::Closed;
         }
-        match self.connect() {
+        match self.meet() {
             Ok((input, output)) => {
                 self.handed += 1;
                 self.away = 1;

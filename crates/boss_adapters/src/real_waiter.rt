@@ -1,9 +1,9 @@
 ghost use Rattle.std.specs.Prelude.{◌≡◌, ◌≤◌, [], IfOk};
 ghost use Rattle.boss_outside_server.specs.Waits.{new_waited};
 
-use crate::RealClock;
 use crate::real_ringer::RealRinger;
 use crate::shared::Shared;
+use crate::{Door, RealClock};
 use boss_bells::Bells;
 use boss_model::NoMemory;
 use boss_outside::{BELLS, TIME_BELL};
@@ -23,7 +23,8 @@ const LEAST_SLEEP: u64 = 10;
 
 /// A waiter that sleeps until its time is over, or its bell is rung. One that listens at the bell of time sleeps until the alarm at
 /// most. All its parts say Close once as many workers have left, by whichever part, as one of them was told to expect: within a
-/// second. `R` is what sleeps, and reads the clock that the alarm is of.
+/// second. Before each sleep it looks at the door, where it has one (`watch`). `R` is what sleeps, and reads the clock that the alarm is
+/// of.
 #[derive(Drop)]
 pub struct RealWaiter<R: Wait> {
     rt: R,
@@ -31,6 +32,7 @@ pub struct RealWaiter<R: Wait> {
     shared: Arc<Shared, Global>,
     /// What rings, until it is given out.
     ringer: Option<RealRinger>,
+    door: Option<Arc<Door, Global>>,
     bell: Option<u32>,
     /// How often the bell had been rung when the last pause ended.
     heard: u64,
@@ -53,10 +55,25 @@ impl<R: time::Clock + Eprint + Wait + Copy> RealWaiter<R> {
             clock: clock.split(alloc)?,
             shared,
             ringer: Some(ringer),
+            door: None,
             bell: None,
             heard: 0,
             closes: 0,
         })
+    }
+
+    /// From now on it and the parts that are split off it look at this door.
+    pub fn watch(&mut self, door: Arc<Door, Global>)
+        ensures { ⟦<RealWaiter<R> as Waiter>⟧.closes self.new ≡ ⟦<RealWaiter<R> as Waiter>⟧.closes self.old }
+    {
+        self.door = Some(door);
+    }
+
+    /// Looks at the door, where it has one.
+    fn look(&self) {
+        if let Some(door) = &self.door {
+            door.look(&self.rt);
+        }
     }
 
     /// How long the next sleep may be, of so many milliseconds, 1 at least.
@@ -105,6 +122,7 @@ impl<R: time::Clock + Eprint + Wait + Copy> RealWaiter<R> {
     {
         let mut left = milliseconds;
         while 0 < left && !self.shared.are_gone() {
+            self.look();
             let sleep = self.sleep_of(left);
             if self.is_rung_within(sleep) {
                 return;
@@ -130,11 +148,16 @@ impl<R: time::Clock + Eprint + Wait + Copy> Waiter for RealWaiter<R> {
     ghost waits = { λ waiter. [] };
 
     fn split(&mut self, alloc: Global) -> Result<Self, NoMemory> {
+        let door = match &self.door {
+            Some(door) => Some(Arc::try_clone(door)?),
+            None => None,
+        };
         Ok(RealWaiter {
             rt: self.rt,
             clock: self.clock.split(alloc)?,
             shared: Arc::try_clone(&self.shared)?,
             ringer: None,
+            door,
             bell: None,
             heard: 0,
             closes: 0,

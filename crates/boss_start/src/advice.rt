@@ -84,10 +84,7 @@ fn sentence(
 const ADOPT: &str = "adopt";
 
 const USAGE: &str =
-    "these words ask for nothing that it does; write script CATALOGUE JOURNAL, check CATALOGUE JOURNAL, adopt OLD NEW JOURNAL, \
-    feed CATALOGUE JOURNAL FROM, standby CATALOGUE JOURNAL or serve CATALOGUE JOURNAL ADDRESS WORKERS CONNECTIONS, with - for a journal \
-    in memory alone, RULES after them where names have access rules and PLAN after these, or - for none, where devices have a plan, or \
-    load COUNT SEED";
+    "these words ask for nothing that it does; bossd help tells what it does, a job a line";
 
 const FILE_FAULT: &str = "a file failed, as an earlier line says; mend that and start again";
 

@@ -10,7 +10,7 @@ mod refused;
 use crate::advice::{advice, word_at};
 use crate::refused::refused_point;
 use boss_adapters::{
-    RealClock, RealFiles, RealHost, RealSpawner, RealWaiter, StdSink, StdSource, say_aside,
+    Door, RealClock, RealFiles, RealHost, RealSpawner, RealWaiter, StdSink, StdSource, say_aside,
 };
 use boss_field::field_devices;
 use boss_manager::{Next, Status, boss, boss_serve};
@@ -20,9 +20,12 @@ use std::env;
 use std::io::{self, Eprint};
 use std::net::{Net, TcpListener, TcpStream};
 use std::process::ExitCode;
-use std::sync::Wait;
+use std::sync::{Arc, Wait};
 use std::thread::Threads;
 use std::time::Clock;
+
+/// How long a connection stands first in a server's queue while no worker is free, in milliseconds, before it is told so.
+const LONGEST_WAIT: u64 = 10_000;
 
 /// Does what the program's words ask for, and tells how it ended. By the second handle a server listens, starts threads
 /// and waits, and devices are reached.
@@ -46,6 +49,9 @@ where
     let mut clock = RealClock::new(rt.alloc(), server)?;
     let mut waiter = RealWaiter::new(rt.alloc(), server, &mut clock)?;
     let mut host = RealHost::new(rt.alloc(), server);
+    let door = Arc::new(rt.alloc(), Door::new(LONGEST_WAIT))?;
+    waiter.watch(Arc::try_clone(&door)?);
+    host.stand_at(door);
     let mut spawner = RealSpawner::new(server);
     let next = boss(
         rt.alloc(),

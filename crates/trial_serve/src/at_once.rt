@@ -93,7 +93,7 @@ fn serve<
 >(rt: R, alloc: Global, catalogue: &Catalogue, host: &mut ListHost<S, K>, text: &mut String)
     requires { ⟦<ListHost<S, K> as Host>⟧.sound host.old }
 {
-    serve_in_threads(rt, alloc, catalogue, 2, 3, host, text);
+    serve_in_threads(rt, alloc, catalogue, 2, 3, None, host, text);
 }
 
 /// What is told of the three connections, and how the server ended.

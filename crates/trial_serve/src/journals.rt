@@ -62,22 +62,28 @@ const AGAIN: Setting<'static> = Setting {
 };
 
 /// The heading of a journal, before the digest of its catalogue.
-const HEADING: &[u8] = b"BOSSJRNL\x02";
+const HEADING: &[u8] = b"BOSSJRNL\x03";
 
-/// An open gate, 42 bytes: the attach of `a` at 1,000, and behind it a submit by process 0, which aborts, of the damper at 45 for a
+/// Each record ends with its sum, the first eight bytes that `sha256sum` gives of the seed, its place and its events. An open gate, 50
+/// bytes: the attach of `a` at 1,000, and behind it a submit by process 0, which aborts, of the damper at 45 for a
 /// minute, at priority 8.
 const HELD: &[u8] =
-    b"\x01\0\0\0\x2a\x01\0\0\0\0\0\0\x03\xe8\x01a\x02\0\0\0\0\0\0\x03\xe8\0\0\0\x01\0\0\0\0\0\0\0\0\0\0\xaf\xc8\x08\0\0\xea\x60\0";
+    b"\x01\0\0\0\x32\x01\0\0\0\0\0\0\x03\xe8\x01a\x02\0\0\0\0\0\0\x03\xe8\0\0\0\x01\0\0\0\0\0\0\0\0\0\0\xaf\xc8\x08\0\0\xea\x60\0\x73\xc4\x2f\x90\x5e\xef\xda\xb1";
 
-/// An open gate, 50 bytes: the same with the number 5.
+/// An open gate, 58 bytes: the same with the number 5.
 const HELD_BY_NUMBER: &[u8] =
-    b"\x01\0\0\0\x32\x01\0\0\0\0\0\0\x03\xe8\x01a\x08\0\0\0\0\0\0\x03\xe8\0\0\0\0\0\0\0\0\0\x05\0\x01\0\0\0\0\0\0\0\0\0\0\xaf\xc8\x08\0\0\xea\x60\0";
+    b"\x01\0\0\0\x3a\x01\0\0\0\0\0\0\x03\xe8\x01a\x08\0\0\0\0\0\0\x03\xe8\0\0\0\0\0\0\0\0\0\x05\0\x01\0\0\0\0\0\0\0\0\0\0\xaf\xc8\x08\0\0\xea\x60\0\x0a\xc0\x82\x87\x53\xdf\x47\x6e";
 
-/// An open gate, 11 bytes: process 0 is lost at 1,000.
-pub const LOST: &[u8] = b"\x01\0\0\0\x0b\x05\0\0\0\0\0\0\x03\xe8\0\0";
+/// An open gate, 19 bytes: process 0 is lost at 1,000. The gate is at 96.
+const LOST: &[u8] = b"\x01\0\0\0\x13\x05\0\0\0\0\0\0\x03\xe8\0\0\xe2\xce\x4a\x6d\x3d\xb3\x71\x6c";
 
-/// An open gate, 11 bytes: the attach of `b` at 1,000.
-const ATTACHED_B: &[u8] = b"\x01\0\0\0\x0b\x01\0\0\0\0\0\0\x03\xe8\x01b";
+/// The same with the gate at 104.
+const LOST_AT_104: &[u8] =
+    b"\x01\0\0\0\x13\x05\0\0\0\0\0\0\x03\xe8\0\0\x4e\xa3\x61\x29\x06\x4a\x9b\x08";
+
+/// An open gate, 19 bytes: the attach of `b` at 1,000. The gate is at 120.
+const ATTACHED_B: &[u8] =
+    b"\x01\0\0\0\x13\x01\0\0\0\0\0\0\x03\xe8\x01b\x8f\xe3\x02\x60\x94\x95\xea\xa5";
 
 /// A gate that is shut.
 pub const SHUT: &[u8] = b"\0";
@@ -141,7 +147,7 @@ pauses 1 closed
 events 3 now 1000 leases 0 pending 0
 status 0
 "#,
-        log: &[HELD_BY_NUMBER, LOST, SHUT],
+        log: &[HELD_BY_NUMBER, LOST_AT_104, SHUT],
     },
 ];
 

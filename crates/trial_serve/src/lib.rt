@@ -9,6 +9,8 @@ mod clocks;
 #[cfg(test)]
 mod connections;
 #[cfg(test)]
+mod door;
+#[cfg(test)]
 mod held;
 #[cfg(test)]
 mod journals;

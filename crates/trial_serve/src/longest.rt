@@ -1,7 +1,7 @@
 //! Sixteen requests of the longest kind, which come in one piece and make one record.
 
 use crate::connections::Talk;
-use crate::journals::{LOST, SHUT, empty_disks, expect_journal, put_bytes};
+use crate::journals::{SHUT, empty_disks, expect_journal, put_bytes};
 use crate::rows::PLAIN;
 use crate::stage::{Pair, Setting, run_on_disks};
 use crate::texts::expect_text;
@@ -87,11 +87,18 @@ fn told(rt: &impl Abort, alloc: Global) -> String {
     text
 }
 
-/// An open gate, 11 bytes: the attach at 1,000.
-const ATTACHED: &[u8] = b"\x01\0\0\0\x0b\x01\0\0\0\0\0\0\x03\xe8\x01a";
+/// An open gate, 19 bytes: the attach at 1,000. Each record ends with its sum, by `sha256sum`.
+const ATTACHED: &[u8] =
+    b"\x01\0\0\0\x13\x01\0\0\0\0\0\0\x03\xe8\x01a\xbb\xd5\xeb\x9f\xcc\x3b\xcd\xff";
 
-/// An open gate, and the number of bytes of sixteen events of 3,669.
-const HEAD: &[u8] = b"\x01\0\0\xe5\x50";
+/// An open gate, and the number of bytes of sixteen events of 3,669 and their sum.
+const HEAD: &[u8] = b"\x01\0\0\xe5\x58";
+
+/// That sum.
+const EVENTS_SUM: &[u8] = b"\x01\xca\x36\x2f\x4a\x72\x0c\xdc";
+
+/// An open gate, at 58,782, and 19 bytes: process 0 is lost at 1,000.
+const LOST: &[u8] = b"\x01\0\0\0\x13\x05\0\0\0\0\0\0\x03\xe8\0\0\x71\x87\x3c\xa7\x97\x07\xa6\x13";
 
 /// Puts down the event of a submit, 3,669 bytes: at 1,000 by process 0, its number, abort, and 32 writes.
 fn put_event(rt: &impl Abort, bytes: &mut Vec<u8>, seq: u64) {
@@ -150,7 +157,7 @@ fn expect_told<R: Abort + Threads + Wait + Sync>(
 fn expect_one_record(rt: &impl Abort, alloc: Global, catalogue: &Catalogue, disk: MemoryDisk) {
     let events = events(rt, alloc);
     assert!(rt; events.len() == 58_704);
-    let log = [ATTACHED, HEAD, events.as_slice(), LOST, SHUT];
+    let log = [ATTACHED, HEAD, events.as_slice(), EVENTS_SUM, LOST, SHUT];
     expect_journal(rt, alloc, catalogue, disk, &log, "one record");
 }
 

@@ -44,7 +44,7 @@ fn client<R: Net<Listener = TcpListener, Stream = TcpStream> + Eprint + time::Cl
 }
 
 /// Puts what a client reads, up to the end of the stream, behind the text.
-fn put_answers(rt: &impl Abort, text: &mut String, stream: &mut TcpStream) {
+pub fn put_answers(rt: &impl Abort, text: &mut String, stream: &mut TcpStream) {
     let mut room = [0; 256];
     for _ in 0..u64::MAX {
         match stream.read(&mut room) {
@@ -70,7 +70,7 @@ fn serve_client<
 >(rt: R, alloc: Global, catalogue: &Catalogue, host: RealHost<R>, mut stream: TcpStream) -> String {
     let mut listening = Listening { host };
     let mut text = String::new(alloc);
-    serve_in_threads(rt, alloc, catalogue, 1, 1, &mut listening, &mut text);
+    serve_in_threads(rt, alloc, catalogue, 1, 1, None, &mut listening, &mut text);
     put_answers(&rt, &mut text, &mut stream);
     text
 }

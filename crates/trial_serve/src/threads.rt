@@ -4,7 +4,7 @@ ghost use Rattle.std.specs.Prelude.{◌≤◌};
 
 use crate::clocks::list_clock;
 use crate::texts::tell_end;
-use boss_adapters::{RealClock, RealSpawner, RealWaiter};
+use boss_adapters::{Door, RealClock, RealSpawner, RealWaiter};
 use boss_manager::{Service, Site, Status, Surroundings, serve_in_memory};
 use boss_model::Items;
 use boss_outside::{BytesSink, SimActuators};
@@ -13,11 +13,11 @@ use boss_points::Catalogue;
 use std::alloc::Global;
 use std::io::Eprint;
 use std::process::Abort;
-use std::sync::Wait;
+use std::sync::{Arc, Wait};
 use std::thread::Threads;
 use std::time;
 
-/// Serves connections of a host, without a device.
+/// Serves connections of a host, without a device. Where there is a door, whoever pauses looks at it.
 fn serve<
     R: Abort + Threads + Wait + time::Clock + Eprint + Copy + Drop + Send + Sync,
     H: Host + Send,
@@ -26,6 +26,7 @@ fn serve<
     alloc: Global,
     catalogue: &Catalogue,
     service: Service<'_>,
+    door: Option<Arc<Door, Global>>,
     host: &mut H,
     sink: &mut BytesSink,
     clock: &mut ListClock,
@@ -42,6 +43,9 @@ where
     let mut spawner = RealSpawner::new(rt);
     let mut real = RealClock::new(alloc, rt).expect(&rt, "memory");
     let mut waiter = RealWaiter::new(alloc, rt, &mut real).expect(&rt, "memory");
+    if let Some(door) = door {
+        waiter.watch(door);
+    }
     let surroundings = Surroundings {
         sink,
         devices: &mut devices,
@@ -57,7 +61,8 @@ where
     serve_in_memory(rt, alloc, site, service, surroundings)
 }
 
-/// Serves so many connections of a host by so many workers in threads of their own, always at the moment 1,000, and tells how that ended.
+/// Serves so many connections of a host by so many workers in threads of their own, always at the moment 1,000, and tells how that ended. Where
+/// there is a door, whoever pauses looks at it.
 pub fn serve_in_threads<
     R: Abort + Threads + Wait + time::Clock + Eprint + Copy + Drop + Send + Sync,
     H: Host + Send,
@@ -67,6 +72,7 @@ pub fn serve_in_threads<
     catalogue: &Catalogue,
     workers: u32,
     connections: u32,
+    door: Option<Arc<Door, Global>>,
     host: &mut H,
     text: &mut String,
 )
@@ -88,6 +94,8 @@ where
         rules: &none,
         plan: &none,
     };
-    let status = serve(rt, alloc, catalogue, service, host, &mut sink, &mut clock);
+    let status = serve(
+        rt, alloc, catalogue, service, door, host, &mut sink, &mut clock,
+    );
     tell_end(&rt, text, sink.taken(), status.0);
 }
