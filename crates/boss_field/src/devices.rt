@@ -7,9 +7,10 @@ ghost use Rattle.boss_modbus.specs.Writes.{Wrote};
 
 use crate::fate_line::place_of;
 use crate::numbers::{found_in_datagram, found_in_response, wanted_at};
+use crate::reason::Reason;
 use crate::{FateLine, Outcome, Raw, RealDatagrams, RealLink};
-use boss_bacnet::BacnetDevice;
-use boss_modbus::ModbusDevice;
+use boss_bacnet::{BacnetDevice, Fate as BacnetFate};
+use boss_modbus::{Fate as ModbusFate, ModbusDevice};
 use boss_model::{DriverPlan, PointId, Protocol};
 use boss_outside::{Actuators, Datagrams, Failed, Link, Look};
 use std::alloc::{AllocError, Global};
@@ -25,7 +26,8 @@ const FIRST_WAIT: u64 = 5_000;
 ///
 /// Where what a device is asked comes to something else than what was asked before, a line on the standard error says so: a
 /// device that is off is reported once and not at each try, and once more when it takes a value again. One that is found with another
-/// value is reported once until it is found with its own.
+/// value is reported once until it is found with its own. A host that can not be reached is reported once for all its points, and once
+/// more when it is reached again; of what was not asked, as its host or unit is left alone, there is no line.
 #[derive(Drop)]
 pub struct FieldDevices<R> {
     rt: R,
@@ -34,6 +36,8 @@ pub struct FieldDevices<R> {
     modbus: ModbusDevice<RealLink<R>>,
     bacnet: BacnetDevice<RealDatagrams<R>>,
     troubles: Vec<Trouble>,
+    /// Whether the host could not be reached.
+    is_away: bool,
     faults: u64,
 }
 
@@ -56,6 +60,7 @@ impl<R: Net<Listener = TcpListener, Stream = TcpStream> + Clock + Eprint + Copy>
             modbus: ModbusDevice::new(alloc, RealLink::new(rt, FIRST_WAIT)),
             bacnet: BacnetDevice::new(alloc, RealDatagrams::new(rt, FIRST_WAIT)),
             troubles: Vec::new(alloc),
+            is_away: false,
             faults: 0,
         }
     }
@@ -129,26 +134,86 @@ impl<R: Net<Listener = TcpListener, Stream = TcpStream> + Clock + Eprint + Copy>
                 fate: self.bacnet.fate(),
             },
         };
-        if !is_news(self.trouble_of(point), outcome) {
+        let reason = self.reason_of(outcome);
+        if self.note_host(protocol, outcome, reason) || !is_news(self.trouble_of(point), outcome) {
             return;
         }
-        self.tell(protocol, point, outcome, wanted);
+        self.tell(protocol, point, outcome, reason, wanted);
         self.note(point, outcome);
     }
 
-    /// Writes a line.
-    fn tell(&self, protocol: Protocol, point: PointId, outcome: Outcome, wanted: Option<i64>) {
-        let part = match protocol {
+    /// Why the link failed, where it did.
+    fn reason_of(&self, outcome: Outcome) -> Option<Reason> {
+        match outcome {
+            Outcome::Modbus {
+                fate: ModbusFate::LinkFault,
+            } => self.modbus.link().reason(),
+            Outcome::Bacnet {
+                fate: BacnetFate::LinkFault,
+            } => self.bacnet.link().reason(),
+            _ => None,
+        }
+    }
+
+    /// Notes whether the host was reached, with a line where that is news. Whether all of what came is told by that, or nothing is to be
+    /// told: of a point that was not asked, and of one of many behind a host that is away.
+    fn note_host(&mut self, protocol: Protocol, outcome: Outcome, reason: Option<Reason>) -> bool
+        ensures modbus { self.new.modbus ≡ self.old.modbus }
+        ensures bacnet { self.new.bacnet ≡ self.old.bacnet }
+        ensures speaks { self.new.speaks ≡ self.old.speaks }
+        ensures faults { self.new.faults ≡ self.old.faults }
+    {
+        let is_away = match reason {
+            Some(Reason::LeftAlone) => return true,
+            Some(Reason::Unreached(_)) => true,
+            Some(Reason::Broken(_)) => false,
+            None if outcome.was_sent() => false,
+            None => return false,
+        };
+        if is_away != self.is_away {
+            self.is_away = is_away;
+            self.tell_host(protocol, reason.filter(|_| is_away));
+        }
+        is_away
+    }
+
+    /// Writes a line on the host: why it can not be reached, or that it is reached again.
+    fn tell_host(&self, protocol: Protocol, reason: Option<Reason>) {
+        let Some(part) = self.part_of(protocol) else {
+            return;
+        };
+        let host = str::from_utf8(part.host.slice()).unwrap_or("?");
+        let _ = match reason {
+            Some(reason) => eprintln!(&self.rt; "bossd: {host}: {reason}"),
+            None => eprintln!(&self.rt; "bossd: {host}: reached again"),
+        };
+    }
+
+    /// The part of a protocol's devices.
+    fn part_of(&self, protocol: Protocol) -> &Option<DriverPlan> {
+        match protocol {
             Protocol::Modbus => self.modbus.part(),
             Protocol::Bacnet => self.bacnet.part(),
-        };
-        let Some(part) = part else {
+        }
+    }
+
+    /// Writes a line.
+    fn tell(
+        &self,
+        protocol: Protocol,
+        point: PointId,
+        outcome: Outcome,
+        reason: Option<Reason>,
+        wanted: Option<i64>,
+    ) {
+        let Some(part) = self.part_of(protocol) else {
             return;
         };
         let line = FateLine {
             part,
             point,
             outcome,
+            reason,
             found: self.found_at(protocol, part, point),
             wanted: raw_at(part, point, wanted),
         };
@@ -232,6 +297,7 @@ impl<R: Net<Listener = TcpListener, Stream = TcpStream> + Clock + Eprint + Copy>
 
     fn assign(&mut self, part: DriverPlan) {
         self.troubles.clear();
+        self.is_away = false;
         self.speaks = Some(part.speaks);
         match part.speaks {
             Protocol::Modbus => {

@@ -1,10 +1,12 @@
 //! Lines on what came of a write or of a look, for whoever wires the devices.
 
 use crate::numbers::Raw;
+use crate::reason::Reason;
 use boss_bacnet::Fate as BacnetFate;
 use boss_modbus::Fate as ModbusFate;
 use boss_model::{DriverPlan, Object, ObjectKind, Place, PointId, Station, Where};
 use std::fmt;
+use std::io::ErrorKind;
 
 /// What came of what a device was asked.
 #[derive(Clone, Copy, Debug, PartialEq, Eq)]
@@ -38,6 +40,18 @@ impl Outcome {
         )
     }
 
+    /// Whether anything was sent: nothing is where a value has no form, and before the first write.
+    pub fn was_sent(self) -> bool {
+        !matches!(
+            self,
+            Outcome::Modbus {
+                fate: ModbusFate::None | ModbusFate::NoPlace
+            } | Outcome::Bacnet {
+                fate: BacnetFate::None | BacnetFate::NoPlace
+            }
+        )
+    }
+
     /// Whether it was found with another one.
     pub fn differs(self) -> bool {
         matches!(
@@ -57,6 +71,8 @@ pub struct FateLine<'a> {
     pub part: &'a DriverPlan,
     pub point: PointId,
     pub outcome: Outcome,
+    /// Why the link failed, where it did.
+    pub reason: Option<Reason>,
     /// What its device was found with, where it told that.
     pub found: Option<Raw>,
     /// What it was to have.
@@ -78,8 +94,8 @@ impl fmt::Display for FateLine<'_> {
             return write_agreement(f, self.wanted);
         }
         match self.outcome {
-            Outcome::Modbus { fate } => write_modbus(f, fate, self.part.wait),
-            Outcome::Bacnet { fate } => write_bacnet(f, fate, self.part),
+            Outcome::Modbus { fate } => write_modbus(f, fate, self.reason, self.part.wait),
+            Outcome::Bacnet { fate } => write_bacnet(f, fate, self.reason, self.part),
         }
     }
 }
@@ -147,6 +163,7 @@ fn write_agreement<W: fmt::Write>(f: &mut fmt::Formatter<W>, wanted: Option<Raw>
 fn write_modbus<W: fmt::Write>(
     f: &mut fmt::Formatter<W>,
     fate: ModbusFate,
+    reason: Option<Reason>,
     wait: u64,
 ) -> fmt::Result {
     match fate {
@@ -157,13 +174,23 @@ fn write_modbus<W: fmt::Write>(
         ModbusFate::Exception { code } => write!(f, "refused with code {code}{}", meaning(code)),
         ModbusFate::Wrong => f.write_str("what came back is no response to what was asked"),
         ModbusFate::Ended => f.write_str("the host ended the connection before a whole response"),
-        ModbusFate::LinkFault => {
-            write!(
-                f,
-                "the host could not be reached, or did not answer within {wait} ms"
-            )
-        }
+        ModbusFate::LinkFault => write_link_fault(f, reason, wait),
         ModbusFate::NoPlace => f.write_str("the value has no form there, so nothing was sent"),
+    }
+}
+
+/// Why a link failed, in words.
+fn write_link_fault<W: fmt::Write>(
+    f: &mut fmt::Formatter<W>,
+    reason: Option<Reason>,
+    wait: u64,
+) -> fmt::Result {
+    match reason {
+        Some(Reason::Broken(ErrorKind::TimedOut | ErrorKind::WouldBlock)) => {
+            write!(f, "no answer within {wait} ms")
+        }
+        Some(reason) => write!(f, "{reason}"),
+        None => f.write_str("the link failed"),
     }
 }
 
@@ -186,6 +213,7 @@ fn meaning(code: u8) -> &'static str {
 fn write_bacnet<W: fmt::Write>(
     f: &mut fmt::Formatter<W>,
     fate: BacnetFate,
+    reason: Option<Reason>,
     part: &DriverPlan,
 ) -> fmt::Result {
     match fate {
@@ -212,7 +240,7 @@ fn write_bacnet<W: fmt::Write>(
                 part.tries, part.wait
             )
         }
-        BacnetFate::LinkFault => f.write_str("the host could not be reached"),
+        BacnetFate::LinkFault => write_link_fault(f, reason, part.wait),
         BacnetFate::NoPlace => f.write_str("the value has no form there, so nothing was sent"),
     }
 }

@@ -1,6 +1,8 @@
 ghost use Rattle.std.specs.Prelude.{◌≡◌, ◌≤◌, [], IfOk, IfSome, length};
 ghost use Rattle.boss_outside.specs.Counts.{one_more};
 
+use crate::reason::{Reason, of_name};
+use crate::silence::Silences;
 use arrayvec::ArrayVec;
 use boss_outside::{Datagrams, Failed, Heard};
 use std::io::{self, ErrorKind};
@@ -16,9 +18,19 @@ const TRIES: u32 = 1_000;
 /// How many bytes of the last datagram are kept, for whoever tells what a device was found with.
 const KEPT: usize = 64;
 
+/// Where a datagram says that it goes on behind a router, and to which network and station (ASHRAE 135, clause 6.2).
+const CONTROL: usize = 5;
+
+const NETWORK: usize = 6;
+
+const STATION: usize = 9;
+
+const HAS_DESTINATION: u8 = 0x20;
+
 /// A UDP socket to one host, which the system lets hear that host alone. An answer is waited for as long after each send.
 ///
-/// What lies there before a send, as a late answer to an earlier one, is read away.
+/// What lies there before a send, as a late answer to an earlier one, is read away. A station that did not answer is left alone the
+/// longer, the longer it is silent, up to a minute: what is sent to it fails at once meanwhile.
 #[derive(Drop)]
 pub struct RealDatagrams<R> {
     rt: R,
@@ -27,6 +39,14 @@ pub struct RealDatagrams<R> {
     socket: Option<UdpSocket>,
     sent_at: Option<Instant>,
     last: ArrayVec<u8, KEPT>,
+    /// Since when moments are counted.
+    started: Option<Instant>,
+    silences: Silences,
+    /// What was sent last, and whether its silence was counted.
+    asked: ArrayVec<u8, KEPT>,
+    is_counted: bool,
+    /// Why the last call that failed did.
+    reason: Option<Reason>,
     faults: u64,
 }
 
@@ -41,8 +61,52 @@ impl<R: Net + Clock + Copy> RealDatagrams<R> {
             socket: None,
             sent_at: None,
             last: ArrayVec::new(),
+            started: Instant::now(&rt).ok(),
+            silences: Silences::new(),
+            asked: ArrayVec::new(),
+            is_counted: false,
+            reason: None,
             faults: 0,
         }
+    }
+
+    /// Why the last call that failed did.
+    pub fn reason(&self) -> Option<Reason> {
+        self.reason
+    }
+
+    /// The moment, in milliseconds since the socket was made.
+    fn now(&self) -> u64 {
+        match self.started.map(|started| started.elapsed(&self.rt)) {
+            Some(Ok(passed)) => u64::try_from(passed.as_millis()).unwrap_or(u64::MAX),
+            _ => 0,
+        }
+    }
+
+    /// Notes that this datagram is about to be sent. Whether its station is to be left alone; one that is sent again is not.
+    fn ask(&mut self, bytes: &[u8]) -> bool
+        ensures { self.new.faults ≡ self.old.faults }
+    {
+        if self.asked.as_slice() == bytes {
+            return false;
+        }
+        self.asked.clear();
+        let _ = self.asked.try_extend_from_slice(bytes);
+        self.is_counted = false;
+        let now = self.now();
+        self.silences.leaves_alone(station_of(bytes), now)
+    }
+
+    /// Notes that no answer came to what was sent last, once for what is sent again.
+    fn note_silence(&mut self)
+        ensures { self.new.faults ≡ self.old.faults }
+    {
+        if self.is_counted {
+            return;
+        }
+        self.is_counted = true;
+        let now = self.now();
+        self.silences.missed(station_of(self.asked.as_slice()), now);
     }
 
     /// The datagram that was heard last, where it has at most 64 bytes.
@@ -50,10 +114,11 @@ impl<R: Net + Clock + Copy> RealDatagrams<R> {
         self.last.as_slice()
     }
 
-    /// Counts a fault.
-    fn fault(&mut self) -> Failed
-        ensures { self.new ≡ record self.old { faults = one_more self.old.faults } }
+    /// Counts a fault, and keeps why it was one.
+    fn fault(&mut self, reason: Reason) -> Failed
+        ensures { self.new.faults ≡ one_more self.old.faults }
     {
+        self.reason = Some(reason);
         self.faults = self.faults.saturating_add(1);
         Failed
     }
@@ -63,8 +128,8 @@ impl<R: Net + Clock + Copy> RealDatagrams<R> {
         let Ok(host) = str::from_utf8(host) else {
             return Err(ErrorKind::InvalidInput.into());
         };
-        let Some(address) = host.to_socket_addrs(&self.rt)?.next() else {
-            return Err(ErrorKind::NotConnected.into());
+        let Some(address) = host.to_socket_addrs(&self.rt).map_err(of_name)?.next() else {
+            return Err(ErrorKind::NotFound.into());
         };
         let from = match address {
             SocketAddr::V4(_) => "0.0.0.0:0",
@@ -147,6 +212,14 @@ impl<R: Net + Clock + Copy> RealDatagrams<R> {
     }
 }
 
+/// The station that a datagram goes to, 0 where it is the host itself.
+fn station_of(bytes: &[u8]) -> u32 {
+    if bytes.len() <= STATION || bytes[CONTROL] & HAS_DESTINATION == 0 {
+        return 0;
+    }
+    u32::from_be_bytes([1, bytes[NETWORK], bytes[NETWORK + 1], bytes[STATION]])
+}
+
 impl<R: Net + Clock + Copy> Datagrams for RealDatagrams<R> {
     ghost tells = { ⊥ };
 
@@ -166,16 +239,19 @@ impl<R: Net + Clock + Copy> Datagrams for RealDatagrams<R> {
                 self.socket = Some(socket);
                 Ok(())
             }
-            Err(_) => Err(self.fault()),
+            Err(reason) => Err(self.fault(Reason::Unreached(reason.kind()))),
         }
     }
 
     fn send(&mut self, bytes: &[u8]) -> Result<(), Failed> {
+        if self.ask(bytes) {
+            return Err(self.fault(Reason::LeftAlone));
+        }
         self.pass_over();
         self.sent_at = Instant::now(&self.rt).ok();
         match self.send_whole(bytes) {
             Ok(()) => Ok(()),
-            Err(_) => Err(self.fault()),
+            Err(reason) => Err(self.fault(Reason::Unreached(reason.kind()))),
         }
     }
 
@@ -183,11 +259,15 @@ impl<R: Net + Clock + Copy> Datagrams for RealDatagrams<R> {
         match self.hear_some(into) {
             Ok(Some(count)) => {
                 self.keep(&into[..count]);
+                self.silences.answered(station_of(self.asked.as_slice()));
                 Heard::Datagram(count)
             }
-            Ok(None) => Heard::Silence,
-            Err(_) => {
-                self.fault();
+            Ok(None) => {
+                self.note_silence();
+                Heard::Silence
+            }
+            Err(reason) => {
+                self.fault(Reason::Unreached(reason.kind()));
                 Heard::Failed
             }
         }

@@ -2,8 +2,9 @@
 //! section 7.
 
 use crate::plant::{DAMPER, FAN, LAMP, part};
-use boss_field::{FateLine, Outcome, Raw};
+use boss_field::{FateLine, Outcome, Raw, Reason};
 use boss_modbus::Fate;
+use std::io::ErrorKind;
 use std::test::Fail;
 
 #[test]
@@ -24,7 +25,7 @@ fn a_line_has_the_place_and_what_came_of_the_write(rt: HostRuntime) -> Result<()
         (
             DAMPER,
             Fate::LinkFault,
-            "10.0.0.5:502 unit 1 register 2: the host could not be reached, or did not answer within 5000 ms",
+            "10.0.0.5:502 unit 1 register 2: the link failed",
         ),
         (
             DAMPER,
@@ -58,6 +59,7 @@ fn a_line_has_the_place_and_what_came_of_the_write(rt: HostRuntime) -> Result<()
             part,
             point,
             outcome: Outcome::Modbus { fate },
+            reason: None,
             found: None,
             wanted: None,
         };
@@ -119,8 +121,45 @@ fn a_difference_is_told_in_the_devices_own_numbers(rt: HostRuntime) -> Result<()
             part: &part,
             point: DAMPER,
             outcome: Outcome::Modbus { fate },
+            reason: None,
             found,
             wanted,
+        };
+        let text = format!(in alloc; "{line}")?;
+        let expected = format!(in alloc; "10.0.0.5:502 unit 1 register 2: {expected}")?;
+        assert_eq!(rt; text.as_str(), expected.as_str());
+    }
+    Ok(())
+}
+
+#[test]
+fn why_a_link_failed_is_told(rt: HostRuntime) -> Result<(), Fail> {
+    let alloc = rt.alloc();
+    let part = part(alloc, b"10.0.0.5:502")?;
+    let lines = [
+        (
+            Reason::Broken(ErrorKind::TimedOut),
+            "no answer within 5000 ms",
+        ),
+        (
+            Reason::Broken(ErrorKind::ConnectionReset),
+            "connection reset by the host",
+        ),
+        (
+            Reason::Unreached(ErrorKind::ConnectionRefused),
+            "connection refused",
+        ),
+    ];
+    for (reason, expected) in lines {
+        let line = FateLine {
+            part: &part,
+            point: DAMPER,
+            outcome: Outcome::Modbus {
+                fate: Fate::LinkFault,
+            },
+            reason: Some(reason),
+            found: None,
+            wanted: None,
         };
         let text = format!(in alloc; "{line}")?;
         let expected = format!(in alloc; "10.0.0.5:502 unit 1 register 2: {expected}")?;

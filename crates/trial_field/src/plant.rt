@@ -76,7 +76,21 @@ pub fn part(alloc: Global, host: &[u8]) -> Result<DriverPlan, NoMemory> {
     })
 }
 
-/// The same, of which each place is checked and written once more so often.
+/// The same with an answer within 200 ms, of which the analog points stand in unit 2.
+pub fn part_of_two_units(alloc: Global, host: &[u8]) -> Result<DriverPlan, NoMemory> {
+    let mut places = Items::new(alloc);
+    for place in PLACES {
+        let unit = if place.point == LAMP { 1 } else { 2 };
+        places.try_push(Place { unit, ..place })?;
+    }
+    Ok(DriverPlan {
+        places,
+        wait: 200,
+        ..part(alloc, host)?
+    })
+}
+
+/// The same as [`part`], of which each place is checked and written once more so often.
 pub fn part_looked_after(
     alloc: Global,
     host: &[u8],

@@ -1,9 +1,10 @@
 //! Devices over a socket of this machine. Their host is a stub in a second thread.
 
 use crate::datagrams::part_over_bacnet;
-use crate::plant::{DAMPER, LAMP, part};
+use crate::plant::{DAMPER, LAMP, part, part_of_two_units};
 use boss_field::{FieldDevices, RealLink};
 use boss_modbus::{Fate, ModbusDevice};
+use boss_model::PointId;
 use boss_outside::Actuators;
 use std::alloc::Global;
 use std::io::{self, Read, Write};
@@ -103,5 +104,57 @@ fn devices_behind_a_socket_for_datagrams_take_writes(rt: HostRuntime) -> Result<
     assert!(&rt; devices.write(DAMPER, 45_000).is_err());
     drop(socket);
     assert!(&rt; devices.write(DAMPER, 45_000).is_err());
+    Ok(())
+}
+
+/// Echoes what unit 1 is asked over one connection, and nothing else. How many frames came, at most eight.
+fn echo_unit_one(stream: &mut TcpStream) -> u32 {
+    let mut frame = [0; 12];
+    for count in 0..8 {
+        if stream.read_exact(&mut frame).is_err() {
+            return count;
+        }
+        if frame[6] == 1 {
+            let _ = stream.write_all(&frame);
+        }
+    }
+    8
+}
+
+/// Serves two connections, one after another. How many frames came over each.
+fn serve_two(listener: &TcpListener) -> io::Result<(u32, u32)> {
+    let (mut first, _) = listener.accept()?;
+    let before = echo_unit_one(&mut first);
+    let (mut second, _) = listener.accept()?;
+    Ok((before, echo_unit_one(&mut second)))
+}
+
+/// Whether each write of these points came to what is said beside it.
+fn write_each<A: Actuators>(devices: &mut A, writes: &[(PointId, bool)]) -> bool {
+    writes.iter().all(|(point, is_taken)| devices.write(*point, 1).is_ok() == *is_taken)
+}
+
+#[test]
+fn a_silent_unit_is_left_alone_and_the_connection_kept(rt: HostRuntime) -> Result<(), Fail> {
+    let listener = TcpListener::bind(&rt, "127.0.0.1:0")?;
+    let alloc = rt.alloc();
+    let host = format!(in alloc; "{}", listener.local_addr()?)?;
+    let mut devices = FieldDevices::new(alloc, &rt);
+    devices.assign(part_of_two_units(alloc, host.as_bytes())?);
+    // Unit 2 is asked once, and that ends the connection. It is not asked the second time, and the next write goes over the same one.
+    let writes = [
+        (LAMP, true),
+        (DAMPER, false),
+        (LAMP, true),
+        (DAMPER, false),
+        (LAMP, true),
+    ];
+    let (frames, as_told) = thread::join(
+        &rt,
+        || serve_two(&listener),
+        move || write_each(&mut devices, &writes),
+    );
+    assert!(&rt; as_told);
+    assert_eq!(rt; frames?, (2, 2));
     Ok(())
 }
