@@ -75,8 +75,13 @@ two-bad = refl
 pub allow-text : rules_in (file_of (item (all_with (codes "allow") (string (codes "no"))) no_items)) ≡ Err (BadRule 1)
 allow-text = refl
 
-pub key-unknown : rules_in (file_of (item (all_with (codes "denied") (boolean true)) no_items)) ≡ Ok (record { process = Any; point = Any; highest = 1; allow = true } ∷ [])
+-- a fourth key that nothing reads, as of who spells the fourth so
+pub key-unknown : rules_in (file_of (item none (item (all_with (codes "denied") (boolean true)) no_items))) ≡ Err (BadRule 2)
 key-unknown = refl
+
+-- the top of the file may have others
+pub title-there : rules_in (table (member (codes "rule") (array (item none no_items)) (member (codes "title") (string []) no_members))) ≡ Ok (nobody ∷ [])
+title-there = refl
 
 -- ---- decisions
 

@@ -2,19 +2,21 @@
 //! gives them to no other crate; their definitions are its own.
 
 ghost use Rattle.std.specs.Prelude.{◌≡◌, option_map, option_copied};
+ghost use Rattle.std.specs.List.{list_any};
 ghost use Rattle.std.specs.Option.{ok_or};
-ghost use Rattle.toml.specs.View.{view};
+ghost use Rattle.std.specs.Str.{bytes_eq};
+ghost use Rattle.toml.specs.View.{view, table_view};
 ghost use Rattle.boss_access.specs.declared.refusal.RulesRefusal.TheVariants.{NotToml};
 ghost use Rattle.boss_points.specs.Keys.{array_at, text_at};
 ghost use Rattle.boss_points.specs.Reading.{table_of};
 ghost use Rattle.boss_points.specs.Seen.{views};
-ghost use Rattle.boss_access.specs.Keys.{pattern_at, level_of, level_in, highest_of, allow_of};
+ghost use Rattle.boss_access.specs.Keys.{pattern_at, level_of, level_in, highest_of, allow_of, all_among, has_only, rule_keys};
 ghost use Rattle.boss_access.specs.Reading.{Gives};
 
 use crate::{Pattern, RulesRefusal};
 use boss_model::{LEVELS, Priority};
 use std::alloc::Global;
-use toml::Value;
+use toml::{Table, Value};
 
 /// The table that a file writes.
 pub(crate) fn table_of(alloc: Global, bytes: &[u8]) -> Result<Value, RulesRefusal>
@@ -90,4 +92,33 @@ pub(crate) fn allow_of(rule: &Value) -> Option<bool>
         Some(value) => value.as_bool(),
         None => Some(true),
     }
+}
+
+/// Whether this is a table that has no key but those of a rule.
+pub(crate) fn has_rule_keys(rule: &Value) -> bool
+    ensures { result ≡ has_only rule_keys (view rule.now) }
+{
+    match rule.as_table() {
+        Some(table) => are_rule_keys(table),
+        None => false,
+    }
+}
+
+/// Whether each key of a table is one of a rule.
+fn are_rule_keys(table: &Table) -> bool
+    ensures { result ≡ all_among rule_keys (table_view table.now) }
+{
+    for (key, _value) in table {
+        if !is_rule_key(key.as_str()) {
+            return false;
+        }
+    }
+    true
+}
+
+/// Whether a rule may have this key.
+fn is_rule_key(key: &str) -> bool
+    ensures { result ≡ list_any (bytes_eq key.now) rule_keys }
+{
+    matches!(key, "process" | "point" | "highest" | "allow")
 }

@@ -28,7 +28,7 @@ impl Pattern {
     }
 
     /// The pattern that a text spells: a name, or up to 63 characters of names and a `*` behind them.
-    pub(crate) fn spelled(text: &[u8]) -> Option<Pattern>
+    pub fn spelled(text: &[u8]) -> Option<Pattern>
         ensures { result ≡ pattern_of text.now }
     {
         match text.strip_suffix(b"*") {

@@ -25,7 +25,8 @@ pub enum RulesRefusal {
         count: u64,
     },
     /// This is the first rule that is none: its `process` or its `point` is no name and no text of up to 63 characters of
-    /// names with a `*` behind them, its `highest` is no whole number of 1 to 16, or its `allow` is neither true nor false.
+    /// names with a `*` behind them, its `highest` is no whole number of 1 to 16, its `allow` is neither true nor false, or
+    /// it has another key.
     BadRule {
         /// Its place among the rules, from 1.
         place: u64,
@@ -50,7 +51,7 @@ impl fmt::Display for RulesRefusal {
             }
             RulesRefusal::BadRule { place } => write!(
                 f,
-                "the access rule {place} is none: its process, point, highest or allow is of another form"
+                "the access rule {place} is none: its process, point, highest or allow is of another form, or it has another key"
             ),
             RulesRefusal::NoMemory => f.write_str("out of memory"),
         }

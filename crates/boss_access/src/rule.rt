@@ -1,10 +1,10 @@
 ghost use Rattle.std.specs.Prelude.{◌≡◌};
 ghost use Rattle.toml.specs.View.{view};
 ghost use Rattle.boss_access.specs.Decisions.{is_for, allows};
-ghost use Rattle.boss_access.specs.Keys.{rule_of};
+ghost use Rattle.boss_access.specs.Keys.{rule_in, rule_of};
 
 use crate::Pattern;
-use crate::keys::{allow_of, highest_of, pattern_at};
+use crate::keys::{allow_of, has_rule_keys, highest_of, pattern_at};
 use boss_model::{Name, Priority};
 use toml::Value;
 
@@ -36,9 +36,20 @@ impl Rule {
         self.allow && i64::from(self.highest.0) <= priority
     }
 
-    /// The rule that a table spells.
+    /// The rule that a table spells. One with a key that nothing reads spells none.
     pub(crate) fn spelled(table: &Value) -> Option<Rule>
         ensures { result ≡ rule_of (view table.now) }
+    {
+        if has_rule_keys(table) {
+            Rule::read(table)
+        } else {
+            None
+        }
+    }
+
+    /// The rule that the keys of a table spell.
+    fn read(table: &Value) -> Option<Rule>
+        ensures { result ≡ rule_in (view table.now) }
     {
         let process = pattern_at(table, "process")?;
         let point = pattern_at(table, "point")?;

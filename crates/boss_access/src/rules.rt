@@ -36,7 +36,7 @@ impl Model for Rules {
 }
 
 impl Rules {
-    /// The rules that a file spells, in TOML. Keys that mean nothing here are passed over.
+    /// The rules that a file spells, in TOML. Keys beside the array `rule` are passed over.
     #[tactic(auto, unfolding(crate::specs::Reading::rules_of))]
     pub fn read(alloc: Global, bytes: &[u8]) -> Result<Rules, RulesRefusal>
         ensures { Gives (λ rules. rules) result (rules_of bytes.now) }

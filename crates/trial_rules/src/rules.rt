@@ -178,9 +178,41 @@ const REFUSED: &[(&str, &str)] = &[
         "rule=[{process='*',point='*',allow='false'}]",
         "rules bad-rule 1\n",
     ),
+    // A key that nothing reads: one that is spelled otherwise, in capitals, longer, quoted with a space, or empty.
+    (
+        "rule=[{process='*',point='*',alow=false}]",
+        "rules bad-rule 1\n",
+    ),
+    (
+        "rule=[{process='*',point='*',Allow=false}]",
+        "rules bad-rule 1\n",
+    ),
+    (
+        "rule=[{process='*',point='*',allows=false}]",
+        "rules bad-rule 1\n",
+    ),
+    (
+        "rule=[{process='*',point='*','allow '=false}]",
+        "rules bad-rule 1\n",
+    ),
+    ("rule=[{process='*',point='*',''=1}]", "rules bad-rule 1\n"),
+    (
+        "rule=[{process='*',point='*',highest=1,allow=true,note='everybody'}]",
+        "rules bad-rule 1\n",
+    ),
+    // It stands before the others, behind them, and is a table of its own.
+    ("rule=[{a=1,process='*',point='*'}]", "rules bad-rule 1\n"),
+    (
+        "rule=[{process='*',point='*',z={process='*'}}]",
+        "rules bad-rule 1\n",
+    ),
     // The first of several.
     (
         "rule=[{process='*',point='*'},{process='*',point='*',highest=17},{point='*'}]",
+        "rules bad-rule 2\n",
+    ),
+    (
+        "rule=[{process='*',point='*'},{process='*',point='*',to='*'},{point='*'}]",
         "rules bad-rule 2\n",
     ),
 ];
@@ -234,10 +266,11 @@ fn refuses_a_rule_too_many(rt: HostRuntime) {
     assert!(rt; is_refused(&rt, rt.alloc(), file.as_bytes(), "rules too-many 257\n"));
 }
 
-/// Files that are accepted: the bounds of each key, and keys that mean nothing here.
+/// Files that are accepted: the bounds of each key, and at the top of the file a key that means nothing here.
 const ACCEPTED: &[&str] = &[
     "rule=[]",
-    "title='x'\nrule=[{process='*',point='*',note='everybody'}]",
+    "title='x'\nrule=[{process='*',point='*'}]",
+    "rule=[{process='*',point='*'}]\n[more]\nnote='everybody'",
     "rule=[{process='*',point='*',highest=1},{process='*',point='*',highest=16,allow=true}]",
     "rule=[{process='a-._0',point='xxxxxxxxxxxxxxxxxxxxxxxxxxxxxxxxxxxxxxxxxxxxxxxxxxxxxxxxxxxxxxxx'}]",
     "rule=[{process='-*',point='xxxxxxxxxxxxxxxxxxxxxxxxxxxxxxxxxxxxxxxxxxxxxxxxxxxxxxxxxxxxxxx*'}]",
@@ -269,7 +302,7 @@ const SHOWN: &[(RulesRefusal, &str)] = &[
     ),
     (
         RulesRefusal::BadRule { place: 2 },
-        "the access rule 2 is none: its process, point, highest or allow is of another form",
+        "the access rule 2 is none: its process, point, highest or allow is of another form, or it has another key",
     ),
     (RulesRefusal::NoMemory, "out of memory"),
 ];

@@ -1,0 +1,13 @@
+//! The limits of `specs/Limits.antt`, as the code has them.
+
+/// How many entries a file may have.
+pub const MOST_ENTRIES: usize = 512;
+
+/// How many characters the digest of a key has, in hexadecimal.
+pub const DIGEST_LENGTH: usize = 64;
+
+/// How many characters a key has at least.
+pub const SHORTEST_KEY: usize = 32;
+
+/// How many characters a key may have.
+pub const LONGEST_KEY: usize = 128;
