@@ -1,0 +1,5 @@
+pub mod Unclear
+pub mod Texts
+pub mod Asks
+pub mod Commits
+pub mod Pages
