@@ -8,7 +8,7 @@ import unittest
 
 import bossd
 import bossd.aio
-from test_bossd import CATALOGUE, MINUTE, Answering, Relay, common, damper, denying
+from test_bossd import CATALOGUE, MINUTE, Answering, Relay, busy, common, damper, denying
 
 
 class Case(unittest.IsolatedAsyncioTestCase):
@@ -169,6 +169,18 @@ class Watching(Case):
         self.server.kill()
         with self.assertRaises(bossd.Unanswered):
             await bossd.aio.watch(self.server.address, "a", patience=0.5).__anext__()
+
+
+class TurnedAway(unittest.IsolatedAsyncioTestCase):
+    """A server with no worker for the client, for which another one stands."""
+
+    async def test_it_is_told_when_patience_ends(self):
+        server = Answering(busy)
+        self.addCleanup(server.listener.close)
+        with self.assertLogs("bossd", "WARNING"), self.assertRaises(bossd.Busy):
+            await bossd.aio.connect(server.address, "a", patience=4)
+        with self.assertLogs("bossd", "WARNING"), self.assertRaises(bossd.Busy):
+            await bossd.aio.watch(server.address, "a", patience=4).__anext__()
 
 
 class Denying(unittest.IsolatedAsyncioTestCase):

@@ -4,6 +4,7 @@ BOSSD in the environment may name another program to start."""
 
 import copy
 import hashlib
+import itertools
 import json
 import os
 import pickle
@@ -16,9 +17,9 @@ import unittest
 
 import bossd
 
-sys.path.insert(0, os.path.join(os.path.dirname(os.path.abspath(__file__)), "..", "..", "tools"))
-import common
-from common import eventually
+sys.path.append(os.path.join(os.path.dirname(os.path.abspath(__file__)), "..", ".."))
+from outside import program as common
+from outside.program import eventually
 
 # Three points: ahu1.damper, analog, with the default 20000; lamp, binary, 0; fan with three states, 1.
 CATALOGUE = os.path.join(common.EXAMPLES, "floor.toml")
@@ -415,6 +416,37 @@ class Addresses(unittest.TestCase):
                 make("no-such-host.invalid:7000")
 
 
+def busy(asked):
+    """What a server answers whose workers all have a connection."""
+    return {"error": "busy"}
+
+
+class TurnedAway(unittest.TestCase):
+    """A server with no worker for the client, for which another one stands."""
+
+    def setUp(self):
+        self.server = Answering(busy)
+        self.addCleanup(self.server.listener.close)
+
+    def test_it_is_told_when_patience_ends(self):
+        for make in (lambda: bossd.Client(self.server.address, "a", patience=4),
+                     lambda: next(bossd.watch(self.server.address, "a", patience=4)),
+                     lambda: bossd.Client(self.server.address, patience=4).ask_all([{"op": "version"}] * 3)):
+            began = time.monotonic()
+            with self.assertLogs("bossd", "WARNING") as logged, self.assertRaises(bossd.Busy) as caught:
+                make()
+            self.assertEqual(len(logged.output), 1)
+            self.assertIn("all workers of the server are busy", str(caught.exception))
+            self.assertLess(3.5, time.monotonic() - began)
+
+    def test_it_goes_on_once_a_worker_is_free(self):
+        answers = itertools.chain([busy] * 2, itertools.repeat(denying(0)))
+        self.server.answer = lambda asked: next(answers)(asked)
+        with self.assertLogs("bossd", "WARNING"), bossd.Client(self.server.address, "a", patience=30) as client:
+            self.assertEqual((client.process, client.is_busy), ("a", False))
+            self.assertEqual(client.ask({"op": "read", "point": "lamp"})["ok"], "read")
+
+
 class Denying(unittest.TestCase):
     """A server with access rules, for which another one stands."""
 
@@ -489,6 +521,16 @@ class Later(unittest.TestCase):
             self.assertEqual(client.notices("a"), bossd.Notices(1, 2, [told]))
         with bossd.watch(server.address, "a") as watched:
             self.assertEqual(next(watched), told)
+
+    def test_what_a_device_took(self):
+        told = {"ok": "read", "point": "fan", "value": 0, "from": "default", "mark": "pending", "differed": 2, "took": 1, "since": 1_500}
+        with bossd.Client(self.answering({"read": told}).address) as client:
+            reading = client.read("fan")
+        self.assertEqual(reading, bossd.Reading("fan", 0, "default", "pending", differed=2, took=1, since=1_500))
+        without = {key: value for key, value in told.items() if key not in ("took", "since")}
+        self.assertEqual(bossd.reading_of(without)[-2:], (None, None))
+        # A value of 0 is one.
+        self.assertEqual(bossd.reading_of({**told, "took": 0}).took, 0)
 
     def test_its_refusals_are_taken(self):
         refusal = {"error": "out-of-range", "index": 0, "least": 0, "args": 3, "fields": 4, "_text": 5, "point": 6}

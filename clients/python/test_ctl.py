@@ -18,7 +18,7 @@ from unittest import mock
 import bossd
 from bossd.ctl import _commands, _journal, _lint, _live, _served, _show, main
 from bossd.ctl._toml import Failure, Lines
-from test_bossd import MINUTE, Answering, common, denying, eventually
+from test_bossd import MINUTE, Answering, busy, common, denying, eventually
 
 HERE = os.path.dirname(os.path.abspath(__file__))
 PLANT = """
@@ -325,6 +325,7 @@ class Linting(Folder):
             ("highest = 13", "highest = true", 8, "highest", "true"),
             ("highest = 13", 'allow = "yes"', 8, "allow", '"yes"'),
             ("highest = 13", "allow = 1", 8, "allow", "1"),
+            ("highest = 13", "highest = 13\nowner = 1", 9, "owner", "a key that nothing reads"),
         ]:
             with self.subTest(new):
                 self.assertEqual(self.of_rules(RULES.replace(old, new)), [(line, "rule 2", key, found, True)])
@@ -336,7 +337,6 @@ class Linting(Folder):
             (RULES.replace("ahu1.*", "roof.*"), 7, "rule 2", "point", '"roof.*", which fits no point'),
             (RULES.replace("ahu1.*", "ahu1.dampre"), 7, "rule 2", "point", '"ahu1.dampre", which fits no point'),
             (RULES + "highest = 8\n", 13, "rule 3", "highest", "highest beside allow = false"),
-            (RULES.replace("highest = 13", "highest = 13\nowner = 1"), 9, "rule 2", "owner", "a key that nothing reads"),
             (RULES + '[[rule]]\nprocess = "comfort"\npoint = "lamp"\n', 13, "rule 4", "", "a rule that no write comes to"),
             (RULES[:RULES.index("[[rule]]", 1)].replace('"*"', '"ahu1.*"'), None, "", "", 'no rule for "lamp", "fan"'),
             ("rule = []\n", None, "", "", 'no rule for "ahu1.damper", "lamp", "fan"'),
@@ -635,6 +635,24 @@ JOURNAL = b"BOSSJRNL\2" + DIGEST + record(TAKEN_ON) + record(SUBMIT) + b"\0"
 KEPT = b"BOSSSNAP\2" + DIGEST + (1).to_bytes(8, "big") + (2).to_bytes(8, "big") + len(STATE).to_bytes(8, "big") + STATE
 
 
+def first_eight(data):
+    return hashlib.sha256(data).digest()[:8]
+
+
+def with_sums(front, *records):
+    """A disk of version 3, with a record for each of these bytes."""
+    seed, disk = first_eight(front[1:65]), front
+    for one in records:
+        total = first_eight(seed + len(disk).to_bytes(8, "big") + one)
+        disk += b"\1" + (len(one) + 8).to_bytes(4, "big") + one + total
+    return disk + b"\0"
+
+
+SUMMED = with_sums(b"BOSSJRNL\3" + DIGEST, TAKEN_ON, SUBMIT)
+HEAD = b"BOSSSNAP\3" + DIGEST + (1).to_bytes(8, "big") + (2).to_bytes(8, "big") + (len(STATE) + 8).to_bytes(8, "big")
+SUMMED_STATE = HEAD + first_eight(HEAD[1:]) + STATE + first_eight(first_eight(HEAD[1:]) + (65).to_bytes(8, "big") + STATE)
+
+
 class Journals(Folder):
     """The bytes are those of docs/FORMATS.md."""
 
@@ -673,6 +691,68 @@ class Journals(Folder):
         self.assertEqual(caught.exception.place, 57)
         status, out, aside = self.run_here("journal", self.file("cut", JOURNAL[:93]))
         self.assertEqual((status, "damaged at byte 57" in aside, "a is a new process" in out), (1, True, True))
+
+    def test_sums(self):
+        tick = bytes.fromhex("06 000000000000ee48")
+        plain, events = self.events(SUMMED)
+        self.assertEqual((len(SUMMED), plain.version, events, plain.hidden()), (110, 3, self.events(JOURNAL)[1], None))
+        kept, events = self.events(SUMMED, with_sums(SUMMED_STATE, tick))
+        self.assertEqual((kept.state, kept.spelled), (self.events(JOURNAL, KEPT + b"\0")[0].state, STATE))
+        self.assertEqual(events, [(3, _journal.Event("time", 61_000))])
+
+    def told_of(self, first, second):
+        """Where it is damaged, "other" where it is no journal, "version", or the number of the last event."""
+        try:
+            found, events = self.events(first, second)
+            return "new" if found is None else found.before + len(events)
+        except _journal.Damaged as error:
+            return f"damaged {error.place}"
+        except Failure as error:
+            return "version" if "version" in str(error) else "other"
+        except AttributeError:
+            return "new"
+
+    def test_a_byte_that_was_changed(self):
+        state = with_sums(SUMMED_STATE, bytes.fromhex("06 000000000000ee48"))
+        gate = len(SUMMED_STATE)
+        for place in range(1, len(state)):
+            for bit in (0, 1, 7):
+                changed = bytearray(state)
+                changed[place] ^= 1 << bit
+                told = self.told_of(b"\0", bytes(changed))
+                if place < 8 or 41 <= place < 73:
+                    wanted = ["other"]
+                elif place == 8:
+                    wanted = ["damaged 65", "version", "other"]
+                elif 9 <= place < 41:
+                    wanted = ["other"]
+                elif place < gate:
+                    wanted = ["damaged 65"]
+                elif place == gate:
+                    wanted = [2]
+                elif place < len(state) - 1:
+                    wanted = [f"damaged {gate}"]
+                else:
+                    wanted = [f"damaged {place}"] if bit == 0 else [3]
+                self.assertIn(told, wanted, (place, bit))
+
+    def test_a_record_at_another_place_or_of_another_disk(self):
+        one, other = with_sums(SUMMED_STATE, TAKEN_ON, SUBMIT), with_sums(b"BOSSJRNL\3" + DIGEST, SUBMIT, TAKEN_ON)
+        self.assertEqual(self.told_of(b"\0", SUMMED_STATE + SUMMED[41:]), f"damaged {len(SUMMED_STATE)}")
+        self.assertEqual(self.told_of(SUMMED[:41] + SUMMED[65:109] + SUMMED[41:65] + b"\0", b""), "damaged 41")
+        self.assertNotEqual(other, SUMMED[:41] + SUMMED[65:109] + SUMMED[41:65] + b"\0")
+        self.assertEqual(self.told_of(b"\0", one), 4)
+
+    def test_a_gate_that_was_shut_before_right_records(self):
+        many = with_sums(b"BOSSJRNL\3" + DIGEST, TAKEN_ON, SUBMIT, bytes.fromhex("06 000000000000ee48"))
+        found, events = self.events(many[:65] + b"\2" + many[66:])
+        self.assertEqual((len(events), found.hidden()), (1, 65))
+        path = self.file("shut", many[:65] + b"\2" + many[66:])
+        status, _, aside = self.run_here("journal", path)
+        self.assertEqual((status, "gate 65 is shut, and right records stand behind it" in aside), (1, True))
+        # As a stop leaves it while the gate of the last record is opened.
+        found, events = self.events(many[:109] + b"\2" + many[110:])
+        self.assertEqual((len(events), found.hidden()), (2, None))
 
     def test_what_is_none(self):
         for data, second in [(b"SQLite format 3\0" + bytes(80), b""), (JOURNAL, JOURNAL)]:
@@ -803,6 +883,15 @@ class Served(Folder):
         self.assertIn(f"bossd 0.3.0, whose journals are of version 3; its catalogue: points 3, drivers 1, digest {self.DIGEST[:16]}..", out)
         self.assertEqual(json.loads(self.ask("status", "--json")[1])["version"]["program"], "0.3.0")
 
+    def test_a_server_whose_workers_are_busy(self):
+        server = Answering(busy)
+        self.addCleanup(server.listener.close)
+        with self.assertLogs("bossd", "WARNING"):
+            status, _, aside = self.run_here("points", "--server", server.address, "--patience", "1")
+        self.assertEqual((status, f"all workers of {server.address} are busy: give it more" in aside), (3, True), aside)
+        status, out, _ = self.run_here("status", "--server", server.address, "--patience", "1")
+        self.assertEqual((status, "all workers of the server are busy: give it more" in out), (3, True), out)
+
     def test_which_servers_are_of_this_machine(self):
         self.assertEqual([_served.is_local(one) for one in ("127.0.0.1:7000", "127.1.2.3:1", "[::1]:7000", "localhost:7000")], [True] * 4)
         self.assertEqual([_served.is_local(one) for one in ("192.0.2.1:7000", "panel.example:7000", "[2001:db8::1]:7000")], [False] * 3)
@@ -813,24 +902,54 @@ class Guarded(Folder):
 
     CATALOGUE = PLANT.replace('kind = "binary"\n', 'kind = "binary"\nmin_on = 300000\nmin_off = 90000\n')
 
-    def shown(self, mark):
+    def asked(self, *words, **told):
+        """What bossctl writes where the server tells this of a point's device."""
         def answer(asked):
-            return {**denying(0)(asked), "mark": mark} if asked["op"] == "read" else denying(0)(asked)
+            return {**denying(0)(asked), **told} if asked["op"] == "read" else denying(0)(asked)
         server = Answering(answer)
         self.addCleanup(server.listener.close)
-        status, out, aside = self.run_here("point", "lamp", "--server", server.address, "--catalogue", self.file("plant.toml", self.CATALOGUE))
-        self.assertEqual(status, 0, aside)
-        return out.splitlines()[:3]
+        # A day from now moments are shown with their days, whatever the time is.
+        with mock.patch.object(_show, "moment", lambda at: f"T{round((at - self.now) / 60_000):+}min"), mock.patch.object(_commands, "moment", _show.moment):
+            status, out, aside = self.run_here(*words, "--server", server.address, "--catalogue", self.file("plant.toml", self.CATALOGUE))
+        self.assertEqual(aside, "")
+        return out
+
+    def setUp(self):
+        super().setUp()
+        self.now = time.time_ns() // 1_000_000
+
+    def shown(self, **told):
+        return self.asked("point", "lamp", **told).splitlines()[:3]
 
     def test_what_is_shown(self):
-        with mock.patch.object(_show, "moment", lambda at: f"T+{round((at - time.time() * 1000) / 60_000)}min"), mock.patch.object(
-                _commands, "moment", _show.moment):
-            first, second, third = self.shown("pending")
+        held = {"mark": "pending", "took": 1, "since": self.now - 2 * MINUTE}
+        first, second, third = self.shown(**held)
         self.assertEqual(first, "lamp: 0, its default: nobody holds it; its device: pending")
-        # It is to be off, so it may be on yet, for the five minutes of min_on at most.
-        self.assertEqual(second, "  perhaps still on until T+5min at the latest, by its minimum time")
+        # It is on since two minutes before, and stays so for five.
+        self.assertEqual(second, "  still on since T-2min, until T+3min at the earliest, by its minimum time")
         self.assertEqual(third, "  binary, 0 or 1, default 0, driver field, on for 5m at least, off for 1m30s at least")
-        self.assertEqual(self.shown("settled")[0], "lamp: 0, its default: nobody holds it; its device: settled")
+        over = {**held, "since": self.now - 6 * MINUTE}
+        self.assertEqual(self.shown(**over)[1], "  it took on last, at T-6min")
+        self.assertEqual(self.shown(**{**over, "mark": "failed"})[1], "  it took on last, at T-6min")
+        for mark in ("settled", "pending"):
+            self.assertEqual(self.shown(mark=mark)[:2], [f"lamp: 0, its default: nobody holds it; its device: {mark}", "  " + third.strip()])
+
+    def test_what_tables_show(self):
+        held = {"mark": "pending", "took": 1, "since": self.now - 2 * MINUTE}
+        self.assertRegex(self.asked("points", "lamp", **held), r"lamp +0 +default +- +- +- +pending, still on until T\+3min\n")
+        self.assertIn("0 failed, 1 not yet answered by their devices, of which 1 is held by its minimum time, until T+3min at the earliest\n",
+                      self.asked("points", "lamp", **held))
+        # All three points are told so, and the other two have no minimum times.
+        told = self.asked("faults", **held)
+        self.assertIn("3 not yet answered, of which 1 is held by its minimum time, until T+3min at the earliest\n", told)
+        self.assertRegex(told, r"ahu1.damper .* pending, last took 0.001 %\n")
+
+    def test_for_programs(self):
+        since = self.now - 2 * MINUTE
+        [told] = json.loads(self.asked("points", "lamp", "--json", mark="pending", took=1, since=since))
+        self.assertEqual((told["took"], told["since"], told["held_until"]), (1, since, since + 300_000))
+        [told] = json.loads(self.asked("points", "lamp", "--json", mark="settled"))
+        self.assertEqual((told["took"], told["since"], told["held_until"]), (None, None, None))
 
     def test_who_sets_it_is_told_to_wait(self):
         looks = []
@@ -844,7 +963,8 @@ class Guarded(Folder):
                 return {"ok": "notices", "first": 1, "next": 1, "list": [ended] if len(looks) > 4 else []}
             if asked["op"] == "read":
                 looks.append(asked)
-                return {"ok": "read", "point": "lamp", "value": 1, "from": "lease", "priority": 8, "txn": 1, "mark": "settled" if len(looks) > 4 else "pending"}
+                held = {"mark": "pending", "took": 0, "since": self.now}
+                return {"ok": "read", "point": "lamp", "value": 1, "from": "lease", "priority": 8, "txn": 1, **({"mark": "settled"} if len(looks) > 4 else held)}
             if asked["op"] == "status":
                 return {"ok": "status", "txn": 1, "owner": "bossctl", "stage": "run", "live": 1, "pending": 0}
             if asked["op"] == "array" and len(looks) > 1:
@@ -857,7 +977,8 @@ class Guarded(Folder):
         self.assertEqual((status, aside), (0, ""))
         told = [line.partition("  ")[2] for line in out.splitlines()]
         self.assertEqual((told[1], told[3]), ("in force: 1, by a lease of bossctl at priority 8", "its device took the value"))
-        self.assertRegex(told[2], "^its device is not written yet, and still off until [-0-9: ]+ at the latest, by its minimum time$")
+        self.assertEqual(told[2], f"its device is not written yet: still off since {_show.moment(self.now)}, until {_show.moment(self.now + 90_000)} at the "
+                         "earliest, by its minimum time")
 
     def test_a_clock_that_is_away(self):
         def aside_of(ahead):
@@ -879,19 +1000,21 @@ class Guarded(Folder):
         self.assertIn(" 59m", aside_of(-59 * MINUTE - 30_000))
         self.assertIn(" behind this machine's", aside_of(-59 * MINUTE - 30_000))
 
-    def test_up_to_when_it_may_wait(self):
+    def test_up_to_when_a_device_is_held(self):
         point = _show.Point("lamp", "field", "binary", 0, 1, 0, min_on=300_000, min_off=90_000)
-        for value, basis, priority, mark, until in [
-            (0, "default", None, "pending", 301_000), (1, "lease", 8, "pending", 91_000), (1, "lease", 6, "pending", 91_000),
+        for value, basis, priority, mark, took, until in [
+            (0, "default", None, "pending", 1, 301_000), (1, "lease", 8, "pending", 0, 91_000), (1, "lease", 6, "pending", 0, 91_000),
             # Leases at 1 to 5 go at once, and their reversions do not.
-            (1, "lease", 5, "pending", None), (1, "pending", 5, "pending", 91_000), (0, "default", None, "settled", None),
-            (0, "default", None, "failed", None),
+            (1, "lease", 5, "pending", 0, None), (1, "pending", 5, "pending", 0, 91_000), (0, "default", None, "settled", None, None),
+            (0, "default", None, "failed", 1, None), (0, "default", None, "pending", None, None),
         ]:
             with self.subTest(value=value, basis=basis, priority=priority, mark=mark):
-                reading = bossd.Reading("lamp", value, basis, mark, priority)
-                self.assertEqual(_live.View(point, reading, bossd.Slots("lamp", 0, {}), {}).may_wait_until(1_000), until)
-        free = _live.View(point._replace(min_on=0), bossd.Reading("lamp", 0, "default", "pending"), bossd.Slots("lamp", 0, {}), {})
-        self.assertIsNone(free.may_wait_until(1_000))
+                reading = bossd.Reading("lamp", value, basis, mark, priority, took=took, since=None if took is None else 1_000)
+                view = _live.View(point, reading, bossd.Slots("lamp", 0, {}), {})
+                self.assertEqual(view.held_until(2_000), until)
+                self.assertIsNone(view.held_until(301_000))
+        waiting = bossd.Reading("lamp", 0, "default", "pending", took=1, since=1_000)
+        self.assertIsNone(_live.View(point._replace(min_on=0), waiting, bossd.Slots("lamp", 0, {}), {}).held_until(2_000))
 
     def test_the_digest_has_the_times(self):
         digests = {_show.read_catalogue(self.file("plant.toml", text)).digest for text in

@@ -129,7 +129,7 @@ class Testing(unittest.TestCase):
         with socket.create_connection(self.server.address.split(":")) as link, link.makefile("rwb", buffering=0) as lines:
             for line, answer in [
                 (b'{"op":"tick"}', {"error": "unknown-op"}), (b'{"op":"gone"}', {"error": "unknown-op"}), (b"no line", {"error": "malformed"}),
-                (b"{}", {"error": "malformed"}), (b'{"op":"watch","process":"a"}', {"error": "unknown-op"}), (b"\xff{}", {"error": "malformed"}),
+                (b"{}", {"error": "malformed", "key": "op"}), (b'{"op":"watch","process":"a"}', {"error": "unknown-op"}), (b"\xff{}", {"error": "malformed"}),
                 # Whose it is and when is not for the line to say.
                 (b' {"op":"attach","on":7,"at":5,"process":"a"} ', {"ok": "attached", "process": "a", "next": 1}),
                 (b'\n{"op":"submit","at":5,"writes":[{"point":"lamp","value":1,"lease":1000}]}',

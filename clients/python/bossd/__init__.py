@@ -15,7 +15,8 @@ time is milliseconds; `milliseconds` converts. A priority is 1 to 16 but not 6; 
 
 Errors. A request that is refused raises a `Refused`: one class for each refusal, whose fields are attributes. One that is no request
 at all is not sent, and raises a `Malformed` that names the key. A request for which no answer came raises `Unanswered`, after
-`patience` seconds of connecting anew and asking again. `submit`, `renew` and `cancel` carry numbers, so asking again makes them once.
+`patience` seconds of connecting anew and asking again, or `Busy`, which is one too, where all the server's workers had a connection.
+`submit`, `renew` and `cancel` carry numbers, so asking again makes them once.
 A process that the server has lost its connection to has lost its live leases; the answer to a request that was asked again tells what
 was done at first, and `status` tells what still stands. A write that the server's access rules do not let the process make raises
 `Denied`, and is not asked again. An address that is none raises ValueError, and one whose host does not exist `UnknownHost`.
@@ -23,7 +24,7 @@ was done at first, and `status` tells what still stands. A write that the server
 
 from ._client import Client, Held, Watch, connect, connected, tls_context, watch
 from ._protocol import (
-    LONGEST_LINE, PARTING, PAUSE, PULSE, REFUSALS, SILENCE, Accepted, Already, Answer, BadLease, BadPriority, BadReversion, Denied,
+    LONGEST_LINE, PARTING, PAUSE, PULSE, REFUSALS, SILENCE, Accepted, Already, Answer, BadLease, BadPriority, BadReversion, Busy, Denied,
     Ended, Malformed, NoMemory, NotAttached, Notice, Notices, NotInTransaction, NotYours, OutOfRange, Over, Point, Points, Reading,
     Refused, Request, SamePoint, Slot, Slots, Spent, Stale, Status, Stopped, Taken, TooLong, TooManyProcesses, Unanswered, UnknownHost,
     UnknownOp, UnknownPoint, UnknownTransaction, Version, answer_of, check, line_of, milliseconds, notice_of, notices_of, point_of,
@@ -33,8 +34,8 @@ from ._protocol import (
 __version__ = "0.3.0"
 
 __all__ = [
-    "Accepted", "Already", "Answer", "BadLease", "BadPriority", "BadReversion", "Client", "Denied", "Ended", "Held", "LONGEST_LINE",
-    "Malformed", "NoMemory", "NotAttached", "NotInTransaction", "NotYours", "Notice", "Notices", "OutOfRange", "Over", "PARTING",
+    "Accepted", "Already", "Answer", "BadLease", "BadPriority", "BadReversion", "Busy", "Client", "Denied", "Ended", "Held",
+    "LONGEST_LINE", "Malformed", "NoMemory", "NotAttached", "NotInTransaction", "NotYours", "Notice", "Notices", "OutOfRange", "Over", "PARTING",
     "PAUSE", "PULSE", "Point", "Points", "REFUSALS", "Reading", "Refused", "Request", "SILENCE", "SamePoint", "Slot", "Slots", "Spent",
     "Stale", "Status", "Stopped", "Taken", "TooLong", "TooManyProcesses", "Unanswered", "UnknownHost", "UnknownOp", "UnknownPoint",
     "UnknownTransaction", "Version", "Watch", "answer_of", "check", "connect", "connected", "line_of", "milliseconds", "notice_of",

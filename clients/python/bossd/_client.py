@@ -6,16 +6,32 @@ import ssl
 import threading
 import time
 from types import TracebackType
-from typing import Any, BinaryIO, Iterable, Iterator, List, Mapping, Optional, Type, TypeVar, Union
+from typing import Any, Callable, Iterable, Iterator, List, Mapping, Optional, Type, TypeVar, Union
 
 from ._protocol import (
-    PARTING, Accepted, Answer, Gathering, Notice, Notices, Over, Points, Reading, Refused, Request, Slots, Status, UnknownTransaction,
-    Version, host_and_port, line_of, no_such_host, notices_from, notices_of, prepare, reading_of, renewal, slots_of, status_of, submission,
-    version_of, windows,
+    PARTING, Accepted, Answer, Notice, Notices, Points, Reading, Refused, Request, Slots, Status, Version, host_and_port, no_such_host,
+    prepare,
 )
-from ._session import Ask, Clock, Connect, Drop, Hear, Keeping, Pause, Say, Session, Step, Steps, Tell, Wait, Watching, lines_of, run
+from ._session import (
+    PIECE, Ask, Connect, Course, Drop, Keeping, Machine, Pause, Receive, Send, Session, Speaking, Step, Steps, Wait, Watching, lines_of,
+)
 
 T = TypeVar("T")
+# The moment, in seconds.
+Clock = Callable[[], float]
+
+
+def run(machine: Machine, steps: Steps[T], do: Callable[[Step], Any], clock: Clock = time.monotonic) -> T:
+    """What comes of these steps of a machine, each done by `do`."""
+    course = Course(machine, steps, clock())
+    while course.step is not None:
+        try:
+            came = do(course.step)
+        except BaseException as error:
+            course.failed(error, clock())
+        else:
+            course.came(came, clock())
+    return course.result
 
 
 def tls_context(authority: str, certificate: Optional[str] = None, key: Optional[str] = None) -> ssl.SSLContext:
@@ -61,68 +77,63 @@ def connect(address: str, process: Optional[str] = None, patience: float = 60.0,
     return Client(address, process, patience, at_once=at_once, tls=tls)
 
 
-class Connection:
-    """A socket, and the lines that come of it."""
+class Connection(Speaking):
+    """Does the steps of who speaks over a connection, with a socket."""
 
-    def __init__(self, tls: Optional[ssl.SSLContext]) -> None:
+    def _hold_with(self, tls: Optional[ssl.SSLContext]) -> None:
         self._tls = tls
         self._link: Optional[socket.socket] = None
-        self._lines: Optional[BinaryIO] = None
 
-    def _connect(self, address: str, seconds: float) -> None:
-        self._link = connected(address, seconds, self._tls)
-        self._lines = self._link.makefile("rb")
+    def _do(self, step: Step) -> Any:
+        if isinstance(step, Connect):
+            self._link = connected(self.address, step.seconds, self._tls)
+        elif isinstance(step, Send):
+            self._ready(step.seconds).sendall(step.data)
+        elif isinstance(step, Receive):
+            return self._receive(step.seconds)
+        elif isinstance(step, Drop):
+            self._drop()
+        else:
+            assert isinstance(step, Pause)
+            self._pause(step.seconds)
 
-    def _tell(self, lines: List[bytes], seconds: float) -> List[bytes]:
-        link, source = self._link, self._lines
-        assert link is not None and source is not None
-        answers: List[bytes] = []
-        parts = windows(lines)
-        link.settimeout(seconds)
-        link.sendall(b"".join(parts[0]))
-        for part, following in zip(parts, parts[1:] + [[]]):
-            link.sendall(b"".join(following))
-            answers += [whole_line(source) for _ in part]
-        return answers
-
-    def _hear(self, seconds: float) -> bytes:
-        assert self._link is not None and self._lines is not None
+    def _ready(self, seconds: float) -> socket.socket:
+        assert self._link is not None
         self._link.settimeout(seconds)
-        try:
-            return self._lines.readline()
-        except socket.timeout:
-            return b""
+        return self._link
 
-    def _disconnect(self) -> None:
-        if self._lines is not None:
-            self._lines.close()
+    def _receive(self, seconds: float) -> Optional[bytes]:
+        try:
+            return self._ready(seconds).recv(PIECE)
+        except socket.timeout:
+            return None
+
+    def _pause(self, seconds: float) -> None:
+        time.sleep(seconds)
+
+    def _drop(self) -> None:
         if self._link is not None:
             self._link.close()
-        self._link = self._lines = None
-
-
-def whole_line(source: BinaryIO) -> bytes:
-    line = source.readline()
-    if not line.endswith(b"\n"):
-        raise ConnectionError("the connection ended before the answer")
-    return line
+        self._link = None
+        self._forget()
 
 
 class Client(Session, Connection):
     """A connection for one control process, or, without one, for questions alone. It may be used by several threads.
 
     `address` is "host:port". `patience` is for how many seconds a request is asked again, over new connections, until it is answered;
-    a server whose workers are all busy answers nothing until one is free, so it should be long. With `at_once` a server that nobody has
-    started is not waited for. With `tls`, as `tls_context` makes one, the connection has TLS in it, for what stands before the server
-    then; a host whose certificate is not trusted at first is not asked again. While a connection is gone the server takes the process for lost, as of its last request; when it was the
+    a server whose workers are all busy answers nothing until one is free, or closes the connection after ten seconds, so it should be
+    long: Busy is raised where it was over before. With `at_once` a server that nobody has started is not waited for. With `tls`, as
+    `tls_context` makes one, the connection has TLS in it, for what stands before the server then; a host whose certificate is not trusted
+    at first is not asked again. While a connection is gone the server takes the process for lost, as of its last request; when it was the
     server that was gone, leases are as they were."""
 
     def __init__(self, address: str, process: Optional[str] = None, patience: float = 60.0, *, at_once: bool = False,
                  tls: Optional[ssl.SSLContext] = None) -> None:
         """Connects, and attaches as the process if it is given. ValueError for an address that is none, UnknownHost, Unanswered; or
         as `attach`."""
-        Session.__init__(self, address, patience, at_once)
-        Connection.__init__(self, tls)
+        super().__init__(address, patience, at_once)
+        self._hold_with(tls)
         self._lock = threading.RLock()
         try:
             self._run(self._opening(process))
@@ -160,21 +171,18 @@ class Client(Session, Connection):
         policy "abort" a device that refuses a value ends all leases of the transaction, under "keep" it brings a notice alone.
         Malformed, UnknownPoint, NotAttached, Denied, SamePoint, BadPriority, OutOfRange, BadLease, BadReversion, Spent, NoMemory, Stale,
         Unanswered."""
-        answer = self._run(self._making(submission(writes, policy)))
-        return Accepted(answer["txn"], answer["until"])
+        return self._run(self._submitting(writes, policy))
 
     def renew(self, txn: int, length: int, points: Iterable[str] = ()) -> int:
         """Keeps leases of a transaction for at least `length` more milliseconds: those on these points, or all. Gives the first moment
         at which one of those now ends. BadLease, UnknownPoint, NotAttached, UnknownTransaction, NotYours, NotInTransaction, Ended,
         Stale, Malformed, Unanswered."""
-        until: int = self._run(self._making(renewal(txn, length, points)))["until"]
-        return until
+        return self._run(self._renewing(txn, length, points))
 
     def cancel(self, txn: int) -> int:
         """Ends the live leases of a transaction; their reversions begin. Gives the moment. NotAttached, UnknownTransaction, NotYours,
         Over, Stale, Malformed, Unanswered."""
-        at: int = self._run(self._making({"op": "cancel", "txn": txn}))["at"]
-        return at
+        return self._run(self._cancelling(txn))
 
     def hold(self, writes: Iterable[Mapping[str, Any]], policy: str = "abort") -> "Held":
         """Submits, and keeps the leases alive until they are released, the client is closed, or the program ends: gives a Held. Errors
@@ -183,36 +191,32 @@ class Client(Session, Connection):
 
     def read(self, point: str) -> Reading:
         """The Reading of a point. UnknownPoint, Malformed, Unanswered."""
-        return reading_of(self.ask({"op": "read", "point": point}))
+        return self._run(self._reading(point))
 
     def array(self, point: str) -> Slots:
         """The Slots of a point. UnknownPoint, Malformed, Unanswered."""
-        return slots_of(self.ask({"op": "array", "point": point}))
+        return self._run(self._reading_slots(point))
 
     def status(self, txn: int) -> Status:
         """The Status of a transaction, of whatever process. UnknownTransaction, Malformed, Unanswered."""
-        return status_of(self.ask({"op": "status", "txn": txn}))
+        return self._run(self._reading_status(txn))
 
     def notices(self, process: Optional[str] = None, first: int = 1, most: int = 16) -> Notices:
         """The Notices of a process, by default the client's own, from the number `first` on, and at most `most` of them, 1 to 64.
         Malformed, NotAttached, NoMemory, Unanswered."""
-        return notices_of(self.ask(notices_from(process, first, most)))
+        return self._run(self._reading_notices(process, first, most))
 
     def points(self) -> Points:
         """The Points of the server's catalogue, all of them. UnknownOp where the server is older than these questions, Unanswered."""
-        gathering = Gathering()
-        while not gathering.is_done_with(self.ask(gathering.request())):
-            pass
-        return gathering.gathered()
+        return self._run(self._reading_points())
 
     def version(self) -> Version:
         """The server's Version. UnknownOp where it is older than this question, Unanswered."""
-        return version_of(self.ask({"op": "version"}))
+        return self._run(self._reading_version())
 
     def ask(self, request: Request) -> Answer:
         """Asks a request, as docs/PROTOCOL.md has it, and gives its answer, as dicts. Where the connection is lost it is asked again
         over a new one, attached as before. Refused, Unanswered."""
-        line_of(request)
         return self._run(self._asking(request))
 
     def ask_all(self, requests: Iterable[Request]) -> List[Union[Answer, Refused]]:
@@ -224,17 +228,10 @@ class Client(Session, Connection):
 
     def _run(self, steps: Steps[T]) -> T:
         with self._lock:
-            return run(steps, self._do)
+            return run(self, steps, self._do)
 
-    def _do(self, step: Step) -> Any:
-        if isinstance(step, Connect):
-            return self._connect(self.address, step.seconds)
-        if isinstance(step, Tell):
-            return self._tell(step.lines, step.seconds)
-        if isinstance(step, Drop):
-            return self._drop()
-        assert isinstance(step, Pause)
-        return time.sleep(step.seconds)
+    def _late(self) -> OSError:
+        return socket.timeout("timed out")
 
     def _await_end(self, link: socket.socket) -> None:
         """Waits until the server has closed the connection, but not for long: no worker may be free."""
@@ -245,14 +242,10 @@ class Client(Session, Connection):
                     # Says the end within TLS, and waits for that of the other side, which comes once the server has closed.
                     link.unwrap()
                 else:
-                    while link.recv(65_536):
+                    while link.recv(PIECE):
                         pass
             finally:
                 self._lock.release()
-
-    def _drop(self) -> None:
-        self._disconnect()
-        self._forget()
 
 
 class Held(Keeping):
@@ -263,10 +256,11 @@ class Held(Keeping):
     Every second the server is asked how it stands: so an end is soon known here, and the server knows when the program was last alive,
     which is when reversions begin if it dies."""
 
+    _over: threading.Event
+
     def __init__(self, client: Client, writes: List[Mapping[str, Any]], policy: str) -> None:
-        super().__init__(client.submit(writes, policy), writes, self._seconds())
+        super().__init__(client.submit(writes, policy), writes, threading.Event())
         self._client = client
-        self._over = threading.Event()
         self._thread = threading.Thread(target=self._keep, name=f"bossd-{self.txn}", daemon=True)
         self._thread.start()
 
@@ -282,19 +276,14 @@ class Held(Keeping):
 
     def release(self) -> None:
         """Renews no more and ends the leases, if they still stand; their reversions begin. Unanswered."""
-        self._over.set()
-        with contextlib.suppress(Over, UnknownTransaction):
-            self._client.cancel(self.txn)
+        self._client._run(self._releasing(self._client))
 
     def _seconds(self) -> Clock:
         """The clock by which it is renewed."""
         return time.monotonic
 
     def _keep(self) -> None:
-        why = run(self._keeping(self._client), self._do)
-        if why is not None and not self._over.is_set():
-            self.ended = why
-            self._over.set()
+        run(self, self._keeping(self._client), self._do, self._seconds())
 
     def _do(self, step: Step) -> Any:
         if isinstance(step, Wait):
@@ -319,8 +308,8 @@ class Watch(Watching, Connection, Iterator[Notice]):
 
     def __init__(self, address: str, process: str, first: int = 1, patience: float = 60.0, *,
                  tls: Optional[ssl.SSLContext] = None) -> None:
-        Watching.__init__(self, address, process, first, patience)
-        Connection.__init__(self, tls)
+        super().__init__(address, process, first, patience)
+        self._hold_with(tls)
         self._end = threading.Event()
 
     def __enter__(self) -> "Watch":
@@ -334,7 +323,7 @@ class Watch(Watching, Connection, Iterator[Notice]):
 
     def __next__(self) -> Notice:
         """The next notice. StopIteration once it is closed; Unanswered, UnknownHost."""
-        notice = run(self._following(), self._do)
+        notice = run(self, self._following(), self._do)
         if notice is None:
             raise StopIteration
         return notice
@@ -348,16 +337,5 @@ class Watch(Watching, Connection, Iterator[Notice]):
             with contextlib.suppress(OSError):
                 shut(link, socket.SHUT_RDWR)
 
-    def _do(self, step: Step) -> Any:
-        if isinstance(step, Connect):
-            return self._connect(self.address, step.seconds)
-        if isinstance(step, Say):
-            assert self._link is not None
-            return self._link.sendall(step.line)
-        if isinstance(step, Hear):
-            return self._hear(step.seconds)
-        if isinstance(step, Drop):
-            self._disconnect()
-            return self._forget()
-        assert isinstance(step, Pause)
-        return self._end.wait(step.seconds)
+    def _pause(self, seconds: float) -> None:
+        self._end.wait(seconds)

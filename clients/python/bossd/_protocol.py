@@ -30,6 +30,8 @@ PULSE = 1.0
 PARTING = 2.0
 # How long a watch may be silent before it is connected anew, in seconds. The server ends one after a minute without a notice.
 SILENCE = 90.0
+# What a connection is told that no worker of the server is free for, before it is closed.
+BUSY = {"error": "busy"}
 # How many bytes of questions are sent before the answers to those before them are read. Twice as many may be under way: the system takes
 # them even while the server reads nothing, so that neither end waits for the other.
 WINDOW = 16_384
@@ -316,6 +318,19 @@ class Unanswered(ConnectionError):
         return type(self), (self.request, self.why)
 
 
+class Busy(Unanswered):
+    """No answer came in time, and all the server's workers had a connection: it closed those that were made for the request, and took
+    nothing of them. Whether the request was made over an earlier connection is not known. Let the server have more workers, or end
+    connections that need not be open."""
+
+
+class TurnedAway(ConnectionError):
+    """The server closed a connection that none of its workers was free for. Nothing was taken of it."""
+
+    def __init__(self) -> None:
+        super().__init__("all workers of the server are busy: give it more, or end connections that need not be open")
+
+
 class UnknownHost(ConnectionError):
     """There is no host of the address's name."""
 
@@ -329,7 +344,9 @@ class Accepted(NamedTuple):
 class Reading(NamedTuple):
     """The value that a point is to have, and what it rests on: `basis` is "lease", "pending" (a reversion under way) or "default",
     and for the first two there are `priority` and `txn`. `mark` says how far the device has come: "settled", "pending", "failed"; it
-    was found with another value than the one that it had taken `differed` times since the server was started."""
+    was found with another value than the one that it had taken `differed` times since the server was started. `took` is the value that it
+    took last, where that is another one than `value`, and `since` the moment from which on it has been told to have it; else both are None,
+    also where it took nothing yet since the server was started."""
     point: str
     value: int
     basis: str
@@ -337,6 +354,8 @@ class Reading(NamedTuple):
     priority: Optional[int] = None
     txn: Optional[int] = None
     differed: int = 0
+    took: Optional[int] = None
+    since: Optional[int] = None
 
 
 class Slot(NamedTuple):
@@ -648,6 +667,15 @@ def answer_of(line: Union[bytes, str], request: Optional[Mapping[str, Any]] = No
     return answer
 
 
+def heard(line: bytes) -> bytes:
+    """The same line, where it answers a request. TurnedAway; ConnectionError where it has no end."""
+    if not line.endswith(b"\n"):
+        raise ConnectionError("the connection ended before the answer")
+    if len(line) < 32 and json.loads(line) == BUSY:
+        raise TurnedAway()
+    return line
+
+
 def windows(lines: Sequence[bytes]) -> List[List[bytes]]:
     """The lines in parts of at most WINDOW bytes, or of one line that is longer."""
     parts: List[List[bytes]] = []
@@ -683,7 +711,7 @@ def notices_from(process: Optional[str], first: int, most: int) -> Request:
 def reading_of(answer: Answer) -> Reading:
     """What the answer to a `read` says."""
     return Reading(answer["point"], answer["value"], answer["from"], answer["mark"], answer.get("priority"), answer.get("txn"),
-                   answer.get("differed", 0))
+                   answer.get("differed", 0), answer.get("took"), answer.get("since"))
 
 
 def slots_of(answer: Answer) -> Slots:

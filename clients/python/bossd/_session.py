@@ -1,22 +1,31 @@
 """What a client knows and does between its program and its connection: one machine under `bossd` and under `bossd.aio`.
 
-Nothing here opens a connection, waits, or reads a clock but the one that it is given. What is to be done is a generator: it yields a Step,
-and is sent what came of that, or has the error thrown in that came of it. `_client` does the steps with threads, `aio` with asyncio."""
+Nothing here opens a connection, sends, waits, or reads a clock. What is to be done is a generator: it yields a Step, and a Course gives it
+what came of that, or the error, and the moment. `_client` does the steps with threads, `aio` with asyncio."""
 
 import json
 import logging
 import ssl
-import time
-from typing import Any, Callable, Dict, Generator, Iterable, List, Mapping, NamedTuple, Optional, Tuple, TypeVar, Union
+from collections import deque
+from typing import (
+    Any, Callable, Deque, Dict, Generator, Generic, Iterable, List, Mapping, NamedTuple, NoReturn, Optional, Protocol, Sequence, Tuple,
+    TypeVar, Union,
+)
 
 from ._protocol import (
-    PARTING, PAUSE, PULSE, SILENCE, Accepted, Answer, Denied, NoMemory, Notice, Refused, Request, Stale, Stopped, Taken, Unanswered,
-    UnknownHost, UnknownTransaction, answer_of, host_and_port, line_of, notice_of, refusal_of, renewal, status_of,
+    LONGEST_LINE, PARTING, PAUSE, PULSE, SILENCE, Accepted, Answer, Busy, Denied, Gathering, NoMemory, Notice, Notices, Over, Points,
+    Reading, Refused, Request, Slots, Stale, Status, Stopped, Taken, TurnedAway, Unanswered, UnknownHost, UnknownTransaction, Version,
+    answer_of, heard, host_and_port, line_of, notice_of, notices_from, notices_of, reading_of, refusal_of, renewal, slots_of, status_of,
+    submission, version_of, windows,
 )
 
 T = TypeVar("T")
 # The longest time that a connection is made to wait, in seconds; patience may be endless.
 LONGEST_WAIT = 86_400.0
+# The longest line that is taken from a server, in bytes: an answer is longer than a request, of 64 notices, or of sixteen slots.
+LONGEST_ANSWER = 4 * LONGEST_LINE
+# How many bytes are taken of a connection at once.
+PIECE = 65_536
 # What the client tells of its connections: as a warning that one was lost and that it is back, as information what is asked again.
 LOG = logging.getLogger("bossd")
 
@@ -30,19 +39,14 @@ class Drop(NamedTuple):
     """Have no connection."""
 
 
-class Tell(NamedTuple):
-    """Send these lines, and give as many that are answered, whole, in so many seconds at most. OSError."""
-    lines: List[bytes]
+class Send(NamedTuple):
+    """Send these bytes, all of them, in so many seconds at most. OSError."""
+    data: bytes
     seconds: float
 
 
-class Say(NamedTuple):
-    """Send this line. OSError."""
-    line: bytes
-
-
-class Hear(NamedTuple):
-    """Give the next line; one without its end where the connection ended, or was silent for so many seconds. OSError."""
+class Receive(NamedTuple):
+    """Give bytes that came; none where the connection ended, None where nothing came in so many seconds. OSError."""
     seconds: float
 
 
@@ -61,42 +65,112 @@ class Ask(NamedTuple):
     request: Request
 
 
-Step = Union[Connect, Drop, Tell, Say, Hear, Pause, Wait, Ask]
+Step = Union[Connect, Drop, Send, Receive, Pause, Wait, Ask]
 Steps = Generator[Step, Any, T]
-Clock = Callable[[], float]
 
 
-def run(steps: Steps[T], do: Callable[[Step], Any]) -> T:
-    """What comes of these steps, each done by `do`."""
-    try:
-        step = next(steps)
-        while True:
-            try:
-                came = do(step)
-            except BaseException as error:
-                step = steps.throw(error)
-            else:
-                step = steps.send(came)
-    except StopIteration as end:
-        result: T = end.value
-        return result
+class Machine:
+    """What takes steps. It knows the time by the moment that it was given last, in seconds of a clock that is never set back."""
+
+    _now = 0.0
 
 
-class Session:
+class Course(Generic[T]):
+    """The steps of a machine, under way. `step` is what is to be done now, and None once all is done, with this `result`: who does it says
+    what came of it, and at which moment. What the steps raise comes out of that."""
+
+    result: T
+
+    def __init__(self, machine: Machine, steps: Steps[T], now: float) -> None:
+        self.step: Optional[Step] = None
+        self._machine, self._steps = machine, steps
+        self.came(None, now)
+
+    def came(self, what: Any, now: float) -> None:
+        """This came of the step."""
+        self._go_on(lambda: self._steps.send(what), now)
+
+    def failed(self, error: BaseException, now: float) -> None:
+        """The step was not done, for this error."""
+        self._go_on(lambda: self._steps.throw(error), now)
+
+    def _go_on(self, following: Callable[[], Step], now: float) -> None:
+        self._machine._now = now
+        try:
+            self.step = following()
+        except StopIteration as end:
+            self.step, self.result = None, end.value
+
+
+class Speaking(Machine):
+    """One side of a connection: what came of it, and what is known of it."""
+
+    def __init__(self, address: str, patience: float) -> None:
+        host_and_port(address)
+        self.address, self.patience = address, patience
+        self._is_connected, self._closed, self._met, self._is_away = False, False, False, False
+        # Set where a connection was turned away and nothing was answered since.
+        self._busy: Optional[TurnedAway] = None
+        # The lines that came and were not taken yet, and the beginning of the next one.
+        self._lines: Deque[bytes] = deque()
+        self._rest = b""
+
+    def _forget(self) -> None:
+        """What holds when there is no connection."""
+        self._is_connected = False
+        self._lines.clear()
+        self._rest = b""
+
+    def _line(self, deadline: float) -> Steps[Optional[bytes]]:
+        """The next line, with its end; an empty one where the connection ended before, None where it did not come until the deadline.
+        TurnedAway, or another OSError."""
+        while not self._lines:
+            data: Optional[bytes] = yield Receive(self._seconds_to(deadline))
+            if not data:
+                return data
+            self._take(data)
+            if not self._lines and self._now > deadline:
+                return None
+        line = heard(self._lines.popleft())
+        self._busy = None
+        return line
+
+    def _take(self, data: bytes) -> None:
+        *lines, rest = (self._rest + data).split(b"\n")
+        if max(map(len, (*lines, rest))) > LONGEST_ANSWER:
+            raise ConnectionError(f"a line of more than {LONGEST_ANSWER} bytes came")
+        self._lines += [line + b"\n" for line in lines]
+        self._rest = rest
+
+    def _seconds_to(self, deadline: float) -> float:
+        return max(0.001, min(deadline - self._now, LONGEST_WAIT))
+
+    def _lost(self, why: Exception) -> None:
+        """A connection was lost, or not had."""
+        if isinstance(why, TurnedAway):
+            self._busy = why
+        elif isinstance(why, ConnectionRefusedError):
+            self._busy = None
+
+    def _give_up(self, request: Request, why: Exception) -> NoReturn:
+        """Raises what is told where no answer came in time: Busy, or another Unanswered."""
+        if self._busy is not None:
+            raise Busy(request, str(self._busy)) from self._busy
+        raise Unanswered(request, str(why)) from why
+
+
+class Session(Speaking):
     """A client's side of its connections: the process that it speaks for, the number of its next request, and for how long it asks
     again."""
 
-    def __init__(self, address: str, patience: float, at_once: bool = False, clock: Clock = time.monotonic) -> None:
-        host_and_port(address)
-        self.address, self.patience = address, patience
+    def __init__(self, address: str, patience: float, at_once: bool = False) -> None:
+        super().__init__(address, patience)
         # The number of the process's next notice when it attached last.
         self.next_notice: Optional[int] = None
         # How often it attached: once more after each connection that was lost.
         self.attachments = 0
         self._process: Optional[str] = None
-        self._is_attached, self._is_connected, self._number = False, False, 1
-        self._closed, self._met, self._is_away = False, False, False
-        self._at_once, self._clock = at_once, clock
+        self._is_attached, self._number, self._at_once = False, 1, at_once
 
     @property
     def process(self) -> Optional[str]:
@@ -108,9 +182,18 @@ class Session:
         """Whether a connection stands at the moment. It may wait for a worker of the server."""
         return self._is_connected
 
+    @property
+    def is_busy(self) -> bool:
+        """Whether the server closed a connection of this client, since none of its workers was free, and has answered nothing since."""
+        return self._busy is not None
+
     def _forget(self) -> None:
-        """What holds when there is no connection."""
-        self._is_attached = self._is_connected = False
+        super()._forget()
+        self._is_attached = False
+
+    def _late(self) -> OSError:
+        """What is raised where no answer came in time."""
+        return ConnectionError("no answer came in time")
 
     # -- what is asked
 
@@ -129,12 +212,42 @@ class Session:
         return number
 
     def _asking(self, request: Request) -> Steps[Answer]:
-        answer = yield from self._patiently(request, lambda deadline: self._exchanging(request, deadline))
-        return answer
+        """Malformed at once, before any step."""
+        line = line_of(request)
+        return self._patiently(request, lambda deadline: self._exchanging(line, request, deadline))
 
     def _asking_all(self, lines: List[bytes], requests: List[Request]) -> Steps[List[Union[Answer, Refused]]]:
-        answers = yield from self._patiently({"op": "several"}, lambda deadline: self._exchanging_all(lines, requests, deadline))
-        return answers
+        return self._patiently({"op": "several"}, lambda deadline: self._exchanging_all(lines, requests, deadline))
+
+    def _submitting(self, writes: Iterable[Mapping[str, Any]], policy: str) -> Steps[Accepted]:
+        return told(self._making(submission(writes, policy)), lambda answer: Accepted(answer["txn"], answer["until"]))
+
+    def _renewing(self, txn: int, length: int, points: Iterable[str]) -> Steps[int]:
+        return told(self._making(renewal(txn, length, points)), lambda answer: int(answer["until"]))
+
+    def _cancelling(self, txn: int) -> Steps[int]:
+        return told(self._making({"op": "cancel", "txn": txn}), lambda answer: int(answer["at"]))
+
+    def _reading(self, point: str) -> Steps[Reading]:
+        return told(self._asking({"op": "read", "point": point}), reading_of)
+
+    def _reading_slots(self, point: str) -> Steps[Slots]:
+        return told(self._asking({"op": "array", "point": point}), slots_of)
+
+    def _reading_status(self, txn: int) -> Steps[Status]:
+        return told(self._asking({"op": "status", "txn": txn}), status_of)
+
+    def _reading_notices(self, process: Optional[str], first: int, most: int) -> Steps[Notices]:
+        return told(self._asking(notices_from(process, first, most)), notices_of)
+
+    def _reading_version(self) -> Steps[Version]:
+        return told(self._asking({"op": "version"}), version_of)
+
+    def _reading_points(self) -> Steps[Points]:
+        gathering = Gathering()
+        while not gathering.is_done_with((yield from self._asking(gathering.request()))):
+            pass
+        return gathering.gathered()
 
     def _making(self, request: Request) -> Steps[Answer]:
         """Asks a request under the next number. A number that was refused is used again; one that was not answered is not, and neither
@@ -144,8 +257,7 @@ class Session:
         line_of(numbered)
         self._number += 1
         try:
-            answer = yield from self._asking(numbered)
-            return answer
+            return (yield from self._asking(numbered))
         except Stale as stale:
             self._number = stale.kept + 1
             raise
@@ -171,10 +283,10 @@ class Session:
     def _patiently(self, request: Request, attempt: Callable[[float], Steps[T]]) -> Steps[T]:
         """What an attempt gives, tried again for as long as patience lasts where the connection is lost or the disk stopped, and for a
         moment where the process is still its last connection's."""
-        began = self._clock()
+        began = self._now
         deadline = began + self.patience
         lost = self._process is not None and not self._is_attached
-        why: Optional[Exception] = None
+        why: Exception
         while True:
             try:
                 answer = yield from attempt(deadline)
@@ -182,18 +294,19 @@ class Session:
                 return answer
             except Taken as error:
                 why = error
-                if not lost and self._clock() + PAUSE > began + PARTING:
+                if not lost and self._now + PAUSE > began + PARTING:
                     raise
             except (OSError, Stopped) as error:
                 yield Drop()
                 if isinstance(error, UnknownHost) and not self._met:
                     raise
                 lost, why = True, error
+                self._lost(error)
                 if not self._met and (is_untrusted(error) or self._at_once and isinstance(error, ConnectionRefusedError)):
-                    raise Unanswered(request, str(why)) from why
+                    self._give_up(request, why)
                 self._tell_lost(error)
-            if lost and (self._closed or self._clock() + PAUSE > deadline):
-                raise Unanswered(request, str(why)) from why
+            if lost and (self._closed or self._now + PAUSE > deadline):
+                self._give_up(request, why)
             yield Pause(PAUSE)
 
     def _tell_lost(self, why: Exception) -> None:
@@ -203,6 +316,8 @@ class Session:
         what = f"the connection to {self.address} was lost ({why})" if self._met else f"{self.address} is not reached ({why})"
         if isinstance(why, ConnectionRefusedError):
             what = f"nobody listens at {self.address}"
+        elif isinstance(why, TurnedAway):
+            what = f"all workers of {self.address} are busy"
         LOG.warning("%s; trying%s", what, "" if self.patience > LONGEST_WAIT else f" for {self.patience:g} seconds")
 
     def _tell_back(self, request: Request) -> None:
@@ -237,9 +352,9 @@ class Session:
             yield from self._attaching(self._process, deadline)
         yield from self._connecting(deadline)
 
-    def _exchanging(self, request: Request, deadline: float) -> Steps[Answer]:
+    def _exchanging(self, line: bytes, request: Request, deadline: float) -> Steps[Answer]:
         yield from self._being_attached(deadline)
-        lines = yield from self._telling([line_of(request)], deadline)
+        lines = yield from self._telling([line], deadline)
         return answer_of(lines[0], request)
 
     def _exchanging_all(self, lines: List[bytes], requests: List[Request], deadline: float) -> Steps[List[Union[Answer, Refused]]]:
@@ -252,14 +367,38 @@ class Session:
         """Sends lines and gives as many answers. Whatever comes between, the connection goes: it could not be told whose answer is
         next."""
         try:
-            answers: List[bytes] = yield Tell(lines, self._seconds_to(deadline))
-            return answers
+            return (yield from self._answers(windows(lines), deadline))
         except BaseException:
             yield Drop()
             raise
 
-    def _seconds_to(self, deadline: float) -> float:
-        return max(0.001, min(deadline - self._clock(), LONGEST_WAIT))
+    def _answers(self, parts: List[List[bytes]], deadline: float) -> Steps[List[bytes]]:
+        """Sends lines, each part before the answers to the one before it are read, and gives their answers."""
+        answers: List[bytes] = []
+        nothing: List[bytes] = []
+        before = nothing
+        for part in parts + [nothing]:
+            if part:
+                yield Send(b"".join(part), self._seconds_to(deadline))
+            answers += yield from self._answers_to(before, deadline)
+            before = part
+        return answers
+
+    def _answers_to(self, part: List[bytes], deadline: float) -> Steps[List[bytes]]:
+        answers: List[bytes] = []
+        while len(answers) < len(part):
+            line = yield from self._line(deadline)
+            if line is None:
+                raise self._late()
+            if not line:
+                raise ConnectionError("the connection ended before the answer")
+            answers.append(line)
+        return answers
+
+
+def told(steps: Steps[Answer], says: Callable[[Answer], T]) -> Steps[T]:
+    """What the answer says that comes of these steps."""
+    return says((yield from steps))
 
 
 def is_untrusted(error: Exception) -> bool:
@@ -273,25 +412,51 @@ def lines_of(requests: Iterable[Request]) -> Tuple[List[bytes], List[Request]]:
     return [line_of(request) for request in asked], asked
 
 
-class Keeping:
+class Flag(Protocol):
+    """What threads or tasks wait for."""
+
+    def set(self) -> None: ...
+
+    def is_set(self) -> bool: ...
+
+
+class Keeping(Machine):
     """A transaction whose leases are renewed every third part of the shortest, for this length. `txn` is its number, `until` the moment up
     to which it was held at least when that was last told. `ended` is why it is held no longer, or None."""
 
-    def __init__(self, accepted: Accepted, writes: List[Mapping[str, Any]], clock: Clock = time.monotonic) -> None:
+    def __init__(self, accepted: Accepted, writes: Sequence[Mapping[str, Any]], over: Flag) -> None:
         self.txn, self.until = accepted.txn, accepted.until
         self.ended: Optional[Exception] = None
-        self._count, self._length, self._clock = len(writes), min(int(one["lease"]) for one in writes), clock
+        self._count, self._length, self._over = len(writes), min(int(one["lease"]) for one in writes), over
 
-    def _keeping(self, client: Session) -> Steps[Optional[Exception]]:
-        """Keeps it until it is over; gives why it is held no longer, where it was not ended here."""
+    def _releasing(self, client: Session) -> Steps[None]:
+        """Says at once, before any step, that it is over; they end the leases, if these still stand."""
+        self._over.set()
+        return self._letting_go(client)
+
+    def _letting_go(self, client: Session) -> Steps[None]:
+        try:
+            yield from client._cancelling(self.txn)
+        except (Over, UnknownTransaction):
+            pass
+
+    def _keeping(self, client: Session) -> Steps[None]:
+        """Keeps it until it is over, and says so where it was not ended here."""
+        why = yield from self._pulsing(client)
+        if why is not None and not self._over.is_set():
+            self.ended = why
+            self._over.set()
+
+    def _pulsing(self, client: Session) -> Steps[Optional[Exception]]:
+        """Asks how it stands, and renews, until it is over; gives why it is held no longer, where it was not ended here."""
         third = self._length / 3000
-        due = self._clock() + third
+        due = self._now + third
         while not (yield Wait(min(PULSE, third))):
             try:
-                if self._clock() >= due or status_of((yield Ask({"op": "status", "txn": self.txn}))).live < self._count:
+                if self._now >= due or status_of((yield Ask({"op": "status", "txn": self.txn}))).live < self._count:
                     # A renewal that is made twice does no harm, so it takes no number: these are for what the program asks.
                     self.until = (yield Ask(renewal(self.txn, self._length)))["until"]
-                    due = self._clock() + third
+                    due = self._now + third
             except (Unanswered, NoMemory) as error:
                 if client._closed:
                     return error
@@ -300,21 +465,17 @@ class Keeping:
         return None
 
 
-class Watching:
+class Watching(Speaking):
     """The notices of a process, each once and in order, from the number `first` on. `patience` is for how many seconds it connects
     anew."""
 
-    def __init__(self, address: str, process: str, first: int, patience: float, clock: Clock = time.monotonic) -> None:
-        host_and_port(address)
-        self.address, self.process, self.first, self.patience = address, process, first, patience
+    def __init__(self, address: str, process: str, first: int, patience: float) -> None:
+        super().__init__(address, patience)
+        self.process, self.first = process, first
         line_of(self._request())
-        self._is_connected, self._closed, self._met, self._is_away, self._clock = False, False, False, False, clock
 
     def _request(self) -> Dict[str, Any]:
         return {"op": "watch", "process": self.process, "from": self.first}
-
-    def _forget(self) -> None:
-        self._is_connected = False
 
     def _following(self) -> Steps[Optional[Notice]]:
         """The next notice; None once it is closed. Unanswered, UnknownHost."""
@@ -327,7 +488,7 @@ class Watching:
                 # The server ends a watch of a process that was told nothing for a minute, and when it ends itself.
                 lost_since = None
             except OSError as error:
-                lost_since = lost_since or self._clock()
+                lost_since = lost_since or self._now
                 self._judge(error, lost_since)
             yield Drop()
             if not self._closed:
@@ -337,15 +498,21 @@ class Watching:
 
     def _judge(self, error: OSError, lost_since: float) -> None:
         """Raises what is to be told of a connection that was not had, if it was tried for long enough."""
+        self._lost(error)
         if self._closed:
             return
         if isinstance(error, UnknownHost) and not self._met:
             raise error
-        if self._clock() + PAUSE > lost_since + self.patience or (is_untrusted(error) and not self._met):
-            raise Unanswered(self._request(), str(error)) from error
+        if self._now + PAUSE > lost_since + self.patience or (is_untrusted(error) and not self._met):
+            self._give_up(self._request(), error)
         if not self._is_away:
             self._is_away = True
             LOG.warning("the watch of %s at %s is lost (%s); trying on from notice %d", self.process, self.address, error, self.first)
+
+    def _tell_back(self) -> None:
+        if self._is_away:
+            self._is_away = False
+            LOG.warning("the watch of %s at %s goes on", self.process, self.address)
 
     def _hearing(self) -> Steps[Optional[Notice]]:
         """The next notice; None where the connection ended or was silent for too long."""
@@ -355,13 +522,14 @@ class Watching:
             if self._closed:
                 return None
             self._is_connected = True
-            yield Say(line_of(self._request()))
-            if self._is_away:
-                self._is_away = False
-                LOG.warning("the watch of %s at %s goes on", self.process, self.address)
-        line: bytes = yield Hear(SILENCE)
-        if not line.endswith(b"\n"):
+            yield Send(line_of(self._request()), SILENCE)
+            # Who was turned away may only stand in the server's queue again.
+            if self._busy is None:
+                self._tell_back()
+        line = yield from self._line(self._now + SILENCE)
+        if not line:
             return None
         notice = notice_of(answer_of(line, self._request()))
+        self._tell_back()
         self.first = notice.n + 1
         return notice

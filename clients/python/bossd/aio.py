@@ -18,41 +18,38 @@ import asyncio
 import contextlib
 import socket
 import ssl
+import time
 from types import TracebackType
 from typing import (
     Any, AsyncIterator, Callable, Coroutine, Generator, Generic, Iterable, List, Mapping, Optional, Set, Tuple, Type, TypeVar, Union,
 )
 
 from ._protocol import (
-    LONGEST_LINE, PARTING, Accepted, Answer, Gathering, Notice, Notices, Over, Points, Reading, Refused, Request, Slots, Status,
-    UnknownTransaction, Version, acknowledge, host_and_port, line_of, no_such_host, notices_from, notices_of, prepare, reading_of, renewal,
-    slots_of, status_of, submission, version_of, windows,
+    PARTING, Accepted, Answer, Notice, Notices, Points, Reading, Refused, Request, Slots, Status, Version, acknowledge, host_and_port,
+    no_such_host, prepare,
 )
-from ._session import LONGEST_WAIT, Ask, Connect, Drop, Hear, Keeping, Pause, Say, Session, Step, Steps, Tell, Wait, Watching, lines_of
+from ._session import (
+    PIECE, Ask, Connect, Course, Drop, Keeping, Machine, Pause, Receive, Send, Session, Speaking, Step, Steps, Wait, Watching, lines_of,
+)
 
 __all__ = ["Client", "Held", "Watch", "connect", "watch"]
 
 T = TypeVar("T")
 Ends = TypeVar("Ends", bound="Closable")
 Stream = Tuple[asyncio.StreamReader, asyncio.StreamWriter]
-# An answer is longer than a request: 64 notices, or sixteen slots.
-LONGEST_ANSWER = 4 * LONGEST_LINE
 
 
-async def run(steps: Steps[T], do: Callable[[Step], Coroutine[Any, Any, Any]]) -> T:
-    """What comes of these steps, each done by `do`."""
-    try:
-        step = next(steps)
-        while True:
-            try:
-                came = await do(step)
-            except BaseException as error:
-                step = steps.throw(error)
-            else:
-                step = steps.send(came)
-    except StopIteration as end:
-        result: T = end.value
-        return result
+async def run(machine: Machine, steps: Steps[T], do: Callable[[Step], Coroutine[Any, Any, Any]]) -> T:
+    """What comes of these steps of a machine, each done by `do`."""
+    course = Course(machine, steps, time.monotonic())
+    while course.step is not None:
+        try:
+            came = await do(course.step)
+        except BaseException as error:
+            course.failed(error, time.monotonic())
+        else:
+            course.came(came, time.monotonic())
+    return course.result
 
 
 class Closable:
@@ -92,8 +89,7 @@ def connect(address: str, process: Optional[str] = None, patience: float = 60.0,
 async def connected(address: str, seconds: float, tls: Optional[ssl.SSLContext]) -> Stream:
     host, port = host_and_port(address)
     try:
-        opening = asyncio.open_connection(host, port, limit=LONGEST_ANSWER, ssl=tls)
-        stream = await asyncio.wait_for(opening, min(seconds, LONGEST_WAIT))
+        stream = await asyncio.wait_for(asyncio.open_connection(host, port, ssl=tls), seconds)
     except socket.gaierror as error:
         raise no_such_host(address, error) or error from error
     except asyncio.TimeoutError as error:
@@ -102,57 +98,53 @@ async def connected(address: str, seconds: float, tls: Optional[ssl.SSLContext])
     return stream
 
 
-async def whole_line(source: asyncio.StreamReader) -> bytes:
-    line = await source.readline()
-    if not line.endswith(b"\n"):
-        raise ConnectionError("the connection ended before the answer")
-    return line
+class Connection(Speaking):
+    """Does the steps of who speaks over a connection, with a stream."""
 
-
-class Connection:
-    """A stream, and the lines that come of it."""
-
-    def __init__(self, tls: Optional[ssl.SSLContext]) -> None:
+    def _hold_with(self, tls: Optional[ssl.SSLContext]) -> None:
         self._tls = tls
         self._stream: Optional[Stream] = None
 
-    async def _connect(self, address: str, seconds: float) -> None:
-        self._stream = await connected(address, seconds, self._tls)
+    async def _do(self, step: Step) -> Any:
+        if isinstance(step, Connect):
+            self._stream = await connected(self.address, step.seconds, self._tls)
+        elif isinstance(step, Send):
+            await self._send(step.data, step.seconds)
+        elif isinstance(step, Receive):
+            return await self._receive(step.seconds)
+        elif isinstance(step, Drop):
+            self._drop()
+        else:
+            assert isinstance(step, Pause)
+            await asyncio.sleep(step.seconds)
 
-    async def _tell(self, lines: List[bytes], seconds: float) -> List[bytes]:
-        assert self._stream is not None
+    def _open_stream(self) -> Stream:
+        # Another task may have closed it meanwhile.
+        if self._stream is None:
+            raise ConnectionError("the connection was closed")
+        return self._stream
+
+    async def _send(self, data: bytes, seconds: float) -> None:
+        _, sink = self._open_stream()
+        sink.write(data)
         try:
-            return await asyncio.wait_for(self._answers(self._stream, lines), seconds)
+            await asyncio.wait_for(sink.drain(), seconds)
         except asyncio.TimeoutError as error:
             raise ConnectionError("no answer came in time") from error
 
-    async def _answers(self, stream: Stream, lines: List[bytes]) -> List[bytes]:
-        source, sink = stream
-        answers: List[bytes] = []
-        parts = windows(lines)
-        sink.write(b"".join(parts[0]))
-        for part, following in zip(parts, parts[1:] + [[]]):
-            sink.write(b"".join(following))
-            await sink.drain()
-            acknowledge(sink.get_extra_info("socket"))
-            answers += [await whole_line(source) for _ in part]
-        return answers
-
-    def _say(self, line: bytes) -> None:
-        assert self._stream is not None
-        self._stream[1].write(line)
-
-    async def _hear(self, seconds: float) -> bytes:
-        assert self._stream is not None
+    async def _receive(self, seconds: float) -> Optional[bytes]:
+        source, sink = self._open_stream()
+        acknowledge(sink.get_extra_info("socket"))
         try:
-            return await asyncio.wait_for(self._stream[0].readline(), seconds)
+            return await asyncio.wait_for(source.read(PIECE), seconds)
         except asyncio.TimeoutError:
-            return b""
+            return None
 
-    def _disconnect(self) -> None:
+    def _drop(self) -> None:
         if self._stream is not None:
             self._stream[1].close()
         self._stream = None
+        self._forget()
 
 
 class Client(Closable, Session, Connection):
@@ -161,8 +153,8 @@ class Client(Closable, Session, Connection):
     until it is answered."""
 
     def __init__(self, address: str, patience: float = 60.0, *, at_once: bool = False, tls: Optional[ssl.SSLContext] = None) -> None:
-        Session.__init__(self, address, patience, at_once)
-        Connection.__init__(self, tls)
+        super().__init__(address, patience, at_once)
+        self._hold_with(tls)
         self._turn = asyncio.Lock()
         self._under_way: Set["asyncio.Task[Any]"] = set()
 
@@ -189,18 +181,15 @@ class Client(Closable, Session, Connection):
 
     async def submit(self, writes: Iterable[Mapping[str, Any]], policy: str = "abort") -> Accepted:
         """Sets several points, all of them or none, and gives what was Accepted, as `bossd.Client.submit`."""
-        answer = await self._alone(self._making(submission(writes, policy)))
-        return Accepted(answer["txn"], answer["until"])
+        return await self._alone(self._submitting(writes, policy))
 
     async def renew(self, txn: int, length: int, points: Iterable[str] = ()) -> int:
         """Keeps leases of a transaction for at least `length` more milliseconds, as `bossd.Client.renew`."""
-        until: int = (await self._alone(self._making(renewal(txn, length, points))))["until"]
-        return until
+        return await self._alone(self._renewing(txn, length, points))
 
     async def cancel(self, txn: int) -> int:
         """Ends the live leases of a transaction; their reversions begin. As `bossd.Client.cancel`."""
-        at: int = (await self._alone(self._making({"op": "cancel", "txn": txn})))["at"]
-        return at
+        return await self._alone(self._cancelling(txn))
 
     def hold(self, writes: Iterable[Mapping[str, Any]], policy: str = "abort") -> "Opening[Held]":
         """Submits, and keeps the leases alive until they are released, the client is closed, or the program ends. `await` it, which
@@ -209,35 +198,31 @@ class Client(Closable, Session, Connection):
 
     async def read(self, point: str) -> Reading:
         """The Reading of a point. UnknownPoint, Malformed, Unanswered."""
-        return reading_of(await self.ask({"op": "read", "point": point}))
+        return await self._alone(self._reading(point))
 
     async def array(self, point: str) -> Slots:
         """The Slots of a point. UnknownPoint, Malformed, Unanswered."""
-        return slots_of(await self.ask({"op": "array", "point": point}))
+        return await self._alone(self._reading_slots(point))
 
     async def status(self, txn: int) -> Status:
         """The Status of a transaction, of whatever process. UnknownTransaction, Malformed, Unanswered."""
-        return status_of(await self.ask({"op": "status", "txn": txn}))
+        return await self._alone(self._reading_status(txn))
 
     async def notices(self, process: Optional[str] = None, first: int = 1, most: int = 16) -> Notices:
         """The Notices of a process, by default the client's own, as `bossd.Client.notices`."""
-        return notices_of(await self.ask(notices_from(process, first, most)))
+        return await self._alone(self._reading_notices(process, first, most))
 
     async def points(self) -> Points:
         """The Points of the server's catalogue, all of them, as `bossd.Client.points`."""
-        gathering = Gathering()
-        while not gathering.is_done_with(await self.ask(gathering.request())):
-            pass
-        return gathering.gathered()
+        return await self._alone(self._reading_points())
 
     async def version(self) -> Version:
         """The server's Version, as `bossd.Client.version`."""
-        return version_of(await self.ask({"op": "version"}))
+        return await self._alone(self._reading_version())
 
     async def ask(self, request: Request) -> Answer:
         """Asks a request, as docs/PROTOCOL.md has it, and gives its answer, as dicts. Where the connection is lost it is asked again
         over a new one, attached as before. Refused, Unanswered."""
-        line_of(request)
         return await self._alone(self._asking(request))
 
     async def ask_all(self, requests: Iterable[Request]) -> List[Union[Answer, Refused]]:
@@ -251,7 +236,7 @@ class Client(Closable, Session, Connection):
         """What comes of these steps, made when their turn comes, and to their end also where whoever awaits them is cancelled."""
         async def in_turn() -> T:
             async with self._turn:
-                return await run(steps, self._do)
+                return await run(self, steps, self._do)
 
         task = asyncio.ensure_future(in_turn())
         self._under_way.add(task)
@@ -279,16 +264,6 @@ class Client(Closable, Session, Connection):
     async def _hold(self, writes: List[Request], policy: str) -> "Held":
         return Held(self, await self.submit(writes, policy), writes)
 
-    async def _do(self, step: Step) -> Any:
-        if isinstance(step, Connect):
-            return await self._connect(self.address, step.seconds)
-        if isinstance(step, Tell):
-            return await self._tell(step.lines, step.seconds)
-        if isinstance(step, Drop):
-            return self._drop()
-        assert isinstance(step, Pause)
-        return await asyncio.sleep(step.seconds)
-
     async def _await_end(self, source: asyncio.StreamReader, sink: asyncio.StreamWriter) -> None:
         """Says that nothing more comes, and waits until the server has closed the connection."""
         if sink.can_write_eof():
@@ -298,12 +273,8 @@ class Client(Closable, Session, Connection):
                 # Says the end within TLS, and waits for that of the other side, which comes once the server has closed.
                 sink.close()
                 await sink.wait_closed()
-            while await source.read(65_536):
+            while await source.read(PIECE):
                 pass
-
-    def _drop(self) -> None:
-        self._disconnect()
-        self._forget()
 
 
 class Held(Closable, Keeping):
@@ -311,10 +282,11 @@ class Held(Closable, Keeping):
     the moment up to which it was held at least when that was last told. `ended` is why it is held no longer, or None. Every second the
     server is asked how it stands."""
 
+    _over: asyncio.Event
+
     def __init__(self, client: Client, accepted: Accepted, writes: List[Request]) -> None:
-        Keeping.__init__(self, accepted, list(writes))
+        super().__init__(accepted, writes, asyncio.Event())
         self._client = client
-        self._over = asyncio.Event()
         self._keeper = asyncio.ensure_future(self._keep())
 
     async def __aenter__(self) -> "Held":
@@ -331,18 +303,13 @@ class Held(Closable, Keeping):
 
     async def release(self) -> None:
         """Renews no more and ends the leases, if they still stand; their reversions begin. Unanswered."""
-        self._over.set()
-        with contextlib.suppress(Over, UnknownTransaction):
-            await self._client.cancel(self.txn)
+        await self._client._alone(self._releasing(self._client))
 
     async def _leave(self) -> None:
         await self.release()
 
     async def _keep(self) -> None:
-        why = await run(self._keeping(self._client), self._do)
-        if why is not None and not self._over.is_set():
-            self.ended = why
-            self._over.set()
+        await run(self, self._keeping(self._client), self._do)
 
     async def _do(self, step: Step) -> Any:
         if isinstance(step, Wait):
@@ -363,8 +330,8 @@ class Watch(Watching, Connection, AsyncIterator[Notice]):
 
     def __init__(self, address: str, process: str, first: int = 1, patience: float = 60.0, *,
                  tls: Optional[ssl.SSLContext] = None) -> None:
-        Watching.__init__(self, address, process, first, patience)
-        Connection.__init__(self, tls)
+        super().__init__(address, process, first, patience)
+        self._hold_with(tls)
 
     async def __aenter__(self) -> "Watch":
         return self
@@ -377,7 +344,7 @@ class Watch(Watching, Connection, AsyncIterator[Notice]):
 
     async def __anext__(self) -> Notice:
         """The next notice. StopAsyncIteration once it is closed; Unanswered, UnknownHost."""
-        notice = await run(self._following(), self._do)
+        notice = await run(self, self._following(), self._do)
         if notice is None:
             raise StopAsyncIteration
         return notice
@@ -390,19 +357,3 @@ class Watch(Watching, Connection, AsyncIterator[Notice]):
     async def aclose(self) -> None:
         """As `close`."""
         self.close()
-
-    async def _do(self, step: Step) -> Any:
-        if isinstance(step, Connect):
-            return await self._connect(self.address, step.seconds)
-        if isinstance(step, Say):
-            return self._say(step.line)
-        if isinstance(step, Hear):
-            return await self._hear(step.seconds)
-        if isinstance(step, Drop):
-            return self._drop()
-        assert isinstance(step, Pause)
-        return await asyncio.sleep(step.seconds)
-
-    def _drop(self) -> None:
-        self._disconnect()
-        self._forget()

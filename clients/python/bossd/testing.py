@@ -21,8 +21,8 @@ import threading
 from typing import IO, Any, Callable, Dict, Iterable, List, Mapping, NamedTuple, Optional, Set
 
 from ._client import Client, Held
+from ._client import Clock as SecondsOf
 from ._protocol import LONGEST_LINE, Answer, Refused, check, milliseconds
-from ._session import Clock as SecondsOf
 from ._session import Step, Wait
 
 # The moment at which a clock begins: the first of January 2026, in milliseconds since 1970.

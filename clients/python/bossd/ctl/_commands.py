@@ -90,14 +90,33 @@ def point_row(view: View) -> List[Cell]:
     left = NONE if view.ends is None else length(view.ends - now())
     return [Cell(view.point.name, dim), Cell(view.point.show(reading.value)), Cell(FROM[reading.basis], reading.basis),
             Cell(str(reading.priority or NONE)), Cell(view.owner or NONE), Cell(left),
-            Cell(reading.mark, reading.mark if reading.mark != "settled" else "")]
+            Cell(", ".join(filter(None, (reading.mark, device_note(view)))), reading.mark if reading.mark != "settled" else "")]
+
+
+def device_note(view: View) -> str:
+    """What a device has instead, in few words, where that is known."""
+    reading = view.reading
+    if reading is None or reading.took is None:
+        return ""
+    state, until = view.point.state(reading.took), view.held_until(now())
+    return f"last took {state}" if until is None else f"still {state} until {moment(until)}"
 
 
 def summary(views: List[View]) -> str:
     readings = [view.reading for view in views if view.reading is not None]
     bases, marks = Counter(reading.basis for reading in readings), Counter(reading.mark for reading in readings)
     return (f"{len(views)} points: {bases['lease']} held, {bases['pending']} reverting, {bases['default']} at their defaults; "
-            f"{marks['failed']} failed, {marks['pending']} not yet answered by their devices")
+            f"{marks['failed']} failed, {marks['pending']} not yet answered by their devices{held_by_times(views)}")
+
+
+def held_by_times(views: List[View]) -> str:
+    """How many devices minimum times hold, and up to when, where there are any."""
+    ends = [end for end in (view.held_until(now()) for view in views) if end is not None]
+    if not ends:
+        return ""
+    last = f"until {moment(max(ends))} at the earliest"
+    return f", of which 1 is held by its minimum time, {last}" if len(ends) == 1 else (
+        f", of which {len(ends)} are held by their minimum times, the last {last}")
 
 
 def points(words: Words) -> int:
@@ -130,10 +149,9 @@ def point(words: Words) -> int:
         tell_json({**view.told(), "default": view.slots.default, "slots": [slot_told(view, priority) for priority in PRIORITIES],
                    "next": [it._asdict() for it in _live.after(view)]})
         return FINE
-    until = view.may_wait_until(now())
     tell([f"{one.name}: {sentence(view)}; its device: {view.reading.mark}"])
-    if until is not None:
-        tell([f"  perhaps {still(view, until)}"])
+    if view.reading.took is not None:
+        tell([f"  {still(view)}"])
     about = [one.kind, one.range(), f"default {one.show(view.slots.default)}", f"driver {one.driver}", one.times()]
     tell([f"  {', '.join(filter(None, about))}"] + ([f"  {one.note}"] if one.note else []) + [""])
     heads = ("PRIORITY", "LEVEL", "VALUE", "WHAT", "HELD BY", "TXN", "LEFT")
@@ -142,10 +160,15 @@ def point(words: Words) -> int:
     return FINE
 
 
-def still(view: View, until: int) -> str:
-    """Which value a device may have yet, and up to when."""
-    other = "off" if view.reading is not None and view.reading.value else "on"
-    return f"still {other} until {moment(until)} at the latest, by its minimum time"
+def still(view: View) -> str:
+    """Which value a device took last, where that is known to be another one than it is to have, and up to when a minimum time keeps it."""
+    reading, until = view.reading, view.held_until(now())
+    if reading is None or reading.took is None:
+        return ""
+    state, since = view.point.state(reading.took), moment(reading.since or 0)
+    if until is None:
+        return f"it took {state} last, at {since}"
+    return f"still {state} since {since}, until {moment(until)} at the earliest, by its minimum time"
 
 
 def slot_told(view: View, priority: int) -> Optional[Dict[str, Any]]:
@@ -352,8 +375,9 @@ class Taking:
     def __init__(self, words: Words, client: Client, one: Point, txn: int, first: int) -> None:
         self.words, self.client, self.point, self.txn, self.first = words, client, one, txn, first
         self.shown = ""
-        # At how many looks in turn the device of a point with minimum times had not answered, and whether it did not take the value.
-        self.waits, self.since, self.has_failed = 0, 0, False
+        # Up to when a minimum time was said to hold the device, where it does, and whether it did not take the value.
+        self.held: Optional[int] = None
+        self.has_failed = False
 
     def say(self, text: str, **told: Any) -> None:
         if self.words.json:
@@ -382,19 +406,18 @@ class Taking:
     def hear_device(self, mark: str) -> None:
         """Says that a device took a value at last."""
         if mark == "settled" and self.has_failed:
-            self.has_failed = False
+            self.has_failed, self.held = False, None
             self.say("the device took the value")
 
     def wait(self, view: View, mark: str) -> None:
-        """Says that a device may wait for its minimum time, and up to when, and that it has taken the value."""
-        if mark == "settled" and self.waits > 1:
+        """Says that a minimum time holds a device, and up to when, and that it has taken the value."""
+        if mark == "settled" and self.held is not None:
+            self.held = None
             self.say("its device took the value")
-        until = view.may_wait_until(self.since if self.waits else now())
-        if not self.waits:
-            self.since = now()
-        self.waits = 0 if until is None else self.waits + 1
-        if until is not None and self.waits == 2:
-            self.say(f"its device is not written yet, and {still(view, until)}", until=until)
+        until = view.held_until(now())
+        if until is not None and until != self.held:
+            self.held = until
+            self.say(f"its device is not written yet: {still(view)}", until=until)
 
     def ended(self) -> Optional[Notice]:
         """How the lease ended, if it did; a fault of the device is told too."""
@@ -467,6 +490,8 @@ def release(words: Words) -> int:
         tell_json({"released": slot_told(view, words.priority), "now": after.told()})
     else:
         tell([f"{one.name}: released priority {words.priority}, where {owner} had {one.show(slot.value)}; in force: {sentence(after)}"])
+        if after.held_until(now()) is not None:
+            tell([f"its device is {still(after)}"])
     return FINE
 
 
@@ -598,9 +623,8 @@ def faults(words: Words) -> int:
     if views:
         tell(_show.table(HEADS, [point_row(view) for view in views], RIGHT, width_of_terminal()))
     tell(f"{exact_moment(notice.at)}  {name}: {notice_sentence(notice)}" for name, notice in told)
-    ends = [end for end in (view.may_wait_until(now()) for view in views) if end is not None]
-    held = f", of which {len(ends)} may wait for a minimum time, until {moment(max(ends))} at the latest" if ends else ""
-    tell([f"{len(failed)} failed, whose devices are tried again every five seconds; {len(views) - len(failed)} not yet answered{held}"])
+    tell([f"{len(failed)} failed, whose devices are tried again every five seconds; {len(views) - len(failed)} not yet answered"
+          f"{held_by_times(views)}"])
     return WRONG if failed else FINE
 
 
@@ -666,6 +690,10 @@ def journal(words: Words) -> int:
                 tell_json(line) if words.json else tell([event_line(line, names)])
             else:
                 ends.append(line)
+        hidden = found.hidden()
+        if hidden is not None:
+            status = WRONG
+            aside(f"{found.path}: gate {hidden} is shut, and right records stand behind it")
     except Damaged as error:
         status = WRONG
         aside(f"{found.path}: {error}")

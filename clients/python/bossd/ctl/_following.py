@@ -71,7 +71,7 @@ class Log:
     def __init__(self, found: journals.Journal, hearer: Optional[Hearer] = None) -> None:
         state = found.state
         self._hearer = hearer
-        self.path, self.version, self.gate, self.next = found.path, found.version, found.gate, state.next
+        self.path, self.version, self.seed, self.gate, self.next = found.path, found.version, found.seed, found.gate, state.next
         self.front = found.data[:min(KNOWN, self.gate)]
         self.names = [process.name for process in state.processes]
         self.slots: Dict[Tuple[int, int], Written] = {}
@@ -112,7 +112,9 @@ class Log:
     def _record(self, chunk: bytes, gate: int) -> Tuple[Optional[bytes], int]:
         """The record after a gate, and the next gate; None where it is shut, or its record is not whole yet."""
         try:
-            return journals.record_at(chunk, gate)
+            return journals.record_at(chunk, gate, self.seed, self.gate)
+        except journals.WrongSum:
+            raise journals.Damaged(self.gate) from None
         except journals.Damaged:
             if int.from_bytes(chunk[gate + 1:gate + 5], "big") > journals.LONGEST_RECORD:
                 raise journals.Damaged(self.gate) from None

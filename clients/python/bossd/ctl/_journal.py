@@ -1,5 +1,6 @@
 """Reads the files of a journal: its events, and the kept state that they go on from. docs/FORMATS.md describes the bytes."""
 
+import hashlib
 import os
 from typing import Any, Dict, Iterator, List, NamedTuple, Optional, Sequence, Tuple
 
@@ -11,7 +12,10 @@ GATE_SHUT = 0
 MOST_EVENTS = 1 << 62
 LONGEST_RECORD = 65_535
 # So many bytes of a file say what it is, and how long the state is that it begins with.
-FRONT = 66
+FRONT = 74
+# Records and kept states have sums of so many bytes from this version on, and a kept state the seed of its sums too.
+FIRST_WITH_SUMS, SUM = 3, 8
+NEWEST = 3
 DEFAULT = "/var/lib/bossd/journal"
 
 CAUSES = ("expired", "cancelled", "died", "fault", "superseded")
@@ -24,6 +28,10 @@ class Damaged(Exception):
     def __init__(self, place: int) -> None:
         super().__init__(f"damaged at byte {place}")
         self.place = place
+
+
+class WrongSum(Damaged):
+    """A whole record stands at this gate, and its sum is wrong."""
 
 
 class Bytes:
@@ -121,13 +129,15 @@ NEW = State(0, 1, [], [], [], [], [])
 
 class Journal(NamedTuple):
     """The file of a pair that is in force: `before` events led to `state`, and after them come those of the log. `generation` is None
-    where the log begins with the first event."""
+    where the log begins with the first event, and `seed` is None where the records have no sums. `spelled` are the bytes of the state."""
     path: str
     version: int
     digest: bytes
     generation: Optional[int]
     before: int
     state: State
+    spelled: bytes
+    seed: Optional[bytes]
     data: bytes
     gate: int
 
@@ -135,7 +145,7 @@ class Journal(NamedTuple):
         """The events of the log, each with its number, counted from the first that the journal ever had. Damaged."""
         number, gate = self.before, self.gate
         while True:
-            record, after = record_at(self.data, gate)
+            record, after = record_at(self.data, gate, self.seed)
             if record is None:
                 return
             for event in events_of(record, self.version, gate):
@@ -143,22 +153,65 @@ class Journal(NamedTuple):
                 yield number, event
             gate = after
 
+    def hidden(self) -> Optional[int]:
+        """The gate that ends the log, where a right record stands behind it, and behind its next gate, which is open, another one. No stop
+        leaves that: the gate was changed. None where that is not so, or where the records have no sums. Damaged."""
+        gate = self.gate
+        while self.seed is not None:
+            record, after = record_at(self.data, gate, self.seed)
+            if record is None:
+                return gate if self._goes_on(gate) else None
+            gate = after
+        return None
 
-def record_at(data: bytes, gate: int) -> Tuple[Optional[bytes], int]:
-    """The record after a gate, and the next gate; None where the gate is shut."""
-    source = Bytes(data, gate)
+    def _goes_on(self, gate: int) -> bool:
+        try:
+            _, after = record_behind(self.data, gate, self.seed)
+            return self.data[after] == 1 and record_behind(self.data, after, self.seed)[1] > after
+        except Damaged:
+            return False
+
+
+def seed_of(front: bytes) -> bytes:
+    """The seed of a disk's sums, by the bytes before its first gate, or by the first 65 of them."""
+    return hashlib.sha256(front[1:65]).digest()[:SUM]
+
+
+def sum_of(seed: bytes, gate: int, record: bytes) -> bytes:
+    return hashlib.sha256(seed + gate.to_bytes(8, "big") + record).digest()[:SUM]
+
+
+def sealed(seed: Optional[bytes], gate: int, record: bytes) -> bytes:
+    """What stands on a disk for a record whose gate is at this place."""
+    return record if seed is None else record + sum_of(seed, gate, record)
+
+
+def record_at(data: bytes, gate: int, seed: Optional[bytes] = None, place: Optional[int] = None) -> Tuple[Optional[bytes], int]:
+    """The record after a gate, without its sum, and the next gate; None where the gate is shut. `place` is the gate's on its disk, where
+    the data are a part of it. Damaged."""
+    if gate >= len(data):
+        raise Damaged(gate)
+    return (None, gate) if data[gate] != 1 else record_behind(data, gate, seed, place)
+
+
+def record_behind(data: bytes, gate: int, seed: Optional[bytes], place: Optional[int] = None) -> Tuple[bytes, int]:
+    """The same, whatever the gate is."""
+    source = Bytes(data, gate + 1)
     try:
-        if source.whole(1) != 1:
-            return None, gate
         size = source.whole(4)
         if size > LONGEST_RECORD:
             raise Damaged(gate)
         record = source.take(size)
         if source.place >= len(data):
             raise IndexError
-        return record, source.place
     except IndexError:
         raise Damaged(gate) from None
+    if seed is None:
+        return record, source.place
+    record, kept = record[:-SUM], record[-SUM:]
+    if kept != sum_of(seed, gate if place is None else place, record):
+        raise WrongSum(gate)
+    return record, source.place
 
 
 def events_of(record: bytes, version: int, gate: int) -> List[Event]:
@@ -290,35 +343,52 @@ def kind_of(data: bytes) -> str:
         return "idle"
     if len(data) >= HEADER + 1 and data[1:8] == JOURNAL:
         return "journal"
-    if len(data) >= 66 and data[1:8] == STATE:
+    if len(data) >= 66 and data[1:8] == STATE and (not has_sums(data) or data[65:65 + SUM] == seed_of(data)):
         return "state"
     return "other"
 
 
+def has_sums(front: bytes) -> bool:
+    return front[8] >= FIRST_WITH_SUMS
+
+
+def text_place(front: bytes) -> int:
+    """Where the state begins on a disk of a kept state."""
+    return 65 + SUM if has_sums(front) else 65
+
+
 def front_size(front: bytes) -> int:
     """How many bytes a disk has up to the first gate and with it, by what it begins with, FRONT bytes where it has them."""
-    return HEADER + 1 if kind_of(front) == "journal" else 65 + int.from_bytes(front[57:65], "big") + 1
+    return HEADER + 1 if kind_of(front) == "journal" else text_place(front) + int.from_bytes(front[57:65], "big") + 1
 
 
 def journal_of(path: str, data: bytes) -> Journal:
     """What a file of the kinds "journal" and "state" holds. Damaged; Failure for a version that is not known here."""
     version, digest = data[8], data[9:HEADER]
-    if version not in (1, 2):
-        raise Failure(f"{path}: a journal of version {version}; known are 1 and 2")
-    if kind_of(data) == "journal":
-        return Journal(path, version, digest, None, 0, NEW, data, HEADER)
+    if not 1 <= version <= NEWEST:
+        raise Failure(f"{path}: a journal of version {version}; known are 1 to {NEWEST}")
+    plain = kind_of(data) == "journal"
+    seed = seed_of(data[:HEADER] if plain else data) if has_sums(data) else None
+    if plain:
+        return Journal(path, version, digest, None, 0, NEW, b"", seed, data, HEADER)
     source = Bytes(data, HEADER)
     generation, before, size = source.whole(8), source.whole(8), source.whole(8)
     if before > MOST_EVENTS:
         raise Damaged(49)
-    gate = source.place + size
+    begin = text_place(data)
+    gate = begin + size
     if gate >= len(data):
         raise Damaged(57)
+    spelled = data[begin:gate]
+    if seed is not None:
+        spelled, kept = spelled[:-SUM], spelled[-SUM:]
+        if kept != sum_of(seed, 65, spelled):
+            raise Damaged(65)
     try:
-        state = state_of(data[source.place:gate], version)
+        state = state_of(spelled, version)
     except (IndexError, KeyError):
         raise Damaged(65) from None
-    return Journal(path, version, digest, generation, before, state, data, gate)
+    return Journal(path, version, digest, generation, before, state, spelled, seed, data, gate)
 
 
 def generation_of(data: bytes) -> int:

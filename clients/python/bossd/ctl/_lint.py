@@ -137,14 +137,14 @@ class File:
             self.note((key,), "", f"{len(value)} of them", f"at most {most} {what}")
         return value
 
-    def known(self, path: Path, name: str, table: Dict[str, Any], keys: Sequence[str]) -> None:
-        """Notes keys that are passed over, with the key that may have been meant."""
+    def known(self, path: Path, name: str, table: Dict[str, Any], keys: Sequence[str], is_refused: bool = False) -> None:
+        """Notes keys that nothing reads, with the key that may have been meant. They are passed over, or the server refuses them."""
         for key in table:
             if key not in keys:
                 # A key that looks like one that is missing is one that was misspelt.
                 near = difflib.get_close_matches(key.replace("-", "_"), [other for other in keys if other not in table], 1, 0.6)
                 meant = f"is {near[0]} meant?" if near else f"known here are {', '.join(keys)}"
-                self.note(path + (key,), name, "a key that nothing reads", meant, is_mistake=bool(near))
+                self.note(path + (key,), name, "a key that nothing reads", meant, is_mistake=is_refused or bool(near))
 
     def one(self, path: Path, name: str, table: Dict[str, Any], key: str, test: Callable[[Any], bool], wanted: str, default: Any = None) -> bool:
         """Whether the value of a key passes a test; where it does not, or is missing without a default, that is noted."""
@@ -304,7 +304,7 @@ class Rules(File):
         self.one(path, "", rule, "allow", lambda value: isinstance(value, bool), "true or false", default=True)
         if rule.get("allow") is False and "highest" in rule:
             self.note(path + ("highest",), "", "highest beside allow = false", "such a rule denies every priority", is_mistake=False)
-        self.known(path, "", rule, RULE_KEYS)
+        self.known(path, "", rule, RULE_KEYS, is_refused=True)
         if all(are_patterns):
             self._reach(path, Rule(int(path[1]) + 1, rule["process"], rule["point"]))
 

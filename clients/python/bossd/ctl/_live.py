@@ -7,16 +7,14 @@ from typing import Dict, Iterable, List, NamedTuple, Optional
 
 from .._client import Client, connected
 from .._protocol import (
-    Answer, Notice, Notices, Reading, Refused, Request, Slot, Slots, Status, Taken, UnknownPoint, line_of, notices_from, reading_of,
-    slots_of, status_of,
+    Answer, Notice, Notices, Reading, Refused, Request, Slot, Slots, Status, Taken, TurnedAway, UnknownPoint, heard, line_of, notices_from,
+    reading_of, slots_of, status_of,
 )
-from ._show import PRIORITIES, Point, now
+from ._show import PRIORITIES, Point, held_until, now
 from ._toml import Failure
 
 # The number after each notice that a process may have had.
 AFTER_ALL = 1 << 62
-# The last of the priorities whose leases go by no minimum time.
-MOST_URGENT = 5
 # How long a server that has a free worker may take for an answer, in seconds.
 SOON = 0.5
 # By which names bossctl sets points where no name is given. A server forgets no name, so there are few.
@@ -49,16 +47,11 @@ class View(NamedTuple):
         """Who holds it."""
         return None if self.reading is None or self.reading.txn is None else self.owners.get(self.reading.txn)
 
-    def may_wait_until(self, since: int) -> Optional[int]:
-        """Up to when its device may have its other value still, by the minimum time of that one, where it is known to wait since this
-        moment: that value was written before. None where nothing keeps it."""
-        reading = self.reading
-        if reading is None or reading.mark != "pending" or self.point.kind != "binary":
-            return None
-        if reading.basis == "lease" and (reading.priority or 16) <= MOST_URGENT:
-            return None
-        least = self.point.min_on if reading.value == 0 else self.point.min_off
-        return since + least if least else None
+    def held_until(self, moment: int) -> Optional[int]:
+        """Up to when its device keeps the value that it took last, at the earliest, as a minimum time is not over at this moment. None where
+        none keeps it."""
+        until = None if self.reading is None else held_until(self.point, self.reading)
+        return until if until is not None and until > moment else None
 
     def told(self) -> Answer:
         """The view for a program."""
@@ -69,7 +62,7 @@ class View(NamedTuple):
         ends = self.ends
         return {**base, "value": reading.value, "shown": point.number(reading.value), "from": reading.basis, "priority": reading.priority,
                 "process": self.owner, "txn": reading.txn, "ends": ends, "left": None if ends is None else max(0, ends - now()),
-                "mark": reading.mark, "may_wait_until": self.may_wait_until(now())}
+                "mark": reading.mark, "took": reading.took, "since": reading.since, "held_until": self.held_until(now())}
 
 
 def end_of(slot: Slot) -> int:
@@ -200,6 +193,8 @@ def health(server: str, patience: float, tried: int, tls: Optional[ssl.SSLContex
         took = (time.monotonic() - began) * 1000
     except socket.timeout:
         return Health(False, 0.0, 0, 0, "it takes the connection and answers nothing: all its workers are busy, or it hangs")
+    except TurnedAway as error:
+        return Health(False, 0.0, 0, 0, str(error))
     except ConnectionRefusedError:
         return Health(False, 0.0, 0, 0, "nobody listens there: does bossd run?")
     except OSError as error:
@@ -218,12 +213,11 @@ def health(server: str, patience: float, tried: int, tls: Optional[ssl.SSLContex
 
 
 def answered(server: str, seconds: float, tls: Optional[ssl.SSLContext]) -> socket.socket:
-    """A connection on which something was answered."""
+    """A connection on which something was answered. TurnedAway, or another OSError."""
     link = connected(server, seconds, tls)
     try:
         link.sendall(line_of({"op": "status", "txn": 0}))
-        if not link.recv(65_536):
-            raise ConnectionError("it ended the connection")
+        heard(link.recv(65_536))
         return link
     except BaseException:
         link.close()

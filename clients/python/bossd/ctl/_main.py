@@ -10,7 +10,7 @@ from typing import Callable, Optional, Sequence
 
 from .. import overrides
 from .._client import tls_context
-from .._protocol import Refused, Unanswered, UnknownHost
+from .._protocol import Busy, Refused, Unanswered, UnknownHost
 from . import _commands, _feed, _field, _follow, _journal, _served
 from ._toml import Failure
 
@@ -67,8 +67,8 @@ def at_every_place(parser: argparse.ArgumentParser, is_top: bool) -> None:
                        help="with --tls, the certificate to show, in PEM (or BOSSD_TLS_CERTIFICATE in the environment)")
     group.add_argument("--tls-key", metavar="FILE", default=given(environment.get("BOSSD_TLS_KEY")),
                        help="its key, where that is not in the same file (or BOSSD_TLS_KEY in the environment)")
-    group.add_argument("--patience", type=float, metavar="SECONDS", default=given(10.0),
-                       help="how long to wait for the server (10): where all its workers are busy, nothing is answered until one is free")
+    group.add_argument("--patience", type=float, metavar="SECONDS", default=given(15.0),
+                       help="how long to wait for the server (15): where all its workers are busy, it says so after ten seconds")
 
 
 def add(commands: "argparse._SubParsersAction[argparse.ArgumentParser]", name: str, run: Command, help: str,
@@ -295,6 +295,8 @@ def say(text: str, status: int) -> int:
 
 def no_answer(server: str, error: Unanswered) -> str:
     cause: Optional[BaseException] = error.__cause__
+    if isinstance(error, Busy):
+        return f"all workers of {server} are busy: give it more (WORKERS), or end connections that need not be open"
     if isinstance(cause, ConnectionRefusedError):
         return f"nobody listens at {server}: does bossd run? (systemctl status bossd; --server or BOSSD_SERVER says where it listens)"
     if isinstance(cause, socket.timeout):

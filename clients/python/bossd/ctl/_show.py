@@ -11,13 +11,15 @@ import time
 from decimal import Decimal, InvalidOperation
 from typing import Any, Dict, List, NamedTuple, Optional, Sequence
 
-from .._protocol import Points, is_name
+from .._protocol import Points, Reading, is_name
 from . import _toml
 from ._toml import Broken, Failure
 
 # What ASHRAE 135 calls the priorities.
 LEVELS = {1: "Manual-Life Safety", 2: "Automatic-Life Safety", 5: "Critical Equipment Control", 6: "Minimum On/Off", 8: "Manual Operator"}
 PRIORITIES = range(1, 17)
+# The last of the priorities whose leases go by no minimum time.
+MOST_URGENT = 5
 SECOND, MINUTE, HOUR, DAY = 1_000, 60_000, 3_600_000, 86_400_000
 UNITS = {"ms": 1, "s": SECOND, "m": MINUTE, "h": HOUR, "d": DAY}
 NONE = "-"
@@ -92,6 +94,28 @@ class Point(NamedTuple):
         """Its minimum times, where it has any."""
         lengths = [(self.min_on, "on"), (self.min_off, "off")]
         return ", ".join(f"{word} for {exact_length(length)} at least" for length, word in lengths if length)
+
+    def least_time(self, value: int) -> int:
+        """For how many milliseconds its device keeps this value once it has it."""
+        return self.min_on if value else self.min_off
+
+    def state(self, value: int) -> str:
+        """What a device is said to have: on or off, or a value with its unit."""
+        return ("on" if value else "off") if self.kind == "binary" else self.show(value)
+
+
+def is_urgent(basis: str, priority: Optional[int]) -> bool:
+    """Whether a point's device goes by no minimum time, as its value is that of a lease at priority 1 to 5."""
+    return basis == "lease" and (priority or 16) <= MOST_URGENT
+
+
+def held_until(point: Point, reading: Reading) -> Optional[int]:
+    """The moment up to which the point's device keeps the value that it took last, at the earliest, by the minimum time of that one. None
+    where no such time keeps it. Moments are the server's; this one may be over."""
+    if reading.mark != "pending" or reading.took is None or reading.since is None or is_urgent(reading.basis, reading.priority):
+        return None
+    least = point.least_time(reading.took)
+    return reading.since + least if least else None
 
 
 class Catalogue(NamedTuple):
