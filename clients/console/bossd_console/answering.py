@@ -14,13 +14,14 @@ SENTENCES = {
     "starting": "Nothing was asked yet.",
     "up": "The server answers.",
     "busy": "The server took the connection and answers nothing: none of its workers is free, or it hangs.",
+    "full": "All workers of the server are busy: give it more, or end connections that need not be open.",
     "down": "The server is down: nobody listens at its address.",
     "stopped": "The server's disk failed: it keeps nothing any more and writes no device. Mend the disk, then restart it.",
 }
 
 
 class State(NamedTuple):
-    """How the server stands: "starting", "up", "busy", "down" or "stopped"; since when; and, where it is up, for how long it was not
+    """How the server stands: "starting", "up", "busy", "full", "down" or "stopped"; since when; and, where it is up, for how long it was not
     before, in milliseconds. `answered` is when it answered last."""
     state: str
     since: int
@@ -58,10 +59,10 @@ class Answering:
         else:
             self._lose(State(state, moment, None, moment))
 
-    def silent(self, connected: bool, seconds: float, why: str = "") -> None:
-        """It has not answered for so long, over a connection that stands or does not."""
-        state = "busy" if connected else "down"
-        if seconds >= (SLOW if connected else AWAY) and state != self.state.state:
+    def silent(self, connected: bool, seconds: float, why: str = "", full: bool = False) -> None:
+        """It has not answered for so long, over a connection that stands or does not; or it said that none of its workers is free."""
+        state = "full" if full else "busy" if connected else "down"
+        if (full or seconds >= (SLOW if connected else AWAY)) and state != self.state.state:
             self._lose(State(state, now(), None, self.state.answered, why))
 
     def _lose(self, state: State) -> None:

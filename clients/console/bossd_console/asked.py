@@ -3,7 +3,7 @@
 from typing import Any, List, Mapping, NamedTuple, Optional
 
 from .catalogue import Point, is_name, now
-from .coming import with_prolonged, with_release, with_take, what_comes
+from .coming import with_prolonged, with_release, with_take
 from .picture import Picture
 
 MOST_STEPS = 8
@@ -100,5 +100,5 @@ def preview(change: Change, picture: Picture) -> List[Any]:
         slots = with_prolonged(slots, change.txn, moment + change.length)
     else:
         slots = with_release(slots, change.txn, ways, moment)
-    coming = what_comes(slots, ways, moment)
+    coming = picture.coming(change.point.name, slots, ways, moment)
     return [one.described() for one in (coming[:1] if change.stands else coming)]

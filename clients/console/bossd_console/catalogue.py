@@ -6,11 +6,11 @@ from bossd._protocol import Gathering, is_name
 from bossd.ctl import _journal as journals
 from bossd.ctl._following import Following, Reader
 from bossd.ctl._served import differs, silent
-from bossd.ctl._show import Catalogue, Point, level, now, read_catalogue, told_catalogue
+from bossd.ctl._show import Catalogue, Point, held_until, is_urgent, level, now, read_catalogue, told_catalogue
 from bossd.ctl._toml import Failure
 
-__all__ = ["Catalogue", "Failure", "Following", "Gathering", "Point", "Reader", "described", "differs", "is_name", "journals", "level", "now",
-           "read_catalogue", "silent", "told_catalogue"]
+__all__ = ["Catalogue", "Failure", "Following", "Gathering", "Point", "Reader", "described", "differs", "held_until", "is_name",
+           "is_urgent", "journals", "level", "now", "read_catalogue", "silent", "told_catalogue"]
 
 
 def described(point: Point) -> Dict[str, Any]:

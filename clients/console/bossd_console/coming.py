@@ -4,9 +4,11 @@ A live lease comes before every reversion, of two of a kind the one with the les
 the point has its default. No request asks for the reversion that a lease will be followed by, or for the steps that a reversion still has;
 they are known by the server's journal, where it is read, and of what this console took itself."""
 
-from typing import Any, Dict, Iterable, List, Mapping, NamedTuple, Optional, Sequence
+from typing import Any, Dict, Iterable, List, Mapping, NamedTuple, Optional, Sequence, Tuple
 
 import bossd
+
+from .catalogue import Point, is_urgent
 
 # The steps of a reversion: values, and for how many milliseconds each is held.
 Way = Sequence[Sequence[int]]
@@ -23,17 +25,22 @@ class Part(NamedTuple):
 
 
 class Coming(NamedTuple):
-    """What a point has from the moment `at` on. `sure` is whether no reversion that is not known can come in its place."""
+    """What a point has from the moment `at` on. `sure` is whether no reversion that is not known can come in its place. `device` says that
+    a minimum time keeps its device back: "then", up to the moment `device_at`, "by", up to that at the latest, "not", until it is to have
+    another value, or "perhaps", until then or not so long; None where none does."""
     at: int
     value: int
     basis: str
     priority: Optional[int]
     txn: Optional[int]
     sure: bool
+    device: Optional[str] = None
+    device_at: Optional[int] = None
 
     def described(self) -> Dict[str, Any]:
         """As JSON has it."""
-        told = {"at": self.at, "value": self.value, "from": self.basis, "priority": self.priority, "txn": self.txn, "sure": self.sure}
+        told = {"at": self.at, "value": self.value, "from": self.basis, "priority": self.priority, "txn": self.txn, "sure": self.sure,
+                "device": self.device, "device_at": self.device_at}
         return {key: one for key, one in told.items() if one is not None}
 
 
@@ -114,6 +121,53 @@ def what_comes(slots: bossd.Slots, ways: Mapping[int, Way], now: int) -> List[Co
             found.append(coming_of(part, slots.default, at, is_sure(part, at, doubts)))
         before = part
     return found
+
+
+# ---- when the device of a point with minimum times follows
+
+class Device(NamedTuple):
+    """What a device has, None where that may be either value, and from which moment on it may have another one; where that is not `sure`, it
+    may have it before."""
+    value: Optional[int]
+    free: int
+    sure: bool
+
+
+def device_of(point: Point, reading: bossd.Reading, now: int) -> Optional[Device]:
+    """The device of a point as it was read; None where the point has no minimum times. Of a device that has its value the server does not
+    tell since when, so that may be since now."""
+    if not point.times():
+        return None
+    if reading.took is not None and reading.since is not None:
+        return Device(reading.took, reading.since + point.least_time(reading.took), True)
+    return Device(reading.value, now + point.least_time(reading.value), False)
+
+
+def followed(found: Sequence[Coming], point: Point, device: Device) -> List[Coming]:
+    """What comes, with what is known of when the device follows, if nothing fails."""
+    told: List[Coming] = []
+    for one, after in zip(found, [*found[1:], None]):
+        followed_one, device = follow(one, None if after is None else after.at, point, device)
+        told.append(followed_one)
+    return told
+
+
+def follow(one: Coming, end: Optional[int], point: Point, device: Device) -> Tuple[Coming, Device]:
+    """How the device follows this one, which is in force until `end`, and the device then."""
+    if one.value == device.value:
+        return one, device
+    hurries = is_urgent(one.basis, one.priority)
+    at = one.at if hurries else max(one.at, device.free)
+    is_sure = hurries or (device.value is not None and (device.sure or at == one.at))
+    if not is_sure:
+        # The other value it has since this moment at the latest: a moment that stays the same from look to look.
+        at = one.at + point.least_time(1 - one.value)
+    if end is None or at < end:
+        then = Device(one.value, at + point.least_time(one.value), is_sure and device.value is not None)
+        return (one if at == one.at and is_sure else one._replace(device="then" if is_sure else "by", device_at=at)), then
+    if is_sure:
+        return one._replace(device="not"), device
+    return one._replace(device="perhaps"), Device(None, max(at, end + point.least_time(one.value)), False)
 
 
 # ---- what an operator's change would bring

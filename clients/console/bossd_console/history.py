@@ -11,6 +11,7 @@ from collections import defaultdict, deque
 from typing import Any, Callable, DefaultDict, Deque, Dict, Iterable, Iterator, List, NamedTuple, Optional, Set, Tuple
 
 from .catalogue import Catalogue, journals
+from .clock import Reached
 from .coming import Part, Way, in_force, steps_after
 
 # How far back is shown, in milliseconds.
@@ -88,6 +89,8 @@ class History:
         self._lock = threading.Lock()
         # How many events the journal had up to here.
         self._events = self._since = self._now = self._count = 0
+        # How many files were begun.
+        self._files = 0
         self._is_begun = False
         self._forget(0)
 
@@ -96,6 +99,7 @@ class History:
     def begun(self, state: journals.State, before: int) -> None:
         """A file begins with this state. What is known goes on, unless the journal is another one, or is read once more."""
         with self._lock:
+            self._files += 1
             if before < self._events:
                 self._forget(0)
             self._events = before
@@ -125,6 +129,11 @@ class History:
                 self._trim()
 
     # -- what is asked
+
+    def reached(self) -> Reached:
+        """How far the journal was read."""
+        with self._lock:
+            return Reached(self._files, self._events, self._now)
 
     def of(self, point: str, now: int) -> Optional[Known]:
         """The last day of a point, up to a moment; None where nothing is known."""

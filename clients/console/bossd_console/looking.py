@@ -168,6 +168,8 @@ class Looking:
         if self._following is None or self.picture.journal is None:
             return
         await self._following.follow()
+        is_whole = not self._following.is_reading and not self.picture.journal.sentence
+        self.picture.clock.look(self.picture.history.reached() if is_whole else None, now(), time.monotonic())
         for name in self.picture.journal.names():
             self.picture.met(name)
 
@@ -222,6 +224,6 @@ class Looking:
             await asyncio.sleep(GLANCE)
             since, before = self._asked_since, self.answering.changed
             if since is not None and self._client is not None:
-                self.answering.silent(self._client.is_connected, time.monotonic() - since)
+                self.answering.silent(self._client.is_connected, time.monotonic() - since, full=self._client.is_busy)
             if self.answering.changed != before:
                 self.seen()

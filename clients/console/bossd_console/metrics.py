@@ -43,6 +43,7 @@ class Standing(Collector):
         up = self.answering.state.state == "up"
         yield GaugeMetricFamily("bossd_up", "1 where the server answers, else 0.", value=float(up))
         yield from self._looks()
+        yield from self._clock()
         yield from self._notices()
         if up:
             yield from self._points()
@@ -53,6 +54,15 @@ class Standing(Collector):
         yield GaugeMetricFamily("bossd_look_seconds", "How long the last look at all points took.", value=self.looking.seconds)
         yield GaugeMetricFamily("bossd_answer_seconds", "How long the first request of the last look took.", value=self.looking.first)
         yield CounterMetricFamily("bossd_looks", "Whole looks at all points.", value=self.looking.rounds)
+
+    def _clock(self) -> Iterator[Metric]:
+        reached, seen = self.picture.history.reached(), self.picture.clock.seen
+        if self.picture.journal is not None and reached.files:
+            yield CounterMetricFamily("bossd_journal_events", "Events that the journal had.", value=reached.events)
+            yield GaugeMetricFamily("bossd_journal_timestamp_seconds", "The server's moment of the last of them.", value=reached.moment / 1000)
+        if seen is not None:
+            yield GaugeMetricFamily("bossd_clock_ahead_seconds", "By how much the server's clock was ahead of this machine's, at the last event "
+                                    "that was read as it came.", value=seen.ahead / 1000)
 
     def _notices(self) -> Iterator[Metric]:
         yield CounterMetricFamily(
@@ -90,8 +100,23 @@ class Standing(Collector):
         for point, since in self.picture.waiting.items():
             family.add_metric([point], max(0, moment - since) / 1000)
         yield family
+        yield from self._devices(moment)
         longest = max((moment - since for since in self.picture.waiting.values()), default=0)
         yield GaugeMetricFamily("bossd_pending_seconds", "The longest time that a device has not answered.", value=max(0, longest) / 1000)
+
+
+    def _devices(self, moment: int) -> Iterator[Metric]:
+        took = GaugeMetricFamily("bossd_point_took", "The value that the device of a point took last, where it is to have another one.",
+                                 labels=["point"])
+        held = GaugeMetricFamily("bossd_point_minimum_seconds", "For how long a minimum time keeps the device of a point yet.", labels=["point"])
+        for point, reading in self.picture.readings.items():
+            row = self.picture.row(point) if reading.took is not None else None
+            if row is not None and row.took is not None:
+                took.add_metric([point], row.took)
+            if row is not None and row.held_until is not None and row.held_until > moment:
+                held.add_metric([point], (row.held_until - moment) / 1000)
+        yield took
+        yield held
 
 
 def registry_of(picture: Picture, answering: Answering, looking: Looking) -> CollectorRegistry:

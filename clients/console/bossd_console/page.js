@@ -138,7 +138,8 @@ function setPoint(told) {
   cells.owner.title = overrideSentence(told).trim();
   say(cells.left, left(told.until));
   const [sign, word] = MARKS[told.mark];
-  say(cells.mark, `${sign} ${word}`);
+  say(cells.mark, `${sign} ${isHeld(told) ? "still " + shown(point, told.took) : word}`);
+  cells.mark.title = told.took === undefined ? "" : deviceSentence(point);
   cells.mark.className = "mark " + (told.mark === "pending" ? "waiting" : told.mark);
   node.className = [told.from, isOverridden(told) && "over", told.mark === "failed" && "trouble", node.classList.contains("opened") && "opened"]
     .filter(Boolean).join(" ");
@@ -179,7 +180,7 @@ function countAll() {
 
 function sayHealth() {
   const health = find("health"), banner = find("banner"), up = server.state === "up" && !lost;
-  const words = {up: "answers", busy: "no answer", down: "is down", stopped: "disk failed", starting: "not asked yet"};
+  const words = {up: "answers", busy: "no answer", full: "all busy", down: "is down", stopped: "disk failed", starting: "not asked yet"};
   health.className = "health " + (lost ? "down" : server.state);
   say(health, lost ? "console gone" : words[server.state] || "");
   health.title = seconds ? `the last look took ${seconds} s` : "";
@@ -189,11 +190,12 @@ function sayHealth() {
   if (lost) text = "The console does not answer: what stands here is old. It is tried again.";
   else if (!up) {
     text = `${server.sentence} Since ${clock(server.since)}.` + (server.answered ? ` What stands here is of ${clock(server.answered)}.` : "");
-    kind = server.state === "busy" ? "busy" : "";
+    kind = server.state === "busy" || server.state === "full" ? "busy" : "";
   } else if (server.away !== undefined && serverNow() - server.since < BACK) {
     text = `The server is back since ${clock(server.since)}; it was away for ${length(server.away)}.`;
     kind = "back";
   } else if (foreign.length) text = `The server does not have ${foreign.join(", ")}: it was started with another catalogue.`;
+  else if (server.clock && server.clock.sentence) text = server.clock.sentence;
   banner.className = kind;
   say(banner, text);
   banner.hidden = text === "";
@@ -346,25 +348,23 @@ function times(point) {
   return [["on", point.min_on], ["off", point.min_off]].filter(([, least]) => least).map(([word, least]) => `${word} for ${length(least)} at least`).join(", ");
 }
 
-// For how long the value that a point had before keeps this one from its device, at most: leases at priority 1 to 5 go at once.
-function leastTime(point, {value, from, priority}) {
-  if (from === "lease" && priority <= 5) return 0;
-  return (value ? point.min_off : point.min_on) || 0;
+// When the device follows, where a minimum time keeps it back.
+function follows(one) {
+  if (!one.device) return "";
+  const when = {then: () => `not before ${clock(one.device_at)}`, by: () => `at ${clock(one.device_at)} at the latest`, not: () => "stays as it is", perhaps: () => "perhaps stays as it is"}[one.device]();
+  return `; its device ${when}, by its minimum time`;
 }
 
-function follows(point, one) {
-  const least = leastTime(point, one);
-  return least ? `; its device up to ${length(least)} later, by its minimum time` : "";
-}
+// Whether a minimum time keeps the device at the value that it took last.
+function isHeld(now) { return now.held_until !== undefined && now.held_until > serverNow(); }
 
 // How far the device has come, in words.
 function deviceSentence(point) {
   const {now} = point, [sign, word] = MARKS[now.mark] || ["", "not known"];
-  if (now.mark === "failed") return `${sign} device ${word}: it refused the value, and is tried again`;
-  if (!now.waiting) return `${sign} device ${word}`;
-  const least = leastTime(point, now);
-  const still = least ? `, perhaps still ${now.value ? "off" : "on"} until ${clock(now.waiting + least)} at the latest, by its minimum time` : "";
-  return `${sign} device ${word}, no answer since ${clock(now.waiting)}${still}`;
+  if (isHeld(now)) return `${sign} device ${word}: still ${shown(point, now.took)} since ${clock(now.since)}, until ${clock(now.held_until)} at the earliest, by its minimum time`;
+  const took = now.took === undefined ? "" : `; it took ${shown(point, now.took)} last, at ${clock(now.since)}`;
+  if (now.mark === "failed") return `${sign} device ${word}: it refused the value, and is tried again${took}`;
+  return now.waiting ? `${sign} device ${word}, no answer since ${clock(now.waiting)}${took}` : `${sign} device ${word}`;
 }
 
 function drawPoint() {
@@ -375,7 +375,7 @@ function drawPoint() {
     paneTop(point.name, [point.note, point.kind, range(point), `default ${shown(point, point.default)}`, `driver ${point.driver}`, times(point)].filter(Boolean).join(", ")),
     make("p", {className: "big", textContent: shown(point, now.value)}),
     make("p", {id: "whose"}, whose(now), " ", now.until !== undefined ? make("span", {id: "rest", className: "value"}) : null),
-    make("p", {className: now.mark === "pending" ? "waiting" : now.mark || "", textContent: deviceSentence(point)}),
+    make("p", {id: "device", className: now.mark === "pending" ? "waiting" : now.mark || "", textContent: deviceSentence(point)}),
     about.operator ? make("div", {className: "buttons"},
       make("button", {type: "button", id: "take", className: "first", textContent: "Take…", onclick: () => askTake(point)}),
       ...own.flatMap((slot) => [
@@ -418,7 +418,7 @@ function knownNote() {
 function comingSentence(point, one) {
   const what = one.from === "default" ? "its default" : `${FROM[one.from]} at priority ${one.priority}`;
   const doubt = one.sure ? "" : one.from === "pending" ? "; its steps are not known" : ", unless a reversion comes first that is not known";
-  return `at ${clock(one.at)}: ${shown(point, one.value)}, ${what}${doubt}${follows(point, one)}`;
+  return `at ${clock(one.at)}: ${shown(point, one.value)}, ${what}${doubt}${follows(one)}`;
 }
 
 function slotTable(point, slots, now) {
@@ -447,6 +447,7 @@ function stepsOf(point, slot) {
 function countOpened() {
   if (!opened || opened.kind !== "point") return;
   const rest = find("rest"), {now} = points.get(opened.name);
+  if (now.held_until !== undefined) say(find("device"), deviceSentence(points.get(opened.name)));
   if (rest && now.until !== undefined) say(rest, now.until > serverNow() ? `${length(now.until - serverNow())} left, until ${clock(now.until)}.` : "Its time is over.");
   for (const cell of find("pane").querySelectorAll("td[data-until]")) say(cell, left(Number(cell.dataset.until)));
 }
@@ -810,7 +811,7 @@ async function preview() {
     if (!answer.ok) { find("ask-next").replaceChildren(); sayAsked(told.sentence); return; }
     if (!mine.busy && !mine.refused) sayAsked("");
     const [first, ...rest] = told.next, what = first.from === "default" ? "its default" : `${FROM[first.from]} at priority ${level(first.priority)}`;
-    find("ask-next").replaceChildren(make("li", {textContent: `at once: ${shown(point, first.value)}, ${what}${first.value === point.now.value ? "" : follows(point, first)}`}), ...rest.map((one) => make("li", {textContent: comingSentence(point, one)})));
+    find("ask-next").replaceChildren(make("li", {textContent: `at once: ${shown(point, first.value)}, ${what}${follows(first)}`}), ...rest.map((one) => make("li", {textContent: comingSentence(point, one)})));
     const loses = mine.do === "take" && first.txn !== undefined && first.txn !== 0;
     find("ask-note").hidden = !loses;
     if (loses) say(find("ask-note"), `A lease at priority ${first.priority} stays in force before yours.`);

@@ -6,8 +6,9 @@ from typing import Any, Deque, Dict, List, Mapping, NamedTuple, Optional, Set, T
 
 import bossd
 
-from .catalogue import Catalogue, Reader, described, level, now
-from .coming import Way, steps_to_come, what_comes
+from .catalogue import Catalogue, Reader, described, held_until, level, now
+from .clock import Clock
+from .coming import Coming, Way, device_of, followed, steps_to_come, what_comes
 from .history import History
 from .schedules import Schedules
 
@@ -21,8 +22,9 @@ MOST_LOOKED = 64
 
 
 class Row(NamedTuple):
-    """What is shown of a point: its Reading, whose it is, up to when (where that is known), and since when its device has not answered.
-    Moments are milliseconds since 1970."""
+    """What is shown of a point: its Reading, whose it is, up to when (where that is known), and since when its device has not answered; what
+    that took last and since when, where it is another value, and up to when a minimum time keeps that, at the earliest. Moments are
+    milliseconds since 1970."""
     value: int
     basis: str
     mark: str
@@ -33,11 +35,15 @@ class Row(NamedTuple):
     waiting: Optional[int]
     # Of an override that stands: who set it, when, up to when (None: until it is released), and why.
     override: Optional[Tuple[str, int, Optional[int], str]] = None
+    took: Optional[int] = None
+    since: Optional[int] = None
+    held_until: Optional[int] = None
 
     def described(self, name: str) -> Dict[str, Any]:
         """As JSON has it. A key without a value is left out."""
         told = {"name": name, "value": self.value, "from": self.basis, "mark": self.mark, "priority": self.priority, "txn": self.txn,
-                "owner": self.owner, "until": self.until, "waiting": self.waiting,
+                "owner": self.owner, "until": self.until, "waiting": self.waiting, "took": self.took, "since": self.since,
+                "held_until": self.held_until,
                 "override": None if self.override is None else dict(zip(("who", "at", "until", "note"), self.override))}
         return {key: one for key, one in told.items() if one is not None}
 
@@ -53,6 +59,11 @@ class Process:
 def notice_described(notice: bossd.Notice) -> Dict[str, Any]:
     """As JSON has it."""
     return {key: one for key, one in notice._asdict().items() if one is not None}
+
+
+def decided_by(reading: bossd.Reading) -> Tuple[int, str, Optional[int], Optional[int]]:
+    """What a point is to have, and what that rests on."""
+    return reading.value, reading.basis, reading.priority, reading.txn
 
 
 class Looked:
@@ -77,12 +88,13 @@ class Looked:
 
 class Picture:
     """What is known. `began` is when the console began, in milliseconds since 1970; `journal` is the server's, where its file may be read,
-    and `history` what it told; `schedules` are those whose files are read."""
+    and `history` what it told; `schedules` are those whose files are read; `clock` is what is known of the server's."""
 
     def __init__(self, catalogue: Catalogue, journal: Optional[str] = None, schedules: Optional[Schedules] = None) -> None:
         self._journal_path = journal
         self._go_by(catalogue)
         self.schedules = schedules if schedules is not None else Schedules(())
+        self.clock = Clock()
         self.began = now()
         self.readings: Dict[str, bossd.Reading] = {}
         self.slots: Dict[str, bossd.Slots] = {}
@@ -117,7 +129,7 @@ class Picture:
         """The server has another catalogue: nothing is known of its points yet. Transactions and notices go on."""
         self._go_by(catalogue)
         self.readings, self.slots, self.stood, self.waiting, self._sent, self._told = {}, {}, {}, {}, {}, {}
-        self.foreign = set()
+        self.foreign, self.clock = set(), Clock()
 
     def read(self, reading: bossd.Reading) -> bool:
         """A point was read. Gives whether somebody else decides it than before, or something else."""
@@ -132,7 +144,7 @@ class Picture:
             self.waiting.setdefault(reading.point, now())
         if reading.basis == "default":
             self.slots[reading.point] = bossd.Slots(reading.point, reading.value, {})
-        return before is None or before[:3] + before[4:] != reading[:3] + reading[4:]
+        return before is None or decided_by(before) != decided_by(reading)
 
     def unknown(self, point: str) -> None:
         """The server has no such point."""
@@ -205,7 +217,9 @@ class Picture:
         owner = self.owners.get(reading.txn) if reading.txn is not None else None
         until = None if slot is None else slot.end if slot.until is None else slot.until
         override = self.override_of(point, reading.priority, reading.txn)
-        return Row(reading.value, reading.basis, reading.mark, reading.priority, reading.txn, owner, until, self.waiting.get(point), override)
+        held = held_until(self.points[point], reading) if point in self.points else None
+        return Row(reading.value, reading.basis, reading.mark, reading.priority, reading.txn, owner, until, self.waiting.get(point), override,
+                   reading.took, reading.since, held)
 
     def rows(self) -> List[Dict[str, Any]]:
         """What is shown of all points, with what the catalogue says of each, in its order."""
@@ -244,8 +258,14 @@ class Picture:
             return {"slots": [], "next": [], "schedules": self.schedules.of(point, None, self.owners)}
         ways = self.ways_at(point)
         standing = [self._standing(point, priority, slot, ways.get(slot.txn)) for priority, slot in sorted(slots.slots.items())]
-        return {"slots": standing, "next": [one.described() for one in what_comes(slots, ways, now())[1:]],
-                "schedules": self.schedules.of(point, slots, self.owners)}
+        coming = self.coming(point, slots, ways, now())
+        return {"slots": standing, "next": [one.described() for one in coming[1:]], "schedules": self.schedules.of(point, slots, self.owners)}
+
+    def coming(self, point: str, slots: bossd.Slots, ways: Mapping[int, Way], moment: int) -> List[Coming]:
+        """What a point with these slots has now, and what it has after that, and when its device follows where a minimum time may keep it."""
+        found, one, reading = what_comes(slots, ways, moment), self.points.get(point), self.readings.get(point)
+        device = device_of(one, reading, moment) if one is not None and reading is not None else None
+        return followed(found, one, device) if one is not None and device is not None else found
 
     def _standing(self, point: str, priority: int, slot: bossd.Slot, way: Optional[Way]) -> Dict[str, Any]:
         """What stands in a slot, and its steps to come where they are known."""

@@ -2,7 +2,7 @@
 
 import asyncio
 import json
-from typing import Any, Dict, List, Optional
+from typing import Any, Dict, List, Optional, Tuple
 
 from .answering import Answering
 from .catalogue import now
@@ -27,7 +27,7 @@ class Streams:
     def __init__(self, picture: Picture, answering: Answering, looking: Looking, about: Dict[str, Any], most: int = MOST_OF_ONE) -> None:
         self.picture, self.answering, self.looking, self.about, self.most = picture, answering, looking, about, most
         self._queues: Dict["asyncio.Queue[Optional[bytes]]", str] = {}
-        self._said = -1
+        self._said: Tuple[int, str] = (-1, "")
         self._catalogue = picture.catalogue
 
     def __len__(self) -> int:
@@ -81,8 +81,10 @@ class Streams:
                  "notices": self.picture.fresh_notices(), "processes": self.picture.named(), "journal": self.picture.changed_journal(),
                  "schedules": self.picture.changed_schedules()}
         told.update({key: part for key, part in parts.items() if part})
-        if self._said != self.answering.changed:
-            self._said = self.answering.changed
+        seen = self.picture.clock.seen
+        said = self.answering.changed, seen.sentence() if seen is not None else ""
+        if self._said != said:
+            self._said = said
             told["server"] = self._server()
         sent = event("changes", told)
         for queue in self._queues:
@@ -102,4 +104,6 @@ class Streams:
             queue.put_nowait(self.all())
 
     def _server(self) -> Dict[str, Any]:
-        return {**self.answering.state.described(), "foreign": sorted(self.picture.foreign)[:16]}
+        seen = self.picture.clock.seen
+        return {**self.answering.state.described(), "foreign": sorted(self.picture.foreign)[:16],
+                **({"clock": seen.described()} if seen is not None else {})}

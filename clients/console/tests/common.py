@@ -3,7 +3,6 @@
 The program is that of this repository, or the one that BOSSD in the environment names."""
 
 import http.client
-import importlib.util
 import json
 import os
 import signal
@@ -17,13 +16,10 @@ HERE = os.path.dirname(os.path.abspath(__file__))
 CONSOLE = os.path.dirname(HERE)
 TOP = os.path.dirname(os.path.dirname(CONSOLE))
 CATALOGUE = os.path.join(HERE, "building.toml")
-sys.path[:0] = [CONSOLE, os.path.join(TOP, "clients", "python")]
+sys.path[:0] = [CONSOLE, os.path.join(TOP, "clients", "python"), TOP]
 
 import bossd  # noqa: E402
-
-spec = importlib.util.spec_from_file_location("tools_common", os.path.join(TOP, "tools", "common.py"))
-tools = importlib.util.module_from_spec(spec)
-spec.loader.exec_module(tools)
+from outside import program as tools  # noqa: E402
 
 # How long something may take until it is seen, in seconds. A machine with much other work may want more.
 PATIENCE = float(os.environ.get("PATIENCE", 30))
@@ -99,9 +95,13 @@ class Case(unittest.TestCase):
         folder = tempfile.TemporaryDirectory()
         self.addCleanup(folder.cleanup)
         self.folder = folder.name
-        self.server = tools.Server(CATALOGUE, os.path.join(folder.name, "journal"), workers=self.WORKERS)
+        self.server = tools.Server(self.catalogue(), os.path.join(folder.name, "journal"), workers=self.WORKERS)
         self.server.start()
         self.addCleanup(self.server.stop)
+
+    def catalogue(self):
+        """The name of the server's catalogue."""
+        return CATALOGUE
 
     def start_over(self, first, second):
         """Starts the server anew, over a journal of these two files."""
@@ -144,3 +144,22 @@ class Case(unittest.TestCase):
         found = eventually(test, seconds)
         self.assertTrue(found)
         return found
+
+
+class WithPump:
+    """A Case whose server has a pump that stays on for an hour once it is on."""
+
+    PUMP, MIN_ON = "boiler.pump", 60 * MINUTE
+
+    def catalogue(self):
+        path = os.path.join(self.folder, "pump.toml")
+        with open(path, "w") as file:
+            file.write(f'drivers = ["heat"]\n[[point]]\nname = "{self.PUMP}"\ndriver = "heat"\nkind = "binary"\ndefault = 0\nmin_on = {self.MIN_ON}\n')
+        return path
+
+    def running(self, client):
+        """What is read of the pump once it is on and was let go."""
+        txn = client.submit([bossd.write(self.PUMP, 1, priority=8, lease=10 * MINUTE)]).txn
+        self.eventually(lambda: client.read(self.PUMP).mark == "settled")
+        client.cancel(txn)
+        return client.read(self.PUMP)

@@ -8,6 +8,8 @@ import time
 from tests.common import tools
 
 UNTIL = round(time.time() * 1000) + 3_600_000
+# Since when the device of ahu1.damper has what it took before.
+SINCE = UNTIL - 7_200_000
 
 
 class Stub:
@@ -48,7 +50,7 @@ class Stub:
     def read(self, asked):
         if asked["point"] == "ahu1.damper":
             return {"ok": "read", "point": "ahu1.damper", "value": 35_000, "from": "lease", "priority": 12, "txn": 1,
-                    "mark": "failed" if self.failed else "settled"}
+                    **({"mark": "failed", "took": 20_000, "since": SINCE} if self.failed else {"mark": "settled"})}
         if asked["point"] == "floor2.office":
             return {"error": "unknown-point", "index": 0}
         return {"ok": "read", "point": asked["point"], "value": 20_000, "from": "default", "mark": "settled"}

@@ -12,7 +12,7 @@ import time
 import unittest
 
 from tests import journals
-from tests.common import CATALOGUE, CONSOLE, MINUTE, PATIENCE, TOP, Case, Console, bossd
+from tests.common import CATALOGUE, CONSOLE, MINUTE, PATIENCE, TOP, Case, Console, WithPump, bossd
 from tests.stub import Stub
 
 from bossd_console.bounds import MOST_CONNECTIONS
@@ -108,6 +108,29 @@ class Looking(Case):
         with open(os.path.join(TOP, "packaging", "grafana", "bossd.json"), encoding="utf-8") as file:
             asked = [target["expr"] for panel in json.load(file)["panels"] for target in panel["targets"]]
         self.assertEqual(set(re.findall(r"bossd_\w+", " ".join(asked))) - told, set())
+
+
+class HeldByMinimumTimes(WithPump, Case):
+    def test_a_pump_that_runs_on(self):
+        console, reading = self.console(catalogue=None), self.running(self.client("comfort"))
+        # It is to be off, and on it is for an hour.
+        self.assertEqual((reading.value, reading.mark, reading.took), (0, "pending", 1))
+        until = reading.since + self.MIN_ON
+        told = self.eventually(lambda: (lambda it: it if it.get("took") is not None else None)(console.point(self.PUMP)))
+        self.assertEqual([told[key] for key in ("value", "mark", "took", "since", "held_until")], [0, "pending", 1, reading.since, until])
+        metrics = console.metrics()
+        self.assertEqual(metrics['bossd_point_took{point="boiler.pump"}'], 1)
+        left = metrics['bossd_point_minimum_seconds{point="boiler.pump"}']
+        self.assertTrue(0 < left <= (until - reading.since) / 1000, left)
+
+        def first(value, priority):
+            asked = {"do": "take", "id": "x", "point": self.PUMP, "value": value, "priority": priority, "length": MINUTE}
+            coming = console.ask("/api/preview", asked)[1]["next"]
+            return [coming[0].get(key) for key in ("value", "device", "device_at")], [one.get("device") for one in coming[1:]]
+        # The lease of a minute is over before the hour is; one at priority 5 does not wait; on the pump is.
+        self.assertEqual(first(0, 8), ([0, "not", None], ["then"]))
+        self.assertEqual(first(0, 5), ([0, None, None], [None]))
+        self.assertEqual(first(1, 8), ([1, None, None], ["then"]))
 
 
 class Journal(Case):

@@ -5,6 +5,7 @@ import functools
 import http.server
 import json
 import os
+import re
 import signal
 import tempfile
 import threading
@@ -22,7 +23,7 @@ from selenium.webdriver.common.by import By
 from selenium.webdriver.common.keys import Keys
 
 from tests import journals
-from tests.common import CATALOGUE, MINUTE, PATIENCE, Case, Console, bossd
+from tests.common import CATALOGUE, MINUTE, PATIENCE, Case, Console, WithPump, bossd
 from tests.stub import UNTIL, Stub
 
 from bossd_console.catalogue import read_catalogue
@@ -274,7 +275,7 @@ class WhatIsSeen(Page):
         self.click("#filters [value=failed]")
         self.see(lambda: not self.row("ahu1.fan")["shown"] and self.row(DAMPER)["shown"])
         self.click("tr.trouble a")
-        self.see(lambda: "device failed: it refused the value" in self.text("#pane"))
+        self.see(lambda: re.match(r"✕ device failed: it refused the value, and is tried again; it took 20.0 % last, at [-\d: ]+$", "".join(self.texts("#device"))))
         self.assertEqual(console.metrics()['bossd_points_by_mark{mark="failed"}'], 1)
         self.picture("console-failed-1280")
         stub.fault(round(time.time() * 1000))
@@ -326,6 +327,31 @@ class WhatIsSeen(Page):
         self.see(lambda: self.row(DAMPER)["value"] == "90.0 %")
         browser.switch_to.window(two)
         self.see(lambda: self.row(DAMPER)["value"] == "90.0 %" and self.text("#pane .big") == "90.0 %")
+
+
+class WhatRunsOn(WithPump, Page):
+    """A pump that was let go, and stays on for an hour."""
+
+    def seconds(self, text):
+        hours, minutes, seconds = map(int, text.split(":"))
+        return hours * 3_600 + minutes * 60 + seconds
+
+    def test_its_device_is_seen_to_run_and_until_when(self):
+        reading = self.running(self.client("comfort"))
+        self.assertEqual((reading.value, reading.took), (0, 1))
+        self.open(self.console("--operator", "operator", catalogue=None), "#point/boiler.pump")
+        self.see(lambda: self.row("boiler.pump")["mark"] == "… still 1 on")
+        self.assertEqual(self.row("boiler.pump")["value"], "0 off")
+        moment = r"(?:\d{4}-\d\d-\d\d )?(\d\d:\d\d:\d\d)"
+        wanted = f"… device pending: still 1 on since {moment}, until {moment} at the earliest, by its minimum time"
+        # The pane is drawn anew now and then, so its text is taken at one moment.
+        found = self.see(lambda: re.fullmatch(wanted, "".join(self.texts("#device"))))
+        since, until = map(self.seconds, found.groups())
+        self.assertEqual((until - since) % 86_400, self.MIN_ON // 1_000)
+        self.picture("held-1280")
+        # Off at once is what it is to have, and not what the pump does.
+        self.click("#take")
+        self.see(lambda: f"its device not before {found[2]}, by its minimum time" in "".join(self.texts("#ask-next")))
 
 
 class WhatIsChanged(Page):

@@ -1,10 +1,9 @@
-"""Tests of a point's day. What is expected is reckoned by hand, or is what the model of tools/machine.py answers, which shares nothing with
+"""Tests of a point's day. What is expected is reckoned by hand, or is what the model of outside/model.py answers, which shares nothing with
 the console. The bytes of journals are those of docs/FORMATS.md."""
 
 import json
 import os
 import random
-import sys
 import tempfile
 import unittest
 from unittest import mock
@@ -12,12 +11,10 @@ from unittest import mock
 from tests import common
 from tests import journals as j
 
-sys.path.append(os.path.join(common.TOP, "tools"))
-import machine  # noqa: E402
-
 from bossd_console import history  # noqa: E402
 from bossd_console.catalogue import Reader, read_catalogue  # noqa: E402
 from bossd_console.history import DAY, Change, History  # noqa: E402
+from outside import model as machine  # noqa: E402
 
 FLOOR = os.path.join(common.TOP, "examples", "floor.toml")
 DAMPER, LAMP, FAN = "ahu1.damper", "lamp", "fan"

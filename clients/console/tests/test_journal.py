@@ -237,7 +237,7 @@ class WhatItIsNot(Files):
 
     def test_another_programs_and_another_versions(self):
         self.assertIn("no journal of bossd", self.said(b"SQLite format 3\0" + bytes(80)))
-        self.assertIn("version 3", self.said(j.journal(version=3)))
+        self.assertIn("version 4", self.said(j.journal(version=4)))
 
     def test_damage_has_its_place(self):
         self.assertIn("byte 41", self.said(j.journal(j.record(b"\x0b" + bytes(8)))))

@@ -9,7 +9,7 @@ from tests import common  # noqa: F401, which finds the modules
 
 import bossd
 from bossd_console import answering, asked, coming, guard
-from bossd_console.catalogue import described, read_catalogue
+from bossd_console.catalogue import Point, described, read_catalogue
 from bossd_console.operating import Operator, Unmade
 from bossd_console.picture import Picture
 from tests.stub import Stub
@@ -219,6 +219,55 @@ class MinimumTimes(unittest.TestCase):
             points = read_catalogue(path).points
         self.assertEqual((described(points["pump"])["min_on"], described(points["pump"])["min_off"]), (300_000, 0))
         self.assertNotIn("min_on", described(points["lamp"]))
+
+
+class WhatADeviceFollows(unittest.TestCase):
+    """A pump that stays on for 100 ms once it is on, and off for 40."""
+    PUMP = Point("pump", "heat", "binary", 0, 1, 0, min_on=100, min_off=40)
+
+    def followed(self, device, *wanted, basis="pending", priority=9):
+        """What the device does where it is wanted from these moments on to have these values."""
+        found = coming.followed([coming.Coming(at, value, basis, priority, 1, True) for at, value in wanted], self.PUMP, device)
+        return [(one.device, one.device_at) for one in found]
+
+    def device(self, mark, took=None, since=None, value=0):
+        return coming.device_of(self.PUMP, bossd.Reading("pump", value, "default", mark, took=took, since=since), 1_000)
+
+    def test_what_is_known_of_it(self):
+        self.assertEqual(self.device("pending", 1, 980), (1, 1_080, True))
+        self.assertEqual(self.device("pending", 0, 980, value=1), (0, 1_020, True))
+        # Since when it has its value is not told: at the latest since now.
+        self.assertEqual(self.device("settled", value=1), (1, 1_100, False))
+        self.assertIsNone(coming.device_of(Point("lamp", "heat", "binary", 0, 1, 0), bossd.Reading("lamp", 0, "default", "settled"), 1_000))
+
+    def test_it_runs_on(self):
+        running = coming.Device(1, 1_080, True)
+        self.assertEqual(self.followed(running, (1_000, 0)), [("then", 1_080)])
+        # From 1080 on it is off, and for 40.
+        self.assertEqual(self.followed(running, (1_000, 0), (1_090, 1)), [("then", 1_080), ("then", 1_120)])
+        self.assertEqual(self.followed(running, (1_000, 0), (1_120, 1)), [("then", 1_080), (None, None)])
+        # What is replaced before is not written.
+        self.assertEqual(self.followed(running, (1_000, 0), (1_080, 1)), [("not", None), (None, None)])
+
+    def test_a_lease_at_1_to_5_is_not_held(self):
+        running = coming.Device(1, 1_080, True)
+        self.assertEqual(self.followed(running, (1_000, 0), basis="lease", priority=5), [(None, None)])
+        self.assertEqual(self.followed(running, (1_000, 0), basis="pending", priority=5), [("then", 1_080)])
+        self.assertEqual(self.followed(running, (1_000, 0), basis="lease", priority=8), [("then", 1_080)])
+
+    def test_where_it_is_not_known_since_when(self):
+        running = coming.Device(1, 1_100, False)
+        # It goes off at 1100, or sooner; whatever the look, at 1150 at the latest.
+        self.assertEqual(self.followed(running, (1_000, 1), (1_050, 0)), [(None, None), ("by", 1_150)])
+        self.assertEqual(self.followed(running._replace(free=1_110), (1_010, 1), (1_050, 0)), [(None, None), ("by", 1_150)])
+        # An hour later no time keeps it any more, and from then on all is known: off from 5000, on from 5040 at the earliest.
+        self.assertEqual(self.followed(running, (1_000, 1), (5_000, 0), (5_010, 1)), [(None, None), (None, None), ("then", 5_040)])
+        # By 1060 it may be off or on yet; off since then it would be free at 1100.
+        self.assertEqual(self.followed(running, (1_000, 0), (1_060, 1)), [("perhaps", None), ("by", 1_100)])
+        # A lease at 1 to 5 is written at once, whatever the device has.
+        self.assertEqual(self.followed(coming.Device(None, 1_100, False), (1_000, 0), basis="lease", priority=5), [(None, None)])
+        # Off since 1090, it is free at 1130.
+        self.assertEqual(self.followed(running, (1_000, 0), (1_090, 1)), [("perhaps", None), ("by", 1_130)])
 
 
 if __name__ == "__main__":
