@@ -155,8 +155,8 @@ class Holding:
         self._doubts = False
         names = list(dict.fromkeys([*self.keeper.held, *self.keeper.doubtful]))
         try:
-            found = [bossd.Slots(answer["point"], answer["default"], {place: bossd.Slot(**one) for place, one in enumerate(answer["slots"], 1) if one})
-                     if isinstance(answer, dict) else None for answer in await self.server.ask_all([{"op": "array", "point": name} for name in names])]
+            answers = await self.server.ask_all([{"op": "array", "point": name} for name in names])
+            found = [bossd.slots_of(answer) if isinstance(answer, dict) else None for answer in answers]
             slots = {name: one.slots.get(self.keeper.settable[name].priority) if one is not None else None for name, one in zip(names, found)}
             owners = await self.server.owners({slot.txn for slot in slots.values() if slot is not None})
         except bossd.Unanswered:

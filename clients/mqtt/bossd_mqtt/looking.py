@@ -121,7 +121,7 @@ class Looking:
             if isinstance(answer, bossd.Refused):
                 self.saying.once((name, answer.error), f"{name}: {answer}: is {self.settings.catalogue.path} the server's catalogue?")
                 continue
-            reading = bossd.Reading(answer["point"], answer["value"], answer["from"], answer["mark"], answer.get("priority"), answer.get("txn"))
+            reading = bossd.reading_of(answer)
             before = self._readings.get(name)
             if before is None or (before.txn, before.priority, before.basis) != (reading.txn, reading.priority, reading.basis):
                 changed.append(name)

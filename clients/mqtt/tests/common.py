@@ -2,7 +2,6 @@
 
 The program is that of this repository, or the one that BOSSD in the environment names."""
 
-import importlib.util
 import json
 import os
 import signal
@@ -19,13 +18,10 @@ HERE = os.path.dirname(os.path.abspath(__file__))
 MQTT = os.path.dirname(HERE)
 TOP = os.path.dirname(os.path.dirname(MQTT))
 CATALOGUE = os.path.join(HERE, "building.toml")
-sys.path[:0] = [MQTT, os.path.join(TOP, "clients", "python")]
+sys.path[:0] = [MQTT, os.path.join(TOP, "clients", "python"), TOP]
 
 import bossd  # noqa: E402
-
-spec = importlib.util.spec_from_file_location("tools_common", os.path.join(TOP, "tools", "common.py"))
-tools = importlib.util.module_from_spec(spec)
-spec.loader.exec_module(tools)
+from outside import program as tools  # noqa: E402
 
 # How long something may take until it is seen, in seconds. A machine with much other work may want more.
 PATIENCE = float(os.environ.get("PATIENCE", 30))

@@ -1,6 +1,8 @@
 """Tests of what is held, and of what is asked for that. Moments and lengths are milliseconds."""
 
 import asyncio
+import json
+import types
 import unittest
 
 from tests import common
@@ -8,8 +10,10 @@ from tests import common
 import bossd
 from bossd_mqtt.holding import Holding, clock
 from bossd_mqtt.keeping import Held, Keeper
+from bossd_mqtt.looking import Looking
 from bossd_mqtt.saying import Saying
 from bossd_mqtt.settings import Settable
+from bossd_mqtt.topics import Point, Topics
 
 ONE = Settable(12, 300_000, 28_800_000, 60_000, ((50_000, 3_600_000),))
 PLAIN = Settable(16, 300_000, 28_800_000, 0, ())
@@ -202,6 +206,34 @@ class Turns(unittest.TestCase):
             asked, held = self.run_it(ends)
             self.assertEqual(asked, [[("p0", 8, 300_000)]])
             self.assertEqual((held.value, held.txn), (8, 1))
+
+
+class Later(unittest.TestCase):
+    """Over a later server, whose answers have keys that nothing here knows, and over one that tells what a device took last."""
+
+    process = "mqtt"
+    READ = {"ok": "read", "point": "p0", "value": 0, "from": "lease", "priority": 12, "txn": 4, "mark": "pending", "took": 1, "since": 1_500, "later": 1}
+    ARRAY = {"ok": "array", "point": "p0", "default": 0, "slots": [None] * 11 + [{"value": 7, "txn": 4, "until": 9_000, "later": 2}] + [None] * 4,
+             "later": 3}
+
+    async def ask_all(self, requests):
+        return [{"read": self.READ, "array": self.ARRAY}[request["op"]] for request in requests]
+
+    async def owners(self, txns):
+        return {txn: "mqtt" for txn in txns}
+
+    def test_what_stands_is_found(self):
+        holding = Holding(self, keeper(), Saying())
+        holding.keeper.held["p0"] = Held(7, None, clock() + 1_000_000, 0)
+        asyncio.run(holding._look())
+        self.assertEqual(holding.keeper.held["p0"].txn, 4)
+
+    def test_what_a_point_has_is_told(self):
+        told = {}
+        settings = types.SimpleNamespace(points={"p0": Point("p0", "binary")}, every=1_000, until_every=0, topics=Topics("north"))
+        asyncio.run(Looking(settings, self, Saying(), told.update).look(["p0"]))
+        self.assertEqual(json.loads(told["north/point/p0/state"]),
+                         {"value": 0, "unit": None, "from": "lease", "priority": 12, "owner": "mqtt", "until": 9_000, "device": "pending"})
 
 
 if __name__ == "__main__":

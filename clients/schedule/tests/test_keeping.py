@@ -50,9 +50,11 @@ set = 19
 class Case(unittest.TestCase):
     """The schedule over a server under a clock of the test's own."""
 
+    SERVER = Script
+
     def setUp(self):
         self.clock = TestClock(at("2027-06-01T09:00"))                            # a Tuesday
-        self.server = Script(self.clock)
+        self.server = self.SERVER(self.clock)
         self.addCleanup(self.server.end)
         self.loop = asyncio.new_event_loop()
         self.addCleanup(self.loop.close)
@@ -78,6 +80,30 @@ class Case(unittest.TestCase):
         answer = self.server.one({"op": "submit", "writes": writes}, on)
         self.assertIn("ok", answer)
         return answer["txn"]
+
+
+class LaterScript(Script):
+    """A later server, whose answers have keys that nothing here knows."""
+
+    def _answer(self):
+        answer = super()._answer()
+        for key in ("slots", "list"):
+            if key in answer:
+                answer[key] = [one and {**one, "later": 2} for one in answer[key]]
+        return {**answer, "later": 1}
+
+
+class Later(Case):
+    SERVER = LaterScript
+
+    def test_its_keys_are_passed_over(self):
+        self.pulse()
+        self.assertEqual(self.values(), (21_000, 1, 8_000))
+        # What stands in its slots is read, as after an answer that did not come.
+        self.running._doubtful = True
+        self.other([{"point": "air.heating", "value": 15_000, "lease": 3 * HOUR}])
+        self.pulse(self.clock.now + SECOND)
+        self.assertEqual((self.values(), list(self.running.keeper.yielded)), ((15_000, 1, 8_000), [("air.heating", 16)]))
 
 
 class Pulses(Case):
