@@ -23,7 +23,7 @@ ROWS: dict[str, str | None] = {"README.md": None, "docs/PROVED.md": None, "docs/
 FOLDERS = ("src", "specs", "proofs", "must-fail", "data")
 PARTS = ("src", "specs", "proofs")
 # Where else a name may stand than in a crate.
-BESIDE = ("clients", "tools", "bench", "packaging", "examples")
+BESIDE = ("clients", "outside", "tools", "bench", "packaging", "examples")
 
 CRATE = r"(?:(?:boss|def|law|trial)_[a-z0-9]\w*|bossd)"
 # What is made when the repository is built.
@@ -38,7 +38,7 @@ MODULE = re.compile(r"[A-Z]\w*")
 # A name of code: with an underscore, a capital within or two colons.
 NAME = re.compile(r"[A-Za-z]\w*(?:::\w+)*")
 CODED = re.compile(r"\w_\w|[a-z][A-Z]|::")
-PLAIN_PATH = re.compile(r"(?<![\w/.<-])(?:\./)?((?:tools|bench|packaging|examples|clients|docs|crates|\.ci)/[\w./*-]*)")
+PLAIN_PATH = re.compile(r"(?<![\w/.<-])(?:\./)?((?:outside|tools|bench|packaging|examples|clients|docs|crates|\.ci)/[\w./*-]*)")
 PROGRAM = re.compile(r"`(bossd-[a-z-]+|bossctl)\b")
 LINK = re.compile(r"\[(?:[^\[\]]|\[[^\]]*\])*\]\(([^()\s]+)\)")
 DECISIONS = re.compile(r"\bdecisions? (\d+(?:(?:, | and )\d+)*)")

@@ -18,11 +18,10 @@ import tomllib
 from collections import Counter
 from typing import Any, NamedTuple, Optional
 
-import common
-
-sys.path.insert(0, common.CLIENT)
 import bossd
 from bossd.ctl import _forms, _show
+from outside import CLIENT, program
+from outside.cases import Wrong
 
 DAY = 86_400_000
 # In seconds: within how long a host that was silent is asked again, how long one that restarts is silent, and what a busy machine may take.
@@ -71,10 +70,6 @@ check = 1000
     ("roof.box", 'bacnet = "analog-value,2"\nper = 1000\nnetwork = 2001\nstation = 12')])
 
 
-class Wrong(Exception):
-    """What was seen is not what has to be."""
-
-
 class Kept(NamedTuple):
     """A place of the plan: how often it is looked at and written once more, in milliseconds, 0 for never, and its scale."""
     point: _show.Point
@@ -101,7 +96,7 @@ def refuses(key: str) -> bool:
         plan = os.path.join(folder, "plan.toml")
         with open(plan, "w") as file:
             file.write(f'place = []\n[[driver]]\nname = "light"\nhost = "192.0.2.1:502"\n{key}\n')
-        words = [common.PROGRAM, "serve", os.path.join(common.EXAMPLES, "plant.toml"), "-", "127.0.0.1:0", "1", "1", "-", plan]
+        words = [program.PROGRAM, "serve", os.path.join(program.EXAMPLES, "plant.toml"), "-", "127.0.0.1:0", "1", "1", "-", plan]
         return subprocess.run(words, capture_output=True, text=True, timeout=60).stdout == "plan bad-driver 0\n"
 
 
@@ -129,7 +124,7 @@ class Stand:
         self.plan = os.path.join(folder, "local.toml")
         words = [sys.executable, "-m", "bossd.ctl", "field", plan, "--catalogue", catalogue, "--ports", "0", "--to", self.plan, "--json"]
         self.process = subprocess.Popen(words, stdin=subprocess.PIPE, stdout=subprocess.PIPE, text=True, cwd=folder,
-                                        env={**os.environ, "PYTHONPATH": common.CLIENT})
+                                        env={**os.environ, "PYTHONPATH": CLIENT})
         self.events: list[dict[str, Any]] = []
         self.rows: "queue.Queue[dict[str, Any]]" = queue.Queue()
         threading.Thread(target=self._read, daemon=True).start()
@@ -138,10 +133,14 @@ class Stand:
         assert self.process.stdout is not None
         for line in self.process.stdout:
             told = json.loads(line)
-            (self.rows.put if "value" in told else self.events.append)({**told, "seen": time.monotonic()})
+            told["seen"] = time.monotonic()
+            if "value" in told:
+                self.rows.put(told)
+            else:
+                self.events.append(told)
 
     def __enter__(self) -> "Stand":
-        if not common.eventually(lambda: any("plan" in it for it in self.events), common.PATIENCE):
+        if not program.eventually(lambda: any("plan" in it for it in self.events), program.PATIENCE):
             self.__exit__()
             raise Wrong("bossctl field does not begin")
         return self
@@ -158,7 +157,7 @@ class Stand:
     def values(self, count: int) -> dict[str, Optional[int]]:
         """What so many points have."""
         self.order("list")
-        rows = [self.rows.get(timeout=common.PATIENCE) for _ in range(count)]
+        rows = [self.rows.get(timeout=program.PATIENCE) for _ in range(count)]
         return {row["point"]: row["value"] for row in rows}
 
     def written(self) -> dict[str, list[float]]:
@@ -271,7 +270,7 @@ class Night:
         """In how many seconds each device has its target. Wrong where one has not."""
         intervals = max((max(it.check, it.again) for it in self.places.values()), default=0) / 1000
         longest, began = 2 * intervals + BACK + SLACK, time.monotonic()
-        if not common.eventually(lambda: not self.astray(), longest):
+        if not program.eventually(lambda: not self.astray(), longest):
             raise Wrong(f"{longest:.0f} s after the last trouble {'; '.join(self.astray())}")
         return f"each had its target {time.monotonic() - began:.1f} s after the last"
 
@@ -299,12 +298,12 @@ def play(count: int, catalogue: str, plan: str, folder: str, seed: int) -> str:
     """One night. Wrong where something is not as it has to be."""
     places = places_of(catalogue, plan)
     with Stand(folder, catalogue, plan) as stand:
-        server = common.Server(catalogue, plan=stand.plan)
+        server = program.Server(catalogue, plan=stand.plan)
         server.start(stderr=subprocess.DEVNULL)
         try:
             with bossd.Client(server.address, "night") as client:
                 night = Night(stand, client, places, random.Random(seed))
-                if not common.eventually(lambda: not night.astray(), common.PATIENCE):
+                if not program.eventually(lambda: not night.astray(), program.PATIENCE):
                     raise Wrong(f"at the start {'; '.join(night.astray())}")
                 night.begin()
                 night.play(count)

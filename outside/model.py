@@ -5,7 +5,19 @@ thousandths. With access rules it denies writes. Beside it stands where a line i
 import hashlib
 import json
 import re
+from collections.abc import Callable, Sequence
 from dataclasses import dataclass, field
+from typing import Any
+
+Line = dict[str, Any]
+# A key of a line, whether it has to be there, and what its value has to fit.
+Key = tuple[str, bool, Callable[[Any], bool]]
+# The values that come behind a lease, each with how long it holds.
+Steps = list[list[int]]
+# What a process was told, with None for what can't be asked for any more.
+Told = list["Notice | None"]
+# The value that a device took last, and since when it has been told to have it.
+Took = tuple[int, int]
 
 WEEK = 604_800_000
 DAY = 86_400_000
@@ -25,10 +37,10 @@ class Point:
     most: int
     default: int
 
-    def fits(self, value):
+    def fits(self, value: int) -> bool:
         return self.least <= value <= self.most
 
-    def table(self):
+    def table(self) -> str:
         bounds = {
             "analog": f"min = {self.least}\nmax = {self.most}\n",
             "binary": "",
@@ -37,10 +49,10 @@ class Point:
         return (f'[[point]]\nname = "{self.name}"\ndriver = "{self.driver}"\nkind = "{self.kind}"\n'
                 f"{bounds}default = {self.default}\n")
 
-    def told(self):
+    def told(self) -> Line:
         """The point as the program tells it."""
-        bounds = {"analog": {"min": self.least, "max": self.most}, "binary": {}, "multi": {"states": self.most}}[self.kind]
-        return {"point": self.name, "kind": self.kind, **bounds, "default": self.default, "driver": self.driver}
+        bounds: dict[str, Line] = {"analog": {"min": self.least, "max": self.most}, "binary": {}, "multi": {"states": self.most}}
+        return {"point": self.name, "kind": self.kind, **bounds[self.kind], "default": self.default, "driver": self.driver}
 
 
 @dataclass(frozen=True)
@@ -50,19 +62,19 @@ class Rule:
     highest: int = 1
     allow: bool = True
 
-    def matches(self, process, point):
+    def matches(self, process: str, point: str) -> bool:
         return fits(self.process, process) and fits(self.point, point)
 
-    def table(self):
+    def table(self) -> str:
         highest = f"highest = {self.highest}\n" if self.highest != 1 else ""
         return f'[[rule]]\nprocess = "{self.process}"\npoint = "{self.point}"\n{highest}' + ("" if self.allow else "allow = false\n")
 
 
-def fits(pattern, name):
+def fits(pattern: str, name: str) -> bool:
     return name.startswith(pattern[:-1]) if pattern.endswith("*") else name == pattern
 
 
-def denying_rule(rules, process, write):
+def denying_rule(rules: Sequence[Rule], process: str, write: Line) -> int | None:
     """The number of the rule that denies a process this write, 0 where no rule is for it; None where it is allowed."""
     for number, rule in enumerate(rules, 1):
         if rule.matches(process, write["point"]):
@@ -70,7 +82,7 @@ def denying_rule(rules, process, write):
     return 0
 
 
-def digest(drivers, points):
+def digest(drivers: list[str], points: list[Point]) -> str:
     """What a catalogue is known by."""
     lines = [f"d {name}\n" for name in drivers]
     lines += [f"p {it.name} {it.driver} {it.kind} {it.least} {it.most} {it.default}\n" for it in points]
@@ -79,29 +91,29 @@ def digest(drivers, points):
 
 # ---- where a line is at fault, in the order of PROTOCOL
 
-def is_whole(it):
+def is_whole(it: Any) -> bool:
     return type(it) is int and -2**63 <= it < 2**63
 
 
-def is_number(least=0, most=2**63 - 1):
+def is_number(least: int = 0, most: int = 2**63 - 1) -> Callable[[Any], bool]:
     return lambda it: is_whole(it) and least <= it <= most
 
 
-def is_text(it):
+def is_text(it: Any) -> bool:
     return isinstance(it, str)
 
 
-def is_name(it):
+def is_name(it: Any) -> bool:
     return is_text(it) and re.fullmatch("[a-z0-9._-]{1,64}", it) is not None
 
 
-def is_short(it):
+def is_short(it: Any) -> bool:
     return isinstance(it, list) and 1 <= len(it) <= 32
 
 
-SEQ = ("seq", False, is_number(1, 2**62 - 1))
+SEQ: Key = ("seq", False, is_number(1, 2**62 - 1))
 # The keys of each request, whether each is needed, and what it may be.
-KEYS = {
+KEYS: dict[str, list[Key]] = {
     "attach": [("process", True, is_name)],
     "submit": [("writes", True, is_short), ("policy", False, lambda it: it in ("abort", "keep")), SEQ],
     "renew": [("txn", True, is_number()), ("length", True, is_whole), ("points", False, is_short), SEQ],
@@ -113,17 +125,17 @@ KEYS = {
     "points": [("from", False, is_number(0, 2**62)), ("max", False, is_number(1, 64))],
     "version": [], "gone": [], "tick": [],
 }
-LINE_KEYS = [("on", False, is_number(1, 65_535)), ("at", False, is_number(0, 2**60))]
-WRITE_KEYS = [("point", True, is_text), ("value", True, is_whole), ("priority", False, is_whole), ("lease", True, is_whole),
+LINE_KEYS: list[Key] = [("on", False, is_number(1, 65_535)), ("at", False, is_number(0, 2**60))]
+WRITE_KEYS: list[Key] = [("point", True, is_text), ("value", True, is_whole), ("priority", False, is_whole), ("lease", True, is_whole),
               ("revert", False, lambda it: isinstance(it, list))]
 
 
-def first_fault(keys, found):
+def first_fault(keys: Sequence[Key], found: Line) -> str | None:
     """The first of these keys that is missing where it is needed, or is not what it may be."""
     return next((key for key, needed, fits in keys if (not fits(found[key]) if key in found else needed)), None)
 
 
-def fault_in_write(place, write):
+def fault_in_write(place: int, write: Line) -> str | None:
     key = first_fault(WRITE_KEYS, write if isinstance(write, dict) else {})
     if key:
         return f"writes[{place}].{key}"
@@ -136,7 +148,7 @@ def fault_in_write(place, write):
     return None
 
 
-def key_at_fault(line):
+def key_at_fault(line: Line) -> str | None:
     """The key at fault in what a line writes, or None. Of an `op` that is not known that is None."""
     if not isinstance(line, dict) or not isinstance(line.get("op"), str):
         return "op"
@@ -161,7 +173,7 @@ class Lease:
     priority: int
     value: int
     until: int
-    steps: list
+    steps: Steps
     since: int
     # How it ended, if it did.
     ended: "End | None" = None
@@ -173,25 +185,25 @@ class Reversion:
     owner: int
     point: int
     priority: int
-    steps: list
+    steps: Steps
     start: int
     # When a new lease took its slot, if one did.
     cut: int | None = None
 
-    def boundaries(self):
+    def boundaries(self) -> list[int]:
         moment, found = self.start, []
         for _, hold in self.steps:
             moment += hold
             found.append(moment)
         return found
 
-    def end(self):
+    def end(self) -> int:
         return self.boundaries()[-1]
 
-    def value_at(self, moment):
+    def value_at(self, moment: int) -> int:
         for (value, _), boundary in zip(self.steps, self.boundaries()):
             if moment < boundary:
-                return value
+                return int(value)
         raise ValueError("the reversion is over")
 
 
@@ -199,7 +211,7 @@ class Reversion:
 class Transaction:
     owner: int
     # By point, in the order of the writes: how its lease ended, or None.
-    ends: dict = field(default_factory=dict)
+    ends: "dict[int, End | None]" = field(default_factory=dict)
 
 
 @dataclass
@@ -208,19 +220,19 @@ class End:
     at: int
     by: int = 0
 
-    def keys(self):
+    def keys(self) -> Line:
         return {"cause": self.cause, **({"by": self.by} if self.cause == "superseded" else {})}
 
 
 KINDS = ["fault", "ended", "reverted", "cut", "done"]
 
 
-def forget_up_to(told, place):
+def forget_up_to(told: Told, place: int) -> None:
     """Lets go of what a process was told, up to this place."""
     told[:place + 1] = [None] * (place + 1)
 
 
-def first_kept(told):
+def first_kept(told: Told) -> int:
     """The number of the first notice that is kept, one above the last where none is."""
     first = max(1, len(told) - KEPT_NOTICES + 1)
     while first <= len(told) and told[first - 1] is None:
@@ -234,26 +246,26 @@ class Notice:
     txn: int
     kind: str
     point: int = 0
-    keys: dict = field(default_factory=dict)
+    keys: Line = field(default_factory=dict)
 
-    def rank(self):
+    def rank(self) -> tuple[int, int, int, int]:
         return self.at, self.txn, KINDS.index(self.kind), self.point
 
-    def told(self, number, names):
+    def told(self, number: int, names: Sequence[str]) -> Line:
         point = {} if self.kind == "done" else {"point": names[self.point]}
         return {"n": number, "at": self.at, "txn": self.txn, "kind": self.kind, **point, **self.keys}
 
 
-def ok(what, **keys):
+def ok(what: str, **keys: object) -> str:
     return json.dumps({"ok": what, **keys}, separators=(",", ":"))
 
 
-def error(what, **keys):
+def error(what: str, **keys: object) -> str:
     return json.dumps({"error": what, **keys}, separators=(",", ":"))
 
 
 class Machine:
-    def __init__(self, drivers, points, rules=None):
+    def __init__(self, drivers: list[str], points: list[Point], rules: Sequence[Rule] | None = None) -> None:
         self.drivers = drivers
         self.points = points
         # None denies nothing.
@@ -261,28 +273,30 @@ class Machine:
         self.names = [point.name for point in points]
         self.now = 0
         self.next = 1
-        self.leases = []
-        self.reversions = []
-        self.transactions = {}
-        self.done = []
-        self.processes = []
+        self.leases: list[Lease] = []
+        self.reversions: list[Reversion] = []
+        self.transactions: dict[int, Transaction] = {}
+        self.done: list[int] = []
+        self.processes: list[str] = []
         # Of each process all that it was told, with None for what can't be asked for any more.
-        self.told = []
+        self.told: list[Told] = []
         # Of a process the number of its last numbered request that was accepted, and what that was answered.
-        self.kept = {}
-        self.attached = {}
+        self.kept: dict[int, tuple[int, str]] = {}
+        self.attached: dict[int, int] = {}
         self.commanded = [point.default for point in points]
         self.marks = ["pending"] * len(points)
+        # Of each point the value that its device took last, and since when; None before it took one.
+        self.took: list[Took | None] = [None] * len(points)
         self.wants = list(range(len(points)))
-        self.lines = []
-        self.drain()
+        self.lines: list[str] = []
+        self.drain(self.now)
 
-    def lasting(self):
+    def lasting(self) -> str:
         """What lasts, as far as it shows whether a step has changed it, which makes it an event of a journal. What is told and what becomes
         done changes with it."""
         return repr((self.now, self.next, self.leases, self.reversions, self.processes, self.kept))
 
-    def adopt(self, drivers, points):
+    def adopt(self, drivers: list[str], points: list[Point]) -> str | None:
         """What lasts goes on under another catalogue, where points are known by their names. Why it can't, by the point's name, and then
         nothing has changed; or None, and then it has to be opened again."""
         places = {point.name: place for place, point in enumerate(points)}
@@ -297,8 +311,8 @@ class Machine:
                 return f"unfit {self.names[point]}"
 
         renumbered = {old: places[name] for old, name in enumerate(self.names) if name in places}
-        for it in self.leases + self.reversions:
-            it.point = renumbered[it.point]
+        for part in self.leases + self.reversions:
+            part.point = renumbered[part.point]
         self.transactions = {txn: made for txn, made in self.transactions.items() if made.ends.keys() <= renumbered.keys()}
         self.done = [txn for txn in self.done if txn in self.transactions]
         for made in self.transactions.values():
@@ -312,35 +326,36 @@ class Machine:
         self.drivers, self.points, self.names = drivers, points, [point.name for point in points]
         return None
 
-    def reopen(self):
-        """What lasts is opened again: nobody is attached, and each point wants its target."""
+    def reopen(self) -> None:
+        """What lasts is opened again: nobody is attached, nothing is known of devices, and each point wants its target."""
         self.attached = {}
         self.commanded = [self.basis(point)[2] for point in range(len(self.points))]
         self.marks = ["pending"] * len(self.points)
+        self.took = [None] * len(self.points)
         self.wants = list(range(len(self.points)))
         self.lines = []
-        self.drain()
+        self.drain(self.now)
 
-    def answer(self, session, request, moment):
+    def answer(self, session: int, request: Line, moment: int) -> None:
         n = self.pass_time(moment)
         self.settle()
         text = self.act(session, request, n)
         self.settle()
         self.lines.append(text)
-        self.drain()
+        self.drain(n)
 
-    def act(self, session, request, n):
+    def act(self, session: int, request: Line, n: int) -> str:
         """What a request is answered. Of a process that numbers its requests each is made once, as long as the rules allow it."""
         if request["op"] == "submit" and session in self.attached and self.rules is not None:
             for place, write in enumerate(request["writes"]):
                 rule = denying_rule(self.rules, self.processes[self.attached[session]], write)
                 if rule is not None:
                     return error("denied", index=place, rule=rule)
-        make = self.page if request["op"] == "points" else getattr(self, request["op"])
+        make: Callable[[int, Line, int], str] = self.page if request["op"] == "points" else getattr(self, request["op"])
         if "seq" not in request or request["op"] not in NUMBERED or session not in self.attached:
             return make(session, request, n)
         process, number = self.attached[session], request["seq"]
-        kept, reply = self.kept.get(process, (0, None))
+        kept, reply = self.kept.get(process, (0, ""))
         if kept == number:
             return reply
         if kept > number:
@@ -352,7 +367,7 @@ class Machine:
 
     # -- time
 
-    def pass_time(self, moment):
+    def pass_time(self, moment: int) -> int:
         n = max(self.now, moment)
         expired = [lease for lease in self.leases if lease.until <= n]
         self.leases = [lease for lease in self.leases if lease.until > n]
@@ -366,7 +381,7 @@ class Machine:
         self.now = max(due, default=self.now)
         return n
 
-    def end(self, lease, end):
+    def end(self, lease: Lease, end: End) -> Notice:
         """A lease ends and its reversion begins. What the owner is told."""
         self.transactions[lease.txn].ends[lease.point] = end
         lease.ended = end
@@ -375,9 +390,9 @@ class Machine:
                 Reversion(lease.txn, lease.owner, lease.point, lease.priority, lease.steps, end.at))
         return Notice(end.at, lease.txn, "ended", lease.point, end.keys())
 
-    def tell(self, notices):
+    def tell(self, notices: list[Notice]) -> None:
         """Tells notices of parts that ended, and which transactions became done with them."""
-        last = {}
+        last: dict[int, int] = {}
         for notice in notices:
             last[notice.txn] = max(last.get(notice.txn, 0), notice.at)
         held = {part.txn for part in self.leases + self.reversions}
@@ -390,7 +405,7 @@ class Machine:
 
     # -- points and devices
 
-    def basis(self, point):
+    def basis(self, point: int) -> tuple[str, Lease | Reversion | None, int]:
         leases = [lease for lease in self.leases if lease.point == point]
         if leases:
             lease = min(leases, key=lambda lease: lease.priority)
@@ -401,7 +416,7 @@ class Machine:
             return "pending", reversion, reversion.value_at(self.now)
         return "default", None, self.points[point].default
 
-    def settle(self):
+    def settle(self) -> None:
         for point in range(len(self.points)):
             _, _, target = self.basis(point)
             if target != self.commanded[point]:
@@ -409,17 +424,21 @@ class Machine:
                 self.marks[point] = "pending"
                 self.wants = [want for want in self.wants if want != point] + [point]
 
-    def drain(self):
+    def drain(self, n: int) -> None:
+        """Devices take what they are to have, at this moment."""
         while self.wants:
             point = min(self.wants, key=lambda point: self.drivers.index(self.points[point].driver))
             self.wants.remove(point)
             self.marks[point] = "settled"
+            took = self.took[point]
+            if took is None or took[0] != self.commanded[point]:
+                self.took[point] = self.commanded[point], n
             driver, name = self.points[point].driver, self.points[point].name
             self.lines.append(f"write {driver} {name} {self.commanded[point]} ok")
 
     # -- commands
 
-    def attach(self, session, request, n):
+    def attach(self, session: int, request: Line, n: int) -> str:
         name = request["process"]
         if session in self.attached:
             return error("already", process=self.processes[self.attached[session]])
@@ -434,7 +453,7 @@ class Machine:
         self.attached[session] = process
         return ok("attached", process=name, next=len(self.told[process]) + 1)
 
-    def submit(self, session, request, n):
+    def submit(self, session: int, request: Line, n: int) -> str:
         if session not in self.attached:
             return error("not-attached")
         writes = request["writes"]
@@ -454,9 +473,9 @@ class Machine:
         self.tell(notices)
         return ok("accepted", txn=txn, until=min(n + write["lease"] for write in writes))
 
-    def wrong_write(self, writes):
+    def wrong_write(self, writes: list[Line]) -> str | None:
         points = [self.points[self.names.index(write["point"])] for write in writes]
-        tests = [
+        tests: list[tuple[str, Callable[[int], bool]]] = [
             ("same-point", lambda i: points[i] in points[:i]),
             ("bad-priority", lambda i: writes[i].get("priority", 16) not in {*range(1, 17)} - {6}),
             ("out-of-range", lambda i: not points[i].fits(writes[i]["value"])),
@@ -471,7 +490,7 @@ class Machine:
                     return error(why, index=place)
         return None
 
-    def take_slot(self, txn, write, n):
+    def take_slot(self, txn: int, write: Line, n: int) -> list[Notice]:
         """What stands in the slot of a write goes out. What its owners are told."""
         slot = self.names.index(write["point"]), write.get("priority", 16)
         leases = [lease for lease in self.leases if (lease.point, lease.priority) == slot]
@@ -483,21 +502,21 @@ class Machine:
         ended = [self.end(lease, End("superseded", n, txn)) for lease in leases]
         return ended + [Notice(n, cut.txn, "cut", cut.point, {"by": txn}) for cut in reversions]
 
-    def own_transaction(self, session, txn):
-        """The transaction, and why the session may not change it."""
+    def own_transaction(self, session: int, txn: int) -> Transaction | str:
+        """The transaction, or why the session may not change it."""
         if txn not in self.transactions:
-            return None, error("unknown-txn")
+            return error("unknown-txn")
         transaction = self.transactions[txn]
-        return transaction, error("not-yours") if transaction.owner != self.attached[session] else None
+        return error("not-yours") if transaction.owner != self.attached[session] else transaction
 
-    def renew(self, session, request, n):
+    def renew(self, session: int, request: Line, n: int) -> str:
         if session not in self.attached:
             return error("not-attached")
         if not 1 <= request["length"] <= WEEK:
             return error("bad-lease", index=0)
-        transaction, why = self.own_transaction(session, request["txn"])
-        if why:
-            return why
+        transaction = self.own_transaction(session, request["txn"])
+        if isinstance(transaction, str):
+            return transaction
         named = [self.names.index(name) for name in request.get("points", [])]
         for place, point in enumerate(named):
             if point not in transaction.ends:
@@ -513,25 +532,25 @@ class Machine:
         self.now = n
         return ok("renewed", txn=request["txn"], until=min(lease.until for lease in renewed))
 
-    def end_all(self, leases, cause, n):
+    def end_all(self, leases: list[Lease], cause: str, n: int) -> None:
         self.leases = [lease for lease in self.leases if lease not in leases]
         notices = [self.end(lease, End(cause, n)) for lease in leases]
         self.now = n
         self.tell(notices)
 
-    def cancel(self, session, request, n):
+    def cancel(self, session: int, request: Line, n: int) -> str:
         if session not in self.attached:
             return error("not-attached")
-        transaction, why = self.own_transaction(session, request["txn"])
-        if why:
-            return why
+        transaction = self.own_transaction(session, request["txn"])
+        if isinstance(transaction, str):
+            return transaction
         leases = [lease for lease in self.leases if lease.txn == request["txn"]]
         if not leases:
-            return error("over", at=max(end.at for end in transaction.ends.values()))
+            return error("over", at=max(end.at for end in transaction.ends.values() if end))
         self.end_all(leases, "cancelled", n)
         return ok("cancelled", txn=request["txn"], at=n)
 
-    def gone(self, session, request, n):
+    def gone(self, session: int, request: Line, n: int) -> str:
         if session not in self.attached:
             return error("not-attached")
         leases = [lease for lease in self.leases if lease.owner == self.attached[session]]
@@ -542,18 +561,20 @@ class Machine:
 
     # -- questions
 
-    def tick(self, session, request, n):
+    def tick(self, session: int, request: Line, n: int) -> str:
         return ok("tick", now=self.now)
 
-    def read(self, session, request, n):
+    def read(self, session: int, request: Line, n: int) -> str:
         point = self.names.index(request["point"])
         kind, basis, value = self.basis(point)
         held = {"priority": basis.priority, "txn": basis.txn} if basis else {}
-        return ok("read", point=self.names[point], value=value, **{"from": kind}, **held, mark=self.marks[point])
+        took = self.took[point]
+        other = {"took": took[0], "since": took[1]} if took is not None and took[0] != value else {}
+        return ok("read", point=self.names[point], value=value, **{"from": kind}, **held, mark=self.marks[point], **other)
 
-    def array(self, session, request, n):
+    def array(self, session: int, request: Line, n: int) -> str:
         point = self.names.index(request["point"])
-        slots = [None] * 16
+        slots: list[Line | None] = [None] * 16
         for lease in self.leases:
             if lease.point == point:
                 slots[lease.priority - 1] = {"value": lease.value, "txn": lease.txn, "until": lease.until}
@@ -563,7 +584,7 @@ class Machine:
                     "value": reversion.value_at(self.now), "txn": reversion.txn, "end": reversion.end()}
         return ok("array", point=self.names[point], default=self.points[point].default, slots=slots)
 
-    def status(self, session, request, n):
+    def status(self, session: int, request: Line, n: int) -> str:
         txn = request["txn"]
         if txn not in self.transactions:
             return error("unknown-txn")
@@ -573,7 +594,7 @@ class Machine:
         owner = self.processes[self.transactions[txn].owner]
         return ok("status", txn=txn, owner=owner, stage=stage, live=live, pending=pending)
 
-    def asked_of(self, session, request):
+    def asked_of(self, session: int, request: Line) -> Told | None:
         """What the process was told that is asked of, or None where the session holds none."""
         if "process" not in request:
             return self.told[self.attached[session]] if session in self.attached else None
@@ -581,23 +602,23 @@ class Machine:
             return []
         return self.told[self.processes.index(request["process"])]
 
-    def notices(self, session, request, n):
+    def notices(self, session: int, request: Line, n: int) -> str:
         kept = self.asked_of(session, request)
         if kept is None:
             return error("not-attached")
         first = first_kept(kept)
         start = min(max(request.get("from", 1), first), len(kept) + 1)
         end = min(start + request.get("max", 16), len(kept) + 1)
-        told = [kept[number - 1].told(number, self.names) for number in range(start, end)]
+        told = [it.told(number, self.names) for number, it in enumerate(kept[start - 1:end - 1], start) if it]
         return ok("notices", first=first, next=end, list=told)
 
-    def page(self, session, request, n):
+    def page(self, session: int, request: Line, n: int) -> str:
         """Points of the catalogue; with the first of them, of which there are at most 32, its drivers."""
         start = request.get("from", 0)
         told = self.points[start:start + min(request.get("max", 64), 64 if start else 32)]
         return ok("points", digest=digest(self.drivers, self.points), **({} if start else {"drivers": self.drivers}), count=len(self.points),
                   next=start + len(told), list=[point.told() for point in told])
 
-    def version(self, session, request, n):
+    def version(self, session: int, request: Line, n: int) -> str:
         return ok("version", program=PROGRAM_VERSION, journal=JOURNAL_VERSION, digest=digest(self.drivers, self.points),
                   points=len(self.points), drivers=len(self.drivers))

@@ -3,25 +3,27 @@ and read. Moments are milliseconds, values thousandths."""
 
 import json
 import random
+from collections.abc import Sequence
+from typing import Any
 
 PRIORITIES = [level for level in range(1, 17) if level != 6]
 KINDS = ["analog", "binary", "multi", "analog"]
 DRIVERS = ["field", "roof", "plant-2", "west.wing"]
 
 
-def name_of(point):
+def name_of(point: int) -> str:
     return f"b{point // 64}.r{point % 64}.p{point}"
 
 
-def kind_of(point):
+def kind_of(point: int) -> str:
     return KINDS[point % 4]
 
 
-def range_of(point):
+def range_of(point: int) -> tuple[int, int]:
     return {"analog": (0, 100_000), "binary": (0, 1), "multi": (1, 5)}[kind_of(point)]
 
 
-def catalogue(points, drivers=DRIVERS):
+def catalogue(points: int, drivers: Sequence[str] = DRIVERS) -> str:
     bounds = {"analog": "min = 0\nmax = 100000\ndefault = 20000", "binary": "default = 0", "multi": "states = 5\ndefault = 1"}
     tables = [f'[[point]]\nname = "{name_of(p)}"\ndriver = "{drivers[p * 7 % len(drivers)]}"\nkind = "{kind_of(p)}"\n{bounds[kind_of(p)]}'
               for p in range(points)]
@@ -29,35 +31,35 @@ def catalogue(points, drivers=DRIVERS):
 
 
 class Lines:
-    def __init__(self, points, seed):
+    def __init__(self, points: int, seed: int) -> None:
         self.points = points
         self.chance = random.Random(seed)
         self.moment = 0
         self.next = 1
-        self.lines = []
+        self.lines: list[str] = []
 
-    def ask(self, op, **keys):
+    def ask(self, op: str, **keys: object) -> None:
         self.lines.append(json.dumps({"at": self.moment, "op": op, **keys}, separators=(",", ":")))
 
-    def write(self, point, priority, lease, steps):
+    def write(self, point: int, priority: int, lease: int, steps: int) -> dict[str, Any]:
         made = {"point": name_of(point), "value": self.value(point), "priority": priority, "lease": lease}
         if steps:
             made["revert"] = [[self.value(point), self.chance.randint(1_000, 60_000)] for _ in range(steps)]
         return made
 
-    def value(self, point):
+    def value(self, point: int) -> int:
         return self.chance.randint(*range_of(point))
 
-    def submit(self, writes):
+    def submit(self, writes: list[dict[str, Any]]) -> int:
         self.ask("submit", writes=writes)
         self.next += 1
         return self.next - 1
 
-    def read(self):
+    def read(self) -> None:
         self.ask("read", point=name_of(self.chance.randrange(self.points)))
 
 
-def held(points, leases, requests, seed):
+def held(points: int, leases: int, requests: int, seed: int) -> tuple[int, list[str]]:
     """Lines that take so many leases of a week, and behind them so many requests that keep their number: submits on held and on free
     slots, renewals, cancels with a submit behind, reads and ticks. How many lines come first, and all of them."""
     lines = Lines(points, seed)
@@ -86,7 +88,7 @@ def held(points, leases, requests, seed):
     return filling, lines.lines
 
 
-def reads(count):
+def reads(count: int) -> list[str]:
     """So many reads of one point."""
     lines = Lines(1, 1)
     for _ in range(count):
@@ -94,7 +96,7 @@ def reads(count):
     return lines.lines
 
 
-def submits(count, points):
+def submits(count: int, points: int) -> list[str]:
     """An attach, and so many submits of a week, each an event of one write."""
     lines = Lines(points, 1)
     lines.ask("attach", process="holder")
@@ -104,7 +106,7 @@ def submits(count, points):
     return lines.lines
 
 
-def full(points, rounds=1):
+def full(points: int, rounds: int = 1) -> list[str]:
     """Submits that take every slot of a plant, so many times over, each of 32 writes with eight steps behind them, by 256 processes in turn."""
     lines = Lines(points, 1)
     for session in range(1, 257):
@@ -116,9 +118,9 @@ def full(points, rounds=1):
     return lines.lines
 
 
-def superseding(count, writes):
+def superseding(count: int, writes: int) -> list[str]:
     """For a connection, whose lines have no moment: an attach, and so many submits of so many writes, each in the place of the one before."""
     lines = Lines(writes, 1)
-    made = [{"op": "attach", "process": "holder"}]
+    made: list[dict[str, Any]] = [{"op": "attach", "process": "holder"}]
     made += [{"op": "submit", "writes": [lines.write(point, 8, 600_000_000, 0) for point in range(writes)]} for _ in range(count)]
     return [json.dumps(line, separators=(",", ":")) for line in made]

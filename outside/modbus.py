@@ -6,6 +6,10 @@ import socket
 import struct
 import threading
 import time
+from collections.abc import Callable
+
+# What a host does with a frame on a connection, and whether the connection goes on.
+Behave = Callable[[socket.socket, bytes], bool]
 
 FRAME = 12
 # A write of 45 to register 2 of unit 1, and one of 'on' to coil 19.
@@ -13,7 +17,7 @@ REGISTER_2 = bytes.fromhex("0001 0000 0006 01 06 0002 002d")
 COIL_19 = bytes.fromhex("0001 0000 0006 01 05 0013 ff00")
 
 
-def receive(connection, count):
+def receive(connection: socket.socket, count: int) -> bytes:
     """So many bytes, or those that come before the end."""
     data = b""
     while len(data) < count:
@@ -26,63 +30,63 @@ def receive(connection, count):
 
 # ---- what a host does with a frame: it sends something, and gives whether the connection goes on
 
-def echo(connection, frame):
+def echo(connection: socket.socket, frame: bytes) -> bool:
     connection.sendall(frame)
     return True
 
 
-def exception(code, function=0x80):
-    def answer(connection, frame):
+def exception(code: int, function: int = 0x80) -> Behave:
+    def answer(connection: socket.socket, frame: bytes) -> bool:
         connection.sendall(frame[:4] + b"\0\3" + frame[6:7] + bytes([frame[7] + function, code]))
         return True
     return answer
 
 
-def silent(connection, frame):
+def silent(connection: socket.socket, frame: bytes) -> bool:
     return True
 
 
-def half(connection, frame):
+def half(connection: socket.socket, frame: bytes) -> bool:
     connection.sendall(frame[:7])
     return True
 
 
-def half_and_end(connection, frame):
+def half_and_end(connection: socket.socket, frame: bytes) -> bool:
     connection.sendall(frame[:7])
     return False
 
 
-def end(connection, frame):
+def end(connection: socket.socket, frame: bytes) -> bool:
     return False
 
 
-def header_of_exception_and_end(connection, frame):
+def header_of_exception_and_end(connection: socket.socket, frame: bytes) -> bool:
     connection.sendall(frame[:4] + b"\0\3")
     return False
 
 
-def reset(connection, frame):
+def reset(connection: socket.socket, frame: bytes) -> bool:
     # A linger of no time sends a reset in place of an end.
     connection.setsockopt(socket.SOL_SOCKET, socket.SO_LINGER, struct.pack("ii", 1, 0))
     return False
 
 
-def changed(place):
+def changed(place: int) -> Behave:
     """The frame with another byte at this place."""
-    def answer(connection, frame):
+    def answer(connection: socket.socket, frame: bytes) -> bool:
         connection.sendall(frame[:place] + bytes([frame[place] ^ 1]) + frame[place + 1:])
         return True
     return answer
 
 
-def web_server(connection, frame):
+def web_server(connection: socket.socket, frame: bytes) -> bool:
     connection.sendall(b"HTTP/1.1 400 Bad Request\r\nConnection: close\r\n\r\n")
     return False
 
 
-def byte_by_byte(pause):
+def byte_by_byte(pause: float) -> Behave:
     """The frame, and so many seconds after each of its bytes."""
-    def answer(connection, frame):
+    def answer(connection: socket.socket, frame: bytes) -> bool:
         for byte in frame:
             connection.sendall(bytes([byte]))
             time.sleep(pause)
@@ -90,7 +94,7 @@ def byte_by_byte(pause):
     return answer
 
 
-def echo_and_more(connection, frame):
+def echo_and_more(connection: socket.socket, frame: bytes) -> bool:
     connection.sendall(frame + b"\1\2\3")
     return True
 
@@ -100,28 +104,29 @@ class Host:
     `idle` it ends each connection on which nothing came for so many seconds. `frames` are those that came, with their moments
     (time.monotonic); `connections` is how many there were."""
 
-    def __init__(self, behave=echo, idle=None, accepts=True):
+    def __init__(self, behave: Behave = echo, idle: float | None = None, accepts: bool = True) -> None:
         self.behave, self.idle = behave, idle
-        self.frames, self.connections, self.open = [], 0, set()
+        self.frames: list[tuple[float, bytes]] = []
+        self.connections, self.open = 0, set[socket.socket]()
         self.listener = socket.socket()
         self.listener.setsockopt(socket.SOL_SOCKET, socket.SO_REUSEADDR, 1)
         self.listener.bind(("127.0.0.1", 0))
         self.port = self.listener.getsockname()[1]
         self.address = f"127.0.0.1:{self.port}"
-        self.waiting = []
+        self.waiting: list[socket.socket] = []
         if accepts:
             self.accept()
         else:
             self._fill()
 
-    def accept(self):
+    def accept(self) -> None:
         """Takes connections from now on."""
         for one in self.waiting:
             one.close()
         self.listener.listen(128)
         threading.Thread(target=self._accept, daemon=True).start()
 
-    def _fill(self):
+    def _fill(self) -> None:
         """Has so many connections wait that the system takes no further one, and never takes any of them."""
         self.listener.listen(0)
         for _ in range(4):
@@ -131,7 +136,7 @@ class Host:
             self.waiting.append(one)
         time.sleep(0.1)
 
-    def _accept(self):
+    def _accept(self) -> None:
         while True:
             try:
                 connection, _ = self.listener.accept()
@@ -141,7 +146,7 @@ class Host:
             self.open.add(connection)
             threading.Thread(target=self._serve, args=(connection,), daemon=True).start()
 
-    def _serve(self, connection):
+    def _serve(self, connection: socket.socket) -> None:
         try:
             connection.setsockopt(socket.IPPROTO_TCP, socket.TCP_NODELAY, 1)
             connection.settimeout(self.idle)
@@ -153,18 +158,18 @@ class Host:
             self.open.discard(connection)
             connection.close()
 
-    def _take(self, connection):
+    def _take(self, connection: socket.socket) -> bool:
         frame = receive(connection, FRAME)
         if len(frame) < FRAME:
             return False
         self.frames.append((time.monotonic(), frame))
         return self.behave(connection, frame)
 
-    def forget(self):
+    def forget(self) -> None:
         """Forgets what came so far."""
         self.frames, self.connections = [], 0
 
-    def stop(self):
+    def stop(self) -> None:
         """Refuses connections, and ends those that there are."""
         # A close alone would not wake the thread that accepts.
         try:
@@ -181,7 +186,7 @@ class Host:
 
 # ---- a client
 
-def connected(address, patience=60):
+def connected(address: str, patience: float = 60) -> socket.socket:
     """A connection to HOST:PORT."""
     name, _, port = address.rpartition(":")
     connection = socket.create_connection((name, int(port)), timeout=patience)
@@ -189,7 +194,7 @@ def connected(address, patience=60):
     return connection
 
 
-def came_of(address, frame=REGISTER_2, patience=1.5):
+def came_of(address: str, frame: bytes = REGISTER_2, patience: float = 1.5) -> str:
     """What comes of one write: echo, exception CODE, wrong, ended, reset, refused, or silent where nothing came for so long."""
     try:
         with connected(address, patience) as connection:
@@ -203,7 +208,7 @@ def came_of(address, frame=REGISTER_2, patience=1.5):
         return "reset"
 
 
-def judged(connection, frame):
+def judged(connection: socket.socket, frame: bytes) -> str:
     first = receive(connection, 6)
     length = {frame[:6]: 6, frame[:4] + b"\0\3": 3}.get(first)
     if length is None:

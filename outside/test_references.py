@@ -1,10 +1,10 @@
-"""Tests of tools/references.py, over a small repository of two crates: python3 -m unittest, in this folder."""
+"""Tests of outside/references.py, over a small repository of two crates: python3 -m unittest outside.test_references, at the top."""
 
 import os
 import tempfile
 import unittest
 
-import references
+from outside import references
 
 FILES = {
     "crates.txt": "# in groups\nboss_lamp: # the lowest\nlaw_lamp: boss_lamp\n",

@@ -2,11 +2,8 @@
 compare with. How many bytes an event or a state has is found by the reader of `bossctl journal`."""
 
 import os
-import sys
 from typing import NamedTuple
 
-TOP = os.path.dirname(os.path.dirname(os.path.abspath(__file__)))
-sys.path.insert(0, os.path.join(TOP, "clients", "python"))
 from bossd.ctl import _journal
 
 LONGEST_LINE, LONGEST_PART = 65_535, 16_384
@@ -19,17 +16,17 @@ class Pair(NamedTuple):
     theirs. `next` is the number of the transaction that comes next."""
     before: int
     state: bytes
-    events: list
+    events: list[bytes]
     next: int
 
     @property
-    def count(self):
+    def count(self) -> int:  # type: ignore[override]
         return self.before + len(self.events)
 
-    def event(self, number):
+    def event(self, number: int) -> bytes:
         return self.events[number - self.before - 1]
 
-    def feed(self, start):
+    def feed(self, start: int) -> list[bytes]:
         """The feed above this number, as lines without their ends."""
         lines = []
         if start < self.before:
@@ -39,7 +36,7 @@ class Pair(NamedTuple):
         return lines + [b"event %d %s" % (number, self.event(number).hex().encode()) for number in range(first, self.count + 1)]
 
 
-def split(record, version):
+def split(record: bytes, version: int) -> list[tuple[_journal.Event, bytes]]:
     """The bytes of each event of a record."""
     source, found = _journal.Bytes(record), []
     while source.place < len(record):
@@ -49,29 +46,29 @@ def split(record, version):
     return found
 
 
-def pair_of(path):
-    """What the files of this name hold; of version 2, since what version 1 holds is spelled in another way."""
+def pair_of(path: str) -> Pair:
+    """What the files of this name hold; not of version 1, since what that holds is spelled in another way."""
     if not (os.path.exists(path) or os.path.exists(path + ".b")):
         return Pair(0, NEW, [], 1)
     journal = _journal.find(path)
     if journal is None:
         return Pair(0, NEW, [], 1)
-    if journal.version != 2:
+    if journal.version < 2:
         raise ValueError(f"{path} has version {journal.version}")
     events, following, gate = [], journal.state.next, journal.gate
     while True:
-        record, after = _journal.record_at(journal.data, gate)
+        record, after = _journal.record_at(journal.data, gate, journal.seed)
         if record is None:
             break
         for event, spelled in split(record, journal.version):
             events.append(spelled)
             following += event.kind == "submit"
         gate = after
-    state = NEW if journal.generation is None else journal.data[65:journal.gate]
+    state = NEW if journal.generation is None else journal.spelled
     return Pair(journal.before, state, events, following)
 
 
-def cut(path, copy, number):
+def cut(path: str, copy: str, number: int) -> bool:
     """A copy of a journal up to this event, as if the program had stopped there. Whether there is one: not where the file in force begins
     behind it, or ends before it."""
     journal = _journal.find(path)
@@ -79,11 +76,11 @@ def cut(path, copy, number):
         return False
     count, gate, kept = journal.before, journal.gate, bytearray(journal.data[:journal.gate])
     while count < number:
-        record, gate = _journal.record_at(journal.data, gate)
+        record, gate = _journal.record_at(journal.data, gate, journal.seed)
         if record is None:
             return False
         some = [spelled for _, spelled in split(record, journal.version)[:number - count]]
-        record, count = b"".join(some), count + len(some)
+        record, count = _journal.sealed(journal.seed, len(kept), b"".join(some)), count + len(some)
         kept += b"\1" + len(record).to_bytes(4, "big") + record
     for part in ("", ".b"):
         data = kept + b"\0" if path + part == journal.path else _journal.bytes_of(path + part)
@@ -96,11 +93,11 @@ def cut(path, copy, number):
 class Told(NamedTuple):
     """What a feed tells: the last number that is whole in it, the events, and the states by their numbers."""
     last: int
-    events: dict
-    states: dict
+    events: dict[int, bytes]
+    states: dict[int, bytes]
 
 
-def told_by(text):
+def told_by(text: bytes) -> Told:
     """What the whole items of a feed tell, up to the first line that is none."""
     last, events, states, number, size, got = 0, {}, {}, 0, 0, b""
     for line in text.split(b"\n"):
@@ -131,17 +128,17 @@ class End(NamedTuple):
     """How following ends: the status, the line but for the summary that comes with 0, and the number of events then."""
     status: int
     line: str
-    count: int
+    count: int  # type: ignore[assignment]
 
 
-def whole(word):
+def whole(word: bytes) -> int:
     """A number of a feed's line; ValueError where it is none."""
     if not word.isdigit() or str(int(word)).encode() != word or int(word) >= 1 << 64:
         raise ValueError
     return int(word)
 
 
-def data_of(word):
+def data_of(word: bytes) -> bytes:
     data = bytes.fromhex(word.decode())
     if not data or data.hex().encode() != word:
         raise ValueError
@@ -151,7 +148,7 @@ def data_of(word):
 class Item:
     """A line of a feed; ValueError where it is none."""
 
-    def __init__(self, line):
+    def __init__(self, line: bytes) -> None:
         words = line.split(b" ")
         self.kind = words[0]
         if self.kind == b"state" and len(words) == 3:
@@ -164,13 +161,13 @@ class Item:
             raise ValueError
 
 
-def lines_of(text):
+def lines_of(text: bytes) -> list[bytes]:
     """The lines of an input: the rest behind the last line end is one where it is not empty."""
     lines = text.split(b"\n")
     return lines if lines[-1] else lines[:-1]
 
 
-def is_event(data):
+def is_event(data: bytes) -> bool:
     source = _journal.Bytes(data)
     try:
         _journal.event_of(source, 2)
@@ -179,7 +176,7 @@ def is_event(data):
     return source.place == len(data)
 
 
-def end_of(count, text):
+def end_of(count: int, text: bytes) -> End:
     """How a standby with so many events ends with this input, where each event that is one, and each state, can be taken."""
     due, taking = 0, None
     for place, line in enumerate(lines_of(text), 1):
