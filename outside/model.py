@@ -25,7 +25,7 @@ KEPT_DONE = 1024
 KEPT_NOTICES = 1024
 NUMBERED = ["submit", "renew", "cancel"]
 PROGRAM_VERSION = "0.3.0"
-JOURNAL_VERSION = 2
+JOURNAL_VERSION = 3
 
 
 @dataclass(frozen=True)
