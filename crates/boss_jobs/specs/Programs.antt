@@ -9,15 +9,16 @@ use Rattle.boss_points.specs.declared.CatalogueRefusal.{CatalogueRefusal}
 use Rattle.boss_points.specs.declared.CatalogueRefusal.TheVariants.{UnknownDriver}
 use Rattle.boss_points.specs.Reading.{catalogue_of, ◌>>=◌}
 use Rattle.boss_words.specs.declared.Job.{Job}
-use Rattle.boss_words.specs.declared.Job.TheVariants.{Script, Serve, Check, Adopt, Feed, Standby, Load, Help, Version}
+use Rattle.boss_words.specs.declared.Job.TheVariants.{Script, Serve, Check, Adopt, Shift, Feed, Standby, Load, Help, Version}
 use Rattle.boss_words.specs.Words.{job_of}
 
 -- the catalogue's file of a script whose journal is in memory alone
 abbrev pub catalogue_word : Job → Option (List ℕ)
 catalogue_word (Script catalogue journal) = if bytes_eq journal (codes "-") then Some catalogue else None
-catalogue_word (Serve catalogue journal address workers connections rules plan) = None
+catalogue_word (Serve catalogue journal address workers connections rules plan keys) = None
 catalogue_word (Check catalogue journal) = None
 catalogue_word (Adopt old new journal) = None
+catalogue_word (Shift catalogue journal by) = None
 catalogue_word (Feed catalogue journal from) = None
 catalogue_word (Standby catalogue journal) = None
 catalogue_word (Load count seed) = None
@@ -32,7 +33,8 @@ abbrev pub is_served : Option Job → Bool
 is_served (Some (Script catalogue journal)) = true
 is_served (Some (Check catalogue journal)) = true
 is_served (Some (Adopt old new journal)) = true
-is_served (Some (Serve catalogue journal address workers connections rules plan)) = true
+is_served (Some (Shift catalogue journal by)) = true
+is_served (Some (Serve catalogue journal address workers connections rules plan keys)) = true
 is_served (Some (Feed catalogue journal from)) = true
 is_served (Some (Standby catalogue journal)) = true
 is_served (Some (Load count seed)) = true

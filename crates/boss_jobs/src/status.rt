@@ -31,7 +31,7 @@ impl Status {
     pub const LINE_TOO_LONG: Status = Status(13);
     /// There are more than 2^32 lines.
     pub const TOO_MANY_LINES: Status = Status(14);
-    /// The adoption of a changed catalogue was refused.
+    /// The adoption of a changed catalogue was refused, or the shift of a journal's moments.
     pub const ADOPTION: Status = Status(15);
     /// The access rules were refused.
     pub const RULES: Status = Status(16);
@@ -39,6 +39,8 @@ impl Status {
     pub const PLAN: Status = Status(17);
     /// A feed was not followed to its end: events are missing, a line is at fault, or it ends within a state.
     pub const STANDBY: Status = Status(18);
+    /// The keys were refused.
+    pub const KEYS: Status = Status(19);
 }
 
 impl fmt::Display for Status {
@@ -57,10 +59,12 @@ impl fmt::Display for Status {
             Status::CLOCK_FAULT => "the clock failed",
             Status::LINE_TOO_LONG => "a line is too long",
             Status::TOO_MANY_LINES => "there are too many lines",
-            Status::ADOPTION => "the adoption of a changed catalogue was refused",
+            Status::ADOPTION =>
+                "the adoption of a changed catalogue, or the shift of a journal's moments, was refused",
             Status::RULES => "the access rules were refused",
             Status::PLAN => "the plan of the devices was refused",
             Status::STANDBY => "a feed was not followed to its end",
+            Status::KEYS => "the keys were refused",
             Status(_) => "no status of the program",
         })
     }

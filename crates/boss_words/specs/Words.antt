@@ -9,7 +9,7 @@ use Rattle.std.specs.Str.Parse.{digits_value}
 use Rattle.std.specs.declared.alloc.Global.{Global}
 use Rattle.boss_model.specs.Limits.{most_workers}
 use Rattle.boss_words.specs.declared.job.Job.{Job}
-use Rattle.boss_words.specs.declared.job.Job.TheVariants.{Script, Serve, Check, Adopt, Feed, Standby, Load, Help, Version}
+use Rattle.boss_words.specs.declared.job.Job.TheVariants.{Script, Serve, Check, Adopt, Shift, Feed, Standby, Load, Help, Version}
 
 abbrev pub texts : List (String Global) → List (List ℕ)
 texts words = map (λ word. string_bytes word) words
@@ -52,19 +52,24 @@ script_of _ = None
 abbrev pub file_of : List ℕ → Option (Option (List ℕ))
 file_of text = if bytes_eq text (codes "-") then Some None else option_and_then (λ word. Some (Some word)) (word_of text)
 
--- RULES PLAN, of which the last or both may be left out
-abbrev pub optional_of : List (List ℕ) → Option (Option (List ℕ) × Option (List ℕ))
-optional_of [] = Some (None, None)
+-- RULES PLAN KEYS, of which the last, the last two or all may be left out
+abbrev pub optional_of : List (List ℕ) → Option (Option (List ℕ) × Option (List ℕ) × Option (List ℕ))
+optional_of [] = Some (None, None, None)
 optional_of (rules ∷ []) = do
   rules ← file_of rules
-  Some (rules, None)
+  Some (rules, None, None)
 optional_of (rules ∷ plan ∷ []) = do
   rules ← file_of rules
   plan ← file_of plan
-  Some (rules, plan)
+  Some (rules, plan, None)
+optional_of (rules ∷ plan ∷ keys ∷ []) = do
+  rules ← file_of rules
+  plan ← file_of plan
+  keys ← file_of keys
+  Some (rules, plan, keys)
 optional_of _ = None
 
--- serve CATALOGUE JOURNAL ADDRESS WORKERS CONNECTIONS, and then RULES PLAN
+-- serve CATALOGUE JOURNAL ADDRESS WORKERS CONNECTIONS, and then RULES PLAN KEYS
 abbrev pub serve_of : List (List ℕ) → Option Job
 serve_of (catalogue ∷ journal ∷ address ∷ workers ∷ connections ∷ optional) = do
   workers ← number_of 1 most_workers workers
@@ -73,7 +78,7 @@ serve_of (catalogue ∷ journal ∷ address ∷ workers ∷ connections ∷ opti
   journal ← word_of journal
   address ← word_of address
   files ← optional_of optional
-  Some (Serve catalogue journal address workers connections files.0 files.1)
+  Some (Serve catalogue journal address workers connections files.0 files.1 files.2)
 serve_of _ = None
 
 -- check CATALOGUE JOURNAL
@@ -92,6 +97,19 @@ adopt_of (old ∷ new ∷ journal ∷ []) = do
   journal ← word_of journal
   Some (Adopt old new journal)
 adopt_of _ = None
+
+-- 1 to 19 decimal digits that spell a length of time in milliseconds: 1 to 2^62 - 1
+abbrev pub shift_by : List ℕ → Option ℕ
+shift_by text = option_and_then (λ by. if nat_le 1 by then Some by else None) (event_number_of text)
+
+-- shift CATALOGUE JOURNAL BY
+abbrev pub shift_of : List (List ℕ) → Option Job
+shift_of (catalogue ∷ journal ∷ by ∷ []) = do
+  by ← shift_by by
+  catalogue ← word_of catalogue
+  journal ← word_of journal
+  Some (Shift catalogue journal by)
+shift_of _ = None
 
 -- feed CATALOGUE JOURNAL FROM
 abbrev pub feed_of : List (List ℕ) → Option Job
@@ -131,10 +149,11 @@ job_of (job ∷ arguments) =
     (if bytes_eq job (codes "serve") then serve_of arguments else
     (if bytes_eq job (codes "check") then check_of arguments else
     (if bytes_eq job (codes "adopt") then adopt_of arguments else
+    (if bytes_eq job (codes "shift") then shift_of arguments else
     (if bytes_eq job (codes "feed") then feed_of arguments else
     (if bytes_eq job (codes "standby") then standby_of arguments else
     (if bytes_eq job (codes "load") then load_of arguments else
     (if bytes_eq job (codes "help") then alone_of Help arguments else
     (if bytes_eq job (codes "--help") then alone_of Help arguments else
     (if bytes_eq job (codes "version") then alone_of Version arguments else
-    (if bytes_eq job (codes "--version") then alone_of Version arguments else None))))))))))
+    (if bytes_eq job (codes "--version") then alone_of Version arguments else None)))))))))))

@@ -26,6 +26,8 @@ pub enum Job {
         rules: Option<Word>,
         /// The file that says where the points of the drivers are in the field. Without one no device is told of any.
         plan: Option<Word>,
+        /// The file that says by which keys a process shows who it is. Without one each is taken at its word.
+        keys: Option<Word>,
     },
     /// Tell what a journal stands for, without writing to it.
     Check {
@@ -42,6 +44,15 @@ pub enum Job {
         new: Word,
         /// The journal's file, or `-` for a journal in memory alone.
         journal: Word,
+    },
+    /// Take all moments of a journal back by a constant.
+    Shift {
+        /// The catalogue's file.
+        catalogue: Word,
+        /// The journal's file, or `-` for a journal in memory alone.
+        journal: Word,
+        /// By how much, in milliseconds: 1 to 2^62 - 1.
+        by: u64,
     },
     /// Tell what a journal stands for, as lines that a standby follows.
     Feed {

@@ -1,4 +1,4 @@
-ghost use Rattle.boss_words.specs.Words.{texts, job_of, script_of, serve_of, check_of, adopt_of, feed_of, standby_of, load_of, alone_of, optional_of, file_of};
+ghost use Rattle.boss_words.specs.Words.{texts, job_of, script_of, serve_of, check_of, adopt_of, shift_of, shift_by, feed_of, standby_of, load_of, alone_of, optional_of, file_of};
 ghost use Rattle.boss_words.specs.Given.{Gives, HasWorkers};
 ghost use Rattle.boss_words.specs.declared.read.WordsRefusal.TheVariants.{NoMemory};
 ghost use Rattle.std.specs.Prelude.{◌≡◌, IfOk};
@@ -52,6 +52,7 @@ pub fn read_words(alloc: Global, words: &Vec<String>) -> Result<Job, WordsRefusa
         "serve" => serve(alloc, arguments),
         "check" => check(alloc, arguments),
         "adopt" => adopt(alloc, arguments),
+        "shift" => shift(alloc, arguments),
         "feed" => feed(alloc, arguments),
         "standby" => standby(alloc, arguments),
         "load" => load(arguments),
@@ -76,7 +77,8 @@ fn script(alloc: Global, arguments: &[String]) -> Result<Job, WordsRefusal>
     Ok(Job::Script { catalogue, journal })
 }
 
-/// `serve CATALOGUE JOURNAL ADDRESS WORKERS CONNECTIONS`, and then RULES and PLAN, the last or both of which may be left out.
+/// `serve CATALOGUE JOURNAL ADDRESS WORKERS CONNECTIONS`, and then RULES, PLAN and KEYS, of which the last,
+/// the last two or all may be left out.
 fn serve(alloc: Global, arguments: &[String]) -> Result<Job, WordsRefusal>
     ensures job { Gives result (serve_of (texts arguments.now)) }
     ensures workers { IfOk result HasWorkers }
@@ -97,7 +99,7 @@ fn serve(alloc: Global, arguments: &[String]) -> Result<Job, WordsRefusal>
     let catalogue = Word::new(alloc, catalogue.as_str())?;
     let journal = Word::new(alloc, journal.as_str())?;
     let address = Word::new(alloc, address.as_str())?;
-    let (rules, plan) = rules_and_plan(alloc, optional)?;
+    let (rules, plan, keys) = optional_files(alloc, optional)?;
     Ok(Job::Serve {
         catalogue,
         journal,
@@ -106,26 +108,33 @@ fn serve(alloc: Global, arguments: &[String]) -> Result<Job, WordsRefusal>
         connections,
         rules,
         plan,
+        keys,
     })
 }
 
-/// The files of the words after those that a server has to have: RULES and PLAN.
-fn rules_and_plan(
+/// The files of the words after those that a server has to have: RULES, PLAN and KEYS.
+fn optional_files(
     alloc: Global,
     optional: &[String],
-) -> Result<(Option<Word>, Option<Word>), WordsRefusal>
+) -> Result<(Option<Word>, Option<Word>, Option<Word>), WordsRefusal>
     ensures { Gives result (optional_of (texts optional.now)) }
 {
     match optional {
-        [] => Ok((None, None)),
+        [] => Ok((None, None, None)),
         [rules] => {
             let rules = file_word(alloc, rules.as_str())?;
-            Ok((rules, None))
+            Ok((rules, None, None))
         }
         [rules, plan] => {
             let rules = file_word(alloc, rules.as_str())?;
             let plan = file_word(alloc, plan.as_str())?;
-            Ok((rules, plan))
+            Ok((rules, plan, None))
+        }
+        [rules, plan, keys] => {
+            let rules = file_word(alloc, rules.as_str())?;
+            let plan = file_word(alloc, plan.as_str())?;
+            let keys = file_word(alloc, keys.as_str())?;
+            Ok((rules, plan, keys))
         }
         _ => Err(WordsRefusal::Usage),
     }
@@ -167,6 +176,35 @@ fn adopt(alloc: Global, arguments: &[String]) -> Result<Job, WordsRefusal>
     let new = Word::new(alloc, new.as_str())?;
     let journal = Word::new(alloc, journal.as_str())?;
     Ok(Job::Adopt { old, new, journal })
+}
+
+/// `shift CATALOGUE JOURNAL BY`
+fn shift(alloc: Global, arguments: &[String]) -> Result<Job, WordsRefusal>
+    ensures job { Gives result (shift_of (texts arguments.now)) }
+    ensures workers { IfOk result HasWorkers }
+{
+    let [catalogue, journal, by] = arguments else {
+        return Err(WordsRefusal::Usage);
+    };
+    let by = length_of_time(by.as_str()).ok_or(WordsRefusal::Usage)?;
+    let catalogue = Word::new(alloc, catalogue.as_str())?;
+    let journal = Word::new(alloc, journal.as_str())?;
+    Ok(Job::Shift {
+        catalogue,
+        journal,
+        by,
+    })
+}
+
+/// A length of time in milliseconds, as the number of an event is spelled: 1 to 2^62 - 1.
+fn length_of_time(text: &str) -> Option<u64>
+    ensures { result ≡ shift_by text.now }
+{
+    let by = event_number(text)?;
+    if by < 1 {
+        return None;
+    }
+    Some(by)
 }
 
 /// `feed CATALOGUE JOURNAL FROM`

@@ -11,27 +11,31 @@ const ROWS: &[(&str, &str)] = &[
     ),
     (
         "serve|k.toml|j|[::1]:80|0000001024|4294967295",
-        r#"Ok(Serve { catalogue: Word { text: "k.toml" }, journal: Word { text: "j" }, address: Word { text: "[::1]:80" }, workers: 1024, connections: 4294967295, rules: None, plan: None })"#,
+        r#"Ok(Serve { catalogue: Word { text: "k.toml" }, journal: Word { text: "j" }, address: Word { text: "[::1]:80" }, workers: 1024, connections: 4294967295, rules: None, plan: None, keys: None })"#,
     ),
     (
         "serve|k|j|a|1|2|-",
-        r#"Ok(Serve { catalogue: Word { text: "k" }, journal: Word { text: "j" }, address: Word { text: "a" }, workers: 1, connections: 2, rules: None, plan: None })"#,
+        r#"Ok(Serve { catalogue: Word { text: "k" }, journal: Word { text: "j" }, address: Word { text: "a" }, workers: 1, connections: 2, rules: None, plan: None, keys: None })"#,
     ),
     (
         "serve|k|-|a|1|2|-|-",
-        r#"Ok(Serve { catalogue: Word { text: "k" }, journal: Word { text: "-" }, address: Word { text: "a" }, workers: 1, connections: 2, rules: None, plan: None })"#,
+        r#"Ok(Serve { catalogue: Word { text: "k" }, journal: Word { text: "-" }, address: Word { text: "a" }, workers: 1, connections: 2, rules: None, plan: None, keys: None })"#,
     ),
     (
         "serve|k|-|a|1|2|-|plan.toml",
-        r#"Ok(Serve { catalogue: Word { text: "k" }, journal: Word { text: "-" }, address: Word { text: "a" }, workers: 1, connections: 2, rules: None, plan: Some(Word { text: "plan.toml" }) })"#,
+        r#"Ok(Serve { catalogue: Word { text: "k" }, journal: Word { text: "-" }, address: Word { text: "a" }, workers: 1, connections: 2, rules: None, plan: Some(Word { text: "plan.toml" }), keys: None })"#,
     ),
     (
         "serve|k|-|a|1|2|rules.toml",
-        r#"Ok(Serve { catalogue: Word { text: "k" }, journal: Word { text: "-" }, address: Word { text: "a" }, workers: 1, connections: 2, rules: Some(Word { text: "rules.toml" }), plan: None })"#,
+        r#"Ok(Serve { catalogue: Word { text: "k" }, journal: Word { text: "-" }, address: Word { text: "a" }, workers: 1, connections: 2, rules: Some(Word { text: "rules.toml" }), plan: None, keys: None })"#,
     ),
     (
         "serve|k|-|a|1|2|rules.toml|plan.toml",
-        r#"Ok(Serve { catalogue: Word { text: "k" }, journal: Word { text: "-" }, address: Word { text: "a" }, workers: 1, connections: 2, rules: Some(Word { text: "rules.toml" }), plan: Some(Word { text: "plan.toml" }) })"#,
+        r#"Ok(Serve { catalogue: Word { text: "k" }, journal: Word { text: "-" }, address: Word { text: "a" }, workers: 1, connections: 2, rules: Some(Word { text: "rules.toml" }), plan: Some(Word { text: "plan.toml" }), keys: None })"#,
+    ),
+    (
+        "serve|k|-|a|1|2|-|-|keys.toml",
+        r#"Ok(Serve { catalogue: Word { text: "k" }, journal: Word { text: "-" }, address: Word { text: "a" }, workers: 1, connections: 2, rules: None, plan: None, keys: Some(Word { text: "keys.toml" }) })"#,
     ),
     (
         "check|k.toml|j",
@@ -40,6 +44,10 @@ const ROWS: &[(&str, &str)] = &[
     (
         "adopt|old.toml|new.toml|j",
         r#"Ok(Adopt { old: Word { text: "old.toml" }, new: Word { text: "new.toml" }, journal: Word { text: "j" } })"#,
+    ),
+    (
+        "shift|k.toml|j|4611686018427387903",
+        r#"Ok(Shift { catalogue: Word { text: "k.toml" }, journal: Word { text: "j" }, by: 4611686018427387903 })"#,
     ),
     (
         "feed|k.toml|j|0",
@@ -78,6 +86,11 @@ const ROWS: &[(&str, &str)] = &[
     ("check|k|", USAGE),
     ("adopt|old.toml|j", USAGE),
     ("adopt|old.toml|new.toml|", USAGE),
+    ("shift|k|j", USAGE),
+    ("shift|k|j|0", USAGE),
+    ("shift|k|j|-1", USAGE),
+    ("shift|k|j|4611686018427387904", USAGE),
+    ("shift|k|j|1|x", USAGE),
     ("feed|k|j", USAGE),
     ("feed|k|j|0|x", USAGE),
     ("feed||j|0", USAGE),
@@ -94,7 +107,8 @@ const ROWS: &[(&str, &str)] = &[
     ("serve|k|j|a|1|1|", USAGE),
     ("serve|k|j|a|1|1||plan.toml", USAGE),
     ("serve|k|j|a|1|1|-|", USAGE),
-    ("serve|k|j|a|1|1|-|-|-", USAGE),
+    ("serve|k|j|a|1|1|-|-|", USAGE),
+    ("serve|k|j|a|1|1|-|-|-|-", USAGE),
     ("serve|k|j||1|1", USAGE),
     ("serve|k|j|a|0|1", USAGE),
     ("serve|k|j|a|1025|1", USAGE),
