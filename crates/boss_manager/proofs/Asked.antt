@@ -17,15 +17,17 @@ use Rattle.boss_manager.specs.declared.next.Next.TheVariants as next
 use Rattle.boss_manager.specs.declared.next.ServeJob.{ServeJob}
 use Rattle.boss_manager.specs.ByWords.{ByJournal, DoesJob}
 use Rattle.boss_manager.specs.Nexts.{IfDone, IsLeft, OnDone, server_of}
-use Rattle.boss_manager.proofs.Statuses.{NotUsage, of-adopt, of-adopt_memory, of-check, of-check_memory, of-feed, of-feed_memory, of-kept, of-load, of-script, of-standby, of-standby_memory, of-text, wrong}
+use Rattle.boss_manager.proofs.Statuses.{NotUsage, of-adopt, of-adopt_memory, of-check, of-check_memory, of-feed, of-feed_memory, of-kept, of-load, of-script, of-shift, of-standby, of-standby_memory, of-text, wrong}
 use Rattle.boss_outside.specs.declared.actuators.Actuators as actuators
 use Rattle.boss_outside.specs.declared.sink.Sink as sink
 use Rattle.boss_outside.specs.declared.source.Source as source
+use Rattle.boss_shift_jobs.specs.ShiftJobs.{ShiftsJournal}
+use Rattle.boss_shift_jobs.proofs.Completing.{does-shift}
 use Rattle.boss_standby_jobs.specs.FeedJobs.{FeedsJournal, FeedsMemory}
 use Rattle.boss_standby_jobs.specs.StandbyJobs.{DoesStandby, StandbyMemory}
 use Rattle.boss_standby_jobs.proofs.Completed.{does-standby, feeds-kept, feeds-memory, standby-memory}
 use Rattle.boss_words.specs.declared.job.Job.{Job}
-use Rattle.boss_words.specs.declared.job.Job.TheVariants.{Script, Serve, Check, Adopt, Feed, Standby, Load, Help, Version}
+use Rattle.boss_words.specs.declared.job.Job.TheVariants.{Script, Serve, Check, Adopt, Shift, Feed, Standby, Load, Help, Version}
 
 -- ---- options and journals
 
@@ -74,9 +76,10 @@ module _ {F D S K A : Type 0} (f : files.Ghosts F D) (s : source.Ghosts S) (k : 
         by-job (Some (Script catalogue journal)) done is =
             let both = in-memory journal (bytes_eq journal (codes "-")) catalogue name refl is in
             done-so left done (λ status each. subst (λ n. DoesScript f s k a n count old new status) both.1 (each.1 both.0))
-        by-job (Some (Serve catalogue journal address workers connections rules plan)) done is = none-some is
+        by-job (Some (Serve catalogue journal address workers connections rules plan keys)) done is = none-some is
         by-job (Some (Check catalogue journal)) done is = none-some is
         by-job (Some (Adopt first second journal)) done is = none-some is
+        by-job (Some (Shift catalogue journal by)) done is = none-some is
         by-job (Some (Feed catalogue journal from)) done is = none-some is
         by-job (Some (Standby catalogue journal)) done is = none-some is
         by-job (Some (Load many seed)) done is = none-some is
@@ -99,6 +102,12 @@ module _ {F D S K A : Type 0} (f : files.Ghosts F D) (s : source.Ghosts S) (k : 
 
     pub asked-adopt_memory : (old_name new_name : List ℕ) → job ≡ Some (Adopt old_name new_name (codes "-")) → IfDone left (AdoptsMemory f s k a old_name new_name count old new)
     asked-adopt_memory old_name new_name is = done-so left (subst Done is did) (λ status each. each.1 refl)
+
+    pub asked-shift : (name journal : List ℕ) (by : ℕ) → job ≡ Some (Shift name journal by) → journal ≢ codes "-" → IfDone left (ShiftsJournal f s k a name journal by count old new)
+    asked-shift name journal by is kept = done-so left (subst Done is did) (λ status each. each.0 kept)
+
+    pub asked-shift_memory : (name : List ℕ) (by : ℕ) → job ≡ Some (Shift name (codes "-") by) → IfDone left (ChecksMemory f s k a name count old new)
+    asked-shift_memory name by is = done-so left (subst Done is did) (λ status each. each.1 refl)
 
     pub asked-feed : (name journal : List ℕ) (from : ℕ) → job ≡ Some (Feed name journal from) → journal ≢ codes "-" → IfDone left (FeedsJournal f s k a name journal from count old new)
     asked-feed name journal from is kept = done-so left (subst Done is did) (λ status each. each.0 kept)
@@ -125,11 +134,12 @@ module _ {F D S K A : Type 0} (f : files.Ghosts F D) (s : source.Ghosts S) (k : 
     asked-serve server is = by-job job did is
       where
         by-job : (job : Option Job) → Done job → server_of job ≡ Some server → IsLeft server left × (new ≡ old)
-        by-job (Some (Serve catalogue journal address workers connections rules plan)) done is =
+        by-job (Some (Serve catalogue journal address workers connections rules plan keys)) done is =
             subst (λ one. IsLeft one left × (new ≡ old)) (some-same is) done
         by-job (Some (Script catalogue journal)) done is = none-some is
         by-job (Some (Check catalogue journal)) done is = none-some is
         by-job (Some (Adopt first second journal)) done is = none-some is
+        by-job (Some (Shift catalogue journal by)) done is = none-some is
         by-job (Some (Feed catalogue journal from)) done is = none-some is
         by-job (Some (Standby catalogue journal)) done is = none-some is
         by-job (Some (Load many seed)) done is = none-some is
@@ -144,9 +154,10 @@ module _ {F D S K A : Type 0} (f : files.Ghosts F D) (s : source.Ghosts S) (k : 
       where
         by-job : (job : Option Job) → Done job → is_served job ≡ false → IfDone left (SaysUsage f s k a old new)
         by-job (Some (Script catalogue journal)) done is = wrong is
-        by-job (Some (Serve catalogue journal address workers connections rules plan)) done is = wrong is
+        by-job (Some (Serve catalogue journal address workers connections rules plan keys)) done is = wrong is
         by-job (Some (Check catalogue journal)) done is = wrong is
         by-job (Some (Adopt first second journal)) done is = wrong is
+        by-job (Some (Shift catalogue journal by)) done is = wrong is
         by-job (Some (Feed catalogue journal from)) done is = wrong is
         by-job (Some (Standby catalogue journal)) done is = wrong is
         by-job (Some (Load many seed)) done is = wrong is
@@ -163,12 +174,14 @@ module _ {F D S K A : Type 0} (f : files.Ghosts F D) (s : source.Ghosts S) (k : 
         by-job : (job : Option Job) → Done job → OnDone left (λ status. status ≡ 2 → is_served job ≡ false)
         by-job (Some (Script catalogue journal)) done = done-on left done (λ status each. served (Some (Script catalogue journal))
             (either-way journal each (of-kept f s k a count old new status) (of-script f s k a count old new status)))
-        by-job (Some (Serve catalogue journal address workers connections rules plan)) done =
-            left-on (λ status. status ≡ 2 → is_served (Some (Serve catalogue journal address workers connections rules plan)) ≡ false) _ left done.0 (λ two. absurd cc)
+        by-job (Some (Serve catalogue journal address workers connections rules plan keys)) done =
+            left-on (λ status. status ≡ 2 → is_served (Some (Serve catalogue journal address workers connections rules plan keys)) ≡ false) _ left done.0 (λ two. absurd cc)
         by-job (Some (Check catalogue journal)) done = done-on left done (λ status each. served (Some (Check catalogue journal))
             (either-way journal each (of-check f s k a count old new status) (of-check_memory f s k a count old new status)))
         by-job (Some (Adopt first second journal)) done = done-on left done (λ status each. served (Some (Adopt first second journal))
             (either-way journal each (of-adopt f s k a count old new status) (of-adopt_memory f s k a count old new status)))
+        by-job (Some (Shift catalogue journal by)) done = done-on left done (λ status each. served (Some (Shift catalogue journal by))
+            (either-way journal each (of-shift f s k a count old new status) (of-check_memory f s k a count old new status)))
         by-job (Some (Feed catalogue journal from)) done = done-on left done (λ status each. served (Some (Feed catalogue journal from))
             (either-way journal each (of-feed f s k a count old new status) (of-feed_memory f s k a count old new status)))
         by-job (Some (Standby catalogue journal)) done = done-on left done (λ status each. served (Some (Standby catalogue journal))
@@ -204,6 +217,12 @@ module _ {F D S K A : Type 0} (f : files.Ghosts F D) (s : source.Ghosts S) (k : 
     λ _. does-adopt-memory f s k a old_name new_name count all all 8 (inl (record { why = inr (refl, refl); source = refl; sink = refl; devices = refl }))
         (λ tells file. refl) refl refl (λ tells. none-asked _ (f.asked all.files)),
   )
+  nothing-done (Some (Shift name journal by)) = done _ (
+    λ _. does-shift f s k a name journal by count all all 8 (inl (record { why = inr (refl, refl); source = refl; sink = refl; devices = refl }))
+        refl refl (λ tells. none-asked _ (f.asked all.files)) (λ tells file first second. refl),
+    λ _. checks-memory f s k a all all 8 name count (inl (record { why = inr (refl, refl); source = refl; sink = refl; devices = refl }))
+        (λ tells file. refl) refl refl (λ tells. none-asked _ (f.asked all.files)),
+  )
   nothing-done (Some (Feed name journal from)) = done _ (
     λ _. feeds-kept f s k a all all 8 name count journal from (inl (record { why = inr (refl, refl); source = refl; sink = refl; devices = refl }))
         (λ tells file. refl) refl refl (λ tells. none-asked _ (f.asked all.files)),
@@ -216,7 +235,7 @@ module _ {F D S K A : Type 0} (f : files.Ghosts F D) (s : source.Ghosts S) (k : 
     λ _. standby-memory f s k a all all 8 name count (inl (record { why = inr (refl, refl); source = refl; sink = refl; devices = refl }))
         (λ tells file. refl) refl (λ tells. none-asked _ (f.asked all.files)),
   )
-  nothing-done (Some (Serve catalogue journal address workers connections rules plan)) = (none _, refl)
+  nothing-done (Some (Serve catalogue journal address workers connections rules plan keys)) = (none _, refl)
   nothing-done (Some (Load many seed)) = done _ (record { tells = inr (refl, refl); files = refl; source = refl; devices = refl })
   nothing-done (Some Help) = done _ (record { tells = inr (inr (refl, refl)); files = refl; source = refl; devices = refl })
   nothing-done (Some Version) = done _ (record { tells = inr (inr (refl, refl)); files = refl; source = refl; devices = refl })

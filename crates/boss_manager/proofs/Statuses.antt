@@ -23,6 +23,7 @@ use Rattle.boss_outside.specs.declared.source.Source as source
 use Rattle.boss_scripts.specs.declared.broken.Broken.{Broken}
 use Rattle.boss_scripts.specs.declared.broken.Broken.TheVariants.{WriteFault, NoMemory}
 use Rattle.boss_serve_jobs.specs.ServeJobs.{EndsBy, Faults}
+use Rattle.boss_shift_jobs.specs.ShiftJobs.{ShiftsJournal}
 use Rattle.boss_standby_jobs.specs.FeedJobs.{FeedsJournal, FeedsMemory}
 use Rattle.boss_standby_jobs.specs.Followings.{FollowsOver, Streams}
 use Rattle.boss_standby_jobs.specs.StandbyJobs.{DoesStandby, StandbyMemory}
@@ -144,6 +145,25 @@ module _ {F D S K A : Type 0} (f : files.Ghosts F D) (s : source.Ghosts S) (k : 
     | inr (inl why) ↦ refused why
     | inr (inr (inl why)) ↦ refused why.refused
     | inr (inr (inr told)) ↦ by-line k old.sink new.sink status _ 0 refl told.tells
+  ]
+
+  -- ---- shifts
+
+  pub of-shift : {name journal : List ℕ} {by : ℕ} → ShiftsJournal f s k a name journal by count old new status → NotUsage status
+  of-shift it = elim it.did [
+    | inl none ↦ no-catalogue none
+    | inr (inl why) ↦ refused why
+    | inr (inr kept) ↦ elim kept.shifts [
+      | inl none ↦ five-eight status none.0.why
+      | inr (inl journal) ↦ by-line k old.sink new.sink status _ 4 refl journal.tells
+      | inr (inr (inl fresh)) ↦ by-line k old.sink new.sink status _ 0 refl fresh.tells
+      | inr (inr (inr opened)) ↦ elim opened.comes [
+        | inl done ↦ by-line k old.sink new.sink status _ 0 refl done.tells
+        | inr (inl far) ↦ by-line k old.sink new.sink status _ 15 refl far.tells
+        | inr (inr (inl broke)) ↦ other status 5 broke.status_is refl
+        | inr (inr (inr lack)) ↦ other status 8 lack.status_is refl
+      ]
+    ]
   ]
 
   -- ---- feeds

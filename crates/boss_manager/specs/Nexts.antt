@@ -3,7 +3,7 @@
 use Rattle.std.specs.Prelude.{◌≡◌, ℕ, ◌≤◌, Option, Some, None}
 use Rattle.boss_model.specs.Limits.{most_workers}
 use Rattle.boss_words.specs.declared.job.Job.{Job}
-use Rattle.boss_words.specs.declared.job.Job.TheVariants.{Script, Serve, Check, Adopt, Feed, Standby, Load, Help, Version}
+use Rattle.boss_words.specs.declared.job.Job.TheVariants.{Script, Serve, Check, Adopt, Shift, Feed, Standby, Load, Help, Version}
 use Rattle.boss_manager.specs.declared.next.Next.{Next}
 use Rattle.boss_manager.specs.declared.next.Next.TheVariants as next
 use Rattle.boss_manager.specs.declared.next.ServeJob.{ServeJob}
@@ -30,7 +30,7 @@ HasWorkers (next.Serve job) = (1 ≤ job.workers) × (job.workers ≤ most_worke
 
 -- the server that the words ask for
 abbrev pub server_of : Option Job → Option ServeJob
-server_of (Some (Serve catalogue journal address workers connections rules plan)) = Some (record {
+server_of (Some (Serve catalogue journal address workers connections rules plan keys)) = Some (record {
   catalogue = catalogue;
   journal = journal;
   address = address;
@@ -42,6 +42,7 @@ server_of (Some (Serve catalogue journal address workers connections rules plan)
 server_of (Some (Script catalogue journal)) = None
 server_of (Some (Check catalogue journal)) = None
 server_of (Some (Adopt old new journal)) = None
+server_of (Some (Shift catalogue journal by)) = None
 server_of (Some (Feed catalogue journal from)) = None
 server_of (Some (Standby catalogue journal)) = None
 server_of (Some (Load count seed)) = None

@@ -4,7 +4,7 @@ ghost use Rattle.boss_manager.specs.ByWords.{DoesJob};
 ghost use Rattle.boss_manager.specs.Nexts.{HasWorkers};
 ghost use Rattle.boss_words.specs.Words.{job_of, texts};
 
-use crate::jobs::{adopt, check, feed, script, standby};
+use crate::jobs::{adopt, check, feed, script, shift, standby};
 use crate::{Next, ServeJob};
 use boss_files::Files;
 use boss_jobs::{Status, do_load, say_help, say_usage, say_version};
@@ -41,6 +41,7 @@ pub fn do_words<F: Files, S: Hears<K>, K: Sink, A: Actuators>(
                 connections,
                 rules,
                 plan,
+                keys: _,
             },
         ) => Next::Serve(ServeJob {
             catalogue,
@@ -53,6 +54,15 @@ pub fn do_words<F: Files, S: Hears<K>, K: Sink, A: Actuators>(
         }),
         Ok(Job::Adopt { old, new, journal }) => Next::Done(adopt(
             alloc, &old, &new, &journal, files, source, sink, devices,
+        )),
+        Ok(
+            Job::Shift {
+                catalogue,
+                journal,
+                by,
+            },
+        ) => Next::Done(shift(
+            alloc, &catalogue, &journal, by, files, source, sink, devices,
         )),
         Ok(
             Job::Feed {

@@ -7,6 +7,7 @@ ghost use Rattle.boss_jobs.specs.Jobs.{DoesScript, world};
 ghost use Rattle.boss_jobs.specs.KeptScripts.{DoesKeptScript};
 ghost use Rattle.boss_model.specs.Limits.{most_workers};
 ghost use Rattle.boss_serve_jobs.specs.ServeJobs.{DoesServe, ServesInMemory, all_at_end, all_at_start};
+ghost use Rattle.boss_shift_jobs.specs.ShiftJobs.{ShiftsJournal};
 ghost use Rattle.boss_standby_jobs.specs.FeedJobs.{FeedsJournal, FeedsMemory};
 ghost use Rattle.boss_standby_jobs.specs.StandbyJobs.{DoesStandby, StandbyMemory};
 
@@ -16,6 +17,7 @@ use boss_jobs::{Status, check_kept, check_memory, do_kept_script, do_script};
 use boss_outside::{Actuators, Hears, Sink, Source};
 use boss_outside_server::{Clock, Host, Spawner, Waiter};
 use boss_serve_jobs::{Service, World, do_kept_serve, do_memory_serve};
+use boss_shift_jobs::shift_kept;
 use boss_standby_jobs::{feed_kept, feed_memory, standby_kept, standby_memory};
 use boss_words::Word;
 use std::alloc::Global;
@@ -113,6 +115,39 @@ pub fn adopt<F: Files, S: Source, K: Sink, A: Actuators>(
             old_name.text(),
             new_name.text(),
             journal.text(),
+            files,
+            source,
+            sink,
+            devices,
+        )
+    }
+}
+
+/// Takes all moments of a journal in two files back by so many milliseconds. With `-` it is in memory alone, and new, which is told as a
+/// check tells it.
+pub fn shift<F: Files, S: Source, K: Sink, A: Actuators>(
+    alloc: Global,
+    name: &Word,
+    journal: &Word,
+    by: u64,
+    files: &mut F,
+    source: &mut S,
+    sink: &mut K,
+    devices: &mut Vec<A>,
+) -> Status
+    ensures kept { journal.now ≢ codes "-" → ShiftsJournal F.Files S.Source K.Sink A.Actuators name.now journal.now by (vec_len devices.old)
+        (world files.old source.old sink.old devices.old.items) (world files.new source.new sink.new devices.new.items) result.0 }
+    ensures memory { journal.now ≡ codes "-" → ChecksMemory F.Files S.Source K.Sink A.Actuators name.now (vec_len devices.old)
+        (world files.old source.old sink.old devices.old.items) (world files.new source.new sink.new devices.new.items) result.0 }
+{
+    if journal.text() == "-" {
+        check_memory(alloc, name.text(), files, source, sink, devices)
+    } else {
+        shift_kept(
+            alloc,
+            name.text(),
+            journal.text(),
+            by,
             files,
             source,
             sink,

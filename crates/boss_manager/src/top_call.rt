@@ -10,6 +10,7 @@ ghost use Rattle.boss_jobs.specs.Programs.{is_served, script_of_words};
 ghost use Rattle.boss_manager.specs.declared.next.ServeJob.{ServeJob};
 ghost use Rattle.boss_manager.specs.Nexts.{HasWorkers, IfDone, IsLeft, OnDone, server_of};
 ghost use Rattle.boss_model.specs.Limits.{most_workers};
+ghost use Rattle.boss_shift_jobs.specs.ShiftJobs.{ShiftsJournal};
 ghost use Rattle.boss_standby_jobs.specs.FeedJobs.{FeedsJournal, FeedsMemory};
 ghost use Rattle.boss_standby_jobs.specs.StandbyJobs.{DoesStandby, StandbyMemory};
 ghost use Rattle.boss_serve_jobs.specs.ServeJobs.{DoesServe, server_world, ServesInMemory};
@@ -29,10 +30,11 @@ use std::sync::Wait;
 /// own name. It is given no clock, no network and nothing to wait by, and it returns, whatever the words are.
 ///
 /// This is a script, `script CATALOGUE JOURNAL`, a check, `check CATALOGUE JOURNAL`, an adoption of a changed catalogue, `adopt OLD NEW
-/// JOURNAL`, a feed, `feed CATALOGUE JOURNAL FROM`, a standby, `standby CATALOGUE JOURNAL`, or a generated load, `load COUNT SEED`; `help` tells these, and `version` the program's. A
+/// JOURNAL`, a shift, `shift CATALOGUE JOURNAL BY`, a feed, `feed CATALOGUE JOURNAL FROM`, a standby, `standby CATALOGUE JOURNAL`, or a generated load, `load COUNT SEED`; `help` tells these, and `version` the program's. A
 /// script reads the catalogue, opens the journal, answers the lines of the source to the sink and drives the devices, the d-th of them for
 /// driver d. A check tells what the journal stands for. An adoption takes that over under the new catalogue, where no removed point is in
-/// use and each point takes all values that it holds. A feed tells the journal's events above FROM, and a standby does again in its own
+/// use and each point takes all values that it holds. A shift takes all moments of what the journal stands for back by BY milliseconds,
+/// where it and its reversions have lasted so long. A feed tells the journal's events above FROM, and a standby does again in its own
 /// journal what a feed from the source tells. The journal is kept in two files, that of its name and that of its name with `.b` behind it,
 /// or with `-` in memory alone. A load tells what came of a generated day.
 pub fn boss<F: Files, S: Hears<K>, K: Sink, A: Actuators>(
@@ -61,6 +63,13 @@ pub fn boss<F: Files, S: Hears<K>, K: Sink, A: Actuators>(
         (world files.old source.old sink.old devices.old.items) (world files.new source.new sink.new devices.new.items) status journal) }
     ensures adopt_memory { (old_name new_name : List ℕ) → job_of (texts words.now.items) ≡ Some (job.Adopt old_name new_name (codes "-"))
         → IfDone result (AdoptsMemory F.Files S.Source K.Sink A.Actuators old_name new_name (vec_len devices.old)
+        (world files.old source.old sink.old devices.old.items) (world files.new source.new sink.new devices.new.items)) }
+    ensures shift { (name journal : List ℕ) (by : ℕ) → job_of (texts words.now.items) ≡ Some (job.Shift name journal by) → journal ≢ codes "-"
+        → IfDone result (ShiftsJournal F.Files S.Source K.Sink A.Actuators name journal by (vec_len devices.old)
+        (world files.old source.old sink.old devices.old.items) (world files.new source.new sink.new devices.new.items)) }
+    // A journal in memory alone is new, and that is told as a check tells it.
+    ensures shift_memory { (name : List ℕ) (by : ℕ) → job_of (texts words.now.items) ≡ Some (job.Shift name (codes "-") by)
+        → IfDone result (ChecksMemory F.Files S.Source K.Sink A.Actuators name (vec_len devices.old)
         (world files.old source.old sink.old devices.old.items) (world files.new source.new sink.new devices.new.items)) }
     ensures feed { (name journal : List ℕ) (from : ℕ) → job_of (texts words.now.items) ≡ Some (job.Feed name journal from) → journal ≢ codes "-"
         → IfDone result (FeedsJournal F.Files S.Source K.Sink A.Actuators name journal from (vec_len devices.old)

@@ -1,7 +1,7 @@
 use Rattle.std.proofs.Common.{vec_len}
 use Rattle.boss_jobs.specs.Jobs.{world}
 use Rattle.boss_words.specs.Words.{job_of, texts}
-use Rattle.boss_manager.proofs.Asked.{asked-adopt, asked-adopt_memory, asked-check, asked-check_memory, asked-feed, asked-feed_memory, asked-help, asked-kept, asked-load, asked-script, asked-serve, asked-standby, asked-standby_memory, asked-usage, asked-usage_only, asked-version}
+use Rattle.boss_manager.proofs.Asked.{asked-adopt, asked-adopt_memory, asked-check, asked-check_memory, asked-feed, asked-feed_memory, asked-help, asked-kept, asked-load, asked-script, asked-serve, asked-shift, asked-shift_memory, asked-standby, asked-standby_memory, asked-usage, asked-usage_only, asked-version}
 use Rattle.boss_manager.proofs.top_call.boss.Goals as goal
 
 pub returns-clause-script : goal.returns-clause-script
@@ -36,6 +36,18 @@ returns-clause-adopt g c = asked-adopt g.F.Files g.S.Source g.K.Sink g.A.Actuato
 
 pub returns-clause-adopt_memory : goal.returns-clause-adopt_memory
 returns-clause-adopt_memory g c = asked-adopt_memory g.F.Files g.S.Source g.K.Sink g.A.Actuators (vec_len c.args.devices.now)
+    (world c.args.files.now c.args.source.now c.args.sink.now c.args.devices.now.items)
+    (world c.do_words.new.files c.do_words.new.source c.do_words.new.sink c.do_words.new.devices.items)
+    c.do_words.result (job_of (texts c.args.words.now.items)) c.do_words.ensures.does
+
+pub returns-clause-shift : goal.returns-clause-shift
+returns-clause-shift g c = asked-shift g.F.Files g.S.Source g.K.Sink g.A.Actuators (vec_len c.args.devices.now)
+    (world c.args.files.now c.args.source.now c.args.sink.now c.args.devices.now.items)
+    (world c.do_words.new.files c.do_words.new.source c.do_words.new.sink c.do_words.new.devices.items)
+    c.do_words.result (job_of (texts c.args.words.now.items)) c.do_words.ensures.does
+
+pub returns-clause-shift_memory : goal.returns-clause-shift_memory
+returns-clause-shift_memory g c = asked-shift_memory g.F.Files g.S.Source g.K.Sink g.A.Actuators (vec_len c.args.devices.now)
     (world c.args.files.now c.args.source.now c.args.sink.now c.args.devices.now.items)
     (world c.do_words.new.files c.do_words.new.source c.do_words.new.sink c.do_words.new.devices.items)
     c.do_words.result (job_of (texts c.args.words.now.items)) c.do_words.ensures.does

@@ -1,0 +1,5 @@
+pub mod Lines
+pub mod Openings
+pub mod ShiftJobs
+pub mod Shifts
+pub mod Telling
