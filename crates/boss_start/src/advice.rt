@@ -4,7 +4,8 @@ use boss_manager::Status;
 use std::alloc::{AllocError, Global};
 
 /// One sentence for a status: what happened, and what to do about it, with the names among the program's words. Where all was done there
-/// is one only for a check, a feed or an adoption that found neither of a journal's files. Where the catalogue was refused for a point, it has that point's name.
+/// is one only for a check, a feed, an adoption or a shift that found neither of a journal's files. Where the catalogue was refused for a
+/// point, it has that point's name.
 pub fn advice(
     alloc: Global,
     status: Status,
@@ -50,6 +51,11 @@ fn sentence(
             "the journal {journal} was refused, as its line says; name this catalogue's journal, adopt it where the catalogue changed, or name a new one"
         );
     }
+    if status == Status::ADOPTION && word_at(words, 0) == SHIFT {
+        return format!(in alloc;
+            "the moments of the journal {journal} were not taken back, as its line says; give that number of milliseconds or fewer"
+        );
+    }
     if status == Status::ADOPTION {
         let new = word_at(words, 2);
         return format!(in alloc;
@@ -82,6 +88,9 @@ fn sentence(
 
 /// The job that has two catalogues before its journal.
 const ADOPT: &str = "adopt";
+
+/// The other job that may refuse a state.
+const SHIFT: &str = "shift";
 
 const USAGE: &str =
     "these words ask for nothing that it does; bossd help tells what it does, a job a line";
@@ -131,7 +140,7 @@ fn of_catalogue(alloc: Global, catalogue: &str, point: Option<&str>) -> Result<S
 
 /// Whether the job of this name leaves it at that where a journal is not there.
 fn tells_none(job: &str) -> bool {
-    job == "check" || job == "feed" || job == ADOPT
+    job == "check" || job == "feed" || job == ADOPT || job == SHIFT
 }
 
 /// The journal's name among the words: it stands behind one catalogue, or behind two.

@@ -1,5 +1,5 @@
 //! Trials of the whole transaction manager: worked scripts, byte for byte, the statuses of runs that end early, plans and rules that are refused, journals that are checked,
-//! catalogues that are adopted, feeds that are told and followed, generated loads, and the bounds of what is kept.
+//! catalogues that are adopted, moments that are taken back, feeds that are told and followed, generated loads, and the bounds of what is kept.
 #![tactic(auto)]
 
 #[cfg(test)]
@@ -22,6 +22,8 @@ mod rules;
 mod runs;
 #[cfg(test)]
 mod scripts;
+#[cfg(test)]
+mod shifts;
 #[cfg(test)]
 mod shorter_lists;
 #[cfg(test)]

@@ -33,6 +33,10 @@ pub const AT_1000: &[u8] = b"\0\0\0\0\0\0\x03\xe8";
 const STATE: &[u8] =
     b"\0\0\0\0\0\0\x03\xe8\0\0\0\0\0\0\0\x02\0\x01\x01a\0\0\0\0\0\0\0\0\0\0\0\0\0\0\x01\0\0\0\0\0\0\0\x01\0\0\0\x01\0\0\0\0\x08\0\0\0\0\0\0\x01\0\0\0\0\0\0\0\x01\0\0\0\0\0\0\x08\0\0\0\0\0\0\xaf\xc8\0\0\0\0\0\0\xee\x48\0\0\0\0\0\0";
 
+/// The same with its moments 400 ms earlier: the moment 600, and the lease until 60600.
+const EARLIER: &[u8] =
+    b"\0\0\0\0\0\0\x02\x58\0\0\0\0\0\0\0\x02\0\x01\x01a\0\0\0\0\0\0\0\0\0\0\0\0\0\0\x01\0\0\0\0\0\0\0\x01\0\0\0\x01\0\0\0\0\x08\0\0\0\0\0\0\x01\0\0\0\0\0\0\0\x01\0\0\0\0\0\0\x08\0\0\0\0\0\0\xaf\xc8\0\0\0\0\0\0\xec\xb8\0\0\0\0\0\0";
+
 /// These bytes behind one another.
 pub fn joined(rt: &impl Abort, alloc: Global, parts: &[&[u8]]) -> Vec<u8> {
     let mut bytes = Vec::new(alloc);
@@ -90,12 +94,30 @@ pub fn kept(rt: &impl Abort, alloc: Global) -> Vec<u8> {
 
 /// The same in another generation, under a catalogue of this digest.
 pub fn kept_as(rt: &impl Abort, alloc: Global, digest: &[u8; 32], generation: u64) -> Vec<u8> {
+    kept_behind(rt, alloc, digest, generation, 2, STATE)
+}
+
+/// The disk of the state with its moments 400 ms earlier, in this generation, with one event more before it.
+pub fn earlier_as(rt: &impl Abort, alloc: Global, generation: u64) -> Vec<u8> {
+    kept_behind(rt, alloc, DIGEST, generation, 3, EARLIER)
+}
+
+/// The disk of a state of so many bytes as the first has, behind so many events.
+fn kept_behind(
+    rt: &impl Abort,
+    alloc: Global,
+    digest: &[u8; 32],
+    generation: u64,
+    events: u64,
+    state: &[u8],
+) -> Vec<u8> {
     let mut front = joined(rt, alloc, &[b"OSSSNAP\x03", digest]);
     put(rt, &mut front, &generation.to_be_bytes());
-    put(rt, &mut front, b"\0\0\0\0\0\0\0\x02\0\0\0\0\0\0\0\x68");
+    put(rt, &mut front, &events.to_be_bytes());
+    put(rt, &mut front, b"\0\0\0\0\0\0\0\x68");
     let seed = seed_of(rt, alloc, &[&front]);
-    let sum = sum_of(rt, alloc, &seed, 65, STATE);
-    joined(rt, alloc, &[b"B", &front, &seed, STATE, &sum, SHUT])
+    let sum = sum_of(rt, alloc, &seed, 65, state);
+    joined(rt, alloc, &[b"B", &front, &seed, state, &sum, SHUT])
 }
 
 /// The first in version 2, which has no sums: 162 bytes.

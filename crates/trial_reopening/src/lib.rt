@@ -1,6 +1,6 @@
 //! Trials of journals on a pair of disks in memory: what scripts leave there and go on from, disks that stop or fail at each of their
-//! calls, pairs that are refused, what one caller or two ask for as one record, a log that is begun anew, and a catalogue that is
-//! adopted.
+//! calls, pairs that are refused, what one caller or two ask for as one record, a log that is begun anew, a catalogue that is
+//! adopted, and moments that are taken back.
 #![tactic(auto)]
 
 #[cfg(test)]
@@ -23,6 +23,8 @@ mod refusals;
 mod rotation;
 #[cfg(test)]
 mod rotation_stops;
+#[cfg(test)]
+mod shift_stops;
 #[cfg(test)]
 mod stops;
 #[cfg(test)]
