@@ -2,8 +2,8 @@
 
 Runs the built program beside a small model of the lease machine, which was written apart from it, on scripts made by
 chance, and compares every line that they write. Then journals made by chance, each under one catalogue after another: points go, come,
-change and stand elsewhere while leases are alive, and every line of the scripts, adoptions and checks is compared. Ends with 1 at the
-first line on which they differ.
+change and stand elsewhere while leases are alive, moments are taken back, and every line of the scripts, adoptions, shifts and checks is
+compared. Ends with 1 at the first line on which they differ.
 
     tools/compare [SCRIPTS]
 
@@ -193,6 +193,7 @@ def same(what: str, ran: tuple[int, list[str]], status: int, wanted: list[str]) 
 USAGE = 2
 REFUSED_JOURNAL = 4
 REFUSED_ADOPTION = 15
+REFUSED_SHIFT = 15
 CATALOGUES_A_JOURNAL = 5
 # Of so many journals one has scripts so long that more becomes done, and is told, than is kept.
 LONG_EVERY, LONG_SCRIPT = 25, 3_000
@@ -301,17 +302,37 @@ class Journal:
             self.look(new, old)
         self.catalogue, self.maker.points = new, new.points
 
+    def shift(self) -> None:
+        """Takes the moments of the journal back, now and then by more than can be."""
+        most = min([self.machine.now, *(it.start for it in self.machine.reversions)])
+        by = max(1, self.chance.choice([1, most // 2, most, most + 1, 2 * most + 3]))
+        words = ["shift", self.word(self.catalogue), self.path, str(by)]
+        if self.is_new():
+            self.same(words, [], 0, ["journal new"])
+            return
+        refused = self.machine.shift(by)
+        if refused is None:
+            self.events, self.moment = self.events + 1, max(0, self.moment - by)
+            self.same(words, [], 0, [f"shifted events {self.events} {self.held()}"])
+            self.told["shifted"] += 1
+        else:
+            self.same(words, [], REFUSED_SHIFT, [f"shift too-far {refused}"])
+            self.told["too-far"] += 1
+        self.look(self.catalogue, self.catalogue)
+
+    def held(self) -> str:
+        return f"now {self.machine.now} leases {len(self.machine.leases)} pending {len(self.machine.reversions)}"
+
     def look(self, kept: Catalogue, other: Catalogue) -> None:
         """A check has to open the journal with the one catalogue, and to refuse it with the other."""
-        held = f"now {self.machine.now} leases {len(self.machine.leases)} pending {len(self.machine.reversions)}"
-        self.same(["check", self.word(kept), self.path], [], 0, [f"events {self.events} {held}"])
+        self.same(["check", self.word(kept), self.path], [], 0, [f"events {self.events} {self.held()}"])
         if kept.digest() != other.digest():
             line = f"journal catalogue {kept.digest()} {other.digest()}"
             self.same(["check", self.word(other), self.path], [], REFUSED_JOURNAL, [line])
 
 
 def compare_journals(journals: int) -> None:
-    compared, told = 0, Counter[str]()
+    compared, told, shifts = 0, Counter[str](), knows("shift", "-", "1")
     memory = "/dev/shm" if os.path.isdir("/dev/shm") else None
     for seed in range(journals):
         with tempfile.TemporaryDirectory(dir=memory) as scratch:
@@ -321,17 +342,27 @@ def compare_journals(journals: int) -> None:
                 if place or seed % 10:
                     journal.script(LONG_SCRIPT if seed % LONG_EVERY == 1 else journal.chance.choice([0, 10, 60, 200]))
                 journal.adopt(changed(journal.chance, journal.catalogue))
+                if shifts and journal.chance.random() < 0.4:
+                    journal.shift()
             journal.script(100)
         compared, told = compared + journal.compared, told + journal.told
     print(f"compare: {journals} journals under {CATALOGUES_A_JOURNAL + 1} catalogues each: {told['adopted']} adopted, {told['in-use']} refused "
-          f"as in use and {told['unfit']} as unfit, {told['new']} new; {compared} lines, all the same")
+          f"as in use and {told['unfit']} as unfit, {told['new']} new; {told['shifted']} with earlier moments, and {told['too-far']} refused as "
+          f"too far; {compared} lines, all the same")
+    if not shifts:
+        print("compare: this program has no job `shift`, so no journal's moments were taken back")
 
 
-def knows_adopt() -> bool:
+def knows(job: str, *words: str) -> bool:
+    """Whether the program has the job of a catalogue and these words."""
     with tempfile.NamedTemporaryFile("w", suffix=".toml") as file:
         file.write(CATALOGUE)
         file.flush()
-        return run(["adopt", file.name, file.name, "-"])[0] != USAGE
+        return run([job, file.name, *(word or file.name for word in words)])[0] != USAGE
+
+
+def knows_adopt() -> bool:
+    return knows("adopt", "", "-")
 
 
 def main() -> None:

@@ -5,7 +5,8 @@ it finds with what had been acknowledged: all of that, in order, and of what was
 or not at all. It is stopped in two ways: killed at random moments under load; and, for each call of the system on the journal's
 files and their folder in turn, by that call failing, and by a kill at that call. The calls are tried where there is no journal yet, over
 one that is opened again, and where the log is full and a new one begins behind a kept state. So are those of an adoption of a journal
-under another catalogue, whatever stops which it opens with just one of the two.
+under another catalogue, whatever stops which it opens with just one of the two, and those of a shift, whatever stops which all of its
+moments are as they were, or all of them are earlier.
 
     tools/crash [KILLS [LANES]]
 
@@ -165,6 +166,11 @@ class Story:
         ran = subprocess.run([*before, *words], stdout=subprocess.PIPE, stderr=subprocess.DEVNULL, timeout=PATIENCE)
         return ran.returncode, whole_lines(ran.stdout)
 
+    def shift(self, by: int, before: Sequence[str] = ()) -> tuple[int, list[str]]:
+        """The status of a shift, and the whole lines that it wrote."""
+        ran = subprocess.run([*before, *self.words("shift"), str(by)], stdout=subprocess.PIPE, stderr=subprocess.DEVNULL, timeout=PATIENCE)
+        return ran.returncode, whole_lines(ran.stdout)
+
     def run(self, made: list[Asked], before: Sequence[str] = ()) -> tuple[int, list[str]]:
         """The status of a script, and the whole lines that it wrote."""
         ran = subprocess.run([*before, *self.words("script")], input=text_of(made), stdout=subprocess.PIPE, stderr=subprocess.DEVNULL,
@@ -289,7 +295,7 @@ LONG_RECORD = 360
 
 class Start(NamedTuple):
     """A journal under a catalogue, the machine that it stands for, and what is done to it next: requests are asked of it, or it is
-    adopted."""
+    adopted, or its moments are taken back by so much."""
     what: str
     folder: str
     machine: Machine
@@ -297,12 +303,17 @@ class Start(NamedTuple):
     made: list[Asked]
     catalogue: Catalogue = ONE
     new: Catalogue | None = None
+    by: int | None = None
 
     def run(self, story: Story, before: Sequence[str] = ()) -> tuple[int, list[str]]:
+        if self.by:
+            return story.shift(self.by, before)
         return story.adopt(self.new, before) if self.new else story.run(self.made, before)
 
     def judge(self, story: Story, status_then: int, status: int, told: list[str]) -> None:
-        if self.new:
+        if self.by:
+            judge_shift(story, self.by, status_then, status, told)
+        elif self.new:
             judge_adoption(story, self.new, status_then, status, told)
         else:
             judge(story, self.made, status_then, status, told)
@@ -371,6 +382,27 @@ def adoptions(scratch: str) -> Iterator[Start]:
     status, told = kept.run(story)
     kept.judge(story, 0, status, told)
     yield Start("adopting it back", folder("turned"), story.machines[0], story.events, [], OTHER, ONE)
+
+
+def shifts(scratch: str) -> Iterator[Start]:
+    """Journals whose moments are taken back: one that is new, one that has a log, and one that was shifted, whose other file is written."""
+    def folder(name: str) -> str:
+        return os.path.join(scratch, name)
+
+    def nothing(machine: Machine) -> list[Asked]:
+        return []
+
+    requests = Made(4).some(new_machine(), 60)
+    yield start("shifting no journal", folder("empty"), [], nothing)._replace(by=1)
+    kept = start("shifting a journal", folder("log"), requests, nothing)
+    most = min([kept.machine.now, *(it.start for it in kept.machine.reversions)])
+    kept = kept._replace(by=most // 2)
+    yield kept
+    os.mkdir(folder("shifted"))
+    story = kept.story(folder("shifted"))
+    status, told = kept.run(story)
+    kept.judge(story, 0, status, told)
+    yield Start("shifting it again", folder("shifted"), story.machines[0], story.events, [], by=most - most // 2)
 
 
 def traced(story: Story, call: str | None = None, fate: str | None = None) -> tuple[list[str], str]:
@@ -461,6 +493,29 @@ def judge_adoption(story: Story, new: Catalogue, status_then: int, status: int, 
     story.look(0)
 
 
+def judge_shift(story: Story, by: int, status_then: int, status: int, told: list[str]) -> None:
+    """All moments have to be as they were, or all of them earlier, and that where all was done. A journal that is new stays so."""
+    if status != status_then:
+        raise Wrong(f"status {status}, not {status_then}")
+    if story.events == 0:
+        line, done = "journal new", False
+        if check_with(story, story.catalogue) != (0, ["journal new"]):
+            raise Wrong("the journal is no longer new")
+    else:
+        shifted = twin(story.machines[0])
+        if shifted.shift(by) is not None:
+            raise Wrong("its moments were to be taken back by too much")
+        line = f"shifted events {story.events + 1} {summary(shifted)}"
+        done = check_with(story, story.catalogue) == (0, [f"events {story.events + 1} {summary(shifted)}"])
+        if done:
+            story.machines, story.events = [shifted], story.events + 1
+    if told not in ([line], []) or status == 0 and not told:
+        raise Wrong(f"it told {told}, not {line}")
+    if told and story.events and not done:
+        raise Wrong("it told that its moments are earlier, and they are not")
+    story.look(0)
+
+
 def check_with(story: Story, catalogue: Catalogue) -> tuple[int, list[str]]:
     ran = subprocess.run([PROGRAM, "check", story.file_of(catalogue), story.journal], stdout=subprocess.PIPE, stderr=subprocess.DEVNULL,
                          timeout=PATIENCE)
@@ -478,7 +533,8 @@ def is_opened(story: Story, catalogue: Catalogue, other: Catalogue) -> bool:
 def stop_each(lanes: concurrent.futures.Executor) -> None:
     memory = "/dev/shm" if os.path.isdir("/dev/shm") else None
     with tempfile.TemporaryDirectory(dir=memory) as scratch:
-        journals = [*starts(scratch), *(adoptions(scratch) if compare.knows_adopt() else [])]
+        knows_shift = compare.knows("shift", "-", "1")
+        journals = [*starts(scratch), *(adoptions(scratch) if compare.knows_adopt() else []), *(shifts(scratch) if knows_shift else [])]
         tried = [(it, stopped_runs(lanes, it)) for it in journals]
         for it, runs in tried:
             counts = Counter[str]()
@@ -486,8 +542,10 @@ def stop_each(lanes: concurrent.futures.Executor) -> None:
                 counts[fate] += count
             told = ", ".join(f"{count} runs in which a call {fate}" for fate, count in counts.items())
             print(f"crash: {it.what}: {told}; each as it has to be", flush=True)
-        if journals[-1].new is None:
+        if not any(it.new for it in journals):
             print("crash: this program has no job `adopt`, so none was stopped", flush=True)
+        if not knows_shift:
+            print("crash: this program has no job `shift`, so none was stopped", flush=True)
 
 
 def stopped_runs(lanes: concurrent.futures.Executor, start: Start) -> list[concurrent.futures.Future[tuple[str, str, int]]]:

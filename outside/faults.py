@@ -2,7 +2,8 @@
 
 Runs the day of the examples again and again, each time with one call of the system failing: in turn each read of the
 lines, each write, each look at, opening and read of the catalogue, and each request for memory, with a journal in memory and with one in
-files; and then a check of the journal that the day leaves, with each look at, opening and read of it failing, and each request for memory.
+files; and then a check of the journal that the day leaves, with each look at, opening and read of it failing, and each request for memory,
+and a shift of it, with each request for memory, behind which all of its moments are as they were, or all of them are earlier.
 A run has to write a prefix of the right text and to end with the status of the fault; where it could do without the memory, it may also
 end with 0, having written the whole text.
 
@@ -16,6 +17,7 @@ It needs strace and a C compiler, and the program built (./bossd; BOSSD names an
 import contextlib
 import os
 import re
+import shutil
 import socket
 import subprocess
 import sys
@@ -33,6 +35,8 @@ LINES = os.path.realpath(os.path.join(EXAMPLES, "day.jsonl"))
 DAY = open(os.path.join(EXAMPLES, "day.out"), "rb").read()
 # Fifteen requests of the day change something, two of them by the time that passed alone in the evening: the last lease ends at half past six.
 CHECKED = b"events 15 now 66600000 leases 0 pending 0\n"
+# Its moments are taken back as far as they can be.
+BY, EARLIER = "66600000", b"events 16 now 0 leases 0 pending 0\n"
 
 # What fails, by which call of the system on which file, and the status that tells it.
 CALLS = [
@@ -97,9 +101,10 @@ int posix_memalign(void **to, size_t align, size_t size) {
 
 
 def run(before: list[str], environment: Mapping[str, str], job: str, journal: str) -> Found:
+    more = [BY] if job == "shift" else []
     with open(LINES, "rb") as lines:
         done = subprocess.run(
-            before + [PROGRAM, job, CATALOGUE, journal],
+            before + [PROGRAM, job, CATALOGUE, journal, *more],
             stdin=lines, stdout=subprocess.PIPE, stderr=subprocess.DEVNULL,
             env={**os.environ, **environment}, timeout=60)
     return done.returncode, done.stdout
@@ -156,6 +161,26 @@ def fail_memory(what: str, scratch: str, job: str, journal_of: Callable[[int], s
         if not judge(what, nth, failed, found, whole, NO_MEMORY):
             return nth - 1
         nth += 1
+
+
+def fail_shift(scratch: str, journal: str) -> int:
+    """Each request for memory of a shift fails in turn, each time over a copy of this journal. How many there are."""
+    def name_of(nth: int) -> str:
+        return os.path.join(scratch, f"shifted{nth}")
+
+    def copy_of(nth: int) -> str:
+        for end in ("", ".b"):
+            if os.path.exists(journal + end):
+                shutil.copy(journal + end, name_of(nth) + end)
+        return name_of(nth)
+
+    what = "a request for memory in a shift"
+    count = fail_memory(what, scratch, "shift", copy_of, b"shifted " + EARLIER)
+    for nth in range(1, count + 2):
+        opened = run([], {}, "check", name_of(nth))
+        if opened not in [(0, EARLIER), *([(0, CHECKED)] if nth <= count else [])]:
+            sys.exit(f"faults: {what} {nth}: the journal opens to {opened}")
+    return count
 
 
 def talk(port: int) -> tuple[int, int]:
@@ -237,6 +262,7 @@ def main() -> None:
         for what, call in CHECK_CALLS:
             counts.append(fail_call(f"{what} in a check", call, journal, 5, scratch, "check", journal, CHECKED))
         counts.append(fail_memory("a request for memory in a check", scratch, "check", lambda nth: journal, CHECKED))
+        counts.append(fail_shift(scratch, journal))
         counts.append(fail_serve(scratch))
     if not all(counts):
         sys.exit("faults: a kind of call never failed")

@@ -1,5 +1,5 @@
 """A small model of the lease machine, written apart from the program: what a session is answered, what processes are told, and
-what devices are told; and how all that goes on under a changed catalogue. Devices take every command. Moments are milliseconds, values
+what devices are told; and how all that goes on under a changed catalogue, or with its moments taken back. Devices take every command. Moments are milliseconds, values
 thousandths. With access rules it denies writes. Beside it stands where a line is at fault that is no request."""
 
 import hashlib
@@ -264,6 +264,11 @@ def error(what: str, **keys: object) -> str:
     return json.dumps({"error": what, **keys}, separators=(",", ":"))
 
 
+def earlier(reply: str, by: int) -> str:
+    """An answer with a moment that is so much earlier."""
+    return json.dumps({key: max(0, it - by) if key in ("until", "at") else it for key, it in json.loads(reply).items()}, separators=(",", ":"))
+
+
 class Machine:
     def __init__(self, drivers: list[str], points: list[Point], rules: Sequence[Rule] | None = None) -> None:
         self.drivers = drivers
@@ -324,6 +329,23 @@ class Machine:
                 if it and it.kind != "done":
                     it.point = renumbered[it.point]
         self.drivers, self.points, self.names = drivers, points, [point.name for point in points]
+        return None
+
+    def shift(self, by: int) -> int | None:
+        """What lasts goes on with all its moments so much earlier, those of the past down to 0 at most; and then it has to be opened
+        again. Or by how much they can be earlier at most, and then nothing has changed."""
+        most = min([self.now, *(it.start for it in self.reversions)])
+        if by > most:
+            return most
+        self.now -= by
+        for lease in self.leases:
+            lease.until, lease.since = lease.until - by, max(0, lease.since - by)
+        for reversion in self.reversions:
+            reversion.start -= by
+        for past in [end for made in self.transactions.values() for end in made.ends.values()] + [it for told in self.told for it in told]:
+            if past:
+                past.at = max(0, past.at - by)
+        self.kept = {process: (number, earlier(reply, by)) for process, (number, reply) in self.kept.items()}
         return None
 
     def reopen(self) -> None:

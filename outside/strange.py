@@ -72,18 +72,18 @@ def nowhere(path: str) -> None:
     os.chmod(os.path.dirname(path), 0o555)
 
 
-# What stands there, and what a script and a check write and end with.
+# What stands there, and what a script, a check and a shift write and end with.
 CASES = [
-    ("a folder", folder, {"script": FAILED, "check": FAILED}),
-    ("a file that may not be read", closed, {"script": FAILED, "check": FAILED}),
-    ("another program's file", foreign, {"script": REFUSED, "check": REFUSED}),
-    ("four gigabytes of zeros", zeros, {"script": REFUSED, "check": REFUSED}),
-    ("a journal beside a folder", second(folder), {"script": FAILED, "check": FAILED}),
-    ("a journal beside a file that may not be read", second(closed), {"script": FAILED, "check": FAILED}),
-    ("a journal beside another program's file", second(foreign), {"script": REFUSED, "check": REFUSED}),
-    ("a journal that may only be read", read_only, {"script": FAILED, "check": KEPT}),
+    ("a folder", folder, {"script": FAILED, "check": FAILED, "shift": FAILED}),
+    ("a file that may not be read", closed, {"script": FAILED, "check": FAILED, "shift": FAILED}),
+    ("another program's file", foreign, {"script": REFUSED, "check": REFUSED, "shift": REFUSED}),
+    ("four gigabytes of zeros", zeros, {"script": REFUSED, "check": REFUSED, "shift": REFUSED}),
+    ("a journal beside a folder", second(folder), {"script": FAILED, "check": FAILED, "shift": FAILED}),
+    ("a journal beside a file that may not be read", second(closed), {"script": FAILED, "check": FAILED, "shift": FAILED}),
+    ("a journal beside another program's file", second(foreign), {"script": REFUSED, "check": REFUSED, "shift": REFUSED}),
+    ("a journal that may only be read", read_only, {"script": FAILED, "check": KEPT, "shift": FAILED}),
     ("no journal", nothing, {"check": NEW}),
-    ("no journal where none may be made", nowhere, {"script": FAILED, "check": NEW}),
+    ("no journal where none may be made", nowhere, {"script": FAILED, "check": NEW, "shift": FAILED}),
 ]
 
 
@@ -91,7 +91,8 @@ def run(job: str, path: str) -> tuple[str, int, str]:
     # The superuser may read and write everything, so the program runs as somebody else.
     other = ["setpriv", "--reuid=65534", "--regid=65534", "--clear-groups"] if os.geteuid() == 0 else []
     above = os.path.dirname(os.path.dirname(path))
-    ran = subprocess.run([*other, os.path.join(above, "bossd"), job, os.path.join(above, "plant.toml"), path],
+    more = ["1"] if job == "shift" else []
+    ran = subprocess.run([*other, os.path.join(above, "bossd"), job, os.path.join(above, "plant.toml"), path, *more],
                          input=b'{"op":"tick"}\n', capture_output=True, timeout=20)
     return ran.stdout.decode(), ran.returncode, ran.stderr.decode()
 

@@ -92,7 +92,8 @@ impl<R: time::Clock + Eprint + Wait + Copy> Clock for RealClock<R> {
                     &self.rt,
                     format_args!(
                         "the journal's moment {moment} is {gap} ms ahead of the clock {clock}: leases go on from there in their own \
-                        length, and moments are told that much too late, which come to the clock by 1 ms in 100"
+                        length, and moments are told that much too late, which come to the clock by 1 ms in 100; bossd shift takes \
+                        them back"
                     ),
                 );
             }
