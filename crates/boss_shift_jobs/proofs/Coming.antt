@@ -114,7 +114,7 @@ module _ {D K : Type 0} (d : disk.Ghosts D) (k : sink.Ghosts K) (catalogue : Cat
       greatest = greatest;
       tells = tells;
       opens = still;
-      counted = still-after;
+      numbered = still-after;
       faults = no-rise;
     }))
 
@@ -145,7 +145,7 @@ module _ {D K : Type 0} (d : disk.Ghosts D) (k : sink.Ghosts K) (catalogue : Cat
               one-state (actuators catalogue) (digest_of catalogue) to (d.reads disks.0) (d.reads disks.1)
               (one-as now.engine.plant (actuators catalogue) now.disks.digest (digest_of catalogue) to to to to (d.reads disks.0) (d.reads disks.1)
               of_catalogue under_digest refl refl (closed.left told to to (leave any kept)));
-          counted = λ told few.
+          numbered = λ told few.
               opens-as now.engine.plant (actuators catalogue) now.disks.digest (digest_of catalogue) (lasting now) to (length later) (number + 1) (d.reads disks.0) (d.reads disks.1)
               of_catalogue under_digest lasts (many-events (number + 1))
               (closed.opens told later (it.gained any later kept (ap counted (many-events (number + 1)))) (subst (λ n. n < last_number) (sym (many-events (number + 1))) few));

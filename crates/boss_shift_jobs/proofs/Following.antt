@@ -24,7 +24,7 @@ module _ (was now was' now' : Pair) {K : Type 0} (k : sink.Ghosts K) (catalogue 
         may = done.may;
         tells = done.tells;
         opens = λ told. same-two (λ a b. OpensTo (actuators catalogue) (digest_of catalogue) (shifted by d) a b) _ _ _ _ (left told) (done.opens (tells told));
-        counted = λ told few. same-two (λ a b. OpensCleanly (actuators catalogue) (digest_of catalogue) (shifted by d) (number + 1) a b) _ _ _ _ (left told) (done.counted (tells told) few);
+        numbered = λ told few. same-two (λ a b. OpensCleanly (actuators catalogue) (digest_of catalogue) (shifted by d) (number + 1) a b) _ _ _ _ (left told) (done.numbered (tells told) few);
         faults = stood done.faults;
       })
       | inr (inl far) ↦ inr (inl (record {
@@ -34,7 +34,7 @@ module _ (was now was' now' : Pair) {K : Type 0} (k : sink.Ghosts K) (catalogue 
         greatest = far.greatest;
         tells = far.tells;
         opens = λ told. same-two (λ a b. OpensTo (actuators catalogue) (digest_of catalogue) d a b) _ _ _ _ (left told) (far.opens (tells told));
-        counted = λ told few. same-two (λ a b. OpensCleanly (actuators catalogue) (digest_of catalogue) d number a b) _ _ _ _ (left told) (far.counted (tells told) few);
+        numbered = λ told few. same-two (λ a b. OpensCleanly (actuators catalogue) (digest_of catalogue) d number a b) _ _ _ _ (left told) (far.numbered (tells told) few);
         faults = stood far.faults;
       }))
       | inr (inr (inl broke)) ↦ inr (inr (inl (record {

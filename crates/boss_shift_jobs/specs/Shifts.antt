@@ -39,7 +39,7 @@ module _ {K : Type 0} (k : sink.Ghosts K) (catalogue : Catalogue) (by : ℕ) (d 
     pub may : MayShift by d
     pub tells : TellsLine k (shifted_line (counted (number + 1)) (shifted by d)) 0 before after status
     pub opens : was.tells → OpensUnder catalogue (shifted by d) now
-    pub counted : was.tells → number + 1 < last_number → OpensAfter catalogue (shifted by d) (number + 1) now
+    pub numbered : was.tells → number + 1 < last_number → OpensAfter catalogue (shifted by d) (number + 1) now
     pub faults : now.faults ≡ was.faults
 
   -- They can't be taken back so far: one line tells how far they can at most, with status 15, and the pair opens to the state, after as
@@ -51,7 +51,7 @@ module _ {K : Type 0} (k : sink.Ghosts K) (catalogue : Catalogue) (by : ℕ) (d 
     pub greatest : (other : ℕ) → MayShift other d → other ≤ most
     pub tells : TellsLine k (too_far_line most) 15 before after status
     pub opens : was.tells → OpensUnder catalogue d now
-    pub counted : was.tells → number < last_number → OpensAfter catalogue d number now
+    pub numbered : was.tells → number < last_number → OpensAfter catalogue d number now
     pub faults : now.faults ≡ was.faults
 
   -- A disk failed as the state was written, which is status 5: nothing is told, and the pair opens to the state, or to it with its
