@@ -459,7 +459,7 @@ class Digests(Folder):
         self.assertEqual(digest_of(bossd, "plant.toml", self.folder), OTHER)
         with open(self.place("none"), "rb") as file:
             data = file.read()
-        self.assertEqual((data[:8], data[8], len(data), data[-1]), (b"BOSSJRNL", 3, 42, 0))
+        self.assertEqual((data[:8], data[8], len(data), data[-1]), (b"BOSSJRNL", 2, 42, 0))
         with self.assertRaises(Fault):
             digest_of(self.script("bossd", "printf 'events 0 now 0'\n"), "plant.toml", self.folder)
 

@@ -8,6 +8,7 @@ import time
 from types import TracebackType
 from typing import Any, Callable, Iterable, Iterator, List, Mapping, Optional, Type, TypeVar, Union
 
+from ._keys import Key
 from ._protocol import (
     PARTING, Accepted, Answer, Notice, Notices, Points, Reading, Refused, Request, Slots, Status, Version, host_and_port, no_such_host,
     prepare,
@@ -72,9 +73,9 @@ def shut(link: socket.socket, how: int) -> None:
 
 
 def connect(address: str, process: Optional[str] = None, patience: float = 60.0, *, at_once: bool = False,
-            tls: Optional[ssl.SSLContext] = None) -> "Client":
+            tls: Optional[ssl.SSLContext] = None, key: Optional[Key] = None, as_: Optional[str] = None) -> "Client":
     """A Client, as its class makes it."""
-    return Client(address, process, patience, at_once=at_once, tls=tls)
+    return Client(address, process, patience, at_once=at_once, tls=tls, key=key, as_=as_)
 
 
 class Connection(Speaking):
@@ -126,13 +127,16 @@ class Client(Session, Connection):
     long: Busy is raised where it was over before. With `at_once` a server that nobody has started is not waited for. With `tls`, as
     `tls_context` makes one, the connection has TLS in it, for what stands before the server then; a host whose certificate is not trusted
     at first is not asked again. While a connection is gone the server takes the process for lost, as of its last request; when it was the
-    server that was gone, leases are as they were."""
+    server that was gone, leases are as they were.
+
+    `key` is for a server that knows processes by keys: the key's text, or what gives it, as `key_in` makes it of a file. The first line of
+    each connection shows it. It is the process's own; one that only asks names whose it is by `as_`. A server without keys passes over both."""
 
     def __init__(self, address: str, process: Optional[str] = None, patience: float = 60.0, *, at_once: bool = False,
-                 tls: Optional[ssl.SSLContext] = None) -> None:
-        """Connects, and attaches as the process if it is given. ValueError for an address that is none, UnknownHost, Unanswered; or
-        as `attach`."""
-        super().__init__(address, patience, at_once)
+                 tls: Optional[ssl.SSLContext] = None, key: Optional[Key] = None, as_: Optional[str] = None) -> None:
+        """Connects, and attaches as the process if it is given. ValueError for an address or a key that is none, Malformed for a name in
+        `as_`, UnknownHost, Unanswered; or as `attach`."""
+        super().__init__(address, patience, at_once, key, as_)
         self._hold_with(tls)
         self._lock = threading.RLock()
         try:
@@ -163,7 +167,7 @@ class Client(Session, Connection):
 
     def attach(self, process: str) -> int:
         """Becomes the control process of this name: 1 to 64 characters of `a-z 0-9 . _ -`. Gives the number of its next notice.
-        Malformed, Already, Taken, TooManyProcesses, NoMemory, Unanswered."""
+        Malformed, WrongKey, Already, Taken, TooManyProcesses, NoMemory, Unanswered."""
         return self._run(self._becoming(process))
 
     def submit(self, writes: Iterable[Mapping[str, Any]], policy: str = "abort") -> Accepted:
@@ -292,9 +296,10 @@ class Held(Keeping):
         return self._client.ask(step.request)
 
 
-def watch(address: str, process: str, first: int = 1, patience: float = 60.0, *, tls: Optional[ssl.SSLContext] = None) -> "Watch":
+def watch(address: str, process: str, first: int = 1, patience: float = 60.0, *, tls: Optional[ssl.SSLContext] = None,
+          key: Optional[Key] = None, as_: Optional[str] = None) -> "Watch":
     """Gives the Notices of a process one after another as they come, from the number `first` on, each once and in order: a Watch."""
-    return Watch(address, process, first, patience, tls=tls)
+    return Watch(address, process, first, patience, tls=tls, key=key, as_=as_)
 
 
 class Watch(Watching, Connection, Iterator[Notice]):
@@ -303,12 +308,13 @@ class Watch(Watching, Connection, Iterator[Notice]):
     long as it runs.
 
     `patience` is for how many seconds it connects anew before it raises Unanswered; `float("inf")` is for ever. UnknownHost for a host
-    that was never found, ValueError for an address that is none, Malformed for a name that is none; the last two come from `watch`
-    itself. `tls` is as that of a Client. `close` may be called from another thread, and whoever waits for a notice then waits no longer."""
+    that was never found, ValueError for an address or a key that is none, Malformed for a name that is none; the last two come from `watch`
+    itself. WrongKey where the server does not take the key. `tls` and `key` are as those of a Client; the key is the watched process's
+    own, or that of the process `as_`. `close` may be called from another thread, and whoever waits for a notice then waits no longer."""
 
     def __init__(self, address: str, process: str, first: int = 1, patience: float = 60.0, *,
-                 tls: Optional[ssl.SSLContext] = None) -> None:
-        super().__init__(address, process, first, patience)
+                 tls: Optional[ssl.SSLContext] = None, key: Optional[Key] = None, as_: Optional[str] = None) -> None:
+        super().__init__(address, process, first, patience, key, as_)
         self._hold_with(tls)
         self._end = threading.Event()
 
@@ -322,7 +328,7 @@ class Watch(Watching, Connection, Iterator[Notice]):
         return self
 
     def __next__(self) -> Notice:
-        """The next notice. StopIteration once it is closed; Unanswered, UnknownHost."""
+        """The next notice. StopIteration once it is closed; Unanswered, UnknownHost, WrongKey."""
         notice = run(self, self._following(), self._do)
         if notice is None:
             raise StopIteration

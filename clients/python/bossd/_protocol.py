@@ -32,6 +32,8 @@ PARTING = 2.0
 SILENCE = 90.0
 # What a connection is told that no worker of the server is free for, before it is closed.
 BUSY = {"error": "busy"}
+# What a connection is told that shows no key that is right for its name, before it is ended.
+WRONG_KEY = {"error": "wrong-key"}
 # How many bytes of questions are sent before the answers to those before them are read. Twice as many may be under way: the system takes
 # them even while the server reads nothing, so that neither end waits for the other.
 WINDOW = 16_384
@@ -134,6 +136,23 @@ class UnknownPoint(Refused):
 
 class NotAttached(Refused):
     """The client speaks for no process."""
+
+
+class WrongKey(Refused):
+    """The server knows processes by keys, and the connection showed none that is right for its name, or asked to be another process later. It
+    has ended, and nothing of the request was made. `name` is whose key was shown, None where none was. Asking again brings the same answer:
+    it is for whoever keeps the server's file of keys. The key is in no text."""
+
+    def __init__(self, fields: Mapping[str, Any], request: Optional[Mapping[str, Any]] = None, name: Optional[str] = None) -> None:
+        self.name = name
+        super().__init__(fields, request)
+
+    def __reduce__(self) -> Tuple[Any, ...]:
+        return type(self), (self._fields, self.request, self.name)
+
+    def _text(self) -> str:
+        return f"{self.error}: " + ("the server wants a key, and none was shown with a name" if self.name is None else
+                                    f"the server has no such key for {self.name}")
 
 
 class Denied(Refused):
@@ -297,7 +316,7 @@ class Stopped(Refused):
 
 
 REFUSALS: Dict[str, Type[Refused]] = {
-    "malformed": Malformed, "unknown-op": UnknownOp, "unknown-point": UnknownPoint, "not-attached": NotAttached, "denied": Denied,
+    "malformed": Malformed, "wrong-key": WrongKey, "unknown-op": UnknownOp, "unknown-point": UnknownPoint, "not-attached": NotAttached, "denied": Denied,
     "stale": Stale, "same-point": SamePoint, "bad-priority": BadPriority, "out-of-range": OutOfRange, "bad-lease": BadLease,
     "bad-reversion": BadReversion, "unknown-txn": UnknownTransaction, "not-yours": NotYours, "not-in-txn": NotInTransaction,
     "ended": Ended, "over": Over, "already": Already, "taken": Taken, "too-many-processes": TooManyProcesses, "spent": Spent,
@@ -307,10 +326,12 @@ REFUSALS: Dict[str, Type[Refused]] = {
 
 class Unanswered(ConnectionError):
     """No answer came in time. `request` is what was asked: whether it was made is not known. Where it has a number, `Client.ask`
-    may be given it again, before any other numbered request, and it is made once. `__cause__` is what went wrong last."""
+    may be given it again, before any other numbered request, and it is made once. `__cause__` is what went wrong last. A key that a
+    program put into the request itself is left out of the text."""
 
     def __init__(self, request: Mapping[str, Any], why: str = "") -> None:
-        super().__init__(f"no answer to {json.dumps(request, default=repr)}" + (f": {why}" if why else ""))
+        told = {name: value for name, value in request.items() if name != "key"}
+        super().__init__(f"no answer to {json.dumps(told, default=repr)}" + (f": {why}" if why else ""))
         self.request = request
         self.why = why
 
@@ -674,6 +695,11 @@ def heard(line: bytes) -> bytes:
     if len(line) < 32 and json.loads(line) == BUSY:
         raise TurnedAway()
     return line
+
+
+def is_wrong_key(line: bytes) -> bool:
+    """Whether a line that was heard says that the connection showed no right key."""
+    return len(line) < 32 and json.loads(line) == WRONG_KEY
 
 
 def windows(lines: Sequence[bytes]) -> List[List[bytes]]:

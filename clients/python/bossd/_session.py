@@ -12,11 +12,12 @@ from typing import (
     TypeVar, Union,
 )
 
+from ._keys import Key, shown_in, source_of
 from ._protocol import (
-    LONGEST_LINE, PARTING, PAUSE, PULSE, SILENCE, Accepted, Answer, Busy, Denied, Gathering, NoMemory, Notice, Notices, Over, Points,
-    Reading, Refused, Request, Slots, Stale, Status, Stopped, Taken, TurnedAway, Unanswered, UnknownHost, UnknownTransaction, Version,
-    answer_of, heard, host_and_port, line_of, notice_of, notices_from, notices_of, reading_of, refusal_of, renewal, slots_of, status_of,
-    submission, version_of, windows,
+    LONGEST_LINE, PARTING, PAUSE, PULSE, SILENCE, WRONG_KEY, Accepted, Already, Answer, Busy, Denied, Gathering, NoMemory, Notice, Notices,
+    Over, Points, Reading, Refused, Request, Slots, Stale, Status, Stopped, Taken, TurnedAway, Unanswered, UnknownHost, UnknownTransaction,
+    Version, WrongKey, a_name, answer_of, heard, host_and_port, is_wrong_key, line_of, notice_of, notices_from, notices_of, reading_of,
+    refusal_of, renewal, slots_of, status_of, submission, version_of, windows,
 )
 
 T = TypeVar("T")
@@ -43,6 +44,10 @@ class Send(NamedTuple):
     """Send these bytes, all of them, in so many seconds at most. OSError."""
     data: bytes
     seconds: float
+
+    def __repr__(self) -> str:
+        # A key may be in the bytes, and whoever shows a traceback may show this too.
+        return f"Send({len(self.data)} bytes, {self.seconds})"
 
 
 class Receive(NamedTuple):
@@ -103,11 +108,19 @@ class Course(Generic[T]):
 
 
 class Speaking(Machine):
-    """One side of a connection: what came of it, and what is known of it."""
+    """One side of a connection: what came of it, and what is known of it. The first line of each connection shows the key, if there is
+    one: of the process `as_`, or else of the one that the line names."""
 
-    def __init__(self, address: str, patience: float) -> None:
+    def __init__(self, address: str, patience: float, key: Optional[Key] = None, as_: Optional[str] = None) -> None:
+        """ValueError, Malformed."""
         host_and_port(address)
+        if as_ is not None:
+            a_name("as", as_)
         self.address, self.patience = address, patience
+        self._key, self._as = source_of(key), as_
+        # Whether the connection has sent a line, and whose key that showed.
+        self._has_spoken = False
+        self._shown: Optional[str] = None
         self._is_connected, self._closed, self._met, self._is_away = False, False, False, False
         # Set where a connection was turned away and nothing was answered since.
         self._busy: Optional[TurnedAway] = None
@@ -117,13 +130,26 @@ class Speaking(Machine):
 
     def _forget(self) -> None:
         """What holds when there is no connection."""
-        self._is_connected = False
+        self._is_connected = self._has_spoken = False
+        self._shown = None
         self._lines.clear()
         self._rest = b""
 
+    def _first(self, line: bytes, names: Optional[str], name: Optional[str]) -> bytes:
+        """The line as the connection sends it: its first one shows the key, of the process `name`, or else of the one that the line names.
+        ValueError where it is too long with it; OSError where a key can't be had."""
+        key = None if self._has_spoken or self._key is None else self._key()
+        if key:
+            line = shown_in(line, key, name)
+            if len(line) > LONGEST_LINE + 1:
+                raise ValueError(f"a line of {len(line) - 1} bytes with the key, which the first of a connection has; {LONGEST_LINE} is the most")
+            self._shown = names if name is None else name
+        self._has_spoken = True
+        return line
+
     def _line(self, deadline: float) -> Steps[Optional[bytes]]:
         """The next line, with its end; an empty one where the connection ended before, None where it did not come until the deadline.
-        TurnedAway, or another OSError."""
+        TurnedAway, or another OSError; WrongKey, behind which the connection is over."""
         while not self._lines:
             data: Optional[bytes] = yield Receive(self._seconds_to(deadline))
             if not data:
@@ -133,6 +159,8 @@ class Speaking(Machine):
                 return None
         line = heard(self._lines.popleft())
         self._busy = None
+        if is_wrong_key(line):
+            raise WrongKey(WRONG_KEY, name=self._shown)
         return line
 
     def _take(self, data: bytes) -> None:
@@ -163,8 +191,8 @@ class Session(Speaking):
     """A client's side of its connections: the process that it speaks for, the number of its next request, and for how long it asks
     again."""
 
-    def __init__(self, address: str, patience: float, at_once: bool = False) -> None:
-        super().__init__(address, patience)
+    def __init__(self, address: str, patience: float, at_once: bool = False, key: Optional[Key] = None, as_: Optional[str] = None) -> None:
+        super().__init__(address, patience, key, as_)
         # The number of the process's next notice when it attached last.
         self.next_notice: Optional[int] = None
         # How often it attached: once more after each connection that was lost.
@@ -207,6 +235,9 @@ class Session(Speaking):
         """Attaches as the process, and finds its next number."""
         request = {"op": "attach", "process": process}
         line_of(request)
+        if self._key is not None and self._is_attached and process != self._process:
+            # A server with keys would end the connection for this, and with it all leases.
+            raise Already({"error": "already", "process": self._process}, request)
         number = yield from self._patiently(request, lambda deadline: self._attaching(process, deadline))
         self._number = yield from self._counting()
         return number
@@ -339,9 +370,12 @@ class Session(Speaking):
             self._is_connected = self._met = True
 
     def _attaching(self, process: str, deadline: float) -> Steps[int]:
+        if self._shown not in (None, process):
+            # The connection is another process's for good. It is attached as none, so nothing is lost with it.
+            yield Drop()
         yield from self._connecting(deadline)
         request = {"op": "attach", "process": process}
-        lines = yield from self._telling([line_of(request)], deadline)
+        lines = yield from self._telling([self._first(line_of(request), process, None)], deadline)
         number: int = answer_of(lines[0], request)["next"]
         self._process, self._is_attached, self.next_notice = process, True, number
         self.attachments += 1
@@ -354,14 +388,19 @@ class Session(Speaking):
 
     def _exchanging(self, line: bytes, request: Request, deadline: float) -> Steps[Answer]:
         yield from self._being_attached(deadline)
-        lines = yield from self._telling([line], deadline)
+        lines = yield from self._telling([self._asked(line, request)], deadline)
         return answer_of(lines[0], request)
 
     def _exchanging_all(self, lines: List[bytes], requests: List[Request], deadline: float) -> Steps[List[Union[Answer, Refused]]]:
         yield from self._being_attached(deadline)
-        told = yield from self._telling(lines, deadline)
+        told = yield from self._telling([self._asked(lines[0], requests[0]), *lines[1:]], deadline)
         answers: List[Answer] = [json.loads(line) for line in told]
         return [refusal_of(answer, request) or answer for answer, request in zip(answers, requests)]
+
+    def _asked(self, line: bytes, request: Request) -> bytes:
+        """The line that asks this, as the connection sends it."""
+        named = request.get("process")
+        return self._first(line, named if isinstance(named, str) else None, self._as)
 
     def _telling(self, lines: List[bytes], deadline: float) -> Steps[List[bytes]]:
         """Sends lines and gives as many answers. Whatever comes between, the connection goes: it could not be told whose answer is
@@ -469,8 +508,8 @@ class Watching(Speaking):
     """The notices of a process, each once and in order, from the number `first` on. `patience` is for how many seconds it connects
     anew."""
 
-    def __init__(self, address: str, process: str, first: int, patience: float) -> None:
-        super().__init__(address, patience)
+    def __init__(self, address: str, process: str, first: int, patience: float, key: Optional[Key] = None, as_: Optional[str] = None) -> None:
+        super().__init__(address, patience, key, as_)
         self.process, self.first = process, first
         line_of(self._request())
 
@@ -478,7 +517,7 @@ class Watching(Speaking):
         return {"op": "watch", "process": self.process, "from": self.first}
 
     def _following(self) -> Steps[Optional[Notice]]:
-        """The next notice; None once it is closed. Unanswered, UnknownHost."""
+        """The next notice; None once it is closed. Unanswered, UnknownHost, WrongKey."""
         lost_since: Optional[float] = None
         while not self._closed:
             try:
@@ -487,6 +526,9 @@ class Watching(Speaking):
                     return notice
                 # The server ends a watch of a process that was told nothing for a minute, and when it ends itself.
                 lost_since = None
+            except WrongKey:
+                yield Drop()
+                raise
             except OSError as error:
                 lost_since = lost_since or self._now
                 self._judge(error, lost_since)
@@ -522,7 +564,7 @@ class Watching(Speaking):
             if self._closed:
                 return None
             self._is_connected = True
-            yield Send(line_of(self._request()), SILENCE)
+            yield Send(self._first(line_of(self._request()), self.process, self._as), SILENCE)
             # Who was turned away may only stand in the server's queue again.
             if self._busy is None:
                 self._tell_back()

@@ -24,6 +24,7 @@ from typing import (
     Any, AsyncIterator, Callable, Coroutine, Generator, Generic, Iterable, List, Mapping, Optional, Set, Tuple, Type, TypeVar, Union,
 )
 
+from ._keys import Key
 from ._protocol import (
     PARTING, Accepted, Answer, Notice, Notices, Points, Reading, Refused, Request, Slots, Status, Version, acknowledge, host_and_port,
     no_such_host, prepare,
@@ -79,11 +80,12 @@ class Opening(Generic[Ends]):
 
 
 def connect(address: str, process: Optional[str] = None, patience: float = 60.0, *, at_once: bool = False,
-            tls: Optional[ssl.SSLContext] = None) -> "Opening[Client]":
+            tls: Optional[ssl.SSLContext] = None, key: Optional[Key] = None, as_: Optional[str] = None) -> "Opening[Client]":
     """A Client that is connected, and attached as the process if it is given: `await` it, or open it by `async with`. With `at_once` a
-    server that nobody has started is not waited for; `tls` is as that of `bossd.Client`. ValueError for an address that is none, UnknownHost, Unanswered; or as `attach`."""
+    server that nobody has started is not waited for; `tls`, `key` and `as_` are as those of `bossd.Client`. ValueError for an address or a
+    key that is none, Malformed for a name in `as_`, UnknownHost, Unanswered; or as `attach`."""
     host_and_port(address)
-    return Opening(Client(address, patience, at_once=at_once, tls=tls)._open(process))
+    return Opening(Client(address, patience, at_once=at_once, tls=tls, key=key, as_=as_)._open(process))
 
 
 async def connected(address: str, seconds: float, tls: Optional[ssl.SSLContext]) -> Stream:
@@ -109,7 +111,7 @@ class Connection(Speaking):
         if isinstance(step, Connect):
             self._stream = await connected(self.address, step.seconds, self._tls)
         elif isinstance(step, Send):
-            await self._send(step.data, step.seconds)
+            await self._send(step)
         elif isinstance(step, Receive):
             return await self._receive(step.seconds)
         elif isinstance(step, Drop):
@@ -124,11 +126,11 @@ class Connection(Speaking):
             raise ConnectionError("the connection was closed")
         return self._stream
 
-    async def _send(self, data: bytes, seconds: float) -> None:
+    async def _send(self, step: Send) -> None:
         _, sink = self._open_stream()
-        sink.write(data)
+        sink.write(step.data)
         try:
-            await asyncio.wait_for(sink.drain(), seconds)
+            await asyncio.wait_for(sink.drain(), step.seconds)
         except asyncio.TimeoutError as error:
             raise ConnectionError("no answer came in time") from error
 
@@ -152,8 +154,9 @@ class Client(Closable, Session, Connection):
     of one loop, and asks one request at a time. `patience` is for how many seconds a request is asked again, over new connections,
     until it is answered."""
 
-    def __init__(self, address: str, patience: float = 60.0, *, at_once: bool = False, tls: Optional[ssl.SSLContext] = None) -> None:
-        super().__init__(address, patience, at_once)
+    def __init__(self, address: str, patience: float = 60.0, *, at_once: bool = False, tls: Optional[ssl.SSLContext] = None,
+                 key: Optional[Key] = None, as_: Optional[str] = None) -> None:
+        super().__init__(address, patience, at_once, key, as_)
         self._hold_with(tls)
         self._turn = asyncio.Lock()
         self._under_way: Set["asyncio.Task[Any]"] = set()
@@ -175,8 +178,8 @@ class Client(Closable, Session, Connection):
         self._drop()
 
     async def attach(self, process: str) -> int:
-        """Becomes the control process of this name. Gives the number of its next notice. Malformed, Already, Taken, TooManyProcesses,
-        NoMemory, Unanswered."""
+        """Becomes the control process of this name. Gives the number of its next notice. Malformed, WrongKey, Already, Taken,
+        TooManyProcesses, NoMemory, Unanswered."""
         return await self._alone(self._becoming(process))
 
     async def submit(self, writes: Iterable[Mapping[str, Any]], policy: str = "abort") -> Accepted:
@@ -318,9 +321,10 @@ class Held(Closable, Keeping):
         return await self._client.ask(step.request)
 
 
-def watch(address: str, process: str, first: int = 1, patience: float = 60.0, *, tls: Optional[ssl.SSLContext] = None) -> "Watch":
+def watch(address: str, process: str, first: int = 1, patience: float = 60.0, *, tls: Optional[ssl.SSLContext] = None,
+          key: Optional[Key] = None, as_: Optional[str] = None) -> "Watch":
     """The Notices of a process as they come, from the number `first` on, each once and in order: a Watch, for `async for`."""
-    return Watch(address, process, first, patience, tls=tls)
+    return Watch(address, process, first, patience, tls=tls, key=key, as_=as_)
 
 
 class Watch(Watching, Connection, AsyncIterator[Notice]):
@@ -329,8 +333,8 @@ class Watch(Watching, Connection, AsyncIterator[Notice]):
     notice may be cancelled, and the watch used again: no notice is lost by that. `close` ends it; `async with` closes it at the end."""
 
     def __init__(self, address: str, process: str, first: int = 1, patience: float = 60.0, *,
-                 tls: Optional[ssl.SSLContext] = None) -> None:
-        super().__init__(address, process, first, patience)
+                 tls: Optional[ssl.SSLContext] = None, key: Optional[Key] = None, as_: Optional[str] = None) -> None:
+        super().__init__(address, process, first, patience, key, as_)
         self._hold_with(tls)
 
     async def __aenter__(self) -> "Watch":
@@ -343,7 +347,7 @@ class Watch(Watching, Connection, AsyncIterator[Notice]):
         return self
 
     async def __anext__(self) -> Notice:
-        """The next notice. StopAsyncIteration once it is closed; Unanswered, UnknownHost."""
+        """The next notice. StopAsyncIteration once it is closed; Unanswered, UnknownHost, WrongKey."""
         notice = await run(self, self._following(), self._do)
         if notice is None:
             raise StopAsyncIteration

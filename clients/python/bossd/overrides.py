@@ -19,6 +19,8 @@ import time
 from typing import IO, Any, Dict, List, NamedTuple, Optional, Sequence, Tuple
 
 from . import aio
+from ._keys import Source as KeySource
+from ._keys import key_in
 from ._protocol import (
     LONGEST_LINE, PULSE, Ended, NoMemory, NotYours, Refused, Request, Stopped, Taken, UnknownHost, UnknownTransaction, host_and_port, line_of,
     renewal, several, steps_of, submission, table, a_step, a_text, whole, wrong, write,
@@ -137,10 +139,10 @@ class Overrides:
         self._turn = asyncio.Lock()
         self._due: Dict[int, float] = {}
 
-    async def run(self, address: str, process: str) -> None:
-        """Takes again what stood, and keeps it, for ever. Taken, UnknownHost."""
+    async def run(self, address: str, process: str, key: Optional[KeySource] = None) -> None:
+        """Takes again what stood, and keeps it, for ever. Taken, WrongKey, UnknownHost."""
         async with self._turn:
-            self.client = await aio.connect(address, process, float("inf"))
+            self.client = await aio.connect(address, process, float("inf"), key=key)
             for one in list(self.store.standing.values()):
                 await self._retake(one)
         LOG.info("%d overrides stand, as %s at %s", len(self.store.standing), process, address)
@@ -368,16 +370,17 @@ def asked(path: str, request: Request, seconds: float = 10.0) -> Dict[str, Any]:
 # ---- how it all starts
 
 async def serve(words: argparse.Namespace) -> None:
-    """Runs until it is told to end. Taken, UnknownHost, OSError, Damaged."""
+    """Runs until it is told to end. Taken, WrongKey, UnknownHost, OSError, Damaged."""
+    key = key_in(words.key, may_be_empty=True) if words.key else None
     lock = locked(words.file)
     overrides = Overrides(Store(words.file))
     with contextlib.suppress(FileNotFoundError):
         os.unlink(words.socket)
     server = await asyncio.start_unix_server(Door(overrides, words.process).serve, words.socket, limit=LONGEST_LINE)
-    # Who may ask is who may reach the server too: it asks for no password either. The folder's mode says otherwise.
-    os.chmod(words.socket, 0o666)
+    # Who may ask is who may reach the server too. Where that wants a key, it is who is of this group. The folder's mode says otherwise.
+    os.chmod(words.socket, 0o660 if key is not None and key() else 0o666)
     LOG.info("listening at %s", words.socket)
-    task = asyncio.ensure_future(overrides.run(words.server, words.process))
+    task = asyncio.ensure_future(overrides.run(words.server, words.process, key))
     for sent in (signal.SIGINT, signal.SIGTERM):
         asyncio.get_running_loop().add_signal_handler(sent, task.cancel)
     try:
@@ -412,6 +415,8 @@ def main(given: Optional[Sequence[str]] = None) -> int:
     parser.add_argument("--file", default=FILE, help="where the overrides are kept (%(default)s)")
     parser.add_argument("--socket", default=SOCKET, help="where it is asked (%(default)s)")
     parser.add_argument("--as", dest="process", metavar="NAME", default=PROCESS, help="the control process that it is (%(default)s)")
+    parser.add_argument("--key", metavar="FILE", help="the file with the key of that process, where the server has keys; an empty word, or an empty "
+                        "file, is none. Its user's group alone may ask over the socket then")
     words = parser.parse_args(given)
     try:
         host_and_port(words.server)

@@ -17,7 +17,7 @@ from .. import __version__
 from .._client import Client, Watch
 from .._protocol import Accepted, Denied, Notice, Over, Request, Unanswered, UnknownOp, UnknownTransaction, Version, write
 from ..overrides import NotMade, asked as overrides_asked
-from . import _journal, _lint, _live, _served, _show
+from . import _journal, _key, _lint, _live, _served, _show
 from ._journal import Damaged, Event, Journal, Known
 from ._live import View
 from ._show import NONE, PRIORITIES, Catalogue, Cell, Point, exact_length, exact_moment, length, moment, now
@@ -44,7 +44,7 @@ def aside(text: str) -> None:
 
 
 def client_of(words: Words) -> Client:
-    return Client(words.server, None, words.patience, at_once=True, tls=words.context)
+    return Client(words.server, None, words.patience, at_once=True, tls=words.context, key=_key.shown(words), as_=_key.asking_name(words))
 
 
 def catalogue_of(words: Words, client: Client) -> Catalogue:
@@ -237,7 +237,7 @@ def steps_of(words: Words, one: Point) -> List[List[int]]:
 
 
 def set_point(words: Words) -> int:
-    if words.detach and (words.process or words.policy != "keep"):
+    if words.detach and (words.own or words.policy != "keep"):
         raise ValueError("--detach has the point set by bossd-overrides, as its own process and under the policy keep: leave --as and --policy out")
     if words.note and not words.detach:
         raise ValueError("--note is kept with --detach alone")
@@ -262,7 +262,7 @@ def take(words: Words, lease: int, is_renewed: bool) -> int:
     with client_of(words) as client:
         one = catalogue_of(words, client).point(words.point)
         made = write(one.name, one.value(words.value), lease=lease, priority=words.priority, revert=steps_of(words, one))
-        _live.attach(client, words.process)
+        _live.attach(client, _key.own_name(words))
         first = client.next_notice or 1
         before = _live.views(client, [one])[0]
         other = before.slots.slots.get(words.priority)
@@ -471,7 +471,7 @@ def release(words: Words) -> int:
                   f"{moment(override['at'])}"])
         return FINE
     with client_of(words) as client:
-        _live.attach(client, words.process)
+        _live.attach(client, _key.own_name(words))
         view = _live.views(client, [one])[0]
         slot = view.slots.slots.get(words.priority)
         if slot is None:
@@ -509,7 +509,8 @@ def watch(words: Words) -> int:
         words.first = max(1, count - 9)
         if count == 0:
             aside(f"{words.process} has had no notice yet: is the name right? (bossctl processes)")
-    with Watch(words.server, words.process, words.first, words.patience, tls=words.context) as watched:
+    with Watch(words.server, words.process, words.first, words.patience, tls=words.context, key=_key.shown(words),
+               as_=_key.asking_name(words)) as watched:
         for notice in watched:
             if words.json:
                 tell_json(notice._asdict())
@@ -629,7 +630,7 @@ def faults(words: Words) -> int:
 
 
 def status(words: Words) -> int:
-    found = _live.health(words.server, words.patience, words.workers, words.context)
+    found = _live.health(words.server, words.patience, words.workers, words.context, _key.shown(words), _key.asking_name(words))
     if words.json:
         tell_json({"server": words.server, **found._asdict(), "version": program_told(words) if found.answers else None})
     elif not found.answers:
@@ -801,13 +802,13 @@ def event_line(told: Dict[str, Any], names: Names) -> str:
 # ---- lint and version
 
 def lint(words: Words) -> int:
-    found = _lint.lint(words.file, words.rules, words.plan)
+    found = _lint.lint(words.file, words.rules, words.plan, words.keys)
     mistakes = sum(one.is_mistake for one in found)
     if words.json:
         tell_json([one._asdict() for one in found])
     else:
         tell(one.sentence() for one in found)
-        files = ", ".join(file for file in (words.file, words.rules, words.plan) if file)
+        files = ", ".join(file for file in (words.file, words.rules, words.plan, words.keys) if file)
         passed = len(found) - mistakes
         tell([f"{files}: {mistakes or 'no'} mistake{'s' if mistakes != 1 else ''}" + (f", {passed} passed over" if passed else "")])
     return WRONG if mistakes or (words.strict and found) else FINE

@@ -1,6 +1,7 @@
-"""What is wrong in a catalogue, in access rules and in a plan of devices: every mistake, by its line, its table and its key."""
+"""What is wrong in a catalogue, in access rules, in a plan of devices and in a file of keys: every mistake, by its line, its table and its key."""
 
 import difflib
+import re
 from typing import Any, Callable, Dict, Iterable, List, NamedTuple, Optional, Sequence, Set, Tuple, Union
 
 from .._protocol import is_name
@@ -8,14 +9,14 @@ from . import _bacnet, _forms, _show, _toml
 from ._toml import Broken, Failure, Lines, Path
 
 LONGEST_FILE = 1_048_576
-MOST_DRIVERS, MOST_POINTS, MOST_RULES = 256, 4_096, 256
+MOST_DRIVERS, MOST_POINTS, MOST_RULES, MOST_KEYS = 256, 4_096, 256, 512
 BOUND = 10**15
 A_DAY = 86_400_000
 A_NAME = "1 to 64 characters of a-z 0-9 . _ -"
 A_PATTERN = "a name, or up to 63 characters of a name followed by *"
 KINDS = ("analog", "binary", "multi")
 # The headers of tables of which there may be several, with a bracket too few.
-ONE_BRACKET = ("[point]", "[rule]", "[driver]", "[place]")
+ONE_BRACKET = ("[point]", "[rule]", "[driver]", "[place]", "[key]")
 # How manuals write the holding registers of the addresses 0 to 9998.
 HOLDING = range(40_001, 50_000)
 
@@ -277,7 +278,14 @@ class Rule(NamedTuple):
     point: str
 
 
-class Rules(File):
+class Numbered(File):
+    """A file whose tables count from 1, as the server counts them."""
+
+    def table_at(self, key: Union[str, int], place: int) -> str:
+        return f"{key} {place + 1}"
+
+
+class Rules(Numbered):
     """Access rules: an array of tables `rule`, of which the first decides that matches the process and the point of a write."""
 
     def __init__(self, path: str, catalogue: Catalogue) -> None:
@@ -290,9 +298,6 @@ class Rules(File):
                 self._rule(("rule", place), rule)
             if not any(finding.is_mistake for finding in self.findings):
                 self._unruled()
-
-    def table_at(self, key: Union[str, int], place: int) -> str:
-        return f"{key} {place + 1}"
 
     def _rule(self, path: Path, rule: Any) -> None:
         if not isinstance(rule, dict):
@@ -340,6 +345,60 @@ def matches(pattern: str, name: str) -> bool:
 def covers(pattern: str, other: str) -> bool:
     """Whether each name that fits the other pattern fits this one."""
     return other == pattern if not pattern.endswith("*") else other.rstrip("*").startswith(pattern[:-1])
+
+
+def meet(pattern: str, other: str) -> bool:
+    """Whether a name may fit both."""
+    return covers(pattern, other) or covers(other, pattern)
+
+
+# ---- keys
+
+KEY_KEYS = ("process", "sha256")
+A_DIGEST = "64 characters of 0-9 a-f: the SHA-256 of the key's characters, as bossctl key writes it"
+DIGEST = re.compile(r"[0-9a-f]{64}", re.ASCII)
+
+
+class Keys(Numbered):
+    """Digests of keys: an array of tables `key`, each for one name, or for those that begin so."""
+
+    def __init__(self, path: str, rules: Optional[Rules]) -> None:
+        super().__init__(path)
+        self.rules = rules
+        self.processes: List[str] = []
+        self.digests: Dict[str, int] = {}
+        if self.is_read:
+            self.known((), "", self.tables, ("key",))
+            for place, key in enumerate(self.array("key", MOST_KEYS, "keys, each a table [[key]]")):
+                self._key(("key", place), key)
+            if rules is not None and not any(finding.is_mistake for finding in self.findings + rules.findings):
+                self._unkeyed(rules)
+
+    def _key(self, path: Path, key: Any) -> None:
+        if not isinstance(key, dict):
+            self.note(path, "", shown(key), "a table [[key]]")
+            return
+        if self.one(path, "", key, "process", is_pattern, A_PATTERN):
+            self._process(path + ("process",), key["process"])
+        if self.one(path, "", key, "sha256", lambda value: isinstance(value, str) and DIGEST.fullmatch(value) is not None, A_DIGEST):
+            earlier = self.digests.setdefault(key["sha256"], int(path[1]) + 1)
+            if earlier != int(path[1]) + 1:
+                self.note(path + ("sha256",), "", f"the digest of key {earlier} again", "a key of its own, so that each can be changed alone", is_mistake=False)
+        self.known(path, "", key, KEY_KEYS, is_refused=True)
+
+    def _process(self, path: Path, process: str) -> None:
+        self.processes.append(process)
+        if process == "*":
+            self.note(path, "", '"*", whose key is right for every name', "an administrator's alone", is_mistake=False)
+        elif self.rules is not None and self.rules.is_read and not any(meet(rule.process, process) for rule in self.rules.earlier):
+            self.note(path, "", f"{shown(process)}, for which there is no rule", "it may ask and watch, and write nothing", is_mistake=False)
+
+    def _unkeyed(self, rules: Rules) -> None:
+        """Notes the rules of names for which nobody can have a key."""
+        for rule in rules.earlier:
+            if not any(meet(process, rule.process) for process in self.processes):
+                rules.note(("rule", rule.number - 1, "process"), "", f"{shown(rule.process)}, for which there is no key",
+                           "nobody can connect under such a name", is_mistake=False)
 
 
 # ---- a plan of devices
@@ -620,12 +679,15 @@ class Plan(File):
                           f"a table [[place]] with point = {shown(name)}: each point of a planned driver has one")
 
 
-def lint(catalogue: str, rules: Optional[str] = None, plan: Optional[str] = None) -> List[Finding]:
+def lint(catalogue: str, rules: Optional[str] = None, plan: Optional[str] = None, keys: Optional[str] = None) -> List[Finding]:
     """What is to be said of these files, in the order of their lines. Failure where one cannot be read."""
     points = Catalogue(catalogue)
     files: List[File] = [points]
-    if rules is not None:
-        files.append(Rules(rules, points))
+    ruled = None if rules is None else Rules(rules, points)
+    if ruled is not None:
+        files.append(ruled)
     if plan is not None:
         files.append(Plan(plan, points))
+    if keys is not None:
+        files.append(Keys(keys, ruled))
     return [finding for file in files for finding in sorted(file.findings, key=lambda it: it.line or 0)]

@@ -6,9 +6,10 @@ import time
 from typing import Dict, Iterable, List, NamedTuple, Optional
 
 from .._client import Client, connected
+from .._keys import Source, shown_in
 from .._protocol import (
-    Answer, Notice, Notices, Reading, Refused, Request, Slot, Slots, Status, Taken, TurnedAway, UnknownPoint, heard, line_of, notices_from,
-    reading_of, slots_of, status_of,
+    WRONG_KEY, Answer, Notice, Notices, Reading, Refused, Request, Slot, Slots, Status, Taken, TurnedAway, UnknownPoint, WrongKey, heard,
+    is_wrong_key, line_of, notices_from, reading_of, slots_of, status_of,
 )
 from ._show import PRIORITIES, Point, held_until, now
 from ._toml import Failure
@@ -184,12 +185,17 @@ class Health(NamedTuple):
     why: str
 
 
-def health(server: str, patience: float, tried: int, tls: Optional[ssl.SSLContext] = None) -> Health:
-    """Asks the server something, and then something over further connections that are open at one time: each takes a worker."""
+def health(server: str, patience: float, tried: int, tls: Optional[ssl.SSLContext] = None, key: Optional[Source] = None,
+           name: Optional[str] = None) -> Health:
+    """Asks the server something, and then something over further connections that are open at one time: each takes a worker. `key` is that of
+    the process `name`. WrongKey."""
+    line, text = line_of({"op": "status", "txn": 0}), None if key is None else key()
+    if text:
+        line = shown_in(line, text, name)
     began = time.monotonic()
     links: List[socket.socket] = []
     try:
-        links.append(answered(server, patience, tls))
+        links.append(answered(server, patience, tls, line, name if text else None))
         took = (time.monotonic() - began) * 1000
     except socket.timeout:
         return Health(False, 0.0, 0, 0, "it takes the connection and answers nothing: all its workers are busy, or it hangs")
@@ -202,7 +208,7 @@ def health(server: str, patience: float, tried: int, tls: Optional[ssl.SSLContex
     try:
         free = 0
         while free < tried:
-            links.append(answered(server, SOON, tls))
+            links.append(answered(server, SOON, tls, line, name if text else None))
             free += 1
     except OSError:
         pass
@@ -212,12 +218,14 @@ def health(server: str, patience: float, tried: int, tls: Optional[ssl.SSLContex
     return Health(True, took, free, tried, "")
 
 
-def answered(server: str, seconds: float, tls: Optional[ssl.SSLContext]) -> socket.socket:
-    """A connection on which something was answered. TurnedAway, or another OSError."""
+def answered(server: str, seconds: float, tls: Optional[ssl.SSLContext], line: bytes, name: Optional[str]) -> socket.socket:
+    """A connection on which this line was answered, which may show the key of the process `name`. WrongKey; TurnedAway, or another OSError."""
     link = connected(server, seconds, tls)
     try:
-        link.sendall(line_of({"op": "status", "txn": 0}))
-        heard(link.recv(65_536))
+        link.sendall(line)
+        answer = heard(link.recv(65_536))
+        if is_wrong_key(answer):
+            raise WrongKey(WRONG_KEY, name=name)
         return link
     except BaseException:
         link.close()

@@ -11,7 +11,7 @@ from typing import Callable, Optional, Sequence
 from .. import overrides
 from .._client import tls_context
 from .._protocol import Busy, Refused, Unanswered, UnknownHost
-from . import _commands, _feed, _field, _follow, _journal, _served
+from . import _commands, _feed, _field, _follow, _journal, _key, _served
 from ._toml import Failure
 
 SERVER = "127.0.0.1:7000"
@@ -67,6 +67,12 @@ def at_every_place(parser: argparse.ArgumentParser, is_top: bool) -> None:
                        help="with --tls, the certificate to show, in PEM (or BOSSD_TLS_CERTIFICATE in the environment)")
     group.add_argument("--tls-key", metavar="FILE", default=given(environment.get("BOSSD_TLS_KEY")),
                        help="its key, where that is not in the same file (or BOSSD_TLS_KEY in the environment)")
+    group.add_argument("--key", metavar="FILE", default=given(environment.get("BOSSD_KEY")),
+                       help="a file with the key of the process that bossctl is, where the server has keys (or BOSSD_KEY in the environment); nobody "
+                       "but its owner may be able to read it")
+    group.add_argument("--as", dest="own", metavar="NAME", default=given(None),
+                       help="the name of the process that bossctl is for the server (or BOSSD_AS in the environment). Without it it asks as bossctl, and "
+                       "sets points as the first of bossctl, bossctl-2, .. bossctl-8 that nobody has")
     group.add_argument("--patience", type=float, metavar="SECONDS", default=given(15.0),
                        help="how long to wait for the server (15): where all its workers are busy, it says so after ten seconds")
 
@@ -118,10 +124,8 @@ def sets_a_point(parser: argparse.ArgumentParser) -> None:
     parser.add_argument("--step", metavar="TIME", type=_commands.length_of, default=60_000, help="how long each of these is held (1m)")
 
 
-def as_a_process(parser: argparse.ArgumentParser) -> None:
+def with_a_priority(parser: argparse.ArgumentParser) -> None:
     parser.add_argument("--priority", type=priority, default=8, metavar="N", help="the priority (8, Manual Operator)")
-    parser.add_argument("--as", dest="process", metavar="NAME", help="the name of the process that bossctl is for the server; without it the"
-                        " first of bossctl, bossctl-2, .. bossctl-8 that nobody has")
 
 
 def parser_of() -> argparse.ArgumentParser:
@@ -145,13 +149,13 @@ def parser_of() -> argparse.ArgumentParser:
     one.add_argument("--detach", action="store_true", help="do not stay: bossd-overrides holds the point, until somebody releases it, or until"
                      " the time of --for is over")
     one.add_argument("--note", metavar="TEXT", help="with --detach, why it was set, for whoever finds it")
-    as_a_process(one)
+    with_a_priority(one)
 
     one = add(commands, "hold", _commands.hold_point, "set a point until Ctrl-C",
               "Holds it by a short lease that is renewed, so the server lets go soon after this program or its machine is gone.")
     sets_a_point(one)
     one.add_argument("--lease", metavar="TIME", type=_commands.length_of, default=30_000, help="the lease that is renewed (30s)")
-    as_a_process(one)
+    with_a_priority(one)
 
     one = add(commands, "overrides", _commands.overrides, "show overrides that stand by themselves: who set them, when, and why",
               "They were set by set --detach or from the operator's page, and the service bossd-overrides holds them. The oldest comes first.")
@@ -161,7 +165,7 @@ def parser_of() -> argparse.ArgumentParser:
               "Takes the slot by a transaction of its own and lets it go at once. Whoever held it is told that it was superseded, and its\n"
               "reversion is not played. A program that holds the point by a loop may take it again.")
     one.add_argument("point", metavar="POINT", help="the point's name")
-    as_a_process(one)
+    with_a_priority(one)
 
     one = add(commands, "watch", _commands.watch, "show what a process is told, as it comes", "Goes on until Ctrl-C.")
     one.add_argument("process", metavar="PROCESS", help="the name of the process")
@@ -201,18 +205,26 @@ def parser_of() -> argparse.ArgumentParser:
     one.add_argument("--every", type=float, default=1.0, metavar="SECONDS", help="how often to look (1)")
     one.add_argument("--count", type=count, metavar="N", help="end after N looks")
 
-    one = add(commands, "lint", _commands.lint, "look through a catalogue, access rules and a plan of devices, and name every mistake",
-              "Each mistake has its line, its table, its key, what was found and what may stand there. Tables count from 0 and rules from 1, as in\n"
+    one = add(commands, "key", _key.key, "make a key for a process, in a new file, and write the table by which the server knows it",
+              "The key is random, and nobody else may read its file. The table goes into the server's file of keys, which has the key's digest\n"
+              "and no key. A NAME that ends with * is for each process whose name begins so, and * alone for every one: an administrator's.")
+    one.add_argument("holder", metavar="NAME", help="whose key it is")
+    one.add_argument("--file", metavar="FILE", help="where the key is to be (NAME.key, in this folder)")
+
+    one = add(commands, "lint", _commands.lint, "look through a catalogue, access rules, a plan of devices and keys, and name every mistake",
+              "Each mistake has its line, its table, its key, what was found and what may stand there. Tables count from 0, rules and keys from 1, as in\n"
               "what the server prints. A key that nothing reads is a mistake where it looks like one that is missing. What is merely odd is named\n"
               "too, as passed over: other keys that nothing reads, percent where thousandths are meant, a register of 40001 and more, two points\n"
-              "at one place, rules that no write comes to, patterns that fit no point, and points that no rule is for. Which processes there are\n"
-              "no file says, so none is looked for. It ends with 1 where there is a mistake, and with --strict also where something is passed over.\n\n"
+              "at one place, rules that no write comes to, patterns that fit no point, points that no rule is for, keys for names that no rule is\n"
+              "for, rules for names that nobody has a key for, and a key for all names. Which processes there are no file says, so none is\n"
+              "looked for. It ends with 1 where there is a mistake, and with --strict also where something is passed over.\n\n"
               "RULES has tables [[rule]] with process, point, highest (1) and allow (true). PLAN has tables [[driver]] with name, host, speaks\n"
               "(modbus), wait, tries, check (0) and again (0), and [[place]] with point; for Modbus unit and one of coil and register; for BACnet\n"
-              "bacnet, level, network and station; and with per (1), check and again.")
+              "bacnet, level, network and station; and with per (1), check and again. KEYS has tables [[key]] with process and sha256.")
     one.add_argument("file", metavar="CATALOGUE", help="the catalogue")
     one.add_argument("rules", metavar="RULES", nargs="?", help="access rules; - for none")
     one.add_argument("plan", metavar="PLAN", nargs="?", help="a plan of devices; - for none")
+    one.add_argument("keys", metavar="KEYS", nargs="?", help="the digests of keys; - for none")
     one.add_argument("--strict", action="store_true", help="end with 1 also where something is passed over")
 
     one = add(commands, "field", _field.field, "serve the hosts of a plan on this machine, over Modbus TCP and BACnet/IP: a field to play with",
@@ -245,7 +257,7 @@ def parser_of() -> argparse.ArgumentParser:
 def main(arguments: Optional[Sequence[str]] = None) -> int:
     """Runs the command, and gives the status to end with."""
     words = parser_of().parse_args(arguments)
-    for name in ("rules", "plan"):
+    for name in ("rules", "plan", "keys"):
         if getattr(words, name, None) == "-":
             setattr(words, name, None)
     try:

@@ -4,6 +4,7 @@ import os
 from typing import Callable, NamedTuple, Optional
 
 from .._client import Client
+from .._keys import Key
 from .._protocol import Refused, Unanswered, UnknownHost, UnknownOp, host_and_port
 from . import _show
 from ._show import Catalogue
@@ -54,12 +55,12 @@ def is_none_here(name: Optional[str]) -> bool:
     return name is None and not os.access(DEFAULT, os.R_OK)
 
 
-def asking(server: str, patience: float) -> Ask:
-    """Asks a server for what it tells of its points, over a connection that lasts no longer; `patience` is in seconds. NoAnswer; Failure for
-    a server of before 0.3.0."""
+def asking(server: str, patience: float, key: Optional[Key] = None, as_: Optional[str] = None) -> Ask:
+    """Asks a server for what it tells of its points, over a connection that lasts no longer; `patience` is in seconds, `key` that of the process
+    `as_`. NoAnswer; Failure for a server of before 0.3.0."""
     def ask() -> Catalogue:
         try:
-            with Client(server, patience=patience) as client:
+            with Client(server, patience=patience, key=key, as_=as_) as client:
                 return _show.told_catalogue(server, client.points())
         except UnknownOp:
             raise silent(server, "the key catalogue") from None
