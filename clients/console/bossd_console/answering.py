@@ -16,13 +16,14 @@ SENTENCES = {
     "busy": "The server took the connection and answers nothing: none of its workers is free, or it hangs.",
     "full": "All workers of the server are busy: give it more, or end connections that need not be open.",
     "down": "The server is down: nobody listens at its address.",
+    "keyless": "The server does not take this console's key.",
     "stopped": "The server's disk failed: it keeps nothing any more and writes no device. Mend the disk, then restart it.",
 }
 
 
 class State(NamedTuple):
-    """How the server stands: "starting", "up", "busy", "full", "down" or "stopped"; since when; and, where it is up, for how long it was not
-    before, in milliseconds. `answered` is when it answered last."""
+    """How the server stands: "starting", "up", "busy", "full", "down", "keyless" or "stopped"; since when; and, where it is up, for how long it
+    was not before, in milliseconds. `answered` is when it answered last."""
     state: str
     since: int
     away: Optional[int] = None
@@ -64,6 +65,11 @@ class Answering:
         state = "full" if full else "busy" if connected else "down"
         if (full or seconds >= (SLOW if connected else AWAY)) and state != self.state.state:
             self._lose(State(state, now(), None, self.state.answered, why))
+
+    def without_key(self, why: str) -> None:
+        """It takes the console's key no longer, or never did."""
+        if self.state.state != "keyless":
+            self._lose(State("keyless", now(), None, self.state.answered, why))
 
     def _lose(self, state: State) -> None:
         if self._lost is None and self.state.state == "up":

@@ -37,10 +37,12 @@ def grouped(requests: Sequence[Request]) -> Iterator[Sequence[Request]]:
 
 
 class Looking:
-    """Looks each `every` seconds, and calls `seen` after each look and whenever the server is found to answer or not. `seconds` is how
+    """Looks each `every` seconds, under the key of the process `as_` where there is one, and calls `seen` after each look and whenever the server is found to answer or not. `seconds` is how
     long the last whole look took, `first` how long its first request did, `rounds` how many there were."""
 
-    def __init__(self, knowing: Knowing, picture: Picture, answering: Answering, every: float) -> None:
+    def __init__(self, knowing: Knowing, picture: Picture, answering: Answering, every: float, key: Optional[bossd.Key] = None,
+                 as_: Optional[str] = None) -> None:
+        self._key, self._as = key, as_
         self.address, self.knowing, self.picture, self.answering, self.every = knowing.address, knowing, picture, answering, every
         self.seconds, self.first, self.rounds = 0.0, 0.0, 0
         self.seen: Callable[[], None] = lambda: None
@@ -71,7 +73,7 @@ class Looking:
             return True
         if self._client is None or self.answering.state.state != "up":
             return False
-        with contextlib.suppress(asyncio.TimeoutError, bossd.Unanswered):
+        with contextlib.suppress(asyncio.TimeoutError, bossd.Unanswered, bossd.WrongKey):
             answer, = await asyncio.wait_for(self._client.ask_all([self._asking(process, 1)]), SLOW)
             if isinstance(answer, dict) and answer["next"] > 1:
                 self.picture.met(process)
@@ -108,7 +110,7 @@ class Looking:
     async def _reach(self) -> None:
         began = time.monotonic()
         try:
-            self._client = await bossd.aio.connect(self.address, patience=REACHING)
+            self._client = await bossd.aio.connect(self.address, patience=REACHING, key=self._key, as_=self._as)
             self._client.patience = WAITING
         except bossd.UnknownHost as error:
             self.answering.silent(False, WAITING, str(error))
@@ -210,6 +212,11 @@ class Looking:
         self._asked_since = time.monotonic()
         try:
             answers = await self._client.ask_all(group)
+        except bossd.WrongKey as error:
+            # Whoever keeps the server's keys may mend that, so the page goes on, and says so.
+            self.answering.without_key(str(error))
+            self.seen()
+            raise bossd.Unanswered({}, str(error)) from error
         finally:
             self._asked_since = None
         before = self.answering.changed

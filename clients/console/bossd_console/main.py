@@ -29,6 +29,8 @@ from .web import Web
 
 # The shortest and the longest time between two looks, in seconds.
 LEAST_EVERY, MOST_EVERY = 0.1, 3_600.0
+# Under which name it shows its key where it has no operator's.
+LOOKS_AS = "console"
 
 
 def words() -> argparse.ArgumentParser:
@@ -56,6 +58,9 @@ def words() -> argparse.ArgumentParser:
                                                           "word is none")
     parser.add_argument("--schedule", metavar="FILE", action="append", default=[],
                         help="the coming.json of a bossd-schedule, to show what it wants and whether it holds it; an empty word is none")
+    parser.add_argument("--key", metavar="FILE", help="the file with the console's key, where the server has keys; an empty word, or an empty file, "
+                                                      "is none")
+    parser.add_argument("--as", dest="name", metavar="NAME", help="whose key that is: the operator's, or else console, where left out")
     parser.add_argument("--version", action="version", version=f"bossd-console {__version__}")
     return parser
 
@@ -76,8 +81,9 @@ def checked(given: argparse.Namespace) -> None:
         raise Failure(f"--every is to be {LEAST_EVERY} to {MOST_EVERY:.0f} seconds")
     if not 1 <= given.streams <= MOST_STREAMS:
         raise Failure(f"--streams is to be 1 to {MOST_STREAMS}")
-    if given.operator is not None and not is_name(given.operator):
-        raise Failure(f"{given.operator} is no name of a process: 1 to 64 characters of a-z 0-9 . _ -")
+    for name in (given.operator, given.name):
+        if name is not None and not is_name(name):
+            raise Failure(f"{name} is no name of a process: 1 to 64 characters of a-z 0-9 . _ -")
 
 
 def token_of(given: argparse.Namespace) -> Optional[str]:
@@ -103,15 +109,16 @@ def greeting(given: argparse.Namespace, token: Optional[str]) -> str:
 async def serve(given: argparse.Namespace) -> None:
     """Runs until it is told to end. Failure, OSError."""
     host, port = address(given.listen)
+    key = bossd.key_in(given.key, may_be_empty=True) if given.key else None
     knowing = Knowing(given.server, given.catalogue)
     picture = Picture(knowing.catalogue, given.journal or None, Schedules([path for path in given.schedule if path]))
     answering = Answering()
-    looking = Looking(knowing, picture, answering, given.every)
+    looking = Looking(knowing, picture, answering, given.every, key, given.name or given.operator or LOOKS_AS)
     standing = process_at(given.overrides) if given.overrides and given.operator else None
     about = {"address": given.server, "every": given.every, "operator": standing or given.operator, "stands": standing is not None}
     streams, bounds = Streams(picture, answering, looking, about, given.streams), Bounds()
     looking.seen = streams.publish
-    operator = operator_of(given, standing, picture, streams.publish)
+    operator = operator_of(given, standing, picture, streams.publish, key)
     token = token_of(given)
     guard = Guard(hosts_of(host, port, given.host), token)
     answers = Web(picture, looking, streams, guard, registry_of(picture, answering, looking), operator, bounds)
@@ -134,13 +141,14 @@ async def serve(given: argparse.Namespace) -> None:
         await runner.cleanup()
 
 
-def operator_of(given: argparse.Namespace, standing: Optional[str], picture: Picture, changed: Callable[[], None]) -> Optional[Operator]:
+def operator_of(given: argparse.Namespace, standing: Optional[str], picture: Picture, changed: Callable[[], None],
+                key: Optional[bossd.Key]) -> Optional[Operator]:
     """Who makes changes; `standing` is the process of bossd-overrides, where that holds them."""
     if given.operator is None:
         return None
     if standing is not None:
         return Standing(given.overrides, standing, given.operator, picture, changed)
-    return Operator(given.server, given.operator, picture, changed)
+    return Operator(given.server, given.operator, picture, changed, key)
 
 
 async def ended(tasks: Sequence["asyncio.Future[None]"]) -> None:

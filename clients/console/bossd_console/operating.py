@@ -45,6 +45,7 @@ def sentence_of(refused: bossd.Refused, name: str) -> str:
         return f"{name} may not write this point at this priority, {why}"
     sentences = {
         "taken": f"another connection speaks for the process {name}; it may be an earlier one of this console, so try again in a moment",
+        "wrong-key": f"the server does not take the console's key for the process {name}",
         "not-yours": "the transaction is another process's; take the point at the same priority instead",
         "ended": "its lease has ended",
         "over": "it holds nothing any more",
@@ -59,9 +60,10 @@ def sentence_of(refused: bossd.Refused, name: str) -> str:
 
 
 class Operator:
-    """The control process `name`. `changed` is called after each change."""
+    """The control process `name`, by its key where there is one. `changed` is called after each change."""
 
-    def __init__(self, address: str, name: str, picture: Picture, changed: Callable[[], None]) -> None:
+    def __init__(self, address: str, name: str, picture: Picture, changed: Callable[[], None], key: Optional[bossd.Key] = None) -> None:
+        self._key = key
         self.address, self.name, self.picture, self.changed = address, name, picture, changed
         self._client: Optional[bossd.aio.Client] = None
         self._turn = asyncio.Lock()
@@ -149,7 +151,7 @@ class Operator:
     async def _connected(self) -> bossd.aio.Client:
         if self._client is None:
             try:
-                self._client = await bossd.aio.connect(self.address, self.name, patience=REACHING)
+                self._client = await bossd.aio.connect(self.address, self.name, patience=REACHING, key=self._key)
             except bossd.Refused as refused:
                 raise Unmade(refused.error, sentence_of(refused, self.name)) from refused
             except (bossd.Unanswered, bossd.UnknownHost) as error:

@@ -180,7 +180,7 @@ function countAll() {
 
 function sayHealth() {
   const health = find("health"), banner = find("banner"), up = server.state === "up" && !lost;
-  const words = {up: "answers", busy: "no answer", full: "all busy", down: "is down", stopped: "disk failed", starting: "not asked yet"};
+  const words = {up: "answers", busy: "no answer", full: "all busy", down: "is down", keyless: "wrong key", stopped: "disk failed", starting: "not asked yet"};
   health.className = "health " + (lost ? "down" : server.state);
   say(health, lost ? "console gone" : words[server.state] || "");
   health.title = seconds ? `the last look took ${seconds} s` : "";

@@ -53,9 +53,9 @@ def tell_unit(text: str) -> None:
 class Bridge:
     """Runs until it is cancelled."""
 
-    def __init__(self, settings: Settings, address: str, folder: Optional[str] = None) -> None:
+    def __init__(self, settings: Settings, address: str, folder: Optional[str] = None, key: Optional[bossd.Key] = None) -> None:
         self.settings, self.folder, self.saying = settings, folder, Saying()
-        self.server = Server(address, settings.process, self.saying)
+        self.server = Server(address, settings.process, self.saying, key)
         self.keeper = Keeper(settings.settable)
         self.holding = Holding(self.server, self.keeper, self.saying)
         self.commands = Commands(settings, self.holding, self.saying, self._answer)

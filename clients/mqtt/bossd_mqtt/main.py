@@ -8,9 +8,11 @@ import sys
 import time
 from typing import List, Optional, Tuple
 
+import bossd
 from bossd._protocol import host_and_port
+from bossd.ctl._key import taken as taken_key
 from bossd.ctl._lint import Finding
-from bossd.ctl._served import NoAnswer, asking
+from bossd.ctl._served import NoAnswer, asking, process_in
 from bossd.ctl._toml import Failure
 
 from . import __version__
@@ -28,9 +30,11 @@ def words() -> argparse.ArgumentParser:
         prog="bossd-mqtt", description="Carries a building's bossd to an MQTT broker, and changes from there.",
         epilog="It takes one of the server's workers. Where FILE names no catalogue, and this machine has none at /etc/bossd/plant.toml, the "
                "server is asked for its points. It ends with 0 where it was ended, 2 for faulty words, 3 where FILE or one that it names is "
-               "refused, 4 where another copy runs, 5 where a password or a certificate cannot be read.")
+               "refused, 4 where another copy runs, 5 where a password, a certificate or a key cannot be read.")
     parser.add_argument("file", metavar="FILE", help="what is told where, and what may be set, as /etc/bossd/mqtt/north.toml")
     parser.add_argument("server", metavar="SERVER", nargs="?", help="the server's address, as 127.0.0.1:7000")
+    parser.add_argument("--key", metavar="KEY", help="the file with the key of FILE's process, where the server has keys; an empty word, or an empty "
+                        "file, is none")
     parser.add_argument("--state", metavar="FOLDER", help="where BASE.prom with its metrics is written every ten seconds")
     only = parser.add_mutually_exclusive_group()
     only.add_argument("--check", action="store_true", help="name every mistake of FILE, and end: with 0, or with 3 where there is one")
@@ -49,9 +53,9 @@ def shown(settings: Settings) -> List[str]:
     return lines + [f"{topic} {payload}" for topic, payload in discovery_of(settings).items()]
 
 
-async def serve(settings: Settings, server: str, folder: Optional[str]) -> None:
+async def serve(settings: Settings, server: str, folder: Optional[str], key: Optional[bossd.Key] = None) -> None:
     """Runs until it is told to end. Failure, IsTaken."""
-    running = asyncio.ensure_future(Bridge(settings, server, folder).run())
+    running = asyncio.ensure_future(Bridge(settings, server, folder, key).run())
     for one in (signal.SIGINT, signal.SIGTERM):
         asyncio.get_running_loop().add_signal_handler(one, running.cancel)
     with contextlib.suppress(asyncio.CancelledError):
@@ -63,10 +67,10 @@ def say(text: str) -> None:
     print(f"bossd-mqtt: {text}", file=sys.stderr)
 
 
-def read(given: argparse.Namespace) -> Tuple[Optional[Settings], List[Finding]]:
+def read(given: argparse.Namespace, key: Optional[bossd.Key] = None) -> Tuple[Optional[Settings], List[Finding]]:
     """What the file says, and what is to be said of it. A server that has to tell its catalogue is waited for as long as it takes, unless it
     is only looked what the file says. Failure."""
-    said, ask = "", asking(given.server, PATIENCE) if given.server else None
+    said, ask = "", asking(given.server, PATIENCE, key, process_in(given.file, "mqtt")) if given.server else None
     while True:
         try:
             return read_settings(given.file, ask)
@@ -81,7 +85,12 @@ def read(given: argparse.Namespace) -> Tuple[Optional[Settings], List[Finding]]:
 
 def run(given: argparse.Namespace) -> int:
     """Does what was asked, and gives the status to end with. Failure."""
-    settings, findings = read(given)
+    try:
+        key = taken_key(given.key, may_be_empty=True) if given.key else None
+    except Failure as error:
+        say(str(error))
+        return UNREADABLE
+    settings, findings = read(given, key)
     for finding in findings:
         print(finding.sentence(), file=sys.stdout if given.check else sys.stderr)
     if settings is None:
@@ -97,7 +106,7 @@ def run(given: argparse.Namespace) -> int:
         say(str(error))
         return UNREADABLE
     try:
-        asyncio.run(serve(settings, given.server, given.state))
+        asyncio.run(serve(settings, given.server, given.state, key))
     except IsTaken:
         say(f"another connection speaks for {settings.process}: another copy runs")
         return TAKEN

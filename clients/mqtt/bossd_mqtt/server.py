@@ -29,7 +29,8 @@ class IsTaken(Exception):
 class Server:
     """A server that may go and come. `is_up` is whether it answers and all points were read since; `turned` is called when that changes."""
 
-    def __init__(self, address: str, process: str, saying: Saying) -> None:
+    def __init__(self, address: str, process: str, saying: Saying, key: Optional[bossd.Key] = None) -> None:
+        self._key = key
         self.address, self.process, self.saying = address, process, saying
         self.is_up = False
         self.turned: Callable[[], None] = lambda: None
@@ -44,7 +45,7 @@ class Server:
         while True:
             pause = PAUSE
             try:
-                self._client = await bossd.aio.connect(self.address, self.process, patience=PATIENCE)
+                self._client = await bossd.aio.connect(self.address, self.process, patience=PATIENCE, key=self._key)
                 return self._client.next_notice or 1
             except bossd.Taken as error:
                 taken_since = taken_since or time.monotonic()
@@ -97,6 +98,10 @@ class Server:
         place = self._asking()
         try:
             answers = await self._client.ask_all(requests)
+        except bossd.WrongKey as error:
+            # Whoever keeps the server's keys may mend that, so the bridge goes on.
+            self._turn(False)
+            raise bossd.Unanswered(requests[0], str(error)) from error
         finally:
             del self._asked[place]
         if any(isinstance(answer, bossd.Stopped) for answer in answers):

@@ -2,10 +2,12 @@
 modules."""
 
 from bossd._protocol import host_and_port, is_name
+from bossd.ctl._key import taken as taken_key
 from bossd.ctl._lint import File, Finding, is_pattern, name_of, shown
-from bossd.ctl._served import DEFAULT, Ask, NoAnswer, asking, is_none_here, told
+from bossd.ctl._served import DEFAULT, Ask, NoAnswer, asking, is_none_here, process_in, told
 from bossd.ctl._show import Catalogue, Cell, Point, exact_length, now, read_catalogue, read_length, table
 from bossd.ctl._toml import Failure, Path
 
 __all__ = ["DEFAULT", "Ask", "Catalogue", "Cell", "Failure", "File", "Finding", "NoAnswer", "Path", "Point", "asking", "exact_length",
-           "host_and_port", "is_name", "is_none_here", "is_pattern", "name_of", "now", "read_catalogue", "read_length", "shown", "table", "told"]
+           "host_and_port", "is_name", "is_none_here", "is_pattern", "name_of", "now", "process_in", "read_catalogue", "read_length", "shown", "table",
+           "taken_key", "told"]

@@ -14,7 +14,7 @@ import bossd
 import bossd.aio
 
 from . import __version__, told, week
-from .catalogue import Ask, Failure, NoAnswer, asking, host_and_port, now
+from .catalogue import Ask, Failure, NoAnswer, asking, host_and_port, now, process_in, taken_key
 from .idle import note_idle
 from .reading import Reader, Schedule
 from .running import Clock, Link, Running
@@ -32,7 +32,7 @@ def words() -> argparse.ArgumentParser:
     """The words that are understood."""
     parser = argparse.ArgumentParser(
         prog="bossd-schedule", description="Holds points by weekly programmes, as one control process of a bossd.",
-        usage="bossd-schedule FILE SERVER [--state FOLDER]\n"
+        usage="bossd-schedule FILE SERVER [--key FILE] [--state FOLDER]\n"
               "       bossd-schedule FILE [SERVER] --check\n"
               "       bossd-schedule FILE [SERVER] --show now|day|week|DATE [--point PATTERN] [--picture FILE] [--json]",
         epilog="It takes one of the server's workers. A signal HUP has it read FILE again. Where FILE names no catalogue, and this machine has none "
@@ -40,6 +40,8 @@ def words() -> argparse.ArgumentParser:
     parser.add_argument("file", metavar="FILE", help="the file with the programmes, as /etc/bossd/week.toml")
     parser.add_argument("server", metavar="SERVER", nargs="?", help="the server's address, as 127.0.0.1:7000")
     parser.add_argument("--state", metavar="FOLDER", help="where it writes schedule.prom, for Prometheus, and coming.json; an empty word is nowhere")
+    parser.add_argument("--key", metavar="FILE", help="the file with the key of FILE's process, where the server has keys; an empty word, or an empty "
+                        "file, is none")
     parser.add_argument("--check", action="store_true", help="say every mistake of the file, and what is rarely meant")
     parser.add_argument("--show", metavar="WHEN", help="show what is wanted: now, day, week (from today on) or of a day, as 2026-12-24")
     parser.add_argument("--point", metavar="PATTERN", help="show these points alone: a name, or the beginning of names and a *")
@@ -172,13 +174,13 @@ class Service:
                 say(f"{folder}: {error.strerror or error}")
 
 
-async def connected(server: str, process: str) -> bossd.aio.Client:
+async def connected(server: str, process: str, key: Optional[bossd.Key] = None) -> bossd.aio.Client:
     """A client that is attached. It waits for a server that is away as long as it takes; Taken where another copy runs for a minute."""
     began, said = time.monotonic(), ""
     while True:
         pause = AGAIN
         try:
-            return await bossd.aio.connect(server, process, patience=PATIENCE)
+            return await bossd.aio.connect(server, process, patience=PATIENCE, key=key)
         except bossd.Taken:
             if time.monotonic() > began + TAKEN_FOR:
                 raise
@@ -207,11 +209,11 @@ async def first_file(file: str, ask: Ask) -> Schedule:
         await asyncio.sleep(AGAIN)
 
 
-async def keep(file: str, server: str, folder: Optional[str], ask: Ask) -> int:
+async def keep(file: str, server: str, folder: Optional[str], ask: Ask, key: Optional[bossd.Key] = None) -> int:
     """Runs until it is ended. Failure."""
     schedule = await first_file(file, ask)
     say(f"version {__version__}, {file}: {len(schedule.plays)} programmes as the process {schedule.process}, times of {schedule.zone.key} ({zones()})")
-    client = await connected(server, schedule.process)
+    client = await connected(server, schedule.process, key)
     running = Running(schedule, Link(client), Clock(), say)
     service = Service(file, folder, running, ask)
     loop = asyncio.get_running_loop()
@@ -284,7 +286,8 @@ def main(said: Optional[List[str]] = None) -> None:
 
 def run(given: argparse.Namespace) -> int:
     """The status to end with. Failure, Taken."""
-    ask = asking(given.server, PATIENCE) if given.server is not None else None
+    key = taken_key(given.key, may_be_empty=True) if given.key else None
+    ask = asking(given.server, PATIENCE, key, process_in(given.file, "schedule")) if given.server is not None else None
     if given.check:
         return check(given.file, ask)
     if given.show is not None:
@@ -293,4 +296,4 @@ def run(given: argparse.Namespace) -> int:
     for one in (signal.SIGTERM, signal.SIGINT):
         signal.signal(one, end)
     signal.signal(signal.SIGHUP, signal.SIG_IGN)
-    return asyncio.run(keep(given.file, given.server, given.state, ask))
+    return asyncio.run(keep(given.file, given.server, given.state, ask, key))

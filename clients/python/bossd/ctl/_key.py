@@ -45,12 +45,17 @@ def shown(words: argparse.Namespace) -> Optional[Source]:
         return None
     if is_key(words.key) and not os.path.exists(words.key):
         raise Failure("--key wants the name of a file that has the key. It was given a key itself, which others of this machine can see: make another one")
+    return taken(words.key)
+
+
+def taken(path: str, may_be_empty: bool = False) -> Source:
+    """What gives the key of this file. Failure where it is not taken."""
     try:
-        return key_in(words.key)
+        return key_in(path, may_be_empty=may_be_empty)
     except KeyRefused as error:
         raise Failure(str(error)) from error
     except OSError as error:
-        raise Failure(f"{words.key}: {error.strerror or error}") from error
+        raise Failure(f"{path}: {error.strerror or error}") from error
 
 
 def own_name(words: argparse.Namespace) -> Optional[str]:

@@ -5,8 +5,8 @@ from typing import Callable, NamedTuple, Optional
 
 from .._client import Client
 from .._keys import Key
-from .._protocol import Refused, Unanswered, UnknownHost, UnknownOp, host_and_port
-from . import _show
+from .._protocol import Refused, Unanswered, UnknownHost, UnknownOp, host_and_port, is_name
+from . import _show, _toml
 from ._show import Catalogue
 from ._toml import Failure
 
@@ -69,6 +69,17 @@ def asking(server: str, patience: float, key: Optional[Key] = None, as_: Optiona
         except (Unanswered, UnknownHost) as error:
             raise NoAnswer(f"{server} does not tell its points: {getattr(error, 'why', '') or error}") from error
     return ask
+
+
+def process_in(path: str, default: str) -> str:
+    """The process that a program's file names, whose key its questions show. The default where it names none, or is none, which is said later."""
+    try:
+        with open(path, encoding="utf-8") as file:
+            tables = _toml.read(file.read())
+    except (OSError, ValueError):
+        return default
+    name = default if isinstance(tables, _toml.Broken) else tables.get("process", default)
+    return name if isinstance(name, str) and is_name(name) else default
 
 
 def told(ask: Optional[Ask]) -> Catalogue:
