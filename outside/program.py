@@ -93,12 +93,12 @@ def check(catalogue: str, journal: str) -> tuple[str, int]:
 
 
 class Server:
-    """The program, serving a journal of its own; `-` keeps nothing. `in_all` is how many connections it serves before it ends, `rules`
-    and `plan` are the files of its last words, `-` for none. What is changed here holds from the next start on."""
+    """The program, serving a journal of its own; `-` keeps nothing. `in_all` is how many connections it serves before it ends, `rules`,
+    `plan` and `keys` are the files of its last words, `-` for none. What is changed here holds from the next start on."""
 
-    def __init__(self, catalogue: str, journal: str = "-", workers: int = 4, in_all: int = 4_294_967_295, port: int | None = None, rules: str = "-", plan: str = "-") -> None:
+    def __init__(self, catalogue: str, journal: str = "-", workers: int = 4, in_all: int = 4_294_967_295, port: int | None = None, rules: str = "-", plan: str = "-", keys: str = "-") -> None:
         self.catalogue, self.journal, self.workers, self.in_all = catalogue, journal, workers, in_all
-        self.rules, self.plan = rules, plan
+        self.rules, self.plan, self.keys = rules, plan, keys
         self.port = port or free_port()
         self.address = f"127.0.0.1:{self.port}"
         self._process: subprocess.Popen[Any] | None = None
@@ -130,8 +130,10 @@ class Server:
 
     def words(self) -> list[str]:
         """The words that it is started with. Those that are `-` at the end are left out."""
-        words = ["serve", self.catalogue, self.journal, self.address, str(self.workers), str(self.in_all)]
-        return [*words, self.rules, self.plan] if self.plan != "-" else [*words, self.rules] if self.rules != "-" else words
+        words = ["serve", self.catalogue, self.journal, self.address, str(self.workers), str(self.in_all), self.rules, self.plan, self.keys]
+        while words[-1] == "-":
+            words.pop()
+        return words
 
     def is_ready(self) -> bool:
         """Whether it listens; AssertionError where it ended instead."""

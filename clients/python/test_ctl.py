@@ -148,6 +148,8 @@ class Linting(Folder):
             self.assertEqual(_lint.lint(os.path.join(common.EXAMPLES, name)), [])
         for rules in glob.glob(os.path.join(common.EXAMPLES, "*.rules.toml")):
             self.assertEqual(_lint.lint(rules.replace(".rules", ""), rules), [])
+        for keys in glob.glob(os.path.join(common.EXAMPLES, "*.keys.toml")):
+            self.assertEqual([it for it in _lint.lint(keys.replace(".keys", ""), keys=keys) if it.is_mistake], [])
 
     def test_every_mistake_by_its_line_and_key(self):
         self.assertEqual(self.found("""\

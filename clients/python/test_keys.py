@@ -544,7 +544,7 @@ class Linting(Case):
     def test_what_is_odd(self) -> None:
         self.assertEqual(self.found(self.table("*")), [(2, "key 1", "process", '"*", whose key is right for every name', False)])
         self.assertEqual(self.found(self.table("comfort") + self.table("night-1", OTHER) + self.table("page", MASTER), RULES),
-                         [(8, "key 3", "process", '"page", for which there is no rule', False)])
+                         [(8, "key 3", "process", '"page", which no rule lets write', False)])
         self.assertEqual(self.found(self.table("comfort"), RULES), [(5, "rule 2", "process", '"night-*", for which there is no key', False)])
         self.assertEqual(self.found(self.table("comfort") + self.table("night-1"), RULES),
                          [(6, "key 2", "sha256", "the digest of key 1 again", False)])

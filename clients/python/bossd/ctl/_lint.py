@@ -272,10 +272,11 @@ MOST_NAMES = 3
 
 
 class Rule(NamedTuple):
-    """The patterns of a rule, and its number, from 1."""
+    """The patterns of a rule, its number, from 1, and whether it allows anything."""
     number: int
     process: str
     point: str
+    allows: bool
 
 
 class Numbered(File):
@@ -311,7 +312,7 @@ class Rules(Numbered):
             self.note(path + ("highest",), "", "highest beside allow = false", "such a rule denies every priority", is_mistake=False)
         self.known(path, "", rule, RULE_KEYS, is_refused=True)
         if all(are_patterns):
-            self._reach(path, Rule(int(path[1]) + 1, rule["process"], rule["point"]))
+            self._reach(path, Rule(int(path[1]) + 1, rule["process"], rule["point"], rule.get("allow") is not False))
 
     def _reach(self, path: Path, rule: Rule) -> None:
         """Notes a rule that no write comes to. Which processes there are no catalogue says."""
@@ -390,13 +391,13 @@ class Keys(Numbered):
         self.processes.append(process)
         if process == "*":
             self.note(path, "", '"*", whose key is right for every name', "an administrator's alone", is_mistake=False)
-        elif self.rules is not None and self.rules.is_read and not any(meet(rule.process, process) for rule in self.rules.earlier):
-            self.note(path, "", f"{shown(process)}, for which there is no rule", "it may ask and watch, and write nothing", is_mistake=False)
+        elif self.rules is not None and self.rules.is_read and not any(rule.allows and meet(rule.process, process) for rule in self.rules.earlier):
+            self.note(path, "", f"{shown(process)}, which no rule lets write", "it may ask and watch, and no more", is_mistake=False)
 
     def _unkeyed(self, rules: Rules) -> None:
         """Notes the rules of names for which nobody can have a key."""
         for rule in rules.earlier:
-            if not any(meet(process, rule.process) for process in self.processes):
+            if rule.allows and not any(meet(process, rule.process) for process in self.processes):
                 rules.note(("rule", rule.number - 1, "process"), "", f"{shown(rule.process)}, for which there is no key",
                            "nobody can connect under such a name", is_mistake=False)
 

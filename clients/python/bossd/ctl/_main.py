@@ -215,9 +215,9 @@ def parser_of() -> argparse.ArgumentParser:
               "Each mistake has its line, its table, its key, what was found and what may stand there. Tables count from 0, rules and keys from 1, as in\n"
               "what the server prints. A key that nothing reads is a mistake where it looks like one that is missing. What is merely odd is named\n"
               "too, as passed over: other keys that nothing reads, percent where thousandths are meant, a register of 40001 and more, two points\n"
-              "at one place, rules that no write comes to, patterns that fit no point, points that no rule is for, keys for names that no rule is\n"
-              "for, rules for names that nobody has a key for, and a key for all names. Which processes there are no file says, so none is\n"
-              "looked for. It ends with 1 where there is a mistake, and with --strict also where something is passed over.\n\n"
+              "at one place, rules that no write comes to, patterns that fit no point, points that no rule is for, keys for names that no rule\n"
+              "lets write, rules for names that nobody has a key for, and a key for all names. Which processes there are no file says, so none\n"
+              "is looked for. It ends with 1 where there is a mistake, and with --strict also where something is passed over.\n\n"
               "RULES has tables [[rule]] with process, point, highest (1) and allow (true). PLAN has tables [[driver]] with name, host, speaks\n"
               "(modbus), wait, tries, check (0) and again (0), and [[place]] with point; for Modbus unit and one of coil and register; for BACnet\n"
               "bacnet, level, network and station; and with per (1), check and again. KEYS has tables [[key]] with process and sha256.")
