@@ -5,9 +5,9 @@ user of the machine would, or as a bad day does.
 
     tools/attack [NAME ..]
 
-Each case is a function in AS_ROOT or AS_ANYBODY, and has the name by which it can be run alone. It is given a place of its own and raises
+Each case is a function in AS_ROOT or AS_ANYBODY, or in outside/attack_keys.py, and has the name by which it can be run alone. It is given a place of its own and raises
 Wrong where something is not as it has to be; what it returns is printed. Those of AS_ROOT play root and another user, and are left out where
-somebody else runs this. It needs the program built (./bossd; BOSSD names another one). It ends with 1 where a case fails; the others are run
+somebody else runs this, and so are those of keys where the program takes no file of them. It needs the program built (./bossd; BOSSD names another one). It ends with 1 where a case fails; the others are run
 all the same."""
 
 import contextlib
@@ -905,20 +905,32 @@ def tried(case: Case) -> Tuple[bool, str]:
             return False, f"WRONG: {wrong}"
 
 
+def why_left_out(case: Case, with_keys: Sequence[Case], takes_keys: Callable[[Place], bool]) -> str:
+    """Why a case is not tried here; empty where it is."""
+    if case in AS_ROOT and os.geteuid() != 0:
+        return "it wants root"
+    if case in with_keys:
+        with tempfile.TemporaryDirectory() as scratch:
+            return "" if takes_keys(Place(scratch)) else "the program takes no file of keys"
+    return ""
+
+
 def main() -> None:
     heed_help(__doc__)
     need_program()
     if sys.argv[1:2] == ["--in-own-network"]:
         print(low_port_inside(Place(tempfile.mkdtemp(dir=sys.argv[2]))))
         return
-    known = {case.__name__: case for case in [*AS_ROOT, *AS_ANYBODY]}
+    # They stand on this module.
+    from outside import attack_keys
+    known = {case.__name__: case for case in [*AS_ROOT, *AS_ANYBODY, *attack_keys.EVER, *attack_keys.WITH_KEYS]}
     names = sys.argv[1:] or list(known)
     if not set(names) <= set(known):
         sys.exit("attack: the cases are " + " ".join(known))
     failed = 0
     for name in names:
-        is_left_out = known[name] in AS_ROOT and os.geteuid() != 0
-        holds, told = (True, "left out, since it wants root") if is_left_out else tried(known[name])
+        why = why_left_out(known[name], attack_keys.WITH_KEYS, attack_keys.takes_keys)
+        holds, told = (True, f"left out, since {why}") if why else tried(known[name])
         print(f"{name}: {told}", flush=True)
         failed += not holds
     sys.exit(f"attack: {failed} of {len(names)} are not as they have to be" if failed else 0)

@@ -428,7 +428,7 @@ def try_order(folder: str) -> str:
         ("rules that are not there, before a plan", serve(place, nowhere, plan), "", FAILED, nowhere),
         ("rules that are a folder", serve(place, place.folder), "", FAILED, place.folder),
         ("an empty word", serve(place, ""), "usage\n", 2, ""),
-        ("a word too many", serve(place, good, "-", "-"), "usage\n", 2, ""),
+        ("a word too many", serve(place, good, "-", "-", "-"), "usage\n", 2, ""),
     ]:
         see(ran[:2] == (output, status), f"{what}: {ran[0]!r} and status {ran[1]}, not {output!r} and {status}")
         see(named in ran[2] and "listening" not in ran[2], f"{what}: on the standard error stands {ran[2]!r}")

@@ -1125,7 +1125,7 @@ class Serving(Folder):
             (("set", "lamp", "1", "--for", "30"), 2, "no length of time"),
             (("set", "lamp", "1", "--for", "8d"), 1, "at most 7d"),
             (("set", "lamp", "1", "--for", "1s", "--priority", "6"), 2, "no priority"),
-            (("set", "lamp", "1", "--for", "1s", "--as", "Me"), 1, "process: found 'Me'"),
+            (("set", "lamp", "1", "--for", "1s", "--as", "Me"), 1, "as: found 'Me'"),
             (("paint",), 2, "invalid choice"),
             (("status", "--server", "127.0.0.1"), 2, "no port"),
         ]:
