@@ -10,6 +10,8 @@ import os
 import pickle
 import socket
 import stat
+import subprocess
+import sys
 import tempfile
 import threading
 import time
@@ -496,6 +498,39 @@ class Terminal(Case):
         # What asks no server wants no key.
         with mock.patch.dict(os.environ, {"BOSSD_KEY": path}):
             self.assertEqual(self.run_ctl("lint", self.catalogue())[0], 0)
+
+
+class Overrides(Case):
+    """bossd-overrides, which holds what people set."""
+
+    def begin(self, server: Keyed, *words: str) -> "subprocess.Popen[str]":
+        command = [sys.executable, "-m", "bossd.overrides", server.address, "--file", os.path.join(self.folder, "overrides.json"), "--socket",
+                   os.path.join(self.folder, "socket"), *words]
+        service = subprocess.Popen(command, cwd=os.path.dirname(os.path.abspath(__file__)), stderr=subprocess.PIPE, text=True)
+        self.addCleanup(lambda: (service.kill(), service.communicate()))
+        return service
+
+    def mode(self) -> int:
+        return stat.S_IMODE(os.stat(os.path.join(self.folder, "socket")).st_mode)
+
+    def test_it_shows_the_key_of_its_process(self) -> None:
+        server = self.server(("people", KEY))
+        self.begin(server, "--key", self.file("people.key", KEY))
+        self.until(lambda: server.shown == ["people"])
+        # Who asks over its socket shows no key, so it is not for everybody.
+        self.assertEqual(self.mode(), 0o660)
+
+    def test_without_one_it_is_as_before(self) -> None:
+        server = self.server()
+        self.begin(server, "--key", self.file("people.key", "\n"))
+        self.until(server.firsts)
+        self.assertEqual((server.firsts()[0], self.mode()), ({"op": "attach", "process": "people"}, 0o666))
+
+    def test_one_that_is_not_taken_ends_it(self) -> None:
+        for key, mode, words in ((OTHER, 0o600, "no such key for people"), (KEY, 0o640, "others than its owner")):
+            service = self.begin(self.server(("people", KEY)), "--key", self.file("people.key", key, mode))
+            _, said = service.communicate(timeout=SECONDS)
+            self.assertEqual((service.returncode, words in said, key in said), (1, True, False), said)
 
 
 RULES = """[[rule]]

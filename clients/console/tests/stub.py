@@ -14,15 +14,21 @@ SINCE = UNTIL - 7_200_000
 
 class Stub:
     """A server whose point ahu1.damper is held by `comfort` and refused by its device; `failed` may be cleared. `rule` is by which rule it
-    denies a submit."""
+    denies a submit. With `keys`, by names, it knows by these who somebody is, and `shown` has whose right ones it was shown."""
 
     def __init__(self):
         self.failed, self.listed, self.rule = True, [], 2
+        self.keys, self.shown = None, []
         stub = self
 
         class Handler(socketserver.StreamRequestHandler):
             def handle(self):
+                is_first = stub.keys is not None
                 for line in self.rfile:
+                    if is_first and not stub.is_shown(json.loads(line)):
+                        self.wfile.write(b'{"error":"wrong-key"}\n')
+                        return
+                    is_first = False
                     self.wfile.write(json.dumps(stub.answer(json.loads(line))).encode() + b"\n")
 
         class Server(socketserver.ThreadingTCPServer):
@@ -32,6 +38,13 @@ class Stub:
         self.address = f"127.0.0.1:{self.port}"
         self.server = Server(("127.0.0.1", self.port), Handler)
         threading.Thread(target=self.server.serve_forever, daemon=True).start()
+
+    def is_shown(self, asked):
+        """Whether a line has a right key."""
+        name = asked.get("as", asked.get("process"))
+        is_right = name in self.keys and asked.get("key") == self.keys[name]
+        self.shown += [name] if is_right else []
+        return is_right
 
     def stop(self):
         self.server.shutdown()
