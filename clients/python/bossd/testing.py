@@ -10,7 +10,7 @@
         assert client.read("air.damper").basis == "default"
 
 It is `bossd script` before which this stands: whatever speaks to a server speaks to it too, also `bossctl`. A connection is a session, and
-one that ends is lost, as at a server. It has no access rules, no plan and no minimum times."""
+one that ends is lost, as at a server. It has no access rules, no plan, no keys, which it passes over, and no minimum times."""
 
 import contextlib
 import json
