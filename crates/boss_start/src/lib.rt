@@ -12,6 +12,7 @@ use crate::refused::refused_point;
 use boss_adapters::{
     Door, RealClock, RealFiles, RealHost, RealSpawner, RealWaiter, StdSink, StdSource, say_aside,
 };
+use boss_etcd_files::PlacedFiles;
 use boss_field::field_devices;
 use boss_manager::{Next, Status, boss, boss_serve};
 use boss_model::{MOST_DRIVERS, NoMemory};
@@ -45,7 +46,7 @@ where
     let mut devices = field_devices(rt.alloc(), server, MOST_DRIVERS)?;
     let mut source = StdSource::new(rt.stdin());
     let mut sink = StdSink::new(rt.stdout());
-    let mut files = RealFiles::new(rt);
+    let mut files = PlacedFiles::new(RealFiles::new(rt), server);
     let mut clock = RealClock::new(rt.alloc(), server)?;
     let mut waiter = RealWaiter::new(rt.alloc(), server, &mut clock)?;
     let mut host = RealHost::new(rt.alloc(), server);

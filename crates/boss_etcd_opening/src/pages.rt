@@ -1,0 +1,118 @@
+ghost use Rattle.std.specs.Prelude.{◌≡◌, ◌≤◌, IfOk, OnErr, length};
+ghost use Rattle.json.specs.Value.{value_view};
+ghost use Rattle.boss_etcd_opening.specs.Answers.{IsPage};
+
+use crate::found::text_in;
+use base64::DecodeAllocError;
+use base64::engine::general_purpose::STANDARD;
+use boss_etcd::key_of;
+use boss_model::NoMemory;
+use json::{Error, Scratch, Value};
+use std::alloc::Global;
+
+/// The bytes of a page.
+const PAGE: usize = 1_024;
+
+/// Puts the pages that the body of an answer has behind these bytes, which are full pages of this name, and gives how many they are;
+/// nothing where it has other keys than those of the next pages, or others between them.
+pub fn read_pages(
+    alloc: Global,
+    scratch: &mut Scratch,
+    body: &[u8],
+    name: &[u8],
+    held: &mut Vec<u8>,
+) -> Result<Option<usize>, NoMemory> {
+    match Value::from_slice(alloc, body, scratch) {
+        Ok(value) => take_pages(alloc, &value, name, held),
+        Err(Error::OutOfMemory) => Err(NoMemory),
+        Err(Error::Invalid) | Err(Error::TooLong) | Err(Error::DuplicateKey) => Ok(None),
+    }
+}
+
+/// Puts the pages of an answer behind these bytes.
+fn take_pages(
+    alloc: Global,
+    value: &Value<'_>,
+    name: &[u8],
+    held: &mut Vec<u8>,
+) -> Result<Option<usize>, NoMemory> {
+    match value.get("kvs") {
+        Some(Value::Array(pages)) => take_all(alloc, pages.as_slice(), name, held),
+        Some(_) => Ok(None),
+        None => Ok(value.get("header").map(|_| 0)),
+    }
+}
+
+/// Puts these pages behind these bytes.
+fn take_all(
+    alloc: Global,
+    pages: &[Value<'_>],
+    name: &[u8],
+    held: &mut Vec<u8>,
+) -> Result<Option<usize>, NoMemory> {
+    for page in pages {
+        if !take_page(alloc, page, name, held)? {
+            return Ok(None);
+        }
+    }
+    Ok(Some(pages.len()))
+}
+
+/// Puts a page behind these bytes, where it is the next one.
+fn take_page(
+    alloc: Global,
+    page: &Value<'_>,
+    name: &[u8],
+    held: &mut Vec<u8>,
+) -> Result<bool, NoMemory>
+    ensures { IfTaken result (IsPage name.now (value_view page.now) held.old.items held.new.items) }
+{
+    if !is_next(alloc, page, name, held.len())? {
+        return Ok(false);
+    }
+    match bytes_in(alloc, page)? {
+        Some(bytes) => {
+            held.extend_from_slice(bytes.as_slice())?;
+            Ok(true)
+        }
+        None => Ok(false),
+    }
+}
+
+/// Whether a key is that of the page behind so many bytes.
+fn is_next(
+    alloc: Global,
+    page: &Value<'_>,
+    name: &[u8],
+    length: usize,
+) -> Result<bool, NoMemory>
+    ensures { IfTaken result (IsNext name.now (value_view page.now) length) }
+{
+    if length % PAGE != 0 {
+        return Ok(false);
+    }
+    let Ok(number) = u32::try_from(length / PAGE) else {
+        return Ok(false);
+    };
+    let key = key_of(alloc, name, number)?;
+    let wanted = STANDARD.encode(alloc, key.as_slice())?;
+    match text_in(page, "key") {
+        Some(text) => Ok(text == wanted.as_str()),
+        None => Ok(false),
+    }
+}
+
+/// The bytes of a page, where there are 1 to 1,024.
+fn bytes_in(alloc: Global, page: &Value<'_>) -> Result<Option<Vec<u8>>, NoMemory>
+    ensures { IfOk result (HasBytes (value_view page.now)) }
+{
+    let Some(text) = text_in(page, "value") else {
+        return Ok(None);
+    };
+    match STANDARD.decode(alloc, text.as_bytes()) {
+        Ok(bytes) if !bytes.is_empty() && bytes.len() <= PAGE => Ok(Some(bytes)),
+        Ok(_) => Ok(None),
+        Err(DecodeAllocError::OutOfMemory) => Err(NoMemory),
+        Err(DecodeAllocError::DecodeError(_)) => Ok(None),
+    }
+}
