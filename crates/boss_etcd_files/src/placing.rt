@@ -53,7 +53,7 @@ fn placed<R: Net<Listener = TcpListener, Stream = TcpStream> + Clock + Eprint + 
 ) -> Placed<R>
     requires { length opened.bytes.items ≤ 2 ^ 40 }
 {
-    let has_head = opened.head.revision.slice() != b"0";
+    let has_head = opened.head.revision.slice() != b"0".as_slice();
     let cluster = EtcdCluster::new(alloc, members, name, opened.head);
     Placed {
         disk: ClusterDisk::new(ToldCluster::new(rt, word, cluster), opened.bytes),
