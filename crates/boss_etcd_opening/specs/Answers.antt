@@ -1,10 +1,11 @@
 -- Source: etcd 3.4, api: RangeResponse, ResponseHeader, KeyValue, as its JSON writes them.
 -- What the answers to the reads of an opening say.
-use Rattle.std.specs.Prelude.{◌≡◌, ℕ, ◌+◌, ◌/◌, ◌%◌, ◌<◌, ◌≤◌, ◌^◌, true, List, [], ◌∷◌, ◌++◌, length, codes, Option, Some, None, option_and_then, option_map}
+use Rattle.std.specs.Prelude.{◌≡◌, ℕ, ◌/◌, ◌%◌, ◌<◌, ◌≤◌, true, List, [], ◌∷◌, ◌++◌, length, codes, Option, Some, None, option_and_then}
 use Rattle.base64.specs.Engines.{standard}
 use Rattle.base64.specs.GeneralPurpose.{encode_of}
+use Rattle.json.specs.Value.{items_of}
 use Rattle.json.specs.Find.{get, at as nth, as_str}
-use Rattle.json.specs.Json.{Json, document}
+use Rattle.json.specs.Json.{Json, document, array}
 use Rattle.boss_etcd.specs.Heads.{head_text}
 use Rattle.boss_etcd.specs.Requests.{page_key}
 use Rattle.boss_etcd.specs.Says.{is_revision, revision_of}

@@ -21,6 +21,9 @@ const PAGE: usize = 1_024;
 /// How many pages one read gives at most.
 const MOST_PAGES: usize = 256;
 
+/// How many reads give all pages that have numbers, at most.
+const MOST_READS: usize = 4_194_305;
+
 /// The most bytes that there may be, which is as many as pages have numbers for.
 const MOST: u64 = 1_099_511_627_776;
 
@@ -187,9 +190,9 @@ fn find_pages<L: Link>(
     if length > MOST {
         return Err(OpenFault::Damaged);
     }
-    while bytes.len() as u64 <= length {
+    for _ in 0..MOST_READS {
         let count = find_more(alloc, members, name, at, &mut bytes)?;
-        if count < MOST_PAGES {
+        if count < MOST_PAGES || bytes.len() as u64 > length {
             break;
         }
     }

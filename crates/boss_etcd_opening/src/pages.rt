@@ -1,6 +1,8 @@
-ghost use Rattle.std.specs.Prelude.{◌≡◌, ◌≤◌, IfOk, OnErr, length};
+ghost use Rattle.std.specs.Prelude.{◌≡◌, true, List, map, length, codes, Some, IfOk, IfSome};
+ghost use Rattle.json.specs.Find.{get};
+ghost use Rattle.json.specs.Json.{Json, document};
 ghost use Rattle.json.specs.Value.{value_view};
-ghost use Rattle.boss_etcd_opening.specs.Answers.{IsPage};
+ghost use Rattle.boss_etcd_opening.specs.Answers.{ArePages, HasBytes, HasPages, IsNext, IsPage, KeysOf};
 
 use crate::found::text_in;
 use base64::DecodeAllocError;
@@ -21,7 +23,9 @@ pub fn read_pages(
     body: &[u8],
     name: &[u8],
     held: &mut Vec<u8>,
-) -> Result<Option<usize>, NoMemory> {
+) -> Result<Option<usize>, NoMemory>
+    ensures { IfOk result (λ count. IfSome count (HasPages name.now body.now held.old.items held.new.items)) }
+{
     match Value::from_slice(alloc, body, scratch) {
         Ok(value) => take_pages(alloc, &value, name, held),
         Err(Error::OutOfMemory) => Err(NoMemory),
@@ -35,37 +39,47 @@ fn take_pages(
     value: &Value<'_>,
     name: &[u8],
     held: &mut Vec<u8>,
-) -> Result<Option<usize>, NoMemory> {
+) -> Result<Option<usize>, NoMemory>
+    ensures { IfOk result (λ count. IfSome count (λ count. (pages : List Json) × KeysOf (get (codes "kvs") (value_view value.now)) pages
+        × (count ≡ length pages) × ArePages name.now pages held.old.items held.new.items)) }
+{
     match value.get("kvs") {
         Some(Value::Array(pages)) => take_all(alloc, pages.as_slice(), name, held),
         Some(_) => Ok(None),
-        None => Ok(value.get("header").map(|_| 0)),
+        None => Ok(Some(0)),
     }
 }
 
 /// Puts these pages behind these bytes.
+#[tactic(auto, using(crate::proofs::Pages::pages_on))]
 fn take_all(
     alloc: Global,
     pages: &[Value<'_>],
     name: &[u8],
     held: &mut Vec<u8>,
-) -> Result<Option<usize>, NoMemory> {
-    for page in pages {
-        if !take_page(alloc, page, name, held)? {
+) -> Result<Option<usize>, NoMemory>
+    ensures { IfOk result (λ count. IfSome count (λ count. (count ≡ length pages.now)
+        × ArePages name.now (map (λ page. value_view page) pages.now) held.old.items held.new.items)) }
+{
+    let mut at = 0;
+    while at < pages.len() {
+        if !take_page(alloc, &pages[at], name, held)? {
             return Ok(None);
         }
+        at += 1;
     }
     Ok(Some(pages.len()))
 }
 
 /// Puts a page behind these bytes, where it is the next one.
+#[tactic(auto, using(crate::proofs::Pages::next_page))]
 fn take_page(
     alloc: Global,
     page: &Value<'_>,
     name: &[u8],
     held: &mut Vec<u8>,
 ) -> Result<bool, NoMemory>
-    ensures { IfTaken result (IsPage name.now (value_view page.now) held.old.items held.new.items) }
+    ensures { IfOk result (λ taken. taken ≡ true → IsPage name.now (value_view page.now) held.old.items held.new.items) }
 {
     if !is_next(alloc, page, name, held.len())? {
         return Ok(false);
@@ -86,7 +100,7 @@ fn is_next(
     name: &[u8],
     length: usize,
 ) -> Result<bool, NoMemory>
-    ensures { IfTaken result (IsNext name.now (value_view page.now) length) }
+    ensures { IfOk result (λ next. next ≡ true → IsNext name.now (value_view page.now) length) }
 {
     if length % PAGE != 0 {
         return Ok(false);
@@ -104,7 +118,7 @@ fn is_next(
 
 /// The bytes of a page, where there are 1 to 1,024.
 fn bytes_in(alloc: Global, page: &Value<'_>) -> Result<Option<Vec<u8>>, NoMemory>
-    ensures { IfOk result (HasBytes (value_view page.now)) }
+    ensures { IfOk result (λ bytes. IfSome bytes (λ bytes. HasBytes (value_view page.now) bytes.items)) }
 {
     let Some(text) = text_in(page, "value") else {
         return Ok(None);
