@@ -77,7 +77,7 @@ fn copy_of(alloc: Global, text: &str) -> Result<Items<u8>, NoMemory>
 }
 
 /// Whether a text is 1 to 19 decimal digits.
-pub fn is_revision(text: &str) -> bool
+fn is_revision(text: &str) -> bool
     ensures { result ≡ is_revision text.now }
 {
     match text.len() {
@@ -94,7 +94,7 @@ fn all_digits(text: &str) -> bool
 }
 
 /// The revision of an answer.
-pub fn revision<'a>(value: &Value<'a>) -> Option<&'a str>
+fn revision<'a>(value: &Value<'a>) -> Option<&'a str>
     ensures { option_map (λ text. text.now) result ≡ revision_of (value_view value.now) }
 {
     value.get("header")?.get("revision")?.as_str()

@@ -10,11 +10,11 @@ mod range;
 mod request;
 mod said;
 
-pub use answer::{is_revision, read_answer, revision};
+pub use answer::read_answer;
 pub use cluster::EtcdCluster;
-pub use head::{Head, head_text};
+pub use head::Head;
 pub use laws::pages_mean_a_commit;
 pub use members::Members;
 pub use range::{put_head_range, put_pages_range};
-pub use request::{Commit, key_of, put_check, put_commit};
+pub use request::{Commit, put_check, put_commit};
 pub use said::Said;

@@ -6,9 +6,9 @@ use Rattle.base64.specs.GeneralPurpose.{encode_of}
 use Rattle.json.specs.Value.{items_of}
 use Rattle.json.specs.Find.{get, at as nth, as_str}
 use Rattle.json.specs.Json.{Json, document, array}
-use Rattle.boss_etcd.specs.Heads.{head_text}
 use Rattle.boss_etcd.specs.Requests.{page_key}
 use Rattle.boss_etcd.specs.Says.{is_revision, revision_of}
+use Rattle.boss_etcd_opening.specs.Values.{TellsIn}
 use Rattle.boss_etcd_opening.specs.declared.found.Found.{Found}
 use Rattle.boss_etcd_opening.specs.declared.found.Found.TheVariants.{Nothing, Head, Foreign, Unclear}
 
@@ -30,15 +30,15 @@ pub record IsNothing (body at : List ℕ) : Type 0 where
   pub when : revision_of json ≡ Some at
   pub digits : is_revision at ≡ true
 
--- an answer at this revision, whose first key has a value that a commit puts, and this revision
+-- an answer at this revision, whose first key has a value that tells how many bytes there are, and this revision
 pub record IsHead (body at revision : List ℕ) (size : ℕ) : Type 0 where
   pub json : Json
   pub is : document body ≡ Some json
   pub found : Json
   pub first : first_in json ≡ Some found
-  pub owner : List ℕ
-  pub number : ℕ
-  pub value : text_in (codes "value") found ≡ Some (encode_of standard (head_text owner number size))
+  pub text : List ℕ
+  pub value : text_in (codes "value") found ≡ Some text
+  pub tells : TellsIn text size
   pub left : text_in (codes "mod_revision") found ≡ Some revision
   pub left_digits : is_revision revision ≡ true
   pub when : revision_of json ≡ Some at

@@ -1,4 +1,6 @@
 ghost use Rattle.std.specs.Prelude.{◌≡◌, true, Some, option_map, IfOk, IfSome};
+ghost use Rattle.std.specs.Char.{is_ascii_digit};
+ghost use Rattle.std.specs.List.{list_all};
 ghost use Rattle.json.specs.Json.{document};
 ghost use Rattle.json.specs.Value.{value_view};
 ghost use Rattle.boss_etcd.specs.Says.{is_revision, revision_of};
@@ -8,7 +10,6 @@ ghost use Rattle.boss_etcd_opening.specs.Values.{TellsIn};
 use crate::value::length_of;
 use base64::DecodeAllocError;
 use base64::engine::general_purpose::STANDARD;
-use boss_etcd::{is_revision, revision};
 use boss_model::{Items, NoMemory};
 use json::{Error, Scratch, Value};
 use std::alloc::Global;
@@ -99,6 +100,30 @@ pub fn text_in<'a>(value: &Value<'a>, key: &str) -> Option<&'a str>
     value.get(key)?.as_str()
 }
 
+/// The revision of an answer.
+fn revision<'a>(value: &Value<'a>) -> Option<&'a str>
+    ensures { option_map (λ text. text.now) result ≡ revision_of (value_view value.now) }
+{
+    value.get("header")?.get("revision")?.as_str()
+}
+
+/// Whether a text is a revision: 1 to 19 decimal digits.
+fn is_revision(text: &str) -> bool
+    ensures { result ≡ is_revision text.now }
+{
+    match text.len() {
+        1..=19 => all_digits(text),
+        _ => false,
+    }
+}
+
+/// Whether a text is decimal digits alone.
+fn all_digits(text: &str) -> bool
+    ensures { result ≡ list_all is_ascii_digit text.now }
+{
+    text.as_bytes().iter().all(|byte| byte.is_ascii_digit())
+}
+
 /// A text that is a revision.
 fn numbered<'a>(text: Option<&'a str>) -> Option<&'a str>
     ensures same { IfSome result (λ revision. option_map (λ text. text.now) text ≡ Some revision.now) }
@@ -110,12 +135,12 @@ fn numbered<'a>(text: Option<&'a str>) -> Option<&'a str>
     }
 }
 
-/// How many bytes there are by the value of a head, in base64, where it is one that a commit puts.
+/// How many bytes there are by the value of a head, in base64.
 fn length_in(alloc: Global, text: &str) -> Result<Option<u64>, NoMemory>
-    ensures { IfOk result (TellsIn text.now) }
+    ensures { IfOk result (λ length. IfSome length (TellsIn text.now)) }
 {
     match STANDARD.decode(alloc, text.as_bytes()) {
-        Ok(value) => length_of(alloc, value.as_slice()),
+        Ok(value) => Ok(length_of(value.as_slice())),
         Err(DecodeAllocError::OutOfMemory) => Err(NoMemory),
         Err(DecodeAllocError::DecodeError(_)) => Ok(None),
     }

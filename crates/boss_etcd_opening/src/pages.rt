@@ -2,12 +2,12 @@ ghost use Rattle.std.specs.Prelude.{◌≡◌, true, List, map, length, codes, S
 ghost use Rattle.json.specs.Find.{get};
 ghost use Rattle.json.specs.Json.{Json, document};
 ghost use Rattle.json.specs.Value.{value_view};
+ghost use Rattle.boss_etcd.specs.Requests.{page_key};
 ghost use Rattle.boss_etcd_opening.specs.Answers.{ArePages, HasBytes, HasPages, IsNext, IsPage, KeysOf};
 
 use crate::found::text_in;
 use base64::DecodeAllocError;
 use base64::engine::general_purpose::STANDARD;
-use boss_etcd::key_of;
 use boss_model::NoMemory;
 use json::{Error, Scratch, Value};
 use std::alloc::Global;
@@ -114,6 +114,20 @@ fn is_next(
         Some(text) => Ok(text == wanted.as_str()),
         None => Ok(false),
     }
+}
+
+/// The key of a page.
+#[tactic(auto, unfolding(boss_etcd::specs::Requests::page_key))]
+fn key_of(alloc: Global, name: &[u8], page: u32) -> Result<Vec<u8>, NoMemory>
+    ensures { IfOk result (λ key. key.items ≡ page_key name.now page) }
+{
+    let mut digits = [0u8; 8];
+    let written = hex::encode_to_slice(page.to_be_bytes(), &mut digits);
+    let Ok(()) = written else { unreachable!() };
+    let mut key = name.to_vec(alloc)?;
+    key.extend_from_slice(b"/p/")?;
+    key.extend_from_slice(&digits)?;
+    Ok(key)
 }
 
 /// The bytes of a page, where there are 1 to 1,024.

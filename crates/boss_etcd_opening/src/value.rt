@@ -1,48 +1,42 @@
-ghost use Rattle.std.specs.Prelude.{◌≡◌, IfOk};
+ghost use Rattle.std.specs.Prelude.{◌≡◌, ◌<◌, length, decimal, bytes_eq, IfSome};
 ghost use Rattle.boss_etcd_opening.specs.Values.{Tells};
 
-use boss_etcd::head_text;
-use boss_model::NoMemory;
-use std::alloc::Global;
 use std::str;
 
-/// The numbers of the value of a head.
-#[derive(Clone, Copy, Debug, PartialEq, Eq)]
-struct Numbers<'a> {
-    owner: &'a str,
-    number: u64,
-    length: u64,
-}
+/// How the value of a head begins.
+const FRONT: &[u8] = b"bossd1 ";
 
-/// How many bytes there are by the value of a head, where it is one that a commit puts.
-pub fn length_of(alloc: Global, value: &[u8]) -> Result<Option<u64>, NoMemory>
-    ensures { IfOk result (Tells value.now) }
+/// How many bytes there are by the value of a head: its last word, in decimal.
+#[tactic(auto, using(crate::proofs::Values::tells))]
+pub fn length_of(value: &[u8]) -> Option<u64>
+    ensures { IfSome result (Tells value.now) }
 {
-    let Some(numbers) = numbers_of(value) else {
-        return Ok(None);
-    };
-    let text = head_text(
-        alloc,
-        numbers.owner.as_bytes(),
-        numbers.number,
-        numbers.length,
-    )?;
-    if text.as_slice() != value {
-        return Ok(None);
+    if !value.starts_with(FRONT) {
+        return None;
     }
-    Ok(Some(numbers.length))
+    let place = last_space(value)?;
+    let length = number_of(&value[place + 1..])?;
+    if !is_number(length, &value[place + 1..]) {
+        return None;
+    }
+    Some(length)
 }
 
-/// The numbers that stand behind the first word of a value, with a space before each.
-fn numbers_of(value: &[u8]) -> Option<Numbers<'_>> {
-    let text = str::from_utf8(value).ok()?;
-    let mut words = text.split(' ').skip(1);
-    let owner = words.next()?;
-    let number = words.next()?.parse::<u64>().ok()?;
-    let length = words.next()?.parse::<u64>().ok()?;
-    Some(Numbers {
-        owner,
-        number,
-        length,
-    })
+/// The place of the last space.
+fn last_space(value: &[u8]) -> Option<usize>
+    ensures { IfSome result (λ place. place < length value.now) }
+{
+    value.iter().rposition(|byte| *byte == b' ')
+}
+
+/// A number that these bytes may be.
+fn number_of(bytes: &[u8]) -> Option<u64> {
+    str::from_utf8(bytes).ok()?.parse::<u64>().ok()
+}
+
+/// Whether this number is written by these bytes, with no zero or sign in front.
+fn is_number(number: u64, bytes: &[u8]) -> bool
+    ensures { result ≡ bytes_eq (decimal number) bytes.now }
+{
+    itoa::Buffer::new().format(number).as_bytes() == bytes
 }

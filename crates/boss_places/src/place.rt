@@ -67,7 +67,7 @@ fn place_with(alloc: Global, members: &[u8], file: &[u8]) -> Result<Option<Place
     if !is_name(name) {
         return Ok(None);
     }
-    let Some(members) = read_members(alloc, members)? else {
+    let Some(members) = read_members(alloc, members, MOST_MEMBERS)? else {
         return Ok(None);
     };
     Ok(Some(Place {
@@ -106,14 +106,18 @@ fn is_name(name: &[u8]) -> bool
     }
 }
 
-/// The members that a text names, with commas between them, where there are nine at most.
+/// The members that a text names, with commas between them, where there are at most so many.
 #[tactic(auto, using(crate::proofs::Members::no_member, crate::proofs::Members::last_member, crate::proofs::Members::one_member))]
-fn read_members(alloc: Global, text: &[u8]) -> Result<Option<Items<Items<u8>>>, NoMemory>
-    ensures { IfOk result (λ members. members ≡ members_from 9 text.now) }
+fn read_members(
+    alloc: Global,
+    text: &[u8],
+    most: usize,
+) -> Result<Option<Items<Items<u8>>>, NoMemory>
+    ensures { IfOk result (λ members. members ≡ members_from most text.now) }
 {
     let mut members = Items::new(alloc);
     let mut rest = text;
-    let mut left = MOST_MEMBERS;
+    let mut left = most;
     while left > 0 {
         let (member, behind) = first_of(rest);
         if !is_member(member) {
