@@ -21,8 +21,8 @@ from outside.cases import all_hold, heed_help, see
 from outside.program import EXAMPLES, PROGRAM, Server, eventually, free_port, need_program
 
 CATALOGUE = os.path.join(EXAMPLES, "plant.toml")
-ATTACH = {"op": "attach", "process": "a"}
-SUBMIT = {"op": "submit", "writes": [{"point": "hall.lamp", "value": 1, "lease": 60_000}]}
+ATTACH: dict[str, Any] = {"op": "attach", "process": "a"}
+SUBMIT: dict[str, Any] = {"op": "submit", "writes": [{"point": "hall.lamp", "value": 1, "lease": 60_000}]}
 LOST = "could not be written, so nothing is kept from here on"
 TAKEN = f"{LOST}: another server has taken this journal over"
 
@@ -152,7 +152,8 @@ def submits_until_stopped(served: Served, most: int) -> int:
 
 
 def scripts(members: Members, folder: str) -> str:
-    lines = b"".join(json.dumps(line).encode() + b"\n" for line in ({"at": 1_000, **ATTACH}, {"at": 2_000, **SUBMIT}, {"at": 3_000, **SUBMIT}))
+    requests: list[dict[str, Any]] = [{"at": 1_000, **ATTACH}, {"at": 2_000, **SUBMIT}, {"at": 3_000, **SUBMIT}]
+    lines = b"".join(json.dumps(request).encode() + b"\n" for request in requests)
     later = json.dumps({"at": 70_000, "op": "read", "point": "hall.lamp"}).encode() + b"\n"
     word, file = members.word("scripts"), os.path.join(folder, "journal")
     see(run("check", CATALOGUE, word)[0] == b"journal new\n", "a journal that is not there is not told as new")
