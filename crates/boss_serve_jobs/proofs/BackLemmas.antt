@@ -16,6 +16,7 @@ use Rattle.boss_outside_server.specs.declared.host.Host as host
 use Rattle.boss_outside_server.specs.declared.spawner.Spawner as spawner
 use Rattle.boss_outside_server.specs.declared.waiter.Waiter as waiter
 use Rattle.boss_jobs.specs.Journals.{Pair}
+use Rattle.boss_keys.specs.declared.entry.Entry.{Entry as Key}
 use Rattle.boss_shared.specs.Gates.{Gate}
 use Rattle.boss_worker.specs.Visits.{sessions_in, GoBySteps}
 use Rattle.def_lanes.specs.Works.{Work, visit, beat, drive, owner, served_in, works_of}
@@ -73,8 +74,8 @@ module _ {H In Out : Type 0} (h : host.Ghosts H In Out) where
   same-back old new same = subst (CameBack h old) (sym same) (none-back old old (record { served = λ told. refl; faults = refl; handed = rose-none (h.handed old) }))
 
 module _ {K A H In Out C W Bells P Runtime : Type 0} (k : sink.Ghosts K) (a : actuators_of.Ghosts A) (h : host.Ghosts H In Out) (i : source.Ghosts In) (o : sink.Ghosts Out)
-    (c : clock.Ghosts C) (w : waiter.Ghosts W Bells) (p : spawner.Ghosts P Runtime) (catalogue : Catalogue) (gates : List Gate) (workers connections : ℕ) (old new : Outside K A H C W P) (status : ℕ) where
-  from-back : (known : Type 0) (s : State) (number : ℕ) → ServedFrom k a h i o c w p catalogue known s number gates workers connections old new status → CameBack h old.host new.host
+    (c : clock.Ghosts C) (w : waiter.Ghosts W Bells) (p : spawner.Ghosts P Runtime) (catalogue : Catalogue) (gates : List Gate) (keys : Option (List Key)) (workers connections : ℕ) (old new : Outside K A H C W P) (status : ℕ) where
+  from-back : (known : Type 0) (s : State) (number : ℕ) → ServedFrom k a h i o c w p catalogue known s number gates keys workers connections old new status → CameBack h old.host new.host
   from-back known s number it = elim it.end [
     | inl unbound ↦ record {
       connections = [];
@@ -98,13 +99,13 @@ module _ {K A H In Out C W Bells P Runtime : Type 0} (k : sink.Ghosts K) (a : ac
         }
   ]
 
-  pub memory-back : ServesMemory k a h i o c w p catalogue gates workers connections old new status → CameBack h old.host new.host
+  pub memory-back : ServesMemory k a h i o c w p catalogue gates keys workers connections old new status → CameBack h old.host new.host
   memory-back it = elim it [
     | inl lack ↦ same-back h old.host new.host (ap (λ (it : Outside K A H C W P). it.host) lack.1)
     | inr ran ↦ from-back (Unit {0}) (first_state (actuators catalogue)) 0 ran.0
   ]
 
-  pub over-back : (was now : Pair) → ServesOver k a h i o c w p catalogue was now gates workers connections old new status → CameBack h old.host new.host
+  pub over-back : (was now : Pair) → ServesOver k a h i o c w p catalogue was now gates keys workers connections old new status → CameBack h old.host new.host
   over-back was now it = elim it [
     | inl none ↦ same-back h old.host new.host (ap (λ (it : Outside K A H C W P). it.host) none.0.untouched)
     | inr (inl refused) ↦ same-back h old.host new.host (ap (λ (it : Outside K A H C W P). it.host) refused.1)

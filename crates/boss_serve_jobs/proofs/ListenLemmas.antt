@@ -25,13 +25,14 @@ line-unheard k line told old new status unheard tells = elim tells [
 ]
 
 -- nothing was set up
-pub unprepared-unheard : {F D K A : Type 0} (f : files.Ghosts F D) (k : sink.Ghosts K) (name : List ℕ) (rules plan : Option (List ℕ)) (count : ℕ) (old new : Setting F K A) (status : ℕ) →
-    Unprepared f k name rules plan count old new status → has_listened status ≡ false
-unprepared-unheard f k name rules plan count old new status it = elim it [
+pub unprepared-unheard : {F D K A : Type 0} (f : files.Ghosts F D) (k : sink.Ghosts K) (name : List ℕ) (rules plan keys : Option (List ℕ)) (count : ℕ) (old new : Setting F K A) (status : ℕ) →
+    Unprepared f k name rules plan keys count old new status → has_listened status ≡ false
+unprepared-unheard f k name rules plan keys count old new status it = elim it [
   | inl lost ↦ five-eight-unheard status lost.why
   | inr (inl refused) ↦ line-unheard k _ 3 old.sink new.sink status refl refused.ends.tells
   | inr (inr (inl refused)) ↦ line-unheard k _ 16 old.sink new.sink status refl refused.ends.tells
-  | inr (inr (inr refused)) ↦ line-unheard k _ 17 old.sink new.sink status refl refused.ends.tells
+  | inr (inr (inr (inl refused))) ↦ line-unheard k _ 19 old.sink new.sink status refl refused.ends.tells
+  | inr (inr (inr (inr refused))) ↦ line-unheard k _ 17 old.sink new.sink status refl refused.ends.tells
 ]
 
 -- ---- the host

@@ -8,15 +8,22 @@ use Rattle.boss_access.specs.declared.refusal.RulesRefusal.{RulesRefusal}
 use Rattle.boss_access.specs.declared.rule.Rule.{Rule}
 use Rattle.boss_access.specs.Reading.{rules_of}
 use Rattle.boss_jobs.specs.Jobs.{TellsLine}
+use Rattle.boss_keys.specs.declared.entry.Entry.{Entry as Key}
+use Rattle.boss_keys.specs.declared.refusal.KeysRefusal.{KeysRefusal}
+use Rattle.boss_keys.specs.Reading.{keys_of}
 use Rattle.boss_outside.specs.Counts.{Rose}
 use Rattle.boss_outside.specs.declared.actuators.Actuators as actuators
 use Rattle.boss_outside.specs.declared.sink.Sink as sink
 use Rattle.boss_plans.specs.Plans.{plan_of}
 use Rattle.boss_jobs.specs.Journals.{AsksFront}
-use Rattle.boss_serve_jobs.specs.Preparing.{AreRuled, AreSet, Comes, HadNone, listed, Refused, RefusesPlan, RefusesRules, Setting, TakesPlan, TakesRules}
+use Rattle.boss_serve_jobs.specs.Preparing.{AreKeyed, AreRuled, AreSet, Comes, HadNone, listed, Refused, RefusesKeys, RefusesPlan, RefusesRules, Setting, TakesKeys, TakesPlan, TakesRules}
 use Rattle.boss_jobs.specs.Programs.{usable}
 
 -- ---- names that were asked for
+
+-- those of the first step, and then all of the next
+pub all-then-more : (first names old between new : List (List ℕ)) → between ≡ old ++ first → new ≡ between ++ names → new ≡ old ++ (first ++ names)
+all-then-more first names old between new all more = more ∙ ap (λ xs. xs ++ names) all ∙ append_assoc old first names
 
 -- those of the first step, and then some of the next
 pub all-then-front : (first names old between new : List (List ℕ)) → between ≡ old ++ first → AsksFront names between new → AsksFront (first ++ names) old new
@@ -83,6 +90,14 @@ module _ {F D : Type 0} (f : files.Ghosts F D) (files : F) (tells : f.tells) whe
       let same : spelt.0 ≡ takes.0 = some-same (sym spelt.1 ∙ takes.2) in
       not-both (rules_of takes.0) takes.1 refusal takes.3 (ap rules_of (sym same) ∙ spelt.2)
 
+  -- keys that can be used are not refused
+  pub keys-not-refused : {P : Type 0} (keys : Option (List ℕ)) (refusal : KeysRefusal) → TakesKeys f keys files → RefusesKeys f keys files refusal → P
+  keys-not-refused None refusal takes refuses = absurd refuses
+  keys-not-refused (Some name) refusal takes refuses =
+      let spelt = refuses tells in
+      let same : spelt.0 ≡ takes.0 = some-same (sym spelt.1 ∙ takes.2) in
+      not-both (keys_of takes.0) takes.1 refusal takes.3 (ap keys_of (sym same) ∙ spelt.2)
+
   -- a plan that can be used is not refused
   pub plan-not-refused : {P : Type 0} (plan : Option (List ℕ)) (catalogue : Catalogue) (refusal : PlanRefusal) → TakesPlan f plan catalogue files → RefusesPlan f plan catalogue files refusal → P
   plan-not-refused None catalogue refusal takes refuses = absurd refuses
@@ -101,6 +116,14 @@ module _ {F D : Type 0} (f : files.Ghosts F D) (old new : F) (stays : f.tells �
   pub rules-refused-before : (rules : Option (List ℕ)) (refusal : RulesRefusal) → RefusesRules f rules new refusal → RefusesRules f rules old refusal
   rules-refused-before None refusal is = is
   rules-refused-before (Some name) refusal is = λ tells. let spelt = is tells in (spelt.0, sym (stays tells name) ∙ spelt.1, spelt.2)
+
+  pub keyed-before : (keys : Option (List ℕ)) (given : Option (List Key)) → AreKeyed f keys new given → AreKeyed f keys old given
+  keyed-before None given is = is
+  keyed-before (Some name) given is = (is.0, is.1, λ tells. let spelt = is.2 tells in (spelt.0, sym (stays tells name) ∙ spelt.1, spelt.2))
+
+  pub keys-refused-before : (keys : Option (List ℕ)) (refusal : KeysRefusal) → RefusesKeys f keys new refusal → RefusesKeys f keys old refusal
+  keys-refused-before None refusal is = is
+  keys-refused-before (Some name) refusal is = λ tells. let spelt = is tells in (spelt.0, sym (stays tells name) ∙ spelt.1, spelt.2)
 
   pub plan-refused-before : (plan : Option (List ℕ)) (catalogue : Catalogue) (refusal : PlanRefusal) → RefusesPlan f plan catalogue new refusal → RefusesPlan f plan catalogue old refusal
   plan-refused-before None catalogue refusal is = is

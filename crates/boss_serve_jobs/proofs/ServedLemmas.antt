@@ -16,6 +16,7 @@ use Rattle.def_history.specs.declared.entry.Entry.{Entry}
 use Rattle.def_history.specs.History.{events, is_broken, IsLegal, run}
 use Rattle.boss_memory_keeper.specs.contracts.unkept.UnkeptKeeper.TheImpl.{ghosts as unkept}
 use Rattle.boss_memory_keeper.specs.declared.unkept.Unkept.{Unkept}
+use Rattle.boss_keys.specs.declared.entry.Entry.{Entry as Key}
 use Rattle.boss_shared.specs.Gates.{Gate}
 use Rattle.boss_shared.specs.Keeping.{IsHeld}
 use Rattle.boss_journal_lines.specs.Reports.{summary_line}
@@ -63,17 +64,17 @@ parts-so devices clock host waiter spawner = λ i. parts (devices i) (clock i) (
 
 module _ {K A H In Out C W Bells P Runtime : Type 0} (k : sink.Ghosts K) (a : actuators_of.Ghosts A) (h : host.Ghosts H In Out) (i : source.Ghosts In) (o : sink.Ghosts Out)
     (c : clock.Ghosts C) (w : waiter.Ghosts W Bells) (p : spawner.Ghosts P Runtime)
-    (catalogue : Catalogue) (gates : List Gate) (workers connections : ℕ) (old new : Outside K A H C W P) (known : Type 0) (s : State) (number all : ℕ) (line : List ℕ) (status : ℕ) (log : List Entry)
+    (catalogue : Catalogue) (gates : List Gate) (keys : Option (List Key)) (workers connections : ℕ) (old new : Outside K A H C W P) (known : Type 0) (s : State) (number all : ℕ) (line : List ℕ) (status : ℕ) (log : List Entry)
     (line-is : is_broken log ≡ false → line ≡ summary_line all (run (actuators catalogue) log s).persistent.now
     (length (run (actuators catalogue) log s).persistent.leases) (length (run (actuators catalogue) log s).persistent.pending))
     (all-are : is_broken log ≡ false → known → all ≡ counted (number + length (events (actuators catalogue) log s))) where
   -- the workers' run, and what was told of it, are all that a server did
   served-parts : (result : Run)
-      → EndsRun a h i o c w p catalogue gates workers connections log (parts old.devices old.clock old.host old.waiter old.spawner)
+      → EndsRun a h i o c w p catalogue gates keys workers connections log (parts old.devices old.clock old.host old.waiter old.spawner)
       (parts new.devices new.clock new.host new.waiter new.spawner) result
       → TellsEnd k line result old.sink new.sink status
       → NotBound h log old new status ⊎ NoneRan h c w log old new status
-      ⊎ Served k a h i o c w p catalogue known s number gates workers connections log old new status
+      ⊎ Served k a h i o c w p catalogue known s number gates keys workers connections log old new status
   served-parts not_bound ends told = inl (record {
     nothing = ends.nothing;
     told = told.0;
@@ -108,28 +109,28 @@ module _ {K A H In Out C W Bells P Runtime : Type 0} (k : sink.Ghosts K) (a : ac
     no_summary = λ broken. told.1 (ends.disk ∙ broken);
   }))
 
-  pub served-end : (first last : Outside (Unit {0}) A H C W P) (result : Run) → EndsRun a h i o c w p catalogue gates workers connections log first last result
+  pub served-end : (first last : Outside (Unit {0}) A H C W P) (result : Run) → EndsRun a h i o c w p catalogue gates keys workers connections log first last result
       → first ≡ parts old.devices old.clock old.host old.waiter old.spawner → parts new.devices new.clock new.host new.waiter new.spawner ≡ last
       → TellsEnd k line result old.sink new.sink status
       → NotBound h log old new status ⊎ NoneRan h c w log old new status
-      ⊎ Served k a h i o c w p catalogue known s number gates workers connections log old new status
+      ⊎ Served k a h i o c w p catalogue known s number gates keys workers connections log old new status
   served-end first last result ends began left =
       served-parts result
-      (subst (λ it. EndsRun a h i o c w p catalogue gates workers connections log (parts old.devices old.clock old.host old.waiter old.spawner) it result) (sym left)
-      (subst (λ it. EndsRun a h i o c w p catalogue gates workers connections log it last result) began ends))
+      (subst (λ it. EndsRun a h i o c w p catalogue gates keys workers connections log (parts old.devices old.clock old.host old.waiter old.spawner) it result) (sym left)
+      (subst (λ it. EndsRun a h i o c w p catalogue gates keys workers connections log it last result) began ends))
 
 -- a server over an engine in memory that had done nothing
 module _ {K A H In Out C W Bells P Runtime : Type 0} (k : sink.Ghosts K) (a : actuators_of.Ghosts A) (h : host.Ghosts H In Out) (i : source.Ghosts In) (o : sink.Ghosts Out)
-    (c : clock.Ghosts C) (w : waiter.Ghosts W Bells) (p : spawner.Ghosts P Runtime) (catalogue : Catalogue) (start now : Unkept) (gates : List Gate) (workers connections : ℕ) (old new : Outside K A H C W P) (status : ℕ)
+    (c : clock.Ghosts C) (w : waiter.Ghosts W Bells) (p : spawner.Ghosts P Runtime) (catalogue : Catalogue) (start now : Unkept) (gates : List Gate) (keys : Option (List Key)) (workers connections : ℕ) (old new : Outside K A H C W P) (status : ℕ)
     (engine : start.engine ≡ record { plant = actuators catalogue; state = first_state (actuators catalogue) }) (none : start.events ≡ 0) where
-  pub served-memory : ServesKeeper k a h i o c w p unkept (Unit {0}) catalogue start now gates workers connections old new status
-      → ServedMemory k a h i o c w p catalogue gates workers connections old new status
+  pub served-memory : ServesKeeper k a h i o c w p unkept (Unit {0}) catalogue start now gates keys workers connections old new status
+      → ServedMemory k a h i o c w p catalogue gates keys workers connections old new status
   served-memory it = (
     record {
       log = it.log;
       legal = memory-legal (actuators catalogue) start now it.log it.held engine;
       end = subst (λ s. NotBound h it.log old new status ⊎ NoneRan h c w it.log old new status
-          ⊎ Served k a h i o c w p catalogue (Unit {0}) s 0 gates workers connections it.log old new status) (ap (λ e. e.state) engine) (it.end 0 [] none refl);
+          ⊎ Served k a h i o c w p catalogue (Unit {0}) s 0 gates keys workers connections it.log old new status) (ap (λ e. e.state) engine) (it.end 0 [] none refl);
     },
     sym it.held.marked,
   )

@@ -1,3 +1,4 @@
+pub mod Keying
 pub mod Preparing
 pub mod Ruling
 pub mod ServeJobs

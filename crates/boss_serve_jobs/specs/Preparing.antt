@@ -1,6 +1,6 @@
 -- Source: own.
--- What a server is set up with before it opens a journal: the catalogue of a file, the access rules of another, if the words name one,
--- and the devices as a plan assigns them.
+-- What a server is set up with before it opens a journal: the catalogue of a file, the access rules and the keys of two others, if the
+-- words name them, and the devices as a plan assigns them.
 use Rattle.std.specs.Prelude.{◌≡◌, ◌⊎◌, ℕ, List, [], ◌∷◌, ◌++◌, Option, Some, None, Result, Ok, Err}
 use Rattle.boss_model.specs.Catalogue.{Catalogue}
 use Rattle.boss_outside.specs.Counts.{Rose}
@@ -13,6 +13,10 @@ use Rattle.boss_access.specs.declared.rule.Rule.{Rule}
 use Rattle.boss_access.specs.Lines.{refusal_line as rules_refusal_line}
 use Rattle.boss_access.specs.Reading.{rules_of}
 use Rattle.boss_answers.specs.Refused.{refusal_line}
+use Rattle.boss_keys.specs.declared.entry.Entry.{Entry as Key}
+use Rattle.boss_keys.specs.declared.refusal.KeysRefusal.{KeysRefusal}
+use Rattle.boss_keys.specs.Lines.{refusal_line as keys_refusal_line}
+use Rattle.boss_keys.specs.Reading.{keys_of}
 use Rattle.boss_plans.specs.declared.Part.{Part}
 use Rattle.boss_plans.specs.declared.PlanRefusal.{PlanRefusal}
 use Rattle.boss_plans.specs.Plans.{plan_of}
@@ -36,7 +40,7 @@ setting files sink devices = record { files = files; sink = sink; devices = devi
 abbrev pub reading : {F K : Type 0} → F → K → Setting F K (Unit {0})
 reading files sink = record { files = files; sink = sink; devices = [] }
 
--- a file that the words may name: of the rules, or of the plan
+-- a file that the words may name: of the rules, of the keys, or of the plan
 abbrev pub listed : Option (List ℕ) → List (List ℕ)
 listed None = []
 listed (Some name) = name ∷ []
@@ -69,6 +73,25 @@ module _ {F D : Type 0} (f : files.Ghosts F D) where
   abbrev pub TakesRules : Option (List ℕ) → F → Type 0
   TakesRules None files = Unit {0}
   TakesRules (Some name) files = (file : List ℕ) × (rules : List Rule) × (f.holds files name ≡ Some file) × (rules_of file ≡ Ok rules)
+
+  -- the file of this name spells these keys, or is refused so, if files tell what they hold
+  abbrev pub SpellsKeys : List ℕ → F → Result (List Key) KeysRefusal → Type 0
+  SpellsKeys name files result = f.tells → (file : List ℕ) × (f.holds files name ≡ Some file) × (keys_of file ≡ result)
+
+  -- these are the keys that the words name, if they name some
+  abbrev pub AreKeyed : Option (List ℕ) → F → Option (List Key) → Type 0
+  AreKeyed None files given = given ≡ None
+  AreKeyed (Some name) files given = (keys : List Key) × (given ≡ Some keys) × SpellsKeys name files (Ok keys)
+
+  -- the keys that the words name are refused
+  abbrev pub RefusesKeys : Option (List ℕ) → F → KeysRefusal → Type 0
+  RefusesKeys None files refusal = ⊥
+  RefusesKeys (Some name) files refusal = SpellsKeys name files (Err refusal)
+
+  -- the keys that the words name, if they name some, can be used
+  abbrev pub TakesKeys : Option (List ℕ) → F → Type 0
+  TakesKeys None files = Unit {0}
+  TakesKeys (Some name) files = (file : List ℕ) × (keys : List Key) × (f.holds files name ≡ Some file) × (keys_of file ≡ Ok keys)
 
   -- the plan that the words name is refused under this catalogue
   abbrev pub RefusesPlan : Option (List ℕ) → Catalogue → F → PlanRefusal → Type 0
@@ -107,25 +130,44 @@ module _ {F D : Type 0} (f : files.Ghosts F D) where
       pub refuses : RefusesRules rules old.files refusal
       pub ends : Refused (rules_refusal_line refusal) 16 old new status
 
-    -- the catalogue and the rules can be used, and the plan is refused: status 17
-    pub record RefusedPlan (name : List ℕ) (rules plan : Option (List ℕ)) (count : ℕ) (old new : Setting F K A) (status : ℕ) : Type 0 where
+    -- the catalogue and the rules can be used, and the keys are refused: status 19
+    pub record RefusedKeys (name : List ℕ) (rules keys : Option (List ℕ)) (count : ℕ) (old new : Setting F K A) (status : ℕ) : Type 0 where
       pub catalogue : Catalogue
       pub comes : Comes name count old.files (Ok catalogue)
       pub given : Option (List Rule)
       pub ruled : AreRuled rules old.files given
+      pub refusal : KeysRefusal
+      pub refuses : RefusesKeys keys old.files refusal
+      pub ends : Refused (keys_refusal_line refusal) 19 old new status
+
+    -- the catalogue, the rules and the keys can be used, and the plan is refused: status 17
+    pub record RefusedPlan (name : List ℕ) (rules plan keys : Option (List ℕ)) (count : ℕ) (old new : Setting F K A) (status : ℕ) : Type 0 where
+      pub catalogue : Catalogue
+      pub comes : Comes name count old.files (Ok catalogue)
+      pub given : Option (List Rule)
+      pub ruled : AreRuled rules old.files given
+      pub entries : Option (List Key)
+      pub keyed : AreKeyed keys old.files entries
       pub refusal : PlanRefusal
       pub refuses : RefusesPlan plan catalogue old.files refusal
       pub ends : Refused (plan_refusal_line catalogue refusal) 17 old new status
 
-    abbrev pub Unprepared : List ℕ → Option (List ℕ) → Option (List ℕ) → ℕ → Setting F K A → Setting F K A → ℕ → Type 0
-    Unprepared name rules plan count old new status =
-        HadNone old new status ⊎ RefusedCatalogue name count old new status ⊎ RefusedRules name rules count old new status ⊎ RefusedPlan name rules plan count old new status
+    abbrev pub Unprepared : List ℕ → Option (List ℕ) → Option (List ℕ) → Option (List ℕ) → ℕ → Setting F K A → Setting F K A → ℕ → Type 0
+    Unprepared name rules plan keys count old new status =
+        HadNone old new status ⊎ RefusedCatalogue name count old new status ⊎ RefusedRules name rules count old new status
+        ⊎ RefusedKeys name rules keys count old new status ⊎ RefusedPlan name rules plan keys count old new status
 
     -- the rules that the words name were read, if they name some; or it ended without
     abbrev pub GivesRules : Option (List ℕ) → Setting F K A → Setting F K A → Result (Option (List Rule)) Status → Type 0
     GivesRules rules old new (Ok given) = AreRuled rules old.files given × (f.faults new.files ≡ f.faults old.files) × (new.sink ≡ old.sink)
     GivesRules rules old new (Err status) =
         HadNone old new status.0 ⊎ ((refusal : RulesRefusal) × RefusesRules rules old.files refusal × Refused (rules_refusal_line refusal) 16 old new status.0)
+
+    -- the keys that the words name were read, if they name some; or it ended without
+    abbrev pub GivesKeys : Option (List ℕ) → Setting F K A → Setting F K A → Result (Option (List Key)) Status → Type 0
+    GivesKeys keys old new (Ok given) = AreKeyed keys old.files given × (f.faults new.files ≡ f.faults old.files) × (new.sink ≡ old.sink)
+    GivesKeys keys old new (Err status) =
+        HadNone old new status.0 ⊎ ((refusal : KeysRefusal) × RefusesKeys keys old.files refusal × Refused (keys_refusal_line refusal) 19 old new status.0)
 
     module _ (a : actuators.Ghosts A) where
       -- the devices are as the plan assigns them, if the words name one
@@ -141,13 +183,14 @@ module _ {F D : Type 0} (f : files.Ghosts F D) where
           ⊎ ((refusal : PlanRefusal) × RefusesPlan plan catalogue old.files refusal × Refused (plan_refusal_line catalogue refusal) 17 old new status.0)
 
       -- all is set up, and nothing was told
-      pub record Prepared (name : List ℕ) (rules plan : Option (List ℕ)) (count : ℕ) (catalogue : Catalogue) (given : Option (List Rule)) (old new : Setting F K A) : Type 0 where
+      pub record Prepared (name : List ℕ) (rules plan keys : Option (List ℕ)) (count : ℕ) (catalogue : Catalogue) (given : Option (List Rule)) (entries : Option (List Key)) (old new : Setting F K A) : Type 0 where
         pub comes : Comes name count old.files (Ok catalogue)
         pub ruled : AreRuled rules old.files given
+        pub keyed : AreKeyed keys old.files entries
         pub set : AreSet plan catalogue old.files old.devices new.devices
         pub files : f.faults new.files ≡ f.faults old.files
         pub sink : new.sink ≡ old.sink
 
-      abbrev pub Prepares : List ℕ → Option (List ℕ) → Option (List ℕ) → ℕ → Setting F K A → Setting F K A → Result (Catalogue × Option (List Rule)) Status → Type 0
-      Prepares name rules plan count old new (Ok made) = Prepared name rules plan count made.0 made.1 old new
-      Prepares name rules plan count old new (Err status) = Unprepared name rules plan count old new status.0
+      abbrev pub Prepares : List ℕ → Option (List ℕ) → Option (List ℕ) → Option (List ℕ) → ℕ → Setting F K A → Setting F K A → Result (Catalogue × Option (List Rule) × Option (List Key)) Status → Type 0
+      Prepares name rules plan keys count old new (Ok made) = Prepared name rules plan keys count made.0 made.1 made.2 old new
+      Prepares name rules plan keys count old new (Err status) = Unprepared name rules plan keys count old new status.0

@@ -1,5 +1,5 @@
 -- Source: own.
--- `serve CATALOGUE JOURNAL ADDRESS WORKERS CONNECTIONS RULES PLAN`.
+-- `serve CATALOGUE JOURNAL ADDRESS WORKERS CONNECTIONS RULES PLAN KEYS`.
 use denote.Ref.{MutBor}
 use Rattle.std.specs.declared.alloc.Global.{Global}
 use Rattle.std.specs.declared.vec.Vec.{Vec}
@@ -20,8 +20,9 @@ use Rattle.boss_serve_jobs.specs.declared.world.World.{World as Given}
 use Rattle.boss_jobs.specs.Jobs.{World, world}
 use Rattle.boss_jobs.specs.Journals.{AsksFront, in_files, IsRefused}
 use Rattle.boss_access.specs.declared.rule.Rule.{Rule}
+use Rattle.boss_keys.specs.declared.entry.Entry.{Entry as Key}
 use Rattle.boss_server.specs.Sites.{gates_of}
-use Rattle.boss_serve_jobs.specs.Preparing.{AreRuled, AreSet, Comes, listed, Setting, setting, TakesPlan, TakesRules, Unprepared}
+use Rattle.boss_serve_jobs.specs.Preparing.{AreKeyed, AreRuled, AreSet, Comes, listed, Setting, setting, TakesKeys, TakesPlan, TakesRules, Unprepared}
 use Rattle.boss_jobs.specs.Programs.{usable}
 use Rattle.boss_serve_jobs.specs.Serving.{CameBack, Listened, Outside, outside, ServesMemory, ServesOver}
 
@@ -105,65 +106,70 @@ module _ {F D S K A H In Out C W Bells P Runtime : Type 0} (f : files.Ghosts F D
     clock = c.faults all.clock;
   }
 
-  -- no catalogue, no rules or no plan was had, or one of them is refused, and nothing was served
-  abbrev pub ServesNone : List ℕ → Option (List ℕ) → Option (List ℕ) → ℕ → ServerWorld F S K A C H W P → ServerWorld F S K A C H W P → ℕ → Type 0
-  ServesNone name rules plan count old new status = Unprepared f k name rules plan count (setting_at old) (setting_at new) status × StaysApart old new
+  -- no catalogue, no rules, no keys or no plan was had, or one of them is refused, and nothing was served
+  abbrev pub ServesNone : List ℕ → Option (List ℕ) → Option (List ℕ) → Option (List ℕ) → ℕ → ServerWorld F S K A C H W P → ServerWorld F S K A C H W P → ℕ → Type 0
+  ServesNone name rules plan keys count old new status = Unprepared f k name rules plan keys count (setting_at old) (setting_at new) status × StaysApart old new
 
   -- over a journal in two files, where there are so many devices
-  module _ (name journal address : List ℕ) (rules plan : Option (List ℕ)) (count workers connections : ℕ) (old new : ServerWorld F S K A C H W P) (status : ℕ) where
-    -- The catalogue and the rules can be used, and the devices are as the plan assigns them; then the journal of this name was served, as far as
-    -- there is one.
+  module _ (name journal address : List ℕ) (rules plan keys : Option (List ℕ)) (count workers connections : ℕ) (old new : ServerWorld F S K A C H W P) (status : ℕ) where
+    -- The catalogue, the rules and the keys can be used, and the devices are as the plan assigns them; then the journal of this name was served,
+    -- as far as there is one.
     pub record ServedFiles : Type 0 where
       pub catalogue : Catalogue
       pub comes : Comes f name count old.world.files (Ok catalogue)
       pub given : Option (List Rule)
       pub ruled : AreRuled f rules old.world.files given
+      pub entries : Option (List Key)
+      pub keyed : AreKeyed f keys old.world.files entries
       pub devices : List A
       pub set : AreSet f k a plan catalogue old.world.files old.world.devices devices
-      pub serves : ServesOver k a h i o c w p catalogue (in_files f journal old.world.files) (in_files f journal new.world.files) (gates_of catalogue given) workers connections
+      pub serves : ServesOver k a h i o c w p catalogue (in_files f journal old.world.files) (in_files f journal new.world.files) (gates_of catalogue given) entries workers connections
           (record (outside_at old) { devices = devices }) (outside_at new) status
 
     pub record DoesServe : Type 0 where
-      pub did : ServesNone name rules plan count old new status ⊎ ServedFiles
+      pub did : ServesNone name rules plan keys count old new status ⊎ ServedFiles
       -- nothing is read
       pub source : new.world.source ≡ old.world.source
-      -- the catalogue's file is asked for, then those of the rules and the plan, and the journal's two, as far as it comes to that; and no other
-      pub asks : f.tells → AsksFront ((name ∷ listed rules ++ listed plan) ++ journal ∷ second_name journal ∷ []) (f.asked old.world.files) (f.asked new.world.files)
+      -- the catalogue's file is asked for, then those of the rules, the keys and the plan, and the journal's two, as far as it comes to that; and no
+      -- other
+      pub asks : f.tells → AsksFront ((name ∷ listed rules ++ listed keys ++ listed plan) ++ journal ∷ second_name journal ∷ []) (f.asked old.world.files) (f.asked new.world.files)
       -- at each status, every connection that was handed out came back
       pub came_back : CameBack h old.host new.host
       -- it listens at the address of the words and at no other
       pub listens : h.tells → Listened h address old.host new.host status
       -- no other file changes
       pub others : f.tells → (file : List ℕ) → file ≢ journal → file ≢ second_name journal → f.holds new.world.files file ≡ f.holds old.world.files file
-      -- the status has its cause, or tells that the catalogue, the journal, the rules or the plan is refused
-      pub causes : EndsBy (faults_at old) (faults_at new) status ⊎ (status ≡ 3) ⊎ (status ≡ 4) ⊎ (status ≡ 16) ⊎ (status ≡ 17)
-      -- where the catalogue, the rules and the plan can be used, the journal is not refused and nothing failed, all connections were served, or
-      -- memory was wanting
+      -- the status has its cause, or tells that the catalogue, the journal, the rules, the plan or the file of keys is refused
+      pub causes : EndsBy (faults_at old) (faults_at new) status ⊎ (status ≡ 3) ⊎ (status ≡ 4) ⊎ (status ≡ 16) ⊎ (status ≡ 17) ⊎ (status ≡ 19)
+      -- where the catalogue, the rules, the plan and the keys can be used, the journal is not refused and nothing failed, all connections were
+      -- served, or memory was wanting
       pub complete : (catalogue : Catalogue) (file : List ℕ) → f.tells → f.holds old.world.files name ≡ Some file → usable count file ≡ Ok catalogue
-          → TakesRules f rules old.world.files → TakesPlan f plan catalogue old.world.files → ((refusal : DurableRefusal) → IsRefused catalogue (in_files f journal old.world.files) refusal → ⊥)
+          → TakesRules f rules old.world.files → TakesKeys f keys old.world.files → TakesPlan f plan catalogue old.world.files → ((refusal : DurableRefusal) → IsRefused catalogue (in_files f journal old.world.files) refusal → ⊥)
           → NoneRose (faults_at old) (faults_at new) → (status ≡ 0) ⊎ (status ≡ 8)
 
   -- over memory alone, where there are so many devices
-  module _ (name address : List ℕ) (rules plan : Option (List ℕ)) (count workers connections : ℕ) (old new : ServerWorld F S K A C H W P) (status : ℕ) where
-    -- the catalogue and the rules can be used, and the devices are as the plan assigns them; then it was served
+  module _ (name address : List ℕ) (rules plan keys : Option (List ℕ)) (count workers connections : ℕ) (old new : ServerWorld F S K A C H W P) (status : ℕ) where
+    -- the catalogue, the rules and the keys can be used, and the devices are as the plan assigns them; then it was served
     pub record ServedCatalogue : Type 0 where
       pub catalogue : Catalogue
       pub comes : Comes f name count old.world.files (Ok catalogue)
       pub given : Option (List Rule)
       pub ruled : AreRuled f rules old.world.files given
+      pub entries : Option (List Key)
+      pub keyed : AreKeyed f keys old.world.files entries
       pub devices : List A
       pub set : AreSet f k a plan catalogue old.world.files old.world.devices devices
       pub files : f.faults new.world.files ≡ f.faults old.world.files
-      pub serves : ServesMemory k a h i o c w p catalogue (gates_of catalogue given) workers connections (record (outside_at old) { devices = devices }) (outside_at new) status
+      pub serves : ServesMemory k a h i o c w p catalogue (gates_of catalogue given) entries workers connections (record (outside_at old) { devices = devices }) (outside_at new) status
 
     pub record ServesInMemory : Type 0 where
-      pub did : ServesNone name rules plan count old new status ⊎ ServedCatalogue
+      pub did : ServesNone name rules plan keys count old new status ⊎ ServedCatalogue
       pub source : new.world.source ≡ old.world.source
-      -- the catalogue's file is asked for, then those of the rules and the plan, and no other; none changes
-      pub asks : f.tells → AsksFront (name ∷ listed rules ++ listed plan) (f.asked old.world.files) (f.asked new.world.files)
+      -- the catalogue's file is asked for, then those of the rules, the keys and the plan, and no other; none changes
+      pub asks : f.tells → AsksFront (name ∷ listed rules ++ listed keys ++ listed plan) (f.asked old.world.files) (f.asked new.world.files)
       pub others : f.tells → (file : List ℕ) → f.holds new.world.files file ≡ f.holds old.world.files file
       pub came_back : CameBack h old.host new.host
       pub listens : h.tells → Listened h address old.host new.host status
-      pub causes : EndsBy (faults_at old) (faults_at new) status ⊎ (status ≡ 3) ⊎ (status ≡ 16) ⊎ (status ≡ 17)
+      pub causes : EndsBy (faults_at old) (faults_at new) status ⊎ (status ≡ 3) ⊎ (status ≡ 16) ⊎ (status ≡ 17) ⊎ (status ≡ 19)
       pub complete : (catalogue : Catalogue) (file : List ℕ) → f.tells → f.holds old.world.files name ≡ Some file → usable count file ≡ Ok catalogue
-          → TakesRules f rules old.world.files → TakesPlan f plan catalogue old.world.files → NoneRose (faults_at old) (faults_at new) → (status ≡ 0) ⊎ (status ≡ 8)
+          → TakesRules f rules old.world.files → TakesKeys f keys old.world.files → TakesPlan f plan catalogue old.world.files → NoneRose (faults_at old) (faults_at new) → (status ≡ 0) ⊎ (status ≡ 8)

@@ -3,7 +3,7 @@
 use denote.Ref.{MutBor}
 use Rattle.std.specs.declared.alloc.Global.{Global}
 use Rattle.std.specs.declared.vec.Vec.{Vec}
-use Rattle.std.specs.Prelude.{◌≡◌, ◌⊎◌, ℕ, ◌+◌, ◌<◌, true, false, nat_eq, Bool, ◌||◌, if◌then◌else◌, List, [], ◌∷◌, ◌++◌, length, take, drop}
+use Rattle.std.specs.Prelude.{◌≡◌, ◌⊎◌, ℕ, ◌+◌, ◌<◌, true, false, nat_eq, Bool, ◌||◌, if◌then◌else◌, List, [], ◌∷◌, ◌++◌, length, take, drop, Option}
 use Rattle.std.specs.List.{AllByRecursion}
 use Rattle.boss_model.specs.Catalogue.{Catalogue, actuators}
 use Rattle.boss_model.specs.declared.event.Event.{Event}
@@ -26,6 +26,7 @@ use Rattle.boss_shared.specs.declared.keeper.Keeper as keeper
 use Rattle.boss_shared.specs.Keeping.{IsHeld}
 use Rattle.boss_worker.specs.declared.flags.Flags.{Flags}
 use Rattle.boss_worker.specs.Saying.{terms_of}
+use Rattle.boss_keys.specs.declared.entry.Entry.{Entry as Key}
 use Rattle.boss_shared.specs.Gates.{Gate}
 use Rattle.boss_server.specs.Accounts.{Account}
 use Rattle.boss_server.specs.Hosted.{hosted_at, RoseBy}
@@ -166,11 +167,11 @@ module _ {A H In Out C W Bells P Runtime : Type 0} (a : actuators_of.Ghosts A) (
     (c : clock.Ghosts C) (w : waiter.Ghosts W Bells) (p : spawner.Ghosts P Runtime) where
   -- The workers ran: each connection that came back, the worker of time and each driver's worker agree with the entries of their own
   -- lanes.
-  pub record Worked {K : Type 0} (catalogue : Catalogue) (gates : List Gate) (workers connections : ℕ) (log : List Entry) (old new : Outside K A H C W P) (flags : Flags) (unstarted : Bool) : Type 0 where
+  pub record Worked {K : Type 0} (catalogue : Catalogue) (gates : List Gate) (keys : Option (List Key)) (workers connections : ℕ) (log : List Entry) (old new : Outside K A H C W P) (flags : Flags) (unstarted : Bool) : Type 0 where
     -- the host as it listens
     pub bound : H
     pub listens : Begins h old.host bound
-    pub account : Account a.calls (λ device. a.tells × a.whole device) (terms_of catalogue gates workers i.tells o.tells h.tells c.tells w.tells) w.tells
+    pub account : Account a.calls (λ device. a.tells × a.whole device) (terms_of catalogue gates keys workers i.tells o.tells h.tells c.tells w.tells) w.tells
         (workers + 1 + drives_of catalogue old.devices) connections log log (h.served bound) (h.served new.host) (c.given old.clock) (c.given new.clock)
         (hosted_at h bound) (hosted_at h new.host) (c.faults old.clock) (c.faults new.clock) (w.waits old.waiter) (w.waits new.waiter)
         (take (drives_of catalogue old.devices) old.devices) (drop (drives_of catalogue old.devices) old.devices) new.devices flags unstarted
@@ -178,51 +179,51 @@ module _ {A H In Out C W Bells P Runtime : Type 0} (a : actuators_of.Ghosts A) (
     pub disk : flags.disk ≡ is_broken log
 
   -- how workers ran, or why none did
-  abbrev pub EndsRun : Catalogue → List Gate → ℕ → ℕ → List Entry → Outside (Unit {0}) A H C W P → Outside (Unit {0}) A H C W P → Run → Type 0
-  EndsRun catalogue gates workers connections log old new not_bound = NotBound h log old new 9
-  EndsRun catalogue gates workers connections log old new NoMemory = NoneRan h c w log old new 8
-  EndsRun catalogue gates workers connections log old new (Ended ended) = Worked catalogue gates workers connections log old new ended.flags ended.unstarted
+  abbrev pub EndsRun : Catalogue → List Gate → Option (List Key) → ℕ → ℕ → List Entry → Outside (Unit {0}) A H C W P → Outside (Unit {0}) A H C W P → Run → Type 0
+  EndsRun catalogue gates keys workers connections log old new not_bound = NotBound h log old new 9
+  EndsRun catalogue gates keys workers connections log old new NoMemory = NoneRan h c w log old new 8
+  EndsRun catalogue gates keys workers connections log old new (Ended ended) = Worked catalogue gates keys workers connections log old new ended.flags ended.unstarted
 
   -- workers ran over a keeper, which stands for one history that is all that they did
-  pub record RanWorkers {V : Type 0} (v : keeper.Ghosts V) (catalogue : Catalogue) (start now : V) (gates : List Gate) (workers connections : ℕ) (old new : Outside (Unit {0}) A H C W P) (result : Run) : Type 0 where
+  pub record RanWorkers {V : Type 0} (v : keeper.Ghosts V) (catalogue : Catalogue) (start now : V) (gates : List Gate) (keys : Option (List Key)) (workers connections : ℕ) (old new : Outside (Unit {0}) A H C W P) (result : Run) : Type 0 where
     pub log : List Entry
     pub held : IsHeld v.plant v.state v.stopped v.faults v.leaves v.passes v.keeps start now log
-    pub end : EndsRun catalogue gates workers connections log old new result
+    pub end : EndsRun catalogue gates keys workers connections log old new result
 
 module _ {K A H In Out C W Bells P Runtime : Type 0} (k : sink.Ghosts K) (a : actuators_of.Ghosts A) (h : host.Ghosts H In Out) (i : source.Ghosts In) (o : sink.Ghosts Out)
     (c : clock.Ghosts C) (w : waiter.Ghosts W Bells) (p : spawner.Ghosts P Runtime) where
   -- The workers ran. Then one line tells what the history leaves, unless a disk failed.
-  pub record Served (catalogue : Catalogue) (known : Type 0) (s : State) (number : ℕ) (gates : List Gate) (workers connections : ℕ) (log : List Entry) (old new : Outside K A H C W P) (status : ℕ) : Type 0 where
+  pub record Served (catalogue : Catalogue) (known : Type 0) (s : State) (number : ℕ) (gates : List Gate) (keys : Option (List Key)) (workers connections : ℕ) (log : List Entry) (old new : Outside K A H C W P) (status : ℕ) : Type 0 where
     pub flags : Flags
     pub unstarted : Bool
-    pub worked : Worked a h i o c w p catalogue gates workers connections log old new flags unstarted
+    pub worked : Worked a h i o c w p catalogue gates keys workers connections log old new flags unstarted
     pub summary : is_broken log ≡ false → TellsSummary k known (actuators catalogue) s number log (status_of flags unstarted) old.sink new.sink status
     pub no_summary : is_broken log ≡ true → (status ≡ 5) × (new.sink ≡ old.sink)
 
   -- one history from this state, and all that was done is of it
-  pub record ServedFrom (catalogue : Catalogue) (known : Type 0) (s : State) (number : ℕ) (gates : List Gate) (workers connections : ℕ) (old new : Outside K A H C W P) (status : ℕ) : Type 0 where
+  pub record ServedFrom (catalogue : Catalogue) (known : Type 0) (s : State) (number : ℕ) (gates : List Gate) (keys : Option (List Key)) (workers connections : ℕ) (old new : Outside K A H C W P) (status : ℕ) : Type 0 where
     pub log : List Entry
     pub legal : IsLegal (actuators catalogue) log s
-    pub end : NotBound h log old new status ⊎ NoneRan h c w log old new status ⊎ Served catalogue known s number gates workers connections log old new status
+    pub end : NotBound h log old new status ⊎ NoneRan h c w log old new status ⊎ Served catalogue known s number gates keys workers connections log old new status
 
   -- ---- over what
 
   -- A server ran over a keeper, which came back, and stands for one history from the keeper as it was: all that was done is of it.
-  pub record ServesKeeper {V : Type 0} (v : keeper.Ghosts V) (known : Type 0) (catalogue : Catalogue) (start now : V) (gates : List Gate) (workers connections : ℕ) (old new : Outside K A H C W P) (status : ℕ) : Type 0 where
+  pub record ServesKeeper {V : Type 0} (v : keeper.Ghosts V) (known : Type 0) (catalogue : Catalogue) (start now : V) (gates : List Gate) (keys : Option (List Key)) (workers connections : ℕ) (old new : Outside K A H C W P) (status : ℕ) : Type 0 where
     pub log : List Entry
     pub held : IsHeld v.plant v.state v.stopped v.faults v.leaves v.passes v.keeps start now log
     -- where the keeper had come by so many events
     pub end : (number : ℕ) (before : List Event) → v.keeps start before → length before ≡ number →
-        NotBound h log old new status ⊎ NoneRan h c w log old new status ⊎ Served catalogue known (v.state start) number gates workers connections log old new status
+        NotBound h log old new status ⊎ NoneRan h c w log old new status ⊎ Served catalogue known (v.state start) number gates keys workers connections log old new status
 
-  module _ (catalogue : Catalogue) (was now : Pair) (gates : List Gate) (workers connections : ℕ) (old new : Outside K A H C W P) (status : ℕ) where
+  module _ (catalogue : Catalogue) (was now : Pair) (gates : List Gate) (keys : Option (List Key)) (workers connections : ℕ) (old new : Outside K A H C W P) (status : ℕ) where
     -- The journal was opened, and served from the state that its bytes stand for. A disk failed exactly where the history is broken; the
     -- journal holds what the history leaves.
     pub record ServedJournal : Type 0 where
       pub state : State
       pub number : ℕ
       pub opened : was.tells → OpenedAt (actuators catalogue) (digest_of catalogue) was.first was.second state number
-      pub served : ServedFrom catalogue was.tells state number gates workers connections old new status
+      pub served : ServedFrom catalogue was.tells state number gates keys workers connections old new status
       pub disk_fault : is_broken served.log ≡ true → Rose was.faults now.faults
       pub no_disk_fault : is_broken served.log ≡ false → now.faults ≡ was.faults
       pub holds : was.tells → HoldsAfter catalogue state number served.log now.first now.second
@@ -235,10 +236,10 @@ module _ {K A H In Out C W Bells P Runtime : Type 0} (k : sink.Ghosts K) (a : ac
         ⊎ (RefusedJournal k catalogue was now old.sink new.sink status × (new ≡ record old { sink = new.sink })) ⊎ ServedJournal
 
   -- A server over memory alone begins with the catalogue's first state, and nothing fails that keeps what it does.
-  abbrev pub ServedMemory : Catalogue → List Gate → ℕ → ℕ → Outside K A H C W P → Outside K A H C W P → ℕ → Type 0
-  ServedMemory catalogue gates workers connections old new status =
-      (served : ServedFrom catalogue (Unit {0}) (first_state (actuators catalogue)) 0 gates workers connections old new status) × (is_broken served.log ≡ false)
+  abbrev pub ServedMemory : Catalogue → List Gate → Option (List Key) → ℕ → ℕ → Outside K A H C W P → Outside K A H C W P → ℕ → Type 0
+  ServedMemory catalogue gates keys workers connections old new status =
+      (served : ServedFrom catalogue (Unit {0}) (first_state (actuators catalogue)) 0 gates keys workers connections old new status) × (is_broken served.log ≡ false)
 
   -- that, or no memory was to be had at all
-  abbrev pub ServesMemory : Catalogue → List Gate → ℕ → ℕ → Outside K A H C W P → Outside K A H C W P → ℕ → Type 0
-  ServesMemory catalogue gates workers connections old new status = ((status ≡ 8) × (new ≡ old)) ⊎ ServedMemory catalogue gates workers connections old new status
+  abbrev pub ServesMemory : Catalogue → List Gate → Option (List Key) → ℕ → ℕ → Outside K A H C W P → Outside K A H C W P → ℕ → Type 0
+  ServesMemory catalogue gates keys workers connections old new status = ((status ≡ 8) × (new ≡ old)) ⊎ ServedMemory catalogue gates keys workers connections old new status

@@ -2,6 +2,7 @@
 //! tells at its end what the history leaves.
 #![tactic(auto)]
 
+mod keying;
 mod preparing;
 mod ruling;
 mod serve_jobs;

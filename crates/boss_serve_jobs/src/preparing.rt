@@ -1,34 +1,37 @@
 ghost use Rattle.std.specs.Prelude.{◌≡◌, ℕ, List, ◌∷◌, ◌++◌, vec_len};
 ghost use Rattle.boss_plans.specs.Lines.{refusal_line};
 ghost use Rattle.boss_jobs.specs.Jobs.{TellsLine};
-ghost use Rattle.boss_serve_jobs.specs.Preparing.{AsksNames, GivesPlan, GivesRules, listed, Prepares, reading, setting};
+ghost use Rattle.boss_serve_jobs.specs.Preparing.{AsksNames, GivesKeys, GivesPlan, GivesRules, listed, Prepares, reading, setting};
 
+use crate::keying::{Unkeyed, read_keys, say_keys_refusal};
 use crate::ruling::{Unruled, read_rules, say_rules_refusal};
 use boss_access::Rules;
 use boss_assignment::{Unplanned, assign_plan};
 use boss_files::Files;
 use boss_jobs::{Status, Unusable, load, say, say_refusal};
+use boss_keys::Keys;
 use boss_outside::{Actuators, Sink};
 use boss_plans::{PlanRefusal, refusal_line};
 use boss_points::Catalogue;
 use boss_words::Word;
 use std::alloc::Global;
 
-/// Sets a server up: reads the catalogue of a file, then the access rules of another, if there is one, and where there is a plan's file
-/// tells each device that it names where its points are. Where one of them can't be had, or is refused, the answer is the status to end
-/// with, and no device is told anything.
+/// Sets a server up: reads the catalogue of a file, then the access rules of another and the keys of a third, if there are such, and where
+/// there is a plan's file tells each device that it names where its points are. Where one of them can't be had, or is refused, the answer
+/// is the status to end with, and no device is told anything: so the plan, by which they are told, is read last.
 pub fn prepare<F: Files, K: Sink, A: Actuators>(
     alloc: Global,
     name: &str,
     rules: &Option<Word>,
     plan: &Option<Word>,
+    keys: &Option<Word>,
     files: &mut F,
     sink: &mut K,
     devices: &mut Vec<A>,
-) -> Result<(Catalogue, Option<Rules>), Status>
-    ensures prepares { Prepares F.Files K.Sink A.Actuators name.now rules.now plan.now (vec_len devices.old)
+) -> Result<(Catalogue, Option<Rules>, Option<Keys>), Status>
+    ensures prepares { Prepares F.Files K.Sink A.Actuators name.now rules.now plan.now keys.now (vec_len devices.old)
         (setting files.old sink.old devices.old.items) (setting files.new sink.new devices.new.items) result }
-    ensures asks { F.tells → AsksNames (name.now ∷ listed rules.now ++ listed plan.now) (F.asked files.old) (F.asked files.new) result }
+    ensures asks { F.tells → AsksNames (name.now ∷ listed rules.now ++ listed keys.now ++ listed plan.now) (F.asked files.old) (F.asked files.new) result }
     ensures stays { F.tells → (file : List ℕ) → F.holds files.new file ≡ F.holds files.old file }
     ensures past { F.tells → (file : List ℕ) → F.past files.new file ≡ F.past files.old file }
 {
@@ -42,8 +45,12 @@ pub fn prepare<F: Files, K: Sink, A: Actuators>(
         Ok(rules) => rules,
         Err(status) => return Err(status),
     };
+    let keys = match take_keys(alloc, keys, files, sink) {
+        Ok(keys) => keys,
+        Err(status) => return Err(status),
+    };
     match take_plan(alloc, plan, &catalogue, files, sink, devices) {
-        Ok(()) => Ok((catalogue, rules)),
+        Ok(()) => Ok((catalogue, rules, keys)),
         Err(status) => Err(status),
     }
 }
@@ -68,6 +75,29 @@ fn take_rules<F: Files, K: Sink>(
         Err(Unruled::Refused(refusal)) => Err(say_rules_refusal(alloc, sink, refusal)),
         Err(Unruled::FileFault) => Err(Status::FILE_FAULT),
         Err(Unruled::NoMemory) => Err(Status::NO_MEMORY),
+    }
+}
+
+/// The keys of a file, if there is one.
+fn take_keys<F: Files, K: Sink>(
+    alloc: Global,
+    keys: &Option<Word>,
+    files: &mut F,
+    sink: &mut K,
+) -> Result<Option<Keys>, Status>
+    ensures gives { GivesKeys F.Files K.Sink keys.now (reading files.old sink.old) (reading files.new sink.new) result }
+    ensures asks { F.tells → AsksNames (listed keys.now) (F.asked files.old) (F.asked files.new) result }
+    ensures stays { F.tells → (file : List ℕ) → F.holds files.new file ≡ F.holds files.old file }
+    ensures past { F.tells → (file : List ℕ) → F.past files.new file ≡ F.past files.old file }
+{
+    let Some(name) = keys else {
+        return Ok(None);
+    };
+    match read_keys(alloc, files, name.text()) {
+        Ok(keys) => Ok(Some(keys)),
+        Err(Unkeyed::Refused(refusal)) => Err(say_keys_refusal(alloc, sink, refusal)),
+        Err(Unkeyed::FileFault) => Err(Status::FILE_FAULT),
+        Err(Unkeyed::NoMemory) => Err(Status::NO_MEMORY),
     }
 }
 

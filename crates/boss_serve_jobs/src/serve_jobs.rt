@@ -17,8 +17,8 @@ use boss_server::Site;
 use std::alloc::Global;
 use std::sync::Wait;
 
-/// Serves so many connections at an address under the catalogue of a file and the access rules of another, with the devices as a plan assigns them, over a
-/// journal that is kept in two files: that of its name, and that of its name with `.b` after it.
+/// Serves so many connections at an address under the catalogue of a file, the access rules of another and the keys of a third, with the devices as a plan
+/// assigns them, over a journal that is kept in two files: that of its name, and that of its name with `.b` after it.
 pub fn do_kept_serve<
     R: Wait + Sync + Drop,
     F: Files,
@@ -47,7 +47,7 @@ where
     requires few { service.workers ≤ most_workers }
     ensures sound { H.sound (all_at_end world.exit).host }
     ensures serves { DoesServe F.Files S.Source K.Sink A.Actuators H.Host H.In.Source H.Out.Sink
-        C.Clock W.Waiter P.Spawner name.now journal.now service.entry.address.now service.entry.rules.now service.entry.plan.now (vec_len world.entry.devices.now) service.entry.workers service.entry.connections
+        C.Clock W.Waiter P.Spawner name.now journal.now service.entry.address.now service.entry.rules.now service.entry.plan.now service.entry.keys.now (vec_len world.entry.devices.now) service.entry.workers service.entry.connections
         (all_at_start world.entry)
         (all_at_end world.exit) result.0 }
 {
@@ -61,11 +61,12 @@ where
         spawner,
         ..
     } = world;
-    let (catalogue, rules) = match prepare(
+    let (catalogue, rules, keys) = match prepare(
         alloc,
         name,
         service.rules,
         service.plan,
+        service.keys,
         files,
         sink,
         devices,
@@ -76,6 +77,7 @@ where
     let site = Site {
         catalogue: &catalogue,
         rules,
+        keys,
     };
     let surroundings = Surroundings {
         sink,
@@ -117,7 +119,7 @@ where
     requires few { service.workers ≤ most_workers }
     ensures sound { H.sound (at_end surroundings.exit).host }
     ensures serves { ServesOver K.Sink A.Actuators H.Host H.In.Source H.Out.Sink C.Clock W.Waiter P.Spawner site.entry.catalogue.now
-        (in_files F.Files journal.now files.old) (in_files F.Files journal.now files.new) (gates_of site.entry.catalogue.now site.entry.rules) service.entry.workers service.entry.connections
+        (in_files F.Files journal.now files.old) (in_files F.Files journal.now files.new) (gates_of site.entry.catalogue.now site.entry.rules) site.entry.keys service.entry.workers service.entry.connections
         (at_start surroundings.entry)
         (at_end surroundings.exit) result.0 }
     ensures listens { H.tells → Listened H.Host service.entry.address.now (at_start surroundings.entry).host (at_end surroundings.exit).host result.0 }
@@ -146,8 +148,8 @@ where
     }
 }
 
-/// Serves so many connections at an address under the catalogue of a file and the access rules of another, with the devices as a plan assigns them,
-/// over memory alone.
+/// Serves so many connections at an address under the catalogue of a file, the access rules of another and the keys of a third, with the devices as a plan
+/// assigns them, over memory alone.
 pub fn do_memory_serve<
     R: Wait + Sync + Drop,
     F: Files,
@@ -174,7 +176,7 @@ where
     requires few { service.workers ≤ most_workers }
     ensures sound { H.sound (all_at_end world.exit).host }
     ensures serves { ServesInMemory F.Files S.Source K.Sink A.Actuators H.Host H.In.Source H.Out.Sink
-        C.Clock W.Waiter P.Spawner name.now service.entry.address.now service.entry.rules.now service.entry.plan.now (vec_len world.entry.devices.now) service.entry.workers service.entry.connections
+        C.Clock W.Waiter P.Spawner name.now service.entry.address.now service.entry.rules.now service.entry.plan.now service.entry.keys.now (vec_len world.entry.devices.now) service.entry.workers service.entry.connections
         (all_at_start world.entry)
         (all_at_end world.exit) result.0 }
 {
@@ -188,11 +190,12 @@ where
         spawner,
         ..
     } = world;
-    let (catalogue, rules) = match prepare(
+    let (catalogue, rules, keys) = match prepare(
         alloc,
         name,
         service.rules,
         service.plan,
+        service.keys,
         files,
         sink,
         devices,
@@ -203,6 +206,7 @@ where
     let site = Site {
         catalogue: &catalogue,
         rules,
+        keys,
     };
     let surroundings = Surroundings {
         sink,

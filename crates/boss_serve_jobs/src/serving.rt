@@ -78,7 +78,7 @@ where
     ensures sound { H.sound (at_end surroundings.exit).host }
     ensures listens { H.tells → Listened H.Host service.entry.address.now (at_start surroundings.entry).host (at_end surroundings.exit).host result.1.0 }
     ensures serves { ServesOver K.Sink A.Actuators H.Host H.In.Source H.Out.Sink C.Clock W.Waiter P.Spawner site.entry.catalogue.now
-        (on_disks D.Disk (first, second)) (on_disks D.Disk result.0) (gates_of site.entry.catalogue.now site.entry.rules) service.entry.workers service.entry.connections
+        (on_disks D.Disk (first, second)) (on_disks D.Disk result.0) (gates_of site.entry.catalogue.now site.entry.rules) site.entry.keys service.entry.workers service.entry.connections
         (at_start surroundings.entry) (at_end surroundings.exit) result.1.0 }
 {
     let mut line = Vec::new(alloc);
@@ -131,7 +131,7 @@ where
     ensures sound { H.sound (at_end surroundings.exit).host }
     ensures listens { H.tells → Listened H.Host service.entry.address.now (at_start surroundings.entry).host (at_end surroundings.exit).host result.0 }
     ensures serves { ServesMemory K.Sink A.Actuators H.Host H.In.Source H.Out.Sink C.Clock W.Waiter P.Spawner site.entry.catalogue.now
-        (gates_of site.entry.catalogue.now site.entry.rules) service.entry.workers service.entry.connections (at_start surroundings.entry) (at_end surroundings.exit) result.0 }
+        (gates_of site.entry.catalogue.now site.entry.rules) site.entry.keys service.entry.workers service.entry.connections (at_start surroundings.entry) (at_end surroundings.exit) result.0 }
 {
     let mut line = Vec::new(alloc);
     if line.reserve(LONGEST_SUMMARY).is_err() {
@@ -183,7 +183,7 @@ where
     ensures listens { H.tells → Listened H.Host service.entry.address.now (at_start surroundings.entry).host (at_end surroundings.exit).host result.1.0 }
     ensures under { V.under result.0 ≡ V.under keeper }
     ensures serves { ServesKeeper K.Sink A.Actuators H.Host H.In.Source H.Out.Sink C.Clock W.Waiter P.Spawner V.Keeper V.known
-        site.entry.catalogue.now keeper result.0 (gates_of site.entry.catalogue.now site.entry.rules) service.entry.workers service.entry.connections
+        site.entry.catalogue.now keeper result.0 (gates_of site.entry.catalogue.now site.entry.rules) site.entry.keys service.entry.workers service.entry.connections
         (at_start surroundings.entry) (at_end surroundings.exit) result.1.0 }
 {
     let Surroundings {
@@ -236,7 +236,7 @@ where
     ensures listens { H.tells → ListensBy H.Host service.entry.address.now outside.old.host.now outside.new.host.now result.1 }
     ensures under { V.under result.0 ≡ V.under keeper }
     ensures ran { RanWorkers A.Actuators H.Host H.In.Source H.Out.Sink C.Clock W.Waiter P.Spawner V.Keeper site.entry.catalogue.now keeper result.0
-        (gates_of site.entry.catalogue.now site.entry.rules) service.entry.workers service.entry.connections (parts_of outside.old) (parts_of outside.new) result.1 }
+        (gates_of site.entry.catalogue.now site.entry.rules) site.entry.keys service.entry.workers service.entry.connections (parts_of outside.old) (parts_of outside.new) result.1 }
 {
     match outside.host.bind(service.address) {
         Ok(()) => {

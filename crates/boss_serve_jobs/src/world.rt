@@ -13,6 +13,8 @@ pub struct Service<'a> {
     pub rules: &'a Option<Word>,
     /// The file that says where the drivers' points are in the field, if there is one.
     pub plan: &'a Option<Word>,
+    /// The file of the keys by which whoever connects shows who it is, if there is one.
+    pub keys: &'a Option<Word>,
 }
 
 /// What a server has beside its files.

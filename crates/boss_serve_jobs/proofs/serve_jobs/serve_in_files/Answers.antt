@@ -21,7 +21,7 @@ returns-in-Ok-open_stores-clause-serves g c =
     let back = c.serve_on_disks-stores.result.0 in
     let named : c.as_str.result.now ≡ second_name journal = c.as_str.ensures.value ∙ c.in-Ok.ensures.name in
     let again : c.as_str-in-Ok-open_stores.result.now ≡ second_name journal = c.as_str-in-Ok-open_stores.ensures.value ∙ c.in-Ok.ensures.name in
-    serves-so g.K.Sink g.A.Actuators g.H.Host g.H.In.Source g.H.Out.Sink g.C.Clock g.W.Waiter g.P.Spawner c.args.site.catalogue.now (gates_of c.args.site.catalogue.now c.args.site.rules) c.args.service.workers c.args.service.connections _ _ _
+    serves-so g.K.Sink g.A.Actuators g.H.Host g.H.In.Source g.H.Out.Sink g.C.Clock g.W.Waiter g.P.Spawner c.args.site.catalogue.now (gates_of c.args.site.catalogue.now c.args.site.rules) c.args.site.keys c.args.service.workers c.args.service.connections _ _ _
     (in_files f journal c.args.files.now) (in_files f journal c.close_stores.new.files) (on_disks d (first, other)) (on_disks d back)
     (stores-follow f d journal c.args.files.now c.open_stores.new.files c.close_stores.new.files c.as_str.result.now c.as_str-in-Ok-open_stores.result.now (first, other) back named again
     c.in-Ok-open_stores.ensures.told c.in-Ok-open_stores.ensures.first_bytes c.in-Ok-open_stores.ensures.second_bytes c.in-Ok-open_stores.ensures.settled

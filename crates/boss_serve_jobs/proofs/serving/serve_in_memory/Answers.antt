@@ -13,7 +13,7 @@ serve_over-requires-clause-events g c =
 pub returns-in-Ok-clause-serves : goal.returns-in-Ok-clause-serves
 returns-in-Ok-clause-serves g c =
     inr (served-memory g.K.Sink g.A.Actuators g.H.Host g.H.In.Source g.H.Out.Sink g.C.Clock g.W.Waiter g.P.Spawner c.args.site.catalogue.now c.in-Ok.unkept _
-    (gates_of c.args.site.catalogue.now c.args.site.rules) c.args.service.workers c.args.service.connections _ _ _ c.in-Ok.ensures.new c.in-Ok.ensures.events c.serve_over.ensures.serves)
+    (gates_of c.args.site.catalogue.now c.args.site.rules) c.args.site.keys c.args.service.workers c.args.service.connections _ _ _ c.in-Ok.ensures.new c.in-Ok.ensures.events c.serve_over.ensures.serves)
 
 pub returns-then-is_err-clause-listens : goal.returns-then-is_err-clause-listens
 returns-then-is_err-clause-listens g c told = inr (refl, refl, refl)

@@ -28,7 +28,7 @@ returns-clause-serves g c =
       held = ran.held;
       end = λ number before kept many.
           served-end g.K.Sink g.A.Actuators g.H.Host g.H.In.Source g.H.Out.Sink g.C.Clock g.W.Waiter g.P.Spawner
-          c.args.site.catalogue.now (gates_of c.args.site.catalogue.now c.args.site.rules) c.args.service.workers c.args.service.connections _ _ g.V.Tally.known s number told.events
+          c.args.site.catalogue.now (gates_of c.args.site.catalogue.now c.args.site.rules) c.args.site.keys c.args.service.workers c.args.service.connections _ _ g.V.Tally.known s number told.events
           (summary_line told.events told.now told.leases told.pending) c.tell_end-status.result.0 log
           (λ fine. summary-so told.events told.now told.leases told.pending (v.state now) (run plant log s)
           c.standing.ensures.now c.standing.ensures.leases c.standing.ensures.pending (state fine))
