@@ -231,19 +231,21 @@ by-cause was now status it = elim it [
   | inr (inr (inr (inr (inr (inr eight))))) ↦ other status 8 eight refl
 ]
 
-pub of-serve : (was now : Faults) (status : ℕ) → EndsBy was now status ⊎ (status ≡ 3) ⊎ (status ≡ 4) ⊎ (status ≡ 16) ⊎ (status ≡ 17) → NotUsage status
+pub of-serve : (was now : Faults) (status : ℕ) → EndsBy was now status ⊎ (status ≡ 3) ⊎ (status ≡ 4) ⊎ (status ≡ 16) ⊎ (status ≡ 17) ⊎ (status ≡ 19) → NotUsage status
 of-serve was now status it = elim it [
   | inl cause ↦ by-cause was now status cause
   | inr (inl three) ↦ other status 3 three refl
   | inr (inr (inl four)) ↦ other status 4 four refl
   | inr (inr (inr (inl sixteen))) ↦ other status 16 sixteen refl
-  | inr (inr (inr (inr seventeen))) ↦ other status 17 seventeen refl
+  | inr (inr (inr (inr (inl seventeen)))) ↦ other status 17 seventeen refl
+  | inr (inr (inr (inr (inr nineteen)))) ↦ other status 19 nineteen refl
 ]
 
-pub of-serve_memory : (was now : Faults) (status : ℕ) → EndsBy was now status ⊎ (status ≡ 3) ⊎ (status ≡ 16) ⊎ (status ≡ 17) → NotUsage status
+pub of-serve_memory : (was now : Faults) (status : ℕ) → EndsBy was now status ⊎ (status ≡ 3) ⊎ (status ≡ 16) ⊎ (status ≡ 17) ⊎ (status ≡ 19) → NotUsage status
 of-serve_memory was now status it = elim it [
   | inl cause ↦ by-cause was now status cause
   | inr (inl three) ↦ other status 3 three refl
   | inr (inr (inl sixteen)) ↦ other status 16 sixteen refl
-  | inr (inr (inr seventeen)) ↦ other status 17 seventeen refl
+  | inr (inr (inr (inl seventeen))) ↦ other status 17 seventeen refl
+  | inr (inr (inr (inr nineteen))) ↦ other status 19 nineteen refl
 ]

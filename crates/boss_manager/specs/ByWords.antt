@@ -40,7 +40,7 @@ module _ {F D S K A : Type 0} (f : files.Ghosts F D) (s : source.Ghosts S) (k : 
       ByJournal journal (DoesStandby f s k a name journal count old new status) (StandbyMemory f s k a name count old new status))
   -- a server is left to be served, and nothing is touched
   DoesJob (Some (Serve catalogue journal address workers connections rules plan keys)) old new next =
-      IsLeft (record { catalogue = catalogue; journal = journal; address = address; workers = workers; connections = connections; rules = rules; plan = plan }) next × (new ≡ old)
+      IsLeft (record { catalogue = catalogue; journal = journal; address = address; workers = workers; connections = connections; rules = rules; plan = plan; keys = keys }) next × (new ≡ old)
   DoesJob (Some (Load many seed)) old new next = IfDone next (DoesLoad f s k a many seed old new)
   DoesJob (Some Help) old new next = IfDone next (SaysHelp f s k a old new)
   DoesJob (Some Version) old new next = IfDone next (SaysVersion f s k a old new)

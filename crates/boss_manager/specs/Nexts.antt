@@ -38,6 +38,7 @@ server_of (Some (Serve catalogue journal address workers connections rules plan 
   connections = connections;
   rules = rules;
   plan = plan;
+  keys = keys;
 })
 server_of (Some (Script catalogue journal)) = None
 server_of (Some (Check catalogue journal)) = None

@@ -41,7 +41,7 @@ pub fn do_words<F: Files, S: Hears<K>, K: Sink, A: Actuators>(
                 connections,
                 rules,
                 plan,
-                keys: _,
+                keys,
             },
         ) => Next::Serve(ServeJob {
             catalogue,
@@ -51,6 +51,7 @@ pub fn do_words<F: Files, S: Hears<K>, K: Sink, A: Actuators>(
             connections,
             rules,
             plan,
+            keys,
         }),
         Ok(Job::Adopt { old, new, journal }) => Next::Done(adopt(
             alloc, &old, &new, &journal, files, source, sink, devices,

@@ -247,10 +247,10 @@ where
     requires few { service.workers ≤ most_workers }
     ensures sound { H.sound (all_at_end world.exit).host }
     ensures kept { journal.now ≢ codes "-" → DoesServe F.Files S.Source K.Sink A.Actuators H.Host H.In.Source H.Out.Sink
-        C.Clock W.Waiter P.Spawner name.now journal.now service.entry.address.now service.entry.rules.now service.entry.plan.now (vec_len world.entry.devices.now) service.entry.workers service.entry.connections
+        C.Clock W.Waiter P.Spawner name.now journal.now service.entry.address.now service.entry.rules.now service.entry.plan.now service.entry.keys.now (vec_len world.entry.devices.now) service.entry.workers service.entry.connections
         (all_at_start world.entry) (all_at_end world.exit) result.0 }
     ensures memory { journal.now ≡ codes "-" → ServesInMemory F.Files S.Source K.Sink A.Actuators H.Host H.In.Source H.Out.Sink
-        C.Clock W.Waiter P.Spawner name.now service.entry.address.now service.entry.rules.now service.entry.plan.now (vec_len world.entry.devices.now) service.entry.workers service.entry.connections
+        C.Clock W.Waiter P.Spawner name.now service.entry.address.now service.entry.rules.now service.entry.plan.now service.entry.keys.now (vec_len world.entry.devices.now) service.entry.workers service.entry.connections
         (all_at_start world.entry) (all_at_end world.exit) result.0 }
 {
     if journal.text() == "-" {

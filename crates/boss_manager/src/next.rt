@@ -18,6 +18,8 @@ pub struct ServeJob {
     pub rules: Option<Word>,
     /// The file that says where the drivers' points are in the field, if there is one.
     pub plan: Option<Word>,
+    /// The file of the keys by which whoever connects shows who it is, if there is one.
+    pub keys: Option<Word>,
 }
 
 /// What is left of what the words ask for.

@@ -104,9 +104,11 @@ pub fn boss<F: Files, S: Hears<K>, K: Sink, A: Actuators>(
     do_words(alloc, words, files, source, sink, devices)
 }
 
-/// Serves, as the words asked for it: `serve CATALOGUE JOURNAL ADDRESS WORKERS CONNECTIONS RULES PLAN`. It reads the catalogue, opens the
-/// journal, answers the lines of so many connections that the host takes at the address, by so many workers, in time that the clock tells,
-/// and drives the devices, the d-th of them for driver d. Whether it ends is its callers', its clock's and its waiter's.
+/// Serves, as the words asked for it: `serve CATALOGUE JOURNAL ADDRESS WORKERS CONNECTIONS RULES PLAN KEYS`. It reads the catalogue, opens
+/// the journal, answers the lines of so many connections that the host takes at the address, by so many workers, in time that the clock
+/// tells, and drives the devices, the d-th of them for driver d. With a file of keys it answers no request of a connection that did not
+/// show with its first one the key of a name, and none that attaches as another. Whether it ends is its callers', its clock's and its
+/// waiter's.
 pub fn boss_serve<
     R: Wait + Sync + Drop,
     F: Files,
@@ -140,11 +142,11 @@ where
     requires few { job.now.workers ≤ most_workers }
     ensures sound { H.sound host.new }
     ensures serve { job.now.journal ≢ codes "-" → DoesServe F.Files S.Source K.Sink A.Actuators H.Host H.In.Source H.Out.Sink C.Clock W.Waiter P.Spawner
-        job.now.catalogue job.now.journal job.now.address job.now.rules job.now.plan (vec_len devices.old) job.now.workers job.now.connections
+        job.now.catalogue job.now.journal job.now.address job.now.rules job.now.plan job.now.keys (vec_len devices.old) job.now.workers job.now.connections
         (server_world (world files.old source.old sink.old devices.old.items) clock.old host.old waiter.old spawner.old)
         (server_world (world files.new source.new sink.new devices.new.items) clock.new host.new waiter.new spawner.new) result.0 }
     ensures serve_memory { job.now.journal ≡ codes "-" → ServesInMemory F.Files S.Source K.Sink A.Actuators H.Host H.In.Source H.Out.Sink C.Clock W.Waiter P.Spawner
-        job.now.catalogue job.now.address job.now.rules job.now.plan (vec_len devices.old) job.now.workers job.now.connections
+        job.now.catalogue job.now.address job.now.rules job.now.plan job.now.keys (vec_len devices.old) job.now.workers job.now.connections
         (server_world (world files.old source.old sink.old devices.old.items) clock.old host.old waiter.old spawner.old)
         (server_world (world files.new source.new sink.new devices.new.items) clock.new host.new waiter.new spawner.new) result.0 }
     ensures usage_never { result.0 ≢ 2 }
@@ -155,6 +157,7 @@ where
         connections: job.connections,
         rules: &job.rules,
         plan: &job.plan,
+        keys: &job.keys,
     };
     let world = World {
         files,
