@@ -32,13 +32,14 @@ const MOST_PAUSES: u32 = 3_600;
 /// one that reads nothing by its sink, and one that says nothing by its source (`RealSink`, `RealSource`).
 ///
 /// Where it has a door (`stand_at`), a connection for which no part accepts is turned away there. That was handed to nobody and counts
-/// nowhere.
+/// nowhere. Whether keys are asked for is no business of its own: it only says so (`say_keyed`).
 #[derive(Drop)]
 pub struct RealHost<R> {
     alloc: Global,
     rt: R,
     listener: Option<Arc<TcpListener, Global>>,
     door: Option<Arc<Door, Global>>,
+    is_keyed: bool,
     handed: u64,
     share: u32,
     away: u64,
@@ -58,6 +59,7 @@ impl<R: Net<Listener = TcpListener, Stream = TcpStream> + Eprint + Clock + Copy>
             rt,
             listener: None,
             door: None,
+            is_keyed: false,
             handed: 0,
             share: 0,
             away: 0,
@@ -73,6 +75,16 @@ impl<R: Net<Listener = TcpListener, Stream = TcpStream> + Eprint + Clock + Copy>
         ensures faults { ⟦<RealHost<R> as Host>⟧.faults self.new ≡ ⟦<RealHost<R> as Host>⟧.faults self.old }
     {
         self.door = Some(door);
+    }
+
+    /// Where it begins to listen it is to say that whoever connects has to show a key, or else that nobody has to.
+    pub fn say_keyed(&mut self, is_keyed: bool)
+        ensures handed { ⟦<RealHost<R> as Host>⟧.handed self.new ≡ ⟦<RealHost<R> as Host>⟧.handed self.old }
+        ensures share { ⟦<RealHost<R> as Host>⟧.share self.new ≡ ⟦<RealHost<R> as Host>⟧.share self.old }
+        ensures away { ⟦<RealHost<R> as Host>⟧.away self.new ≡ ⟦<RealHost<R> as Host>⟧.away self.old }
+        ensures faults { ⟦<RealHost<R> as Host>⟧.faults self.new ≡ ⟦<RealHost<R> as Host>⟧.faults self.old }
+    {
+        self.is_keyed = is_keyed;
     }
 
     /// The address at which it listens, where it does.
@@ -221,8 +233,8 @@ impl<R: Net<Listener = TcpListener, Stream = TcpStream> + Eprint + Clock + Copy>
         }
     }
 
-    /// Says where it listens; with port 0 the system has chosen one. Then what is served there, by which version of the program, and from
-    /// which moment on.
+    /// Says where it listens; with port 0 the system has chosen one. Then what is served there, by which version of the program, from
+    /// which moment on, and whether keys are asked for.
     fn announce(&mut self, announcement: Announcement) {
         let Announcement {
             points,
@@ -230,11 +242,12 @@ impl<R: Net<Listener = TcpListener, Stream = TcpStream> + Eprint + Clock + Copy>
             events,
             now,
         } = announcement;
+        let keyed = if self.is_keyed { "with" } else { "without" };
         if let Some(found) = self.local_addr() {
             say_aside(
                 &self.rt,
                 format_args!(
-                    "listening at {found}: points {points}, drivers {drivers}, events {events}, version {PROGRAM_VERSION}, now {now}"
+                    "listening at {found}: points {points}, drivers {drivers}, events {events}, version {PROGRAM_VERSION}, now {now}, {keyed} keys"
                 ),
             );
         }
@@ -254,6 +267,7 @@ impl<R: Net<Listener = TcpListener, Stream = TcpStream> + Eprint + Clock + Copy>
             rt: self.rt,
             listener,
             door,
+            is_keyed: self.is_keyed,
             handed: 0,
             share: connections,
             away: 0,

@@ -74,6 +74,12 @@ fn sentence(
             "the plan {plan} was refused, as its line says; bossctl lint {catalogue} - {plan} names the line, the key and what may stand there"
         );
     }
+    if status == Status::KEYS {
+        let keys = word_at(words, 8);
+        return format!(in alloc;
+            "the keys {keys} were refused, as their line says; each [[key]] has a process and a sha256, the 64 hexadecimal digits of its key's digest, and no more"
+        );
+    }
     if status == Status::FILE_FAULT {
         return String::from_str(alloc, FILE_FAULT);
     }

@@ -64,19 +64,22 @@ where
     );
     let status = match next {
         Next::Done(status) => status,
-        Next::Serve(job) => boss_serve(
-            server,
-            rt.alloc(),
-            &job,
-            &mut files,
-            &mut source,
-            &mut sink,
-            &mut devices,
-            &mut clock,
-            &mut host,
-            &mut waiter,
-            &mut spawner,
-        ),
+        Next::Serve(job) => {
+            host.say_keyed(job.keys.is_some());
+            boss_serve(
+                server,
+                rt.alloc(),
+                &job,
+                &mut files,
+                &mut source,
+                &mut sink,
+                &mut devices,
+                &mut clock,
+                &mut host,
+                &mut waiter,
+                &mut spawner,
+            )
+        }
     };
     let point = if status == Status::CATALOGUE {
         refused_point(rt.alloc(), &mut files, word_at(&words, 1))

@@ -1,4 +1,4 @@
-//! Trials of the whole transaction manager: worked scripts, byte for byte, the statuses of runs that end early, plans and rules that are refused, journals that are checked,
+//! Trials of the whole transaction manager: worked scripts, byte for byte, the statuses of runs that end early, plans, rules and keys that are refused, journals that are checked,
 //! catalogues that are adopted, moments that are taken back, feeds that are told and followed, generated loads, and the bounds of what is kept.
 #![tactic(auto)]
 
@@ -8,6 +8,8 @@ mod adoptions;
 mod endings;
 #[cfg(test)]
 mod journals;
+#[cfg(test)]
+mod keys;
 #[cfg(test)]
 mod limits;
 #[cfg(test)]

@@ -27,6 +27,7 @@ pub const PLAIN: Setting<'static> = Setting {
     turns: 0,
     device: false,
     rules: "",
+    keys: "",
     sink_fails: 0,
 };
 
@@ -71,6 +72,51 @@ const JUDGED: Talk<'static> = Talk {
 {"op":"submit","writes":[{"point":"lamp","value":1,"priority":8,"lease":60000}]}
 {"op":"read","point":"lamp"}
 {"op":"submit","writes":[{"point":"ahu1.damper","value":0,"priority":9,"lease":60000},{"point":"lamp","value":1,"priority":9,"lease":60000}]}
+"#,
+    fails: 0,
+};
+
+/// Two keys, of `a` and of `b`: of `0123456789abcdefghijklmnopqrstuv` and of
+/// `bk1_K7gNU3sdo-OL0wNhqoVWhr3g6s1xYv72ol_pe_Unols` the digests as `sha256sum` gives them.
+const TWO_KEYS: &str = "
+[[key]]
+process = 'a'
+sha256 = '73337f479fe170d73e53e247f3052e4243cc9c2a0ffa621853d9385c619efb77'
+
+[[key]]
+process = 'b'
+sha256 = 'efb0e199989fe29959dd341a9d72a0d99b0a9d91b23c8ff9ca613c659119a3d0'
+";
+
+/// It shows its key once.
+const SHOWN: Talk<'static> = Talk {
+    text: r#"{"op":"attach","process":"a","key":"0123456789abcdefghijklmnopqrstuv"}
+{"op":"submit","writes":[{"point":"ahu1.damper","value":45000,"priority":8,"lease":60000}]}
+"#,
+    fails: 0,
+};
+
+/// It only asks, under its own name.
+const ASKS: Talk<'static> = Talk {
+    text: r#"
+{"op":"read","point":"lamp","as":"b","key":"bk1_K7gNU3sdo-OL0wNhqoVWhr3g6s1xYv72ol_pe_Unols"}
+{"op":"read","point":"lamp"}
+"#,
+    fails: 0,
+};
+
+/// It shows the key of one name, and attaches as another.
+const ANOTHER_LATER: Talk<'static> = Talk {
+    text: r#"{"op":"read","point":"lamp","as":"b","key":"bk1_K7gNU3sdo-OL0wNhqoVWhr3g6s1xYv72ol_pe_Unols"}
+{"op":"attach","process":"a","key":"0123456789abcdefghijklmnopqrstuv"}
+{"op":"read","point":"lamp"}
+"#,
+    fails: 0,
+};
+
+/// It watches another process under its own name.
+const WATCH_AS: Talk<'static> = Talk {
+    text: r#"{"op":"watch","process":"a","from":1,"as":"b","key":"bk1_K7gNU3sdo-OL0wNhqoVWhr3g6s1xYv72ol_pe_Unols"}
 "#,
     fails: 0,
 };
@@ -258,6 +304,125 @@ session 2
 {"error":"not-attached"}
 {"ok":"attached","process":"b","next":1}
 {"error":"denied","index":0,"rule":0}
+pauses 0
+pauses 1 closed
+events 2 now 1000 leases 0 pending 0
+status 0
+"#,
+    },
+    Row {
+        shows: "whoever shows its key with the first line is answered, and watches whom it wants under its name",
+        setting: Setting {
+            workers: &[&[SHOWN, WATCH_AS, ASKS]],
+            turns: 2,
+            keys: TWO_KEYS,
+            ..PLAIN
+        },
+        told: r#"session 1
+{"ok":"attached","process":"a","next":1}
+{"ok":"accepted","txn":1,"until":61000}
+session 2
+{"n":1,"at":1000,"txn":1,"kind":"ended","point":"ahu1.damper","cause":"died"}
+{"n":2,"at":1000,"txn":1,"kind":"done"}
+session 3
+{"ok":"read","point":"lamp","value":0,"from":"default","mark":"pending"}
+{"ok":"read","point":"lamp","value":0,"from":"default","mark":"pending"}
+pauses 3 closed
+pauses 3 closed
+events 3 now 1000 leases 0 pending 0
+status 0
+"#,
+    },
+    // No key; one that is no key, though a file might have its digest; a wrong one; that of another name; one without a name; one for a
+    // name that nobody has; and a watch without one.
+    Row {
+        shows: "whoever shows none is told nothing more, and nothing is done for it",
+        setting: Setting {
+            workers: &[&[
+                LOOK,
+                Talk {
+                    text: r#"{"op":"attach","process":"a","key":""}
+{"op":"read","point":"lamp"}
+"#,
+                    fails: 0,
+                },
+                Talk {
+                    text: r#"{"op":"attach","process":"a","key":"0123456789abcdefghijklmnopqrstuw"}
+{"op":"read","point":"lamp"}
+"#,
+                    fails: 0,
+                },
+                Talk {
+                    text: r#"{"op":"attach","process":"b","key":"0123456789abcdefghijklmnopqrstuv"}
+{"op":"read","point":"lamp"}
+"#,
+                    fails: 0,
+                },
+                Talk {
+                    text: r#"{"op":"read","point":"lamp","key":"0123456789abcdefghijklmnopqrstuv"}
+{"op":"read","point":"lamp"}
+"#,
+                    fails: 0,
+                },
+                Talk {
+                    text: r#"{"op":"read","point":"lamp","as":"c","key":"0123456789abcdefghijklmnopqrstuv"}
+{"op":"read","point":"lamp"}
+"#,
+                    fails: 0,
+                },
+                WATCH,
+            ]],
+            moments: &[0],
+            keys: TWO_KEYS,
+            ..PLAIN
+        },
+        told: r#"session 1
+{"error":"wrong-key"}
+session 2
+{"error":"wrong-key"}
+session 3
+{"error":"wrong-key"}
+session 4
+{"error":"wrong-key"}
+session 5
+{"error":"wrong-key"}
+session 6
+{"error":"wrong-key"}
+session 7
+{"error":"wrong-key"}
+pauses 0
+pauses 1 closed
+events 0 now 0 leases 0 pending 0
+status 0
+"#,
+    },
+    Row {
+        shows: "whoever showed the key of one name attaches as no other, whatever key it shows then",
+        setting: Setting {
+            workers: &[&[ANOTHER_LATER]],
+            moments: &[0],
+            keys: TWO_KEYS,
+            ..PLAIN
+        },
+        told: r#"session 1
+{"ok":"read","point":"lamp","value":0,"from":"default","mark":"pending"}
+{"error":"wrong-key"}
+pauses 0
+pauses 1 closed
+events 0 now 0 leases 0 pending 0
+status 0
+"#,
+    },
+    Row {
+        shows: "without keys a key is passed over, a wrong one too",
+        setting: Setting {
+            workers: &[&[ANOTHER_LATER]],
+            ..PLAIN
+        },
+        told: r#"session 1
+{"ok":"read","point":"lamp","value":0,"from":"default","mark":"pending"}
+{"ok":"attached","process":"a","next":1}
+{"ok":"read","point":"lamp","value":0,"from":"default","mark":"pending"}
 pauses 0
 pauses 1 closed
 events 2 now 1000 leases 0 pending 0

@@ -7,6 +7,7 @@ use crate::connections::{Connections, Talk, count, host, tell_talks};
 use crate::texts::{put, put_number, tell_end};
 use boss_access::{Rules, RulesRefusal};
 use boss_disk::MemoryDisk;
+use boss_keys::{Keys, KeysRefusal};
 use boss_manager::{Service, Site, Status, Surroundings, serve_in_memory, serve_on_disks};
 use boss_model::Items;
 use boss_outside::{BytesSink, BytesSource, SimActuators};
@@ -35,6 +36,8 @@ pub struct Setting<'a> {
     pub device: bool,
     /// The access rules of a file, or an empty text for none.
     pub rules: &'static str,
+    /// The keys of a file, or an empty text for none.
+    pub keys: &'static str,
     pub sink_fails: u64,
 }
 
@@ -91,6 +94,17 @@ fn rules(alloc: Global, text: &str) -> Result<Option<Rules>, RulesRefusal> {
     }
 }
 
+/// The keys of a text, if it has some.
+fn keys(alloc: Global, text: &str) -> Result<Option<Keys>, KeysRefusal> {
+    if text.is_empty() {
+        return Ok(None);
+    }
+    match Keys::read(alloc, text.as_bytes()) {
+        Ok(keys) => Ok(Some(keys)),
+        Err(refusal) => Err(refusal),
+    }
+}
+
 /// Serves all connections, by as many workers as the setting has.
 fn serve<R: Abort + Threads + Wait + Sync>(
     rt: &R,
@@ -105,6 +119,9 @@ fn serve<R: Abort + Threads + Wait + Sync>(
     let Ok(rules) = rules(alloc, setting.rules) else {
         return Status::RULES;
     };
+    let Ok(keys) = keys(alloc, setting.keys) else {
+        return Status::KEYS;
+    };
     let none = None;
     let service = Service {
         address: "here",
@@ -112,6 +129,7 @@ fn serve<R: Abort + Threads + Wait + Sync>(
         connections: count(setting.workers),
         rules: &none,
         plan: &none,
+        keys: &none,
     };
     let surroundings = Surroundings {
         sink: &mut stage.sink,
@@ -121,7 +139,12 @@ fn serve<R: Abort + Threads + Wait + Sync>(
         waiter: &mut stage.waiter,
         spawner: &mut stage.spawner,
     };
-    serve_in_memory(rt, alloc, Site { catalogue, rules }, service, surroundings)
+    let site = Site {
+        catalogue,
+        rules,
+        keys,
+    };
+    serve_in_memory(rt, alloc, site, service, surroundings)
 }
 
 /// What is told of a server that is run on these connections.
@@ -174,7 +197,7 @@ fn tell_addresses(rt: &impl Abort, text: &mut String, host: &Connections) {
 /// The two disks of a journal.
 pub type Pair = (MemoryDisk, MemoryDisk);
 
-/// Serves all connections over a journal on two disks, without rules.
+/// Serves all connections over a journal on two disks, without rules and keys.
 fn serve_kept<R: Abort + Threads + Wait + Sync>(
     rt: &R,
     alloc: Global,
@@ -193,6 +216,7 @@ fn serve_kept<R: Abort + Threads + Wait + Sync>(
         connections: count(setting.workers),
         rules: &none,
         plan: &none,
+        keys: &none,
     };
     let surroundings = Surroundings {
         sink: &mut stage.sink,
@@ -205,6 +229,7 @@ fn serve_kept<R: Abort + Threads + Wait + Sync>(
     let site = Site {
         catalogue,
         rules: None,
+        keys: None,
     };
     serve_on_disks(rt, alloc, site, disks.0, disks.1, service, surroundings)
 }

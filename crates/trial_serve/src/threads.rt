@@ -57,6 +57,7 @@ where
     let site = Site {
         catalogue,
         rules: None,
+        keys: None,
     };
     serve_in_memory(rt, alloc, site, service, surroundings)
 }
@@ -93,6 +94,7 @@ where
         connections,
         rules: &none,
         plan: &none,
+        keys: &none,
     };
     let status = serve(
         rt, alloc, catalogue, service, door, host, &mut sink, &mut clock,
