@@ -425,7 +425,7 @@ status 0
 {"ok":"read","point":"lamp","value":0,"from":"default","mark":"pending"}
 pauses 0
 pauses 1 closed
-events 2 now 1000 leases 0 pending 0
+events 1 now 1000 leases 0 pending 0
 status 0
 "#,
     },
