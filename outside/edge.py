@@ -32,7 +32,7 @@ ATTACHED = b'{"ok":"attached","process":"a","next":1}\n'
 SUBMIT = b'{"op":"submit","writes":[{"point":"hall.lamp","value":1,"lease":60000}]}\n'
 STOPPED = b'{"error":"stopped"}\n'
 FILE_FAULT = "bossd: a file failed, as an earlier line says; mend that and start again\n"
-LISTENING = re.compile(r"bossd: listening at (127\.0\.0\.1):(\d+): points (\d+), drivers (\d+), events (\d+), version (\S+), now (\d+)\n")
+LISTENING = re.compile(r"bossd: listening at (127\.0\.0\.1):(\d+): points (\d+), drivers (\d+), events (\d+), version (\S+), now (\d+), with(?:out)? keys\n")
 
 
 def host_fault(address: str) -> str:
