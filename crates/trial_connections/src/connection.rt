@@ -6,6 +6,7 @@ ghost use Rattle.boss_model.specs.Catalogue.{actuators};
 use crate::counting::CountingSink;
 use crate::outside::{call, list_clock};
 use crate::pieces::{Piece, Pieces};
+use boss_keys::Keys;
 use boss_model::SessionId;
 use boss_outside::BytesSink;
 use boss_outside_server::ListClock;
@@ -54,11 +55,12 @@ impl<'a> Connection<'a> {
         }
     }
 
-    /// Serves the connection as one of this session.
+    /// Serves the connection as one of this session, by these keys, if there are some.
     pub fn serve<G: Desk>(
         &mut self,
         alloc: Global,
         catalogue: &Catalogue,
+        keys: Option<&Keys>,
         desk: &G,
         pass: &mut G::Pass,
         session: SessionId,
@@ -74,7 +76,9 @@ impl<'a> Connection<'a> {
             sink,
             clock,
         } = self;
-        serve_connection(alloc, desk, pass, catalogue, session, source, sink, clock)
+        serve_connection(
+            alloc, desk, pass, catalogue, keys, session, source, sink, clock,
+        )
     }
 }
 

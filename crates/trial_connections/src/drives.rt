@@ -344,7 +344,7 @@ impl Trial for Driving<'_> {
         }
         let _ = self
             .question
-            .serve(alloc, catalogue, desk, pass, SessionId(9));
+            .serve(alloc, catalogue, None, desk, pass, SessionId(9));
         driven
     }
 }

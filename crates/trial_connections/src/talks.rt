@@ -7,6 +7,7 @@ use crate::asking::{ALL, GOOD, Machine, is_line_done, prepare};
 use crate::connection::{Connection, Fails, NONE_FAILS};
 use crate::pieces::Piece;
 use crate::texts::{compare, push_line, push_lines, push_sent};
+use boss_keys::Keys;
 use boss_model::SessionId;
 use boss_points::Catalogue;
 use boss_sessions::SessionEnd;
@@ -27,6 +28,25 @@ const READ: &str = r#"{"op":"read","point":"ahu1.damper"}"#;
 const WATCH: &str = r#"{"op":"watch","process":"a"}"#;
 
 const WATCH_FROM_3: &str = r#"{"op":"watch","process":"a","from":3}"#;
+
+/// The key of `a` under `A_KEY`, and the lines that show it.
+const A_KEY: &str =
+    "key=[{process='a',sha256='73337f479fe170d73e53e247f3052e4243cc9c2a0ffa621853d9385c619efb77'}]";
+
+const ATTACH_SHOWN: &str =
+    r#"{"op":"attach","process":"a","key":"0123456789abcdefghijklmnopqrstuv"}"#;
+
+const READ_SHOWN: &str =
+    r#"{"op":"read","point":"ahu1.damper","as":"a","key":"0123456789abcdefghijklmnopqrstuv"}"#;
+
+const WATCH_SHOWN: &str =
+    r#"{"op":"watch","process":"b","as":"a","key":"0123456789abcdefghijklmnopqrstuv"}"#;
+
+/// The key is that of `a`.
+const ATTACH_OTHER: &str =
+    r#"{"op":"attach","process":"b","key":"0123456789abcdefghijklmnopqrstuv"}"#;
+
+const WRONG_KEY: &str = r#"{"error":"wrong-key"}"#;
 
 const ATTACHED: &str = r#"{"ok":"attached","process":"a","next":1}"#;
 
@@ -72,6 +92,8 @@ struct Talk {
     moments: &'static [u32],
     fails: Fails,
     machine: Machine,
+    /// The keys of a file, or an empty text for none.
+    keys: &'static str,
     counts: bool,
     told: &'static [&'static str],
 }
@@ -86,6 +108,7 @@ const ONE_PIECE: Talk = Talk {
     moments: &[1000],
     fails: NONE_FAILS,
     machine: GOOD,
+    keys: "",
     counts: false,
     told: &[ATTACHED, ACCEPTED, HELD, ENDED, "3 at 1000", "1 at 1000"],
 };
@@ -592,11 +615,109 @@ const MACHINES: &[Talk] = &[
     },
 ];
 
+/// The same where whoever speaks has to show the key of `a`.
+const KEYED: Talk = Talk {
+    keys: A_KEY,
+    ..ONE_PIECE
+};
+
+/// What is said where there are keys.
+const KEYS: &[Talk] = &[
+    Talk {
+        shows: "the key comes once, with the first line",
+        lines: &[ATTACH_SHOWN, SUBMIT, READ],
+        ..KEYED
+    },
+    Talk {
+        shows: "the same, one byte a read",
+        lines: &[ATTACH_SHOWN, SUBMIT, READ],
+        piece: Piece::Byte,
+        told: &[
+            ATTACHED,
+            ACCEPTED,
+            HELD,
+            ENDED,
+            "1 at 1000",
+            "1 at 1000",
+            "1 at 1000",
+            "1 at 1000",
+        ],
+        ..KEYED
+    },
+    Talk {
+        shows: "without a key nothing is done, and the others are not read",
+        lines: &[ATTACH, READ, READ],
+        piece: Piece::Line,
+        told: &[WRONG_KEY, "WrongKey; bytes left: 72; a is free"],
+        ..KEYED
+    },
+    Talk {
+        shows: "what a line asks is not looked at before its key",
+        lines: &[r#"{"op":"frob"}"#],
+        told: &[WRONG_KEY, "WrongKey; bytes left: 0; a is free"],
+        ..KEYED
+    },
+    Talk {
+        shows: "a key of another name",
+        lines: &[ATTACH_OTHER],
+        told: &[WRONG_KEY, "WrongKey; bytes left: 0; a is free"],
+        ..KEYED
+    },
+    Talk {
+        shows: "a watch without a key",
+        lines: &[WATCH],
+        told: &[WRONG_KEY, "WrongKey; bytes left: 0; a is free"],
+        ..KEYED
+    },
+    Talk {
+        shows: "a watch of another process under the own name",
+        lines: &[WATCH_SHOWN],
+        told: &["watches b from 1; bytes left: 0; a is free"],
+        ..KEYED
+    },
+    Talk {
+        shows: "a blank line and what is no object show nothing and ask nothing",
+        lines: &["\t", "x", "[]", ATTACH_SHOWN],
+        told: &[MALFORMED, NO_OP, ATTACHED, ENDED, "1 at 1000", "1 at 1000"],
+        ..KEYED
+    },
+    Talk {
+        shows: "whoever asked under one name attaches as no other",
+        lines: &[READ_SHOWN, ATTACH_OTHER, READ],
+        told: &[
+            FREE,
+            WRONG_KEY,
+            "WrongKey; bytes left: 0; a is free",
+            "1 at 1000",
+        ],
+        ..KEYED
+    },
+    Talk {
+        shows: "whoever attached under one name does so as no other, and its process is lost",
+        lines: &[ATTACH_SHOWN, ATTACH_OTHER, READ],
+        told: &[
+            ATTACHED,
+            WRONG_KEY,
+            "WrongKey; bytes left: 0; a is free",
+            "1 at 1000",
+            "1 at 1000",
+        ],
+        ..KEYED
+    },
+    Talk {
+        shows: "a key that comes later is passed over",
+        lines: &[READ_SHOWN, ATTACH_SHOWN],
+        told: &[FREE, ATTACHED, ENDED, "2 at 1000", "1 at 1000"],
+        ..KEYED
+    },
+];
+
 /// A connection that is to be served.
 #[derive(Drop)]
 struct Talking<'a> {
     alloc: Global,
     broken: bool,
+    keys: Option<Keys>,
     connection: Connection<'a>,
 }
 
@@ -623,7 +744,7 @@ impl Trial for Talking<'_> {
         }
         let end = self
             .connection
-            .serve(alloc, catalogue, desk, pass, SessionId(1));
+            .serve(alloc, catalogue, self.keys.as_ref(), desk, pass, SessionId(1));
         let free = is_line_done(alloc, catalogue, desk, pass, ATTACH_AGAIN);
         Some(Talked { end, free })
     }
@@ -688,11 +809,20 @@ fn input(rt: &impl Abort, alloc: Global, talk: &Talk) -> String {
     text
 }
 
+/// The keys of a text, if it has some.
+fn keys_of(rt: &impl Abort, alloc: Global, text: &str) -> Option<Keys> {
+    if text.is_empty() {
+        return None;
+    }
+    Some(Keys::read(alloc, text.as_bytes()).expect(rt, "keys"))
+}
+
 /// A connection on which these lines come.
 fn ready_to_talk<'a>(rt: &impl Abort, alloc: Global, talk: &Talk, lines: &'a str) -> Talking<'a> {
     Talking {
         alloc,
         broken: talk.machine.broken,
+        keys: keys_of(rt, alloc, talk.keys),
         connection: Connection::new(rt, alloc, lines, talk.piece, talk.moments, talk.fails),
     }
 }
@@ -748,4 +878,5 @@ fn connections_are_served_as_it_was_worked_out(rt: HostRuntime) {
     try_all(&rt, alloc, &catalogue, FAULTS);
     try_all(&rt, alloc, &catalogue, WRITES);
     try_all(&rt, alloc, &catalogue, MACHINES);
+    try_all(&rt, alloc, &catalogue, KEYS);
 }
