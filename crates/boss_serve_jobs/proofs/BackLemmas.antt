@@ -16,7 +16,7 @@ use Rattle.boss_outside_server.specs.declared.host.Host as host
 use Rattle.boss_outside_server.specs.declared.spawner.Spawner as spawner
 use Rattle.boss_outside_server.specs.declared.waiter.Waiter as waiter
 use Rattle.boss_jobs.specs.Journals.{Pair}
-use Rattle.boss_keys.specs.declared.entry.Entry.{Entry as Key}
+use Rattle.boss_keys.specs.declared.entry.Entry.{Entry as KeyEntry}
 use Rattle.boss_shared.specs.Gates.{Gate}
 use Rattle.boss_worker.specs.Visits.{sessions_in, GoBySteps}
 use Rattle.def_lanes.specs.Works.{Work, visit, beat, drive, owner, served_in, works_of}
@@ -74,7 +74,7 @@ module _ {H In Out : Type 0} (h : host.Ghosts H In Out) where
   same-back old new same = subst (CameBack h old) (sym same) (none-back old old (record { served = λ told. refl; faults = refl; handed = rose-none (h.handed old) }))
 
 module _ {K A H In Out C W Bells P Runtime : Type 0} (k : sink.Ghosts K) (a : actuators_of.Ghosts A) (h : host.Ghosts H In Out) (i : source.Ghosts In) (o : sink.Ghosts Out)
-    (c : clock.Ghosts C) (w : waiter.Ghosts W Bells) (p : spawner.Ghosts P Runtime) (catalogue : Catalogue) (gates : List Gate) (keys : Option (List Key)) (workers connections : ℕ) (old new : Outside K A H C W P) (status : ℕ) where
+    (c : clock.Ghosts C) (w : waiter.Ghosts W Bells) (p : spawner.Ghosts P Runtime) (catalogue : Catalogue) (gates : List Gate) (keys : Option (List KeyEntry)) (workers connections : ℕ) (old new : Outside K A H C W P) (status : ℕ) where
   from-back : (known : Type 0) (s : State) (number : ℕ) → ServedFrom k a h i o c w p catalogue known s number gates keys workers connections old new status → CameBack h old.host new.host
   from-back known s number it = elim it.end [
     | inl unbound ↦ record {

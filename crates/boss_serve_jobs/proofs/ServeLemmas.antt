@@ -15,7 +15,7 @@ use Rattle.boss_outside_server.specs.declared.waiter.Waiter as waiter
 use Rattle.boss_pair_find.specs.declared.refusal.DurableRefusal.{DurableRefusal}
 use Rattle.def_history.specs.declared.entry.Entry.{Entry}
 use Rattle.def_history.specs.History.{is_broken}
-use Rattle.boss_keys.specs.declared.entry.Entry.{Entry as Key}
+use Rattle.boss_keys.specs.declared.entry.Entry.{Entry as KeyEntry}
 use Rattle.boss_shared.specs.Gates.{Gate}
 use Rattle.boss_server.specs.Together.{RoseWhere}
 use Rattle.boss_files.specs.Names.{second_name}
@@ -73,7 +73,7 @@ module _ (was now : Faults) where
   lacks status is = inr (inr (inr (inr (inr (inr is)))))
 
 module _ {K A H In Out C W Bells P Runtime : Type 0} (k : sink.Ghosts K) (a : actuators_of.Ghosts A) (h : host.Ghosts H In Out) (i : source.Ghosts In) (o : sink.Ghosts Out)
-    (c : clock.Ghosts C) (w : waiter.Ghosts W Bells) (p : spawner.Ghosts P Runtime) (catalogue : Catalogue) (gates : List Gate) (keys : Option (List Key)) (workers connections : ℕ) (old new : Outside K A H C W P) (status : ℕ) where
+    (c : clock.Ghosts C) (w : waiter.Ghosts W Bells) (p : spawner.Ghosts P Runtime) (catalogue : Catalogue) (gates : List Gate) (keys : Option (List KeyEntry)) (workers connections : ℕ) (old new : Outside K A H C W P) (status : ℕ) where
   abbrev faults_of : ℕ → Outside K A H C W P → Faults
   faults_of files outside =
       record { files = files; sink = k.faults outside.sink; host = h.faults outside.host; spawner = p.faults outside.spawner; clock = c.faults outside.clock }

@@ -9,7 +9,7 @@ use Rattle.boss_outside_server.specs.declared.clock.Clock as clock
 use Rattle.boss_outside_server.specs.declared.host.Host as host
 use Rattle.boss_outside_server.specs.declared.spawner.Spawner as spawner
 use Rattle.boss_outside_server.specs.declared.waiter.Waiter as waiter
-use Rattle.boss_keys.specs.declared.entry.Entry.{Entry as Key}
+use Rattle.boss_keys.specs.declared.entry.Entry.{Entry as KeyEntry}
 use Rattle.boss_shared.specs.Gates.{Gate}
 use Rattle.boss_opening.specs.Opens.{digest_of, OpenedAt}
 use Rattle.boss_jobs.specs.Journals.{HoldsAfter, Pair}
@@ -17,7 +17,7 @@ use Rattle.boss_serve_jobs.specs.Serving.{Outside, outside, ServedFrom, ServedJo
 use Rattle.boss_jobs.proofs.Lifting.{Follows, none-so, refused-so, run-carried, same-two, stands-so}
 
 module _ {K A H In Out C W Bells P Runtime : Type 0} (k : sink.Ghosts K) (a : actuators_of.Ghosts A) (h : host.Ghosts H In Out) (i : source.Ghosts In) (o : sink.Ghosts Out)
-    (c : clock.Ghosts C) (w : waiter.Ghosts W Bells) (p : spawner.Ghosts P Runtime) (catalogue : Catalogue) (gates : List Gate) (keys : Option (List Key)) (workers connections : ℕ) (old new : Outside K A H C W P) (status : ℕ) where
+    (c : clock.Ghosts C) (w : waiter.Ghosts W Bells) (p : spawner.Ghosts P Runtime) (catalogue : Catalogue) (gates : List Gate) (keys : Option (List KeyEntry)) (workers connections : ℕ) (old new : Outside K A H C W P) (status : ℕ) where
   -- where less is known, no more is said of the number of events
   abbrev known-so : (known less : Type 0) (s : State) (number : ℕ) → (less → known) → ServedFrom k a h i o c w p catalogue known s number gates keys workers connections old new status →
       ServedFrom k a h i o c w p catalogue less s number gates keys workers connections old new status
@@ -65,7 +65,7 @@ module _ {K A H In Out C W Bells P Runtime : Type 0} (k : sink.Ghosts K) (a : ac
 
 -- where nothing was told before, the sink is the one that was handed in
 module _ {K A H In Out C W Bells P Runtime : Type 0} (k : sink.Ghosts K) (a : actuators_of.Ghosts A) (h : host.Ghosts H In Out) (i : source.Ghosts In) (o : sink.Ghosts Out)
-    (c : clock.Ghosts C) (w : waiter.Ghosts W Bells) (p : spawner.Ghosts P Runtime) (catalogue : Catalogue) (gates : List Gate) (keys : Option (List Key)) (workers connections : ℕ)
+    (c : clock.Ghosts C) (w : waiter.Ghosts W Bells) (p : spawner.Ghosts P Runtime) (catalogue : Catalogue) (gates : List Gate) (keys : Option (List KeyEntry)) (workers connections : ℕ)
     (devices : List A) (clock : C) (host : H) (waiter : W) (spawner : P) (first later : K) (same : later ≡ first) (new : Outside K A H C W P) (status : ℕ) where
   pub over-first-sink : (was now : Pair) → ServesOver k a h i o c w p catalogue was now gates keys workers connections (outside later devices clock host waiter spawner) new status →
       ServesOver k a h i o c w p catalogue was now gates keys workers connections (outside first devices clock host waiter spawner) new status

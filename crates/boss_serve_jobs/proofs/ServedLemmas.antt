@@ -16,7 +16,7 @@ use Rattle.def_history.specs.declared.entry.Entry.{Entry}
 use Rattle.def_history.specs.History.{events, is_broken, IsLegal, run}
 use Rattle.boss_memory_keeper.specs.contracts.unkept.UnkeptKeeper.TheImpl.{ghosts as unkept}
 use Rattle.boss_memory_keeper.specs.declared.unkept.Unkept.{Unkept}
-use Rattle.boss_keys.specs.declared.entry.Entry.{Entry as Key}
+use Rattle.boss_keys.specs.declared.entry.Entry.{Entry as KeyEntry}
 use Rattle.boss_shared.specs.Gates.{Gate}
 use Rattle.boss_shared.specs.Keeping.{IsHeld}
 use Rattle.boss_journal_lines.specs.Reports.{summary_line}
@@ -64,7 +64,7 @@ parts-so devices clock host waiter spawner = λ i. parts (devices i) (clock i) (
 
 module _ {K A H In Out C W Bells P Runtime : Type 0} (k : sink.Ghosts K) (a : actuators_of.Ghosts A) (h : host.Ghosts H In Out) (i : source.Ghosts In) (o : sink.Ghosts Out)
     (c : clock.Ghosts C) (w : waiter.Ghosts W Bells) (p : spawner.Ghosts P Runtime)
-    (catalogue : Catalogue) (gates : List Gate) (keys : Option (List Key)) (workers connections : ℕ) (old new : Outside K A H C W P) (known : Type 0) (s : State) (number all : ℕ) (line : List ℕ) (status : ℕ) (log : List Entry)
+    (catalogue : Catalogue) (gates : List Gate) (keys : Option (List KeyEntry)) (workers connections : ℕ) (old new : Outside K A H C W P) (known : Type 0) (s : State) (number all : ℕ) (line : List ℕ) (status : ℕ) (log : List Entry)
     (line-is : is_broken log ≡ false → line ≡ summary_line all (run (actuators catalogue) log s).persistent.now
     (length (run (actuators catalogue) log s).persistent.leases) (length (run (actuators catalogue) log s).persistent.pending))
     (all-are : is_broken log ≡ false → known → all ≡ counted (number + length (events (actuators catalogue) log s))) where
@@ -121,7 +121,7 @@ module _ {K A H In Out C W Bells P Runtime : Type 0} (k : sink.Ghosts K) (a : ac
 
 -- a server over an engine in memory that had done nothing
 module _ {K A H In Out C W Bells P Runtime : Type 0} (k : sink.Ghosts K) (a : actuators_of.Ghosts A) (h : host.Ghosts H In Out) (i : source.Ghosts In) (o : sink.Ghosts Out)
-    (c : clock.Ghosts C) (w : waiter.Ghosts W Bells) (p : spawner.Ghosts P Runtime) (catalogue : Catalogue) (start now : Unkept) (gates : List Gate) (keys : Option (List Key)) (workers connections : ℕ) (old new : Outside K A H C W P) (status : ℕ)
+    (c : clock.Ghosts C) (w : waiter.Ghosts W Bells) (p : spawner.Ghosts P Runtime) (catalogue : Catalogue) (start now : Unkept) (gates : List Gate) (keys : Option (List KeyEntry)) (workers connections : ℕ) (old new : Outside K A H C W P) (status : ℕ)
     (engine : start.engine ≡ record { plant = actuators catalogue; state = first_state (actuators catalogue) }) (none : start.events ≡ 0) where
   pub served-memory : ServesKeeper k a h i o c w p unkept (Unit {0}) catalogue start now gates keys workers connections old new status
       → ServedMemory k a h i o c w p catalogue gates keys workers connections old new status

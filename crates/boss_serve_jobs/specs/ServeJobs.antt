@@ -20,7 +20,7 @@ use Rattle.boss_serve_jobs.specs.declared.world.World.{World as Given}
 use Rattle.boss_jobs.specs.Jobs.{World, world}
 use Rattle.boss_jobs.specs.Journals.{AsksFront, in_files, IsRefused}
 use Rattle.boss_access.specs.declared.rule.Rule.{Rule}
-use Rattle.boss_keys.specs.declared.entry.Entry.{Entry as Key}
+use Rattle.boss_keys.specs.declared.entry.Entry.{Entry as KeyEntry}
 use Rattle.boss_server.specs.Sites.{gates_of}
 use Rattle.boss_serve_jobs.specs.Preparing.{AreKeyed, AreRuled, AreSet, Comes, listed, Setting, setting, TakesKeys, TakesPlan, TakesRules, Unprepared}
 use Rattle.boss_jobs.specs.Programs.{usable}
@@ -119,7 +119,7 @@ module _ {F D S K A H In Out C W Bells P Runtime : Type 0} (f : files.Ghosts F D
       pub comes : Comes f name count old.world.files (Ok catalogue)
       pub given : Option (List Rule)
       pub ruled : AreRuled f rules old.world.files given
-      pub entries : Option (List Key)
+      pub entries : Option (List KeyEntry)
       pub keyed : AreKeyed f keys old.world.files entries
       pub devices : List A
       pub set : AreSet f k a plan catalogue old.world.files old.world.devices devices
@@ -155,7 +155,7 @@ module _ {F D S K A H In Out C W Bells P Runtime : Type 0} (f : files.Ghosts F D
       pub comes : Comes f name count old.world.files (Ok catalogue)
       pub given : Option (List Rule)
       pub ruled : AreRuled f rules old.world.files given
-      pub entries : Option (List Key)
+      pub entries : Option (List KeyEntry)
       pub keyed : AreKeyed f keys old.world.files entries
       pub devices : List A
       pub set : AreSet f k a plan catalogue old.world.files old.world.devices devices

@@ -26,7 +26,7 @@ use Rattle.boss_shared.specs.declared.keeper.Keeper as keeper
 use Rattle.boss_shared.specs.Keeping.{IsHeld}
 use Rattle.boss_worker.specs.declared.flags.Flags.{Flags}
 use Rattle.boss_worker.specs.Saying.{terms_of}
-use Rattle.boss_keys.specs.declared.entry.Entry.{Entry as Key}
+use Rattle.boss_keys.specs.declared.entry.Entry.{Entry as KeyEntry}
 use Rattle.boss_shared.specs.Gates.{Gate}
 use Rattle.boss_server.specs.Accounts.{Account}
 use Rattle.boss_server.specs.Hosted.{hosted_at, RoseBy}
@@ -167,7 +167,7 @@ module _ {A H In Out C W Bells P Runtime : Type 0} (a : actuators_of.Ghosts A) (
     (c : clock.Ghosts C) (w : waiter.Ghosts W Bells) (p : spawner.Ghosts P Runtime) where
   -- The workers ran: each connection that came back, the worker of time and each driver's worker agree with the entries of their own
   -- lanes.
-  pub record Worked {K : Type 0} (catalogue : Catalogue) (gates : List Gate) (keys : Option (List Key)) (workers connections : ℕ) (log : List Entry) (old new : Outside K A H C W P) (flags : Flags) (unstarted : Bool) : Type 0 where
+  pub record Worked {K : Type 0} (catalogue : Catalogue) (gates : List Gate) (keys : Option (List KeyEntry)) (workers connections : ℕ) (log : List Entry) (old new : Outside K A H C W P) (flags : Flags) (unstarted : Bool) : Type 0 where
     -- the host as it listens
     pub bound : H
     pub listens : Begins h old.host bound
@@ -179,13 +179,13 @@ module _ {A H In Out C W Bells P Runtime : Type 0} (a : actuators_of.Ghosts A) (
     pub disk : flags.disk ≡ is_broken log
 
   -- how workers ran, or why none did
-  abbrev pub EndsRun : Catalogue → List Gate → Option (List Key) → ℕ → ℕ → List Entry → Outside (Unit {0}) A H C W P → Outside (Unit {0}) A H C W P → Run → Type 0
+  abbrev pub EndsRun : Catalogue → List Gate → Option (List KeyEntry) → ℕ → ℕ → List Entry → Outside (Unit {0}) A H C W P → Outside (Unit {0}) A H C W P → Run → Type 0
   EndsRun catalogue gates keys workers connections log old new not_bound = NotBound h log old new 9
   EndsRun catalogue gates keys workers connections log old new NoMemory = NoneRan h c w log old new 8
   EndsRun catalogue gates keys workers connections log old new (Ended ended) = Worked catalogue gates keys workers connections log old new ended.flags ended.unstarted
 
   -- workers ran over a keeper, which stands for one history that is all that they did
-  pub record RanWorkers {V : Type 0} (v : keeper.Ghosts V) (catalogue : Catalogue) (start now : V) (gates : List Gate) (keys : Option (List Key)) (workers connections : ℕ) (old new : Outside (Unit {0}) A H C W P) (result : Run) : Type 0 where
+  pub record RanWorkers {V : Type 0} (v : keeper.Ghosts V) (catalogue : Catalogue) (start now : V) (gates : List Gate) (keys : Option (List KeyEntry)) (workers connections : ℕ) (old new : Outside (Unit {0}) A H C W P) (result : Run) : Type 0 where
     pub log : List Entry
     pub held : IsHeld v.plant v.state v.stopped v.faults v.leaves v.passes v.keeps start now log
     pub end : EndsRun catalogue gates keys workers connections log old new result
@@ -193,7 +193,7 @@ module _ {A H In Out C W Bells P Runtime : Type 0} (a : actuators_of.Ghosts A) (
 module _ {K A H In Out C W Bells P Runtime : Type 0} (k : sink.Ghosts K) (a : actuators_of.Ghosts A) (h : host.Ghosts H In Out) (i : source.Ghosts In) (o : sink.Ghosts Out)
     (c : clock.Ghosts C) (w : waiter.Ghosts W Bells) (p : spawner.Ghosts P Runtime) where
   -- The workers ran. Then one line tells what the history leaves, unless a disk failed.
-  pub record Served (catalogue : Catalogue) (known : Type 0) (s : State) (number : ℕ) (gates : List Gate) (keys : Option (List Key)) (workers connections : ℕ) (log : List Entry) (old new : Outside K A H C W P) (status : ℕ) : Type 0 where
+  pub record Served (catalogue : Catalogue) (known : Type 0) (s : State) (number : ℕ) (gates : List Gate) (keys : Option (List KeyEntry)) (workers connections : ℕ) (log : List Entry) (old new : Outside K A H C W P) (status : ℕ) : Type 0 where
     pub flags : Flags
     pub unstarted : Bool
     pub worked : Worked a h i o c w p catalogue gates keys workers connections log old new flags unstarted
@@ -201,7 +201,7 @@ module _ {K A H In Out C W Bells P Runtime : Type 0} (k : sink.Ghosts K) (a : ac
     pub no_summary : is_broken log ≡ true → (status ≡ 5) × (new.sink ≡ old.sink)
 
   -- one history from this state, and all that was done is of it
-  pub record ServedFrom (catalogue : Catalogue) (known : Type 0) (s : State) (number : ℕ) (gates : List Gate) (keys : Option (List Key)) (workers connections : ℕ) (old new : Outside K A H C W P) (status : ℕ) : Type 0 where
+  pub record ServedFrom (catalogue : Catalogue) (known : Type 0) (s : State) (number : ℕ) (gates : List Gate) (keys : Option (List KeyEntry)) (workers connections : ℕ) (old new : Outside K A H C W P) (status : ℕ) : Type 0 where
     pub log : List Entry
     pub legal : IsLegal (actuators catalogue) log s
     pub end : NotBound h log old new status ⊎ NoneRan h c w log old new status ⊎ Served catalogue known s number gates keys workers connections log old new status
@@ -209,14 +209,14 @@ module _ {K A H In Out C W Bells P Runtime : Type 0} (k : sink.Ghosts K) (a : ac
   -- ---- over what
 
   -- A server ran over a keeper, which came back, and stands for one history from the keeper as it was: all that was done is of it.
-  pub record ServesKeeper {V : Type 0} (v : keeper.Ghosts V) (known : Type 0) (catalogue : Catalogue) (start now : V) (gates : List Gate) (keys : Option (List Key)) (workers connections : ℕ) (old new : Outside K A H C W P) (status : ℕ) : Type 0 where
+  pub record ServesKeeper {V : Type 0} (v : keeper.Ghosts V) (known : Type 0) (catalogue : Catalogue) (start now : V) (gates : List Gate) (keys : Option (List KeyEntry)) (workers connections : ℕ) (old new : Outside K A H C W P) (status : ℕ) : Type 0 where
     pub log : List Entry
     pub held : IsHeld v.plant v.state v.stopped v.faults v.leaves v.passes v.keeps start now log
     -- where the keeper had come by so many events
     pub end : (number : ℕ) (before : List Event) → v.keeps start before → length before ≡ number →
         NotBound h log old new status ⊎ NoneRan h c w log old new status ⊎ Served catalogue known (v.state start) number gates keys workers connections log old new status
 
-  module _ (catalogue : Catalogue) (was now : Pair) (gates : List Gate) (keys : Option (List Key)) (workers connections : ℕ) (old new : Outside K A H C W P) (status : ℕ) where
+  module _ (catalogue : Catalogue) (was now : Pair) (gates : List Gate) (keys : Option (List KeyEntry)) (workers connections : ℕ) (old new : Outside K A H C W P) (status : ℕ) where
     -- The journal was opened, and served from the state that its bytes stand for. A disk failed exactly where the history is broken; the
     -- journal holds what the history leaves.
     pub record ServedJournal : Type 0 where
@@ -236,10 +236,10 @@ module _ {K A H In Out C W Bells P Runtime : Type 0} (k : sink.Ghosts K) (a : ac
         ⊎ (RefusedJournal k catalogue was now old.sink new.sink status × (new ≡ record old { sink = new.sink })) ⊎ ServedJournal
 
   -- A server over memory alone begins with the catalogue's first state, and nothing fails that keeps what it does.
-  abbrev pub ServedMemory : Catalogue → List Gate → Option (List Key) → ℕ → ℕ → Outside K A H C W P → Outside K A H C W P → ℕ → Type 0
+  abbrev pub ServedMemory : Catalogue → List Gate → Option (List KeyEntry) → ℕ → ℕ → Outside K A H C W P → Outside K A H C W P → ℕ → Type 0
   ServedMemory catalogue gates keys workers connections old new status =
       (served : ServedFrom catalogue (Unit {0}) (first_state (actuators catalogue)) 0 gates keys workers connections old new status) × (is_broken served.log ≡ false)
 
   -- that, or no memory was to be had at all
-  abbrev pub ServesMemory : Catalogue → List Gate → Option (List Key) → ℕ → ℕ → Outside K A H C W P → Outside K A H C W P → ℕ → Type 0
+  abbrev pub ServesMemory : Catalogue → List Gate → Option (List KeyEntry) → ℕ → ℕ → Outside K A H C W P → Outside K A H C W P → ℕ → Type 0
   ServesMemory catalogue gates keys workers connections old new status = ((status ≡ 8) × (new ≡ old)) ⊎ ServedMemory catalogue gates keys workers connections old new status
