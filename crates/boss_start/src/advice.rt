@@ -77,7 +77,7 @@ fn sentence(
     if status == Status::KEYS {
         let keys = word_at(words, 8);
         return format!(in alloc;
-            "the keys {keys} were refused, as their line says; each [[key]] has a process and a sha256, the 64 hexadecimal digits of its key's digest, and no more"
+            "the keys {keys} were refused, as their line says; bossctl lint {catalogue} - - {keys} names the line, the key and what may stand there"
         );
     }
     if status == Status::FILE_FAULT {
