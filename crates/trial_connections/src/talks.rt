@@ -742,9 +742,14 @@ impl Trial for Talking<'_> {
         if !prepare(alloc, catalogue, desk, pass, &[], self.broken) {
             return None;
         }
-        let end = self
-            .connection
-            .serve(alloc, catalogue, self.keys.as_ref(), desk, pass, SessionId(1));
+        let end = self.connection.serve(
+            alloc,
+            catalogue,
+            self.keys.as_ref(),
+            desk,
+            pass,
+            SessionId(1),
+        );
         let free = is_line_done(alloc, catalogue, desk, pass, ATTACH_AGAIN);
         Some(Talked { end, free })
     }
