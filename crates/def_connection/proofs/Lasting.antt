@@ -2,14 +2,12 @@
 use Rattle.std.proofs.Common.{◌≡◌, ℕ, Bool, true, false, ◌||◌, List, [], ◌∷◌, ◌++◌, Option, refl, ap, sym, ◌∙◌, append_assoc}
 use Rattle.std.specs.List.{AllByRecursion}
 use Rattle.def_connection.specs.Judging.{name_of, name_in, AreJudged}
-use Rattle.def_connection.specs.Speech.{Gate, Reading, Speech, Exchange, AreRead, is_later, text_of, text_in, deeds_of, deeds_in, moments_of, moments_in, last_or, attaches, attached_in, is_end, EndsOnce}
+use Rattle.def_connection.specs.Speech.{Gate, Footing, Manner, Speech, Exchange, unread, refused, called, after, after_lines, after_exchange, after_talk, AreRead, text_of, text_in, deeds_of, deeds_in, moments_of, moments_in, last_or, attaches, attached_in, is_end, EndsOnce}
 use Rattle.def_connection.specs.Stopping.{last_is}
 
-pub reads-append : (reading : Bool → List ℕ → Reading) (later : Bool) (xs ys : List Exchange) → AreRead reading later xs → AreRead reading (is_later later xs) ys →
-    AreRead reading later (xs ++ ys)
-reads-append reading later [] ys first then = then
-reads-append reading later (x ∷ []) ys first then = (first.0, then)
-reads-append reading later (x ∷ y ∷ xs) ys first then = (first.0, reads-append reading true (y ∷ xs) ys first.1 then)
+pub reads-append : (manner : Manner) (at : Footing) (xs ys : List Exchange) → AreRead manner at xs → AreRead manner (after_talk manner at xs) ys → AreRead manner at (xs ++ ys)
+reads-append manner at [] ys first then = then
+reads-append manner at (x ∷ xs) ys first then = (first.0, reads-append manner (after_exchange manner at x) xs ys first.1 then)
 
 pub text-append : (speech : Speech) (xs ys : List Exchange) → text_in speech (xs ++ ys) ≡ text_in speech xs ++ text_in speech ys
 text-append speech [] ys = refl
@@ -54,19 +52,31 @@ pub judged-append : (gates : List Gate) (name : Option (List ℕ)) (xs ys : List
 judged-append gates name [] ys first then = then
 judged-append gates name (x ∷ xs) ys first then = (first.0, judged-append gates (name_of name x) xs ys first.1 then)
 
--- ---- what comes later, and the last
+-- ---- on what footing others are read
 
-pub later-true : {X : Type 0} (xs : List X) → is_later true xs ≡ true
-later-true [] = refl
-later-true (x ∷ xs) = refl
+pub after_talk-append : (manner : Manner) (at : Footing) (xs ys : List Exchange) → after_talk manner at (xs ++ ys) ≡ after_talk manner (after_talk manner at xs) ys
+after_talk-append manner at [] ys = refl
+after_talk-append manner at (x ∷ xs) ys = after_talk-append manner (after_exchange manner at x) xs ys
 
-pub later-append : {X : Type 0} (later : Bool) (xs ys : List X) → is_later later (xs ++ ys) ≡ is_later (is_later later xs) ys
-later-append later [] ys = refl
-later-append later (x ∷ xs) ys = sym (later-true ys)
+pub after_lines-append : (manner : Manner) (at : Footing) (xs ys : List (List ℕ)) → after_lines manner at (xs ++ ys) ≡ after_lines manner (after_lines manner at xs) ys
+after_lines-append manner at [] ys = refl
+after_lines-append manner at (x ∷ xs) ys = after_lines-append manner (after manner at x) xs ys
 
-pub first-alone : {X : Type 0} (later : Bool) (xs : List X) → is_later later xs ≡ false → (xs ≡ []) × (later ≡ false)
-first-alone later [] is = (refl, is)
-first-alone later (x ∷ xs) is = absurd (let no : true ≡ false = is in cc)
+exchange-later : (manner : Manner) (at : Footing) (x : Exchange) → (after_exchange manner at x).later ≡ true
+exchange-later manner at (unread line) = refl
+exchange-later manner at (refused line why) = refl
+exchange-later manner at (called line command moment reply) = refl
+
+-- only the first line has none before it
+pub lines-alone : (manner : Manner) (at : Footing) (xs : List (List ℕ)) → (after_lines manner at xs).later ≡ false → (xs ≡ []) × (at.later ≡ false)
+lines-alone manner at [] is = (refl, is)
+lines-alone manner at (x ∷ xs) is = absurd (let no : true ≡ false = (lines-alone manner (after manner at x) xs is).1 in cc)
+
+pub talk-alone : (manner : Manner) (at : Footing) (xs : List Exchange) → (after_talk manner at xs).later ≡ false → (xs ≡ []) × (at.later ≡ false)
+talk-alone manner at [] is = (refl, is)
+talk-alone manner at (x ∷ xs) is = absurd (let no : true ≡ false = sym (exchange-later manner at x) ∙ (talk-alone manner (after_exchange manner at x) xs is).1 in cc)
+
+-- ---- the last
 
 pub last_is-append : {X : Type 0} (test : X → Bool) (before : Bool) (xs ys : List X) → last_is test before (xs ++ ys) ≡ last_is test (last_is test before xs) ys
 last_is-append test before [] ys = refl

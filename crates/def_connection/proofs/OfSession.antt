@@ -19,12 +19,12 @@ use Rattle.def_lanes.proofs.Moments.{both-timed, one-timed, timed-front, timed-b
 use Rattle.boss_outside.specs.Notes.{AllRead}
 use Rattle.boss_outside_server.specs.Hosts.{Served}
 use Rattle.def_connection.specs.Answered.{IsAnswered}
-use Rattle.def_connection.specs.Speech.{Reply, of_answer, of_memory, of_stop, of_denial, Speech, watches, Exchange, unread, refused, called, line_in, is_later, text_in, deeds_of, deeds_in, moments_of, moments_in, last_or, attached_in, parting_of, entry_of}
+use Rattle.def_connection.specs.Speech.{Reply, of_answer, of_memory, of_stop, of_denial, Speech, watches, Exchange, unread, refused, called, beginning, line_in, after_lines, after_talk, text_in, deeds_of, deeds_in, moments_of, moments_in, last_or, attached_in, parting_of, entry_of}
 use Rattle.def_connection.specs.Losing.{spoken_of, Lost}
 use Rattle.def_connection.specs.Stopping.{Stop, watching, Leaves, moments_with}
 use Rattle.def_connection.specs.Talks.{Told, Standing, Talked, Exchanged, IsEnded, IsTalkOf}
 use Rattle.def_connection.specs.Watching.{Watched, Noticed, watched_in, next_from, most_watched, is_unanswered, EndsWatch, IsWatchOf}
-use Rattle.def_connection.proofs.Lasting.{first-alone}
+use Rattle.def_connection.proofs.Lasting.{lines-alone, talk-alone}
 
 -- ---- lanes
 
@@ -178,7 +178,7 @@ talk-agrees plant speech tells ticks served taken_are stop broken cut old new so
         (subst (λ x. (said : Exchanged speech served.session tells (spoken_of taken_are) stop broken x b f g entries moments) × (tells → AllRead (IsAnswered speech served.held 0 said.talk) served.reads)) p (is, holds))))
 
 pub watch-agrees : (plant : List Actuator) (speech : Speech) (notes : Answer → List ℕ) (tells ticks : Type 0) (served : Served) (taken_are : List (List ℕ)) (line : List ℕ) (name : List ℕ) (from : ℕ) (cut : Cut) (closed : Bool) (old new : Standing) →
-    0 < served.session → (watched : Watched notes served.session name tells ticks (is_unanswered cut) from old new) → spoken_of taken_are ≡ line ∷ [] → speech.reading false line ≡ watches name from →
+    0 < served.session → (watched : Watched notes served.session name tells ticks (is_unanswered cut) from old new) → spoken_of taken_are ≡ line ∷ [] → speech.manner.reading beginning line ≡ watches name from →
     old.taken ≡ [] → old.faults ≡ 0 → new.taken ≡ served.taken → new.faults ≡ served.write_faults → Lost served.held served.left taken_are (watching name from) →
     (cut ≡ not_cut → ¬ (deeds new.own ≡ deeds old.own)) → ((more : List Entry) → deeds new.own ≡ deeds old.own ++ more → EndsWatch cut closed served.write_faults more) →
     Added plant (of_session served.session) (IsWatchOf speech notes tells served (record { moments = watched.moments; cut = cut; closed = closed })) ticks watched.moments old.own new.own old.given new.given
@@ -214,13 +214,15 @@ watch-agrees plant speech notes tells ticks served taken_are line name from cut 
 
 -- the one line that was taken where the first one asks to watch
 pub watch-line : (speech : Speech) (heard : List (List ℕ)) (name : List ℕ) (from : ℕ) (failed : Type 0) (talk : List Exchange) (uncalled : List (Command × ℕ)) →
-    Leaves speech false heard (watching name from) failed talk uncalled → (line : List ℕ) × (heard ≡ line ∷ []) × (speech.reading false line ≡ watches name from)
+    Leaves speech beginning heard (watching name from) failed talk uncalled → (line : List ℕ) × (heard ≡ line ∷ []) × (speech.manner.reading beginning line ≡ watches name from)
 watch-line speech heard name from failed talk uncalled is =
-    let unheld = first-alone (is_later false talk) is.held is.behind_is.3 in
-    let silent = first-alone false talk unheld.1 in (
+    let unheld = lines-alone speech.manner (after_talk speech.manner beginning talk) is.held is.behind_is.3 in
+    let silent = talk-alone speech.manner beginning talk unheld.1 in
+    let here : after_lines speech.manner (after_talk speech.manner beginning talk) is.held ≡ beginning =
+    ap (after_lines speech.manner (after_talk speech.manner beginning talk)) unheld.0 ∙ ap (after_talk speech.manner beginning) silent.0 in (
       is.behind_is.0,
       is.lines ∙ ap (λ front. map line_in front ++ (is.held ++ is.behind)) silent.0 ∙ ap (λ front. front ++ is.behind) unheld.0 ∙ is.behind_is.1,
-      ap (λ later. speech.reading later is.behind_is.0) (sym is.behind_is.3) ∙ is.behind_is.2,
+      ap (λ t. speech.manner.reading t is.behind_is.0) (sym here) ∙ is.behind_is.2,
     )
 
 -- a talk whose first line asks to watch adds nothing, and says nothing
@@ -228,7 +230,8 @@ pub talk-silent : (speech : Speech) (session : ℕ) (tells ticks : Type 0) (hear
     (talked : Talked speech session tells ticks heard (watching name from) broken old new) → (deeds new.own ≡ deeds old.own) × (tells → new.taken ≡ old.taken) × (talked.moments ≡ [])
 talk-silent speech session tells ticks heard name from broken old new talked =
     let is = talked.exchanged in
-    let silent : is.talk ≡ [] = (first-alone false is.talk (first-alone (is_later false is.talk) is.leaves.held is.leaves.behind_is.3).1).0 in
+    let unheld = lines-alone speech.manner (after_talk speech.manner beginning is.talk) is.leaves.held is.leaves.behind_is.3 in
+    let silent : is.talk ≡ [] = (talk-alone speech.manner beginning is.talk unheld.1).0 in
     let alone : is.parting ≡ None = is.unattached (ap attached_in silent) in
     let nothing : talked.more ≡ [] = is.all_entries ∙ ap (λ talk. deeds_in session talk ++ parting_of session (last_or 0 talked.moments) is.parting) silent ∙ ap (parting_of session (last_or 0 talked.moments)) alone in
     let unasked : talked.moments ≡ [] = is.all_moments ∙ ap (λ talk. moments_with talk is.uncalled) silent ∙ ap (λ calls. moments_with [] calls) is.leaves.kept in (

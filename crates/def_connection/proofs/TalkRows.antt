@@ -1,5 +1,5 @@
 -- Talks line by line: how they are read, their entries, texts and moments, and how they end.
-use Rattle.std.proofs.Common.{◌≡◌, ℕ, Bool, false, true, List, [], ◌∷◌, Some, None, refl, lit<}
+use Rattle.std.proofs.Common.{◌≡◌, ℕ, Bool, false, true, List, [], ◌∷◌, Option, Some, None, refl, lit<}
 use Rattle.boss_model.specs.declared.answer.Answer.{Answer}
 use Rattle.boss_model.specs.declared.answer.Answer.TheVariants as answer
 use Rattle.boss_model.specs.declared.answer.Refusal.TheVariants as refusal
@@ -9,8 +9,9 @@ use Rattle.boss_model.specs.declared.command.Policy.TheVariants as policy
 use Rattle.def_history.specs.declared.entry.Entry.TheVariants.{Did}
 use Rattle.def_connection.specs.Batches.{batch, deeds_by}
 use Rattle.def_connection.specs.Judging.{AreJudged, denied_for, name_in}
-use Rattle.def_connection.specs.Speech.{Reading, asks, watches, refuses, Reply, of_answer, of_memory, of_stop, of_denial, Gate, Speech, Exchange, unread, refused, called, AreRead, text_in, deeds_in, moments_in, last_or, attached_in, parting_of, is_end, EndsOnce}
-use Rattle.def_connection.specs.Stopping.{disk, read_fault, finish, is_disk, last_is, is_passed}
+use Rattle.def_connection.specs.Showing.{IsBarred, AsksOwn, IsGuarded, AreShown, AreOwn}
+use Rattle.def_connection.specs.Speech.{Reading, asks, watches, refuses, forbids, Footing, beginning, Manner, Reply, of_answer, of_memory, of_stop, of_denial, Gate, Speech, Exchange, unread, refused, called, known_by, after_talk, AreRead, text_in, deeds_in, moments_in, last_or, attached_in, parting_of, is_end, EndsOnce}
+use Rattle.def_connection.specs.Stopping.{disk, read_fault, finish, wrong_key, is_disk, end_text, last_is, is_passed, BehindAt}
 use Rattle.def_connection.specs.Losing.{LostAt, spoken_of}
 use Rattle.def_connection.specs.Watching.{watched_in}
 
@@ -45,8 +46,12 @@ gate known writes = Some (0, 2)
 abbrev open_gate : Gate
 open_gate known writes = None
 
+-- no line shows a key
+abbrev manner : Manner
+manner = record { reading = λ at line. reading at.later line; shows = λ line. None }
+
 abbrev speech : Speech
-speech = record { reading = reading; reply_text = reply_text; refusal_text = λ why. 4 ∷ []; too_long = 5 ∷ []; denies = gate ∷ [] }
+speech = record { manner = manner; reply_text = reply_text; refusal_text = λ why. 4 ∷ []; too_long = 5 ∷ []; wrong_key = 7 ∷ []; denies = gate ∷ [] }
 
 abbrev one : List ℕ
 one = 49 ∷ []
@@ -66,7 +71,7 @@ abbrev talk : List Exchange
 talk = called one attach 10 (of_answer held) ∷ called two status 20 of_memory ∷ called two status 30 (of_answer (answer.Ticked 30))
     ∷ refused three refusal.UnknownOp ∷ unread one ∷ called two status 40 of_stop ∷ []
 
-read-row : AreRead reading false talk
+read-row : AreRead manner beginning talk
 read-row = (refl, (refl, (refl, (refl, (tt, (refl, tt))))))
 
 deeds-row : deeds_in 7 talk ≡ Did 7 attach 10 held ∷ Did 7 status 30 (answer.Ticked 30) ∷ []
@@ -141,6 +146,72 @@ other-row = refl
 -- the last command was denied, so requests may be left behind it where a write failed
 passed-row : last_is is_passed false denied_talk ≡ true
 passed-row = refl
+
+-- ---- keys
+
+-- a line of more than two bytes shows the key of `name` and asks for a status; one of one byte attaches under the name that is known, and
+-- one of two asks for a status. Where none is known these are forbidden, and an empty line asks nothing
+abbrev keyed : Option (List ℕ) → List ℕ → Reading
+keyed known [] = refuses (refusal.Malformed None)
+keyed None (byte ∷ []) = forbids
+keyed (Some own) (byte ∷ []) = asks (command.Attach own)
+keyed None (byte ∷ next ∷ []) = forbids
+keyed (Some own) (byte ∷ next ∷ []) = asks status
+keyed known (byte ∷ next ∷ third ∷ bytes) = asks status
+
+abbrev shows : List ℕ → Option (List ℕ)
+shows (byte ∷ next ∷ third ∷ bytes) = Some name
+shows other = None
+
+abbrev keyed_manner : Manner
+keyed_manner = record { reading = λ at line. keyed at.known line; shows = shows }
+
+guarded-row : IsGuarded keyed_manner
+guarded-row = record { barred = λ at line none. barred at.known line none; own = λ at line. own at.known line }
+  where
+    barred : (known : Option (List ℕ)) (line : List ℕ) → known_by known (shows line) ≡ None → IsBarred (keyed known line)
+    barred known [] none = tt
+    barred None (byte ∷ []) none = tt
+    barred (Some known) (byte ∷ []) none = absurd cc
+    barred None (byte ∷ next ∷ []) none = tt
+    barred (Some known) (byte ∷ next ∷ []) none = absurd cc
+    barred None (byte ∷ next ∷ third ∷ bytes) none = absurd cc
+    barred (Some known) (byte ∷ next ∷ third ∷ bytes) none = absurd cc
+
+    own : (known : Option (List ℕ)) (line : List ℕ) → AsksOwn (known_by known (shows line)) (keyed known line)
+    own known [] = tt
+    own None (byte ∷ []) = tt
+    own (Some known) (byte ∷ []) = refl
+    own None (byte ∷ next ∷ []) = tt
+    own (Some known) (byte ∷ next ∷ []) = tt
+    own known (byte ∷ next ∷ third ∷ bytes) = tt
+
+-- a line that asks nothing, one that shows the key, and an attach of the name whose key it was
+abbrev keyed_talk : List Exchange
+keyed_talk = refused [] (refusal.Malformed None) ∷ called three status 10 of_memory ∷ called one attach 20 (of_answer held) ∷ []
+
+keyed-read-row : AreRead keyed_manner beginning keyed_talk
+keyed-read-row = (refl, (refl, (refl, tt)))
+
+shown-row : AreShown keyed_manner beginning keyed_talk
+shown-row = (tt, (tt, (tt, tt)))
+
+known-row : after_talk keyed_manner beginning keyed_talk ≡ record { later = true; known = Some name }
+known-row = refl
+
+own-row : AreOwn (Some name) (deeds_in 7 keyed_talk)
+own-row = (refl, tt)
+
+-- a line that there was no memory to read shows no key
+unread-row : after_talk keyed_manner beginning (unread three ∷ []) ≡ record { later = true; known = None }
+unread-row = refl
+
+-- the talk stops where a line comes that shows none, which is told
+forbidden-row : BehindAt keyed_manner (after_talk keyed_manner beginning (unread three ∷ [])) wrong_key (two ∷ [])
+forbidden-row = (two, refl, refl)
+
+forbidden-text-row : end_text speech wrong_key ≡ 7 ∷ []
+forbidden-text-row = refl
 
 -- ---- bytes that were lost
 

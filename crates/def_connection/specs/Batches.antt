@@ -1,16 +1,16 @@
 -- Source: own.
 -- Several requests that are held, called together, and answered in order.
-use Rattle.std.specs.Prelude.{◌≡◌, ℕ, Bool, true, List, [], ◌∷◌, ◌++◌}
+use Rattle.std.specs.Prelude.{◌≡◌, ℕ, List, [], ◌∷◌, ◌++◌}
 use Rattle.boss_model.specs.declared.command.Command.{Command}
 use Rattle.def_history.specs.declared.entry.Entry.{Entry}
-use Rattle.def_connection.specs.Speech.{Reading, asks, Reply, Speech, Exchange, called, entry_of}
+use Rattle.def_connection.specs.Speech.{asks, Footing, Manner, after, Reply, Speech, Exchange, called, entry_of}
 
 -- these lines ask for these commands, each at its moment
-abbrev pub AreAsked : (Bool → List ℕ → Reading) → Bool → List (List ℕ) → List (Command × ℕ) → Type 0
-AreAsked reading later [] [] = Unit {0}
-AreAsked reading later [] (call ∷ calls) = ⊥
-AreAsked reading later (line ∷ lines) [] = ⊥
-AreAsked reading later (line ∷ lines) (call ∷ calls) = (reading later line ≡ asks call.0) × AreAsked reading true lines calls
+abbrev pub AreAsked : Manner → Footing → List (List ℕ) → List (Command × ℕ) → Type 0
+AreAsked manner at [] [] = Unit {0}
+AreAsked manner at [] (call ∷ calls) = ⊥
+AreAsked manner at (line ∷ lines) [] = ⊥
+AreAsked manner at (line ∷ lines) (call ∷ calls) = (manner.reading at line ≡ asks call.0) × AreAsked manner (after manner at line) lines calls
 
 -- the exchanges of a batch, as far as there are replies
 abbrev pub batch : List (List ℕ) → List (Command × ℕ) → List Reply → List Exchange

@@ -2,6 +2,7 @@ pub mod Answered
 pub mod Batches
 pub mod Judging
 pub mod Losing
+pub mod Showing
 pub mod Speech
 pub mod Stopping
 pub mod Talks

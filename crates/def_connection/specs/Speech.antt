@@ -10,11 +10,27 @@ use Rattle.boss_model.specs.declared.command.Setting.{Setting}
 use Rattle.def_history.specs.declared.entry.Entry.{Entry}
 use Rattle.def_history.specs.declared.entry.Entry.TheVariants.{Did}
 
--- what a line asks: a command, or to be told a process's notices from this number on; or why it asks nothing
+-- what a line asks: a command, or to be told a process's notices from this number on; or why it asks nothing; or it is forbidden to
+-- whoever speaks
 pub data Reading : Type 0 where
   asks : Command → Reading
   watches : List ℕ → ℕ → Reading
   refuses : Refusal → Reading
+  forbids : Reading
+
+-- what a line is read by beside itself: whether one came before it, and the name whose key was shown, if there are keys and one was
+pub record Footing : Type 0 where
+  pub later : Bool
+  pub known : Option (List ℕ)
+
+-- before the first line
+abbrev pub beginning : Footing
+beginning = record { later = false; known = None }
+
+-- how each line is read on its footing, and the name whose key a line shows, if it shows one
+pub record Manner : Type 0 where
+  pub reading : Footing → List ℕ → Reading
+  pub shows : List ℕ → Option (List ℕ)
 
 -- the reply to a command: its answer; that there was no memory for it; that the disk has failed; or which write of it is denied,
 -- from 0, and by which rule, from 1, or 0 where no rule is for it
@@ -29,13 +45,14 @@ pub data Reply : Type 0 where
 abbrev pub Gate : Type 0
 Gate = List ℕ → List Setting → Option (ℕ × ℕ)
 
--- how lines are read, the first one or a later one; the texts of replies, each with its line end; and the gates that a submit has to
--- pass, the foremost first
+-- how lines are read; the texts of replies, each with its line end, also to a line that is too long, and to one that is forbidden; and
+-- the gates that a submit has to pass, the foremost first
 pub record Speech : Type 0 where
-  pub reading : Bool → List ℕ → Reading
+  pub manner : Manner
   pub reply_text : Reply → List ℕ
   pub refusal_text : Refusal → List ℕ
   pub too_long : List ℕ
+  pub wrong_key : List ℕ
   pub denies : List Gate
 
 -- a line and its reply: there was no memory to read it; or it asks nothing; or its command was called at a moment
@@ -57,15 +74,36 @@ IsReadAs reading (unread line) = Unit {0}
 IsReadAs reading (refused line why) = reading ≡ refuses why
 IsReadAs reading (called line command moment reply) = reading ≡ asks command
 
--- each is; whether a line came before tells how the first one is read
-abbrev pub AreRead : (Bool → List ℕ → Reading) → Bool → List Exchange → Type 0
-AreRead reading later [] = Unit {0}
-AreRead reading later (exchange ∷ talk) = IsReadAs (reading later (line_in exchange)) exchange × AreRead reading true talk
+-- a name that is known stays, whatever is shown behind that
+abbrev pub known_by : Option (List ℕ) → Option (List ℕ) → Option (List ℕ)
+known_by (Some name) shown = Some name
+known_by None shown = shown
 
--- whether the next line is a later one
-abbrev pub is_later : {X : Type 0} → Bool → List X → Bool
-is_later later [] = later
-is_later later (x ∷ xs) = true
+-- the footing behind a line that was read, and behind several
+abbrev pub after : Manner → Footing → List ℕ → Footing
+after manner at line = record { later = true; known = known_by at.known (manner.shows line) }
+
+abbrev pub after_lines : Manner → Footing → List (List ℕ) → Footing
+after_lines manner at [] = at
+after_lines manner at (line ∷ lines) = after_lines manner (after manner at line) lines
+
+-- one for which there was no memory shows nothing
+abbrev pub after_unread : Footing → Footing
+after_unread at = record { later = true; known = at.known }
+
+abbrev pub after_exchange : Manner → Footing → Exchange → Footing
+after_exchange manner at (unread line) = after_unread at
+after_exchange manner at (refused line why) = after manner at line
+after_exchange manner at (called line command moment reply) = after manner at line
+
+abbrev pub after_talk : Manner → Footing → List Exchange → Footing
+after_talk manner at [] = at
+after_talk manner at (exchange ∷ talk) = after_talk manner (after_exchange manner at exchange) talk
+
+-- each is what its line's reading says, on the footing that those before it leave
+abbrev pub AreRead : Manner → Footing → List Exchange → Type 0
+AreRead manner at [] = Unit {0}
+AreRead manner at (exchange ∷ talk) = IsReadAs (manner.reading at (line_in exchange)) exchange × AreRead manner (after_exchange manner at exchange) talk
 
 abbrev pub text_of : Speech → Exchange → List ℕ
 text_of speech (unread line) = speech.reply_text of_memory

@@ -4,11 +4,11 @@ use Rattle.std.specs.Prelude.{◌≡◌, ◌⊎◌, ℕ, ◌<◌, ◌≤◌, Boo
 use Rattle.boss_model.specs.declared.command.Command.{Command}
 use Rattle.boss_model.specs.Limits.{most_held}
 use Rattle.def_connection.specs.Batches.{AreAsked}
-use Rattle.def_connection.specs.Speech.{Reading, asks, watches, Reply, of_answer, of_memory, of_stop, of_denial, Speech, Exchange, unread, refused, called, line_in, AreRead, is_later, moments_in, is_end, EndsOnce}
+use Rattle.def_connection.specs.Speech.{asks, watches, forbids, Footing, Manner, after_lines, after_talk, Reply, of_answer, of_memory, of_stop, of_denial, Speech, Exchange, unread, refused, called, line_in, AreRead, moments_in, is_end, EndsOnce}
 
 -- Why it stops: the input was read to its end; the first line asks to watch a process, from this number of its notices on; a read, a
--- write or the clock failed; a line was too long, which was told, or the write of that failed; as many lines came as are taken; the
--- disk has failed in a call or before it; or there was no memory to begin
+-- write or the clock failed; a line was too long, or was forbidden, which was told, or the write of that failed; as many lines came as
+-- are taken; the disk has failed in a call or before it; or there was no memory to begin
 pub data Stop : Type 0 where
   finish : Stop
   watching : List ℕ → ℕ → Stop
@@ -17,6 +17,8 @@ pub data Stop : Type 0 where
   clock_fault : Stop
   long_line : Stop
   long_untold : Stop
+  wrong_key : Stop
+  wrong_untold : Stop
   limit : Stop
   disk : Stop
   nothing : Stop
@@ -25,10 +27,12 @@ abbrev pub is_disk : Stop → Bool
 is_disk disk = true
 is_disk other = false
 
--- a line that is too long is told so
+-- a line that is too long is told so, and one that is forbidden
 abbrev pub end_text : Speech → Stop → List ℕ
 end_text speech long_line = speech.too_long
 end_text speech long_untold = speech.too_long
+end_text speech wrong_key = speech.wrong_key
+end_text speech wrong_untold = speech.wrong_key
 end_text speech other = []
 
 -- the last one is such, if there is one
@@ -61,29 +65,31 @@ HeldAt write_fault failed talk uncalled = BreaksOff failed talk uncalled
 HeldAt clock_fault failed talk uncalled = BreaksOff failed talk uncalled
 HeldAt other failed talk uncalled = uncalled ≡ []
 
--- the line behind all requests that has no reply: the first one, which asks to watch; or the one at which the clock failed; or one that
--- came where a write or the disk failed. Else there is none
-abbrev pub BehindAt : (Bool → List ℕ → Reading) → Bool → Stop → List (List ℕ) → Type 0
-BehindAt reading later (watching name from) behind = (line : List ℕ) × (behind ≡ line ∷ []) × (reading later line ≡ watches name from) × (later ≡ false) × (1 ≤ from)
-BehindAt reading later clock_fault behind = (line : List ℕ) × (behind ≡ line ∷ []) × ((command : Command) × (reading later line ≡ asks command))
-BehindAt reading later write_fault behind = length behind ≤ 1
-BehindAt reading later disk behind = length behind ≤ 1
-BehindAt reading later nothing behind = (behind ≡ []) × (later ≡ false)
-BehindAt reading later other behind = behind ≡ []
+-- the line behind all requests that is no exchange: the first one, which asks to watch; or the one at which the clock failed; or the one
+-- that is forbidden; or one that came where a write or the disk failed. Else there is none
+abbrev pub BehindAt : Manner → Footing → Stop → List (List ℕ) → Type 0
+BehindAt manner at (watching name from) behind = (line : List ℕ) × (behind ≡ line ∷ []) × (manner.reading at line ≡ watches name from) × (at.later ≡ false) × (1 ≤ from)
+BehindAt manner at clock_fault behind = (line : List ℕ) × (behind ≡ line ∷ []) × ((command : Command) × (manner.reading at line ≡ asks command))
+BehindAt manner at wrong_key behind = (line : List ℕ) × (behind ≡ line ∷ []) × (manner.reading at line ≡ forbids)
+BehindAt manner at wrong_untold behind = (line : List ℕ) × (behind ≡ line ∷ []) × (manner.reading at line ≡ forbids)
+BehindAt manner at write_fault behind = length behind ≤ 1
+BehindAt manner at disk behind = length behind ≤ 1
+BehindAt manner at nothing behind = (behind ≡ []) × (at.later ≡ false)
+BehindAt manner at other behind = behind ≡ []
 
 -- Lines were heard: those that have a reply, those of requests that are held and were not called, fewer than are held together, and maybe
 -- one behind them. That the disk has failed is told in the last reply, and nowhere else
-pub record Leaves (speech : Speech) (later : Bool) (heard : List (List ℕ)) (stop : Stop) (failed : Type 0) (talk : List Exchange) (uncalled : List (Command × ℕ)) : Type 0 where
+pub record Leaves (speech : Speech) (at : Footing) (heard : List (List ℕ)) (stop : Stop) (failed : Type 0) (talk : List Exchange) (uncalled : List (Command × ℕ)) : Type 0 where
   pub held : List (List ℕ)
   pub behind : List (List ℕ)
   pub lines : heard ≡ map line_in talk ++ (held ++ behind)
-  pub reads : AreRead speech.reading later talk
+  pub reads : AreRead speech.manner at talk
   pub ends : EndsOnce talk
   pub stopped : last_is is_end false talk ≡ is_disk stop
-  pub asked : AreAsked speech.reading (is_later later talk) held uncalled
+  pub asked : AreAsked speech.manner (after_talk speech.manner at talk) held uncalled
   pub kept : HeldAt stop failed talk uncalled
   pub few : length uncalled < most_held
-  pub behind_is : BehindAt speech.reading (is_later (is_later later talk) held) stop behind
+  pub behind_is : BehindAt speech.manner (after_lines speech.manner (after_talk speech.manner at talk) held) stop behind
 
 -- the clock is read once for each request that is called or held
 abbrev pub moments_with : List Exchange → List (Command × ℕ) → List ℕ

@@ -14,8 +14,8 @@ use Rattle.def_lanes.specs.Works.{Course, Cut, not_cut, by_disk, by_clock, by_me
 use Rattle.def_connection.specs.Answered.{IsAnswered}
 use Rattle.def_connection.specs.Judging.{AreJudged, name_in}
 use Rattle.def_connection.specs.Losing.{spoken_of, Lost}
-use Rattle.def_connection.specs.Speech.{Speech, Exchange, line_in, AreRead, text_in, deeds_in, moments_in, last_or, attached_in, parting_of, is_end}
-use Rattle.def_connection.specs.Stopping.{Stop, finish, read_fault, write_fault, clock_fault, long_line, long_untold, limit, disk, nothing, is_disk, end_text, Leaves, moments_with}
+use Rattle.def_connection.specs.Speech.{Footing, beginning, Speech, Exchange, line_in, after_talk, AreRead, text_in, deeds_in, moments_in, last_or, attached_in, parting_of, is_end}
+use Rattle.def_connection.specs.Stopping.{Stop, finish, read_fault, write_fault, clock_fault, long_line, long_untold, wrong_key, wrong_untold, limit, disk, nothing, is_disk, end_text, Leaves, moments_with}
 
 -- a sink took a front of the text, and all of it unless its count of faults rose
 pub record Told (old new : List ℕ) (before now : ℕ) (text : List ℕ) : Type 0 where
@@ -38,11 +38,12 @@ abbrev pub standing : List Entry → List ℕ → ℕ → List ℕ → Bool → 
 standing own taken faults given attached last = record { own = own; taken = taken; faults = faults; given = given; attached = attached; last = last; name = None }
 
 module _ (speech : Speech) (session : ℕ) (tells ticks : Type 0) where
-  -- these lines were heard, each has its reply, and the talk goes on
-  pub record Goes (later : Bool) (heard : List (List ℕ)) (old new : Standing) : Type 0 where
+  -- these lines were heard, each has its reply, and the talk goes on, on the footing that they leave
+  pub record Goes (at at' : Footing) (heard : List (List ℕ)) (old new : Standing) : Type 0 where
     pub talk : List Exchange
     pub lines : heard ≡ map line_in talk
-    pub reads : AreRead speech.reading later talk
+    pub reads : AreRead speech.manner at talk
+    pub leaves : at' ≡ after_talk speech.manner at talk
     pub goes_on : AllByRecursion (λ exchange. is_end exchange ≡ false) talk
     pub grew : deeds new.own ≡ deeds old.own ++ deeds_in session talk
     pub told : tells → new.taken ≡ old.taken ++ text_in speech talk
@@ -54,10 +55,10 @@ module _ (speech : Speech) (session : ℕ) (tells ticks : Type 0) where
     pub name : new.name ≡ name_in old.name talk
 
   -- these lines were heard, and the talk stops; the moments are those of the requests that were called, and then of those that were not
-  pub record Stops (later : Bool) (heard : List (List ℕ)) (stop : Stop) (old new : Standing) : Type 0 where
+  pub record Stops (at : Footing) (heard : List (List ℕ)) (stop : Stop) (old new : Standing) : Type 0 where
     pub talk : List Exchange
     pub uncalled : List (Command × ℕ)
-    pub leaves : Leaves speech later heard stop (Rose old.faults new.faults) talk uncalled
+    pub leaves : Leaves speech at heard stop (Rose old.faults new.faults) talk uncalled
     pub grew : deeds new.own ≡ deeds old.own ++ deeds_in session talk
     pub told : tells → Told old.taken new.taken old.faults new.faults (text_in speech talk ++ end_text speech stop)
     pub gave : ticks → new.given ≡ old.given ++ moments_with talk uncalled
@@ -77,7 +78,7 @@ pub record Exchanged (speech : Speech) (session : ℕ) (tells : Type 0) (heard :
   pub talk : List Exchange
   pub uncalled : List (Command × ℕ)
   pub parting : Option Answer
-  pub leaves : Leaves speech false heard stop (Rose before now) talk uncalled
+  pub leaves : Leaves speech beginning heard stop (Rose before now) talk uncalled
   pub all_moments : moments ≡ moments_with talk uncalled
   pub all_entries : entries ≡ deeds_in session talk ++ parting_of session (last_or 0 moments) parting
   pub unattached : attached_in talk ≡ false → parting ≡ None
@@ -93,10 +94,11 @@ pub record Talked (speech : Speech) (session : ℕ) (tells ticks : Type 0) (hear
   pub gave : ticks → new.given ≡ old.given ++ moments
   pub exchanged : Exchanged speech session tells heard stop broken old.taken new.taken old.faults new.faults more moments
 
--- nothing is left in the input and each line has its reply; or a line was too long; or as many lines came as are taken
+-- nothing is left in the input and each line has its reply; or a line was too long, or forbidden; or as many lines came as are taken
 abbrev pub is_whole : Stop → Bool
 is_whole finish = true
 is_whole long_line = true
+is_whole wrong_key = true
 is_whole limit = true
 is_whole other = false
 
@@ -112,12 +114,14 @@ abbrev pub ReadsAt : Stop → ℕ → Type 0
 ReadsAt read_fault faults = 0 < faults
 ReadsAt write_fault faults = Unit {0}
 ReadsAt long_untold faults = Unit {0}
+ReadsAt wrong_untold faults = Unit {0}
 ReadsAt disk faults = Unit {0}
 ReadsAt other faults = faults ≡ 0
 
 abbrev pub WritesAt : Stop → ℕ → Type 0
 WritesAt write_fault faults = 0 < faults
 WritesAt long_untold faults = 0 < faults
+WritesAt wrong_untold faults = 0 < faults
 WritesAt clock_fault faults = Unit {0}
 WritesAt disk faults = Unit {0}
 WritesAt other faults = faults ≡ 0

@@ -12,7 +12,7 @@ use Rattle.boss_outside_server.specs.Hosts.{Served}
 use Rattle.boss_outside_server.specs.Pauses.{watch_idle}
 use Rattle.def_lanes.specs.Works.{Course, Cut, not_cut, by_disk, by_clock, by_memory}
 use Rattle.def_connection.specs.Losing.{spoken_of, Lost}
-use Rattle.def_connection.specs.Speech.{Speech, watches}
+use Rattle.def_connection.specs.Speech.{beginning, Speech, watches}
 use Rattle.def_connection.specs.Stopping.{watching}
 use Rattle.def_connection.specs.Talks.{Told, Standing}
 
@@ -122,7 +122,7 @@ pub record IsWatchOf (speech : Speech) (notes : Answer → List ℕ) (tells : Ty
   pub lost : Lost served.held served.left taken (watching name from)
   pub line : List ℕ
   pub lines : spoken_of taken ≡ line ∷ []
-  pub asked : speech.reading false line ≡ watches name from
+  pub asked : speech.manner.reading beginning line ≡ watches name from
   pub some : course.cut ≡ not_cut → ¬ (entries ≡ [])
   pub ends : EndsWatch course.cut course.closed served.write_faults entries
   pub noticed : Noticed notes served.session name tells (is_unanswered course.cut) from [] served.taken 0 served.write_faults entries course.moments

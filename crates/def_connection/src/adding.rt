@@ -1,4 +1,4 @@
-ghost use Rattle.std.specs.Prelude.{◌≡◌, ℕ, ◌<◌, Bool, false, List, [], ◌∷◌, ◌++◌};
+ghost use Rattle.std.specs.Prelude.{◌≡◌, ℕ, ◌<◌, Bool, List, [], ◌∷◌, ◌++◌};
 ghost use Rattle.def_history.specs.declared.entry.Entry.{Entry};
 ghost use Rattle.def_history.specs.History.{deeds};
 ghost use Rattle.def_lanes.specs.Lanes.{of_session};
@@ -7,7 +7,7 @@ ghost use Rattle.def_lanes.specs.Works.{Cut, not_cut};
 ghost use Rattle.boss_model.specs.declared.answer.Answer.{Answer};
 ghost use Rattle.boss_model.specs.declared.state.Actuator.{Actuator};
 ghost use Rattle.def_connection.specs.Losing.{spoken_of, Lost};
-ghost use Rattle.def_connection.specs.Speech.{Speech, watches};
+ghost use Rattle.def_connection.specs.Speech.{beginning, Speech, watches};
 ghost use Rattle.def_connection.specs.Stopping.{Stop, watching};
 ghost use Rattle.boss_outside.specs.Notes.{AllRead};
 ghost use Rattle.def_connection.specs.Answered.{IsAnswered};
@@ -28,7 +28,7 @@ pub fn a_connection_adds_to_its_lane<K: Sink, C: Clock>()
         Added plant (of_session served.session) (IsTalkOf speech K.tells served (record { moments = talked.moments; cut = cut; closed = false })) C.tells talked.moments old.own new.own old.given new.given }
     ensures watch { (plant : List Actuator) (speech : Speech) (notes : Answer → List ℕ) (served : Served) (taken : List (List ℕ)) (line : List ℕ)
         (name : List ℕ) (from : ℕ) (cut : Cut) (closed : Bool) (old new : Standing) → 0 < served.session → (watched : Watched notes served.session name K.tells C.tells (is_unanswered cut) from old new) →
-        spoken_of taken ≡ line ∷ [] → speech.reading false line ≡ watches name from → old.taken ≡ [] → old.faults ≡ 0 → new.taken ≡ served.taken →
+        spoken_of taken ≡ line ∷ [] → speech.manner.reading beginning line ≡ watches name from → old.taken ≡ [] → old.faults ≡ 0 → new.taken ≡ served.taken →
         new.faults ≡ served.write_faults → Lost served.held served.left taken (watching name from) →
         (cut ≡ not_cut → ¬ (deeds new.own ≡ deeds old.own)) → ((more : List Entry) → deeds new.own ≡ deeds old.own ++ more → EndsWatch cut closed served.write_faults more) →
         Added plant (of_session served.session) (IsWatchOf speech notes K.tells served (record { moments = watched.moments; cut = cut; closed = closed })) C.tells watched.moments old.own new.own old.given new.given }

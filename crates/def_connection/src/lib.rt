@@ -8,18 +8,21 @@
 //! ([`a_talk_is_whole`]): the one clause of a call that serves a connection. From it follows what that call owes to whoever joins
 //! several of them: all that it added is of its session, and agrees with the connection as it ended
 //! ([`a_connection_adds_to_its_lane`]). A submit is denied exactly where one of the speech's gates denies it to the process that the
-//! session has, so each that was done is allowed ([`what_is_done_is_allowed`]). The same for a connection that watches a process: `Watches`, `Watched`
+//! session has, so each that was done is allowed ([`what_is_done_is_allowed`]). Where lines are read by keys, whoever speaks has shown the
+//! key of a name, and attaches to that name alone ([`whoever_speaks_has_shown_a_key`]). The same for a connection that watches a process: `Watches`, `Watched`
 //! ([`watching_goes_on`]).
 #![tactic(auto)]
 
 mod adding;
 mod batches;
 mod judging;
+mod showing;
 mod talks;
 mod watching;
 
 pub use adding::{a_connection_adds_to_its_lane, a_talk_without_replies_adds_nothing};
 pub use batches::{a_batch_is_its_exchanges, answers_of_a_desk_are_replies};
 pub use judging::what_is_done_is_allowed;
+pub use showing::whoever_speaks_has_shown_a_key;
 pub use talks::{a_batch_is_a_part_of_a_talk, a_talk_goes_on, a_talk_is_whole};
 pub use watching::watching_goes_on;
