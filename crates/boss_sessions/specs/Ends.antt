@@ -4,19 +4,20 @@ use Rattle.std.specs.Prelude.{◌≡◌, ℕ, Bool, true, false, List, [], Optio
 use Rattle.boss_outside.specs.Counts.{Rose}
 use Rattle.def_lanes.specs.Works.{Cut, not_cut, by_disk, by_clock, by_memory}
 use Rattle.def_connection.specs.Speech.{of_memory, Speech}
-use Rattle.def_connection.specs.Stopping.{Stop, finish, watching, read_fault, write_fault, clock_fault, long_line, long_untold, limit, disk, nothing}
+use Rattle.def_connection.specs.Stopping.{Stop, finish, watching, read_fault, write_fault, clock_fault, long_line, long_untold, wrong_key, wrong_untold, limit, disk, nothing}
 use Rattle.boss_sessions.specs.declared.heard.Heard.{Heard}
 use Rattle.boss_sessions.specs.declared.heard.Heard.TheVariants as heard
 use Rattle.boss_sessions.specs.declared.halt.Halt.{Halt}
 use Rattle.boss_sessions.specs.declared.halt.Halt.TheVariants as halt
 use Rattle.boss_sessions.specs.declared.end.SessionEnd.{SessionEnd}
-use Rattle.boss_sessions.specs.declared.end.SessionEnd.TheVariants.{End, Watch, ReadFault, WriteFault, ClockFault, TooLong, Limit, Stopped, DiskFault, NoMemory}
+use Rattle.boss_sessions.specs.declared.end.SessionEnd.TheVariants.{End, Watch, ReadFault, WriteFault, ClockFault, TooLong, WrongKey, Limit, Stopped, DiskFault, NoMemory}
 
 -- the reply to what came behind the requests
 abbrev pub text_behind : Speech → Heard → List ℕ
 text_behind speech (heard.Refused why) = speech.refusal_text why
 text_behind speech heard.Unread = speech.reply_text of_memory
 text_behind speech heard.TooLong = speech.too_long
+text_behind speech heard.WrongKey = speech.wrong_key
 text_behind speech other = []
 
 -- the end where nothing failed but what was heard
@@ -29,6 +30,7 @@ end_of heard.Untimed = Some ClockFault
 end_of heard.Limit = Some Limit
 end_of heard.Finish = Some End
 end_of heard.TooLong = Some TooLong
+end_of heard.WrongKey = Some WrongKey
 end_of heard.ReadFault = Some ReadFault
 
 -- a disk that failed goes before a clock that did, and that before a write
@@ -57,6 +59,8 @@ end_for write_fault = WriteFault
 end_for clock_fault = ClockFault
 end_for long_line = TooLong
 end_for long_untold = WriteFault
+end_for wrong_key = WrongKey
+end_for wrong_untold = WriteFault
 end_for limit = Limit
 end_for disk = Stopped
 end_for nothing = NoMemory

@@ -10,6 +10,7 @@ use Rattle.boss_lines.specs.declared.reader.Next.TheVariants as next
 use Rattle.boss_lines.specs.Lines.{StopsAt}
 use Rattle.boss_lines.specs.Window.{IsTooLong, NoLineEnd}
 use Rattle.def_connection.specs.Losing.{is_too_long, spoken_of}
+use Rattle.def_connection.specs.Speech.{Footing}
 use Rattle.boss_sessions.specs.declared.hearing.Hearing.{Hearing}
 use Rattle.boss_sessions.specs.declared.heard.Heard.{Heard}
 use Rattle.boss_sessions.specs.declared.heard.Heard.TheVariants.{Limit, Finish, TooLong, ReadFault}
@@ -24,6 +25,10 @@ pub record Place : Type 0 where
 
 abbrev pub place_of : Hearing → List ℕ → Place
 place_of hearing left = record { ahead = hearing.reader.ahead; stopped = hearing.reader.stopped; left = left; lines = hearing.lines }
+
+-- on what footing the next line is read
+abbrev pub footing_of : Hearing → Footing
+footing_of hearing = record { later = hearing.later; known = hearing.known }
 
 -- the bytes that are still to come
 abbrev pub to_come : Place → List ℕ

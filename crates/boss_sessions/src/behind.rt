@@ -1,10 +1,12 @@
-ghost use Rattle.std.specs.Prelude.{◌≡◌, ◌≤◌, List};
+ghost use Rattle.std.specs.Prelude.{◌≡◌, ◌≤◌, List, Option};
 ghost use Rattle.boss_model.specs.Limits.{answer_room};
 ghost use Rattle.boss_outside.specs.Counts.{HasCause};
 ghost use Rattle.boss_outside.specs.Streams.{Writes};
 ghost use Rattle.boss_model.specs.Catalogue.{Catalogue};
+ghost use Rattle.def_wire.specs.Texts.{line_of};
 ghost use Rattle.def_connection.specs.Speech.{Gate};
-ghost use Rattle.boss_sessions.specs.Speaking.{speech_of};
+ghost use Rattle.boss_keys.specs.declared.entry.Entry.{Entry};
+ghost use Rattle.boss_sessions.specs.Speaking.{speech_of, wrong_key_text};
 ghost use Rattle.boss_sessions.specs.Ends.{end_at, end_behind, end_of, text_behind};
 
 use crate::SessionEnd;
@@ -22,16 +24,25 @@ pub(crate) fn tell_behind<K: Sink>(
 ) -> Result<(), Failed>
     requires room { answer_room ≤ text.old.capacity }
     ensures room { text.new.capacity ≡ text.old.capacity }
-    ensures bytes { (catalogue : Catalogue) (gates : List Gate) → K.tells →
-        Writes (K.taken sink.old) (K.taken sink.new) (text_behind (speech_of catalogue gates) heard.now) result }
+    ensures bytes { (catalogue : Catalogue) (gates : List Gate) (keys : Option (List Entry)) → K.tells →
+        Writes (K.taken sink.old) (K.taken sink.new) (text_behind (speech_of catalogue gates keys) heard.now) result }
     ensures cause { HasCause (K.faults sink.old) (K.faults sink.new) result }
 {
     match heard {
         Heard::Refused(why) => tell_refusal(why, text, sink),
         Heard::Unread => tell_memory(sink),
         Heard::TooLong => tell_too_long(sink),
+        Heard::WrongKey => tell_wrong_key(sink),
         _ => Ok(()),
     }
+}
+
+/// Tells that no key was shown, or that it was another's.
+fn tell_wrong_key<K: Sink>(sink: &mut K) -> Result<(), Failed>
+    ensures bytes { K.tells → Writes (K.taken sink.old) (K.taken sink.new) (line_of wrong_key_text) result }
+    ensures cause { HasCause (K.faults sink.old) (K.faults sink.new) result }
+{
+    sink.write(b"{\"error\":\"wrong-key\"}\n")
 }
 
 /// Why the session ends after what was heard and its reply, if it does. A clock that failed goes before a write that did.
@@ -69,6 +80,7 @@ fn end_of(heard: Heard) -> Option<SessionEnd>
         Heard::Limit => Some(SessionEnd::Limit),
         Heard::Finish => Some(SessionEnd::End),
         Heard::TooLong => Some(SessionEnd::TooLong),
+        Heard::WrongKey => Some(SessionEnd::WrongKey),
         Heard::ReadFault => Some(SessionEnd::ReadFault),
     }
 }

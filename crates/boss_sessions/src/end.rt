@@ -15,6 +15,8 @@ pub enum SessionEnd {
     ClockFault,
     /// A line was too long.
     TooLong,
+    /// Whoever spoke had shown no key, or attached to another name than the one whose key it had shown.
+    WrongKey,
     /// As many lines came as are taken of a connection: 2^32.
     Limit,
     /// The disk had failed before a call of the session.

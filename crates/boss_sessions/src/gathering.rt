@@ -1,17 +1,18 @@
-ghost use Rattle.std.specs.Prelude.{◌≡◌, ◌+◌, ◌≤◌, true, [], length};
+ghost use Rattle.std.specs.Prelude.{◌≡◌, ◌+◌, ◌≤◌, true, [], length, option_copied};
 ghost use Rattle.std.specs.List.{AllByRecursion};
 ghost use Rattle.boss_model.specs.Catalogue.{actuators};
 ghost use Rattle.def_history.specs.History.{MayCall};
 ghost use Rattle.boss_outside.specs.Notes.{NotesEach};
 ghost use Rattle.boss_lines.specs.Lines.{is_at_hand};
 ghost use Rattle.boss_sessions.specs.Gathered.{Gathered, HeardEnd, GoesOn};
-ghost use Rattle.boss_sessions.specs.Places.{place_of, IsOpen, IsReadAt, SourceCause};
+ghost use Rattle.boss_sessions.specs.Places.{footing_of, place_of, IsOpen, IsReadAt, SourceCause};
 ghost use Rattle.boss_sessions.specs.Requests.{ClockCause};
-ghost use Rattle.boss_sessions.specs.Speaking.{reading_in};
+ghost use Rattle.boss_sessions.specs.Speaking.{manner_of};
 
 use crate::next_line::next_line;
 use crate::requests::take_request;
 use crate::{Heard, Hearing};
+use boss_keys::Keys;
 use boss_model::{Command, MOST_HELD};
 use boss_outside::Source;
 use boss_outside_server::Clock;
@@ -20,10 +21,12 @@ use boss_requests::{RequestReader, is_blank};
 use std::alloc::Global;
 
 /// Takes lines until `MOST_HELD` requests are held, or one at least and the next line would have to be read, or something else
-/// came. A request is held with the moment of the clock, in milliseconds. Blank lines are passed over.
+/// came. A request is held with the moment of the clock, in milliseconds. Blank lines are passed over. With keys, whoever speaks has to
+/// show one.
 pub fn gather<S: Source, C: Clock>(
     alloc: Global,
     catalogue: &Catalogue,
+    keys: Option<&Keys>,
     hearing: &mut Hearing,
     requests: &mut RequestReader,
     source: &mut S,
@@ -32,7 +35,7 @@ pub fn gather<S: Source, C: Clock>(
 ) -> Heard
     requires ready { IsOpen S.tells (place_of hearing.old (S.left source.old)) }
     requires none { commands.old.items ≡ [] }
-    ensures gathered { Gathered (reading_in catalogue.now) S.tells C.tells hearing.old.later hearing.new.later
+    ensures gathered { Gathered (manner_of catalogue.now (option_copied keys.entry)) S.tells C.tells (footing_of hearing.old) (footing_of hearing.new)
         commands.old.items commands.new.items (C.given clock.old) (C.given clock.new)
         (place_of hearing.old (S.left source.old)) (place_of hearing.new (S.left source.new)) result }
     ensures end { HeardEnd S.tells (place_of hearing.new (S.left source.new)) result }
@@ -47,7 +50,9 @@ pub fn gather<S: Source, C: Clock>(
     ensures clocked { ClockCause (C.faults clock.old) (C.faults clock.new) result }
 {
     while commands.len() < MOST_HELD && (commands.is_empty() || hearing.reader.whole()) {
-        match take_line(alloc, catalogue, hearing, requests, source, clock, commands) {
+        match take_line(
+            alloc, catalogue, keys, hearing, requests, source, clock, commands,
+        ) {
             Heard::Requests => {}
             heard => return heard,
         }
@@ -59,6 +64,7 @@ pub fn gather<S: Source, C: Clock>(
 fn take_line<S: Source, C: Clock>(
     alloc: Global,
     catalogue: &Catalogue,
+    keys: Option<&Keys>,
     hearing: &mut Hearing,
     requests: &mut RequestReader,
     source: &mut S,
@@ -67,7 +73,7 @@ fn take_line<S: Source, C: Clock>(
 ) -> Heard
     requires ready { IsOpen S.tells (place_of hearing.old (S.left source.old)) }
     requires may { AllByRecursion (MayCall (actuators catalogue.now)) commands.old.items }
-    ensures gathered { Gathered (reading_in catalogue.now) S.tells C.tells hearing.old.later hearing.new.later
+    ensures gathered { Gathered (manner_of catalogue.now (option_copied keys.entry)) S.tells C.tells (footing_of hearing.old) (footing_of hearing.new)
         commands.old.items commands.new.items (C.given clock.old) (C.given clock.new)
         (place_of hearing.old (S.left source.old)) (place_of hearing.new (S.left source.new)) result }
     ensures end { HeardEnd S.tells (place_of hearing.new (S.left source.new)) result }
@@ -92,8 +98,10 @@ fn take_line<S: Source, C: Clock>(
     take_request(
         alloc,
         catalogue,
+        keys,
         hearing.reader.line(),
         later,
+        &mut hearing.known,
         requests,
         clock,
         commands,

@@ -13,6 +13,8 @@ pub enum Heard {
     Watch { name: Name, from: u64 },
     /// A request at which the clock failed.
     Untimed,
+    /// A line of whoever has shown no key, or an attach of another name than the one whose key was shown.
+    WrongKey,
     /// As many lines as are taken of a connection: `MOST_LINES`.
     Limit,
     /// The end of the input.

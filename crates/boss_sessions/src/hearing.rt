@@ -1,8 +1,10 @@
-ghost use Rattle.std.specs.Prelude.{◌≡◌, false, [], None, IfOk};
+ghost use Rattle.std.specs.Prelude.{◌≡◌, [], None, IfOk};
 ghost use Rattle.boss_model.specs.Limits.{most_lines};
+ghost use Rattle.def_connection.specs.Speech.{beginning};
+ghost use Rattle.boss_sessions.specs.Places.{footing_of};
 
 use boss_lines::Lines;
-use boss_model::{MOST_LINES, NoMemory};
+use boss_model::{MOST_LINES, Name, NoMemory};
 use std::alloc::Global;
 
 /// The lines of a connection, as far as they were taken.
@@ -14,6 +16,8 @@ pub struct Hearing {
     pub lines: u64,
     /// Whether one was taken that is not blank.
     pub later: bool,
+    /// The name whose key was shown, where there are keys.
+    pub known: Option<Name>,
 }
 
 impl Hearing {
@@ -21,12 +25,13 @@ impl Hearing {
     pub fn new(alloc: Global) -> Result<Hearing, NoMemory>
         ensures reader { IfOk result (λ hearing. hearing.reader ≡ record { line = []; ahead = []; stopped = None }) }
         ensures lines { IfOk result (λ hearing. hearing.lines ≡ most_lines) }
-        ensures later { IfOk result (λ hearing. hearing.later ≡ false) }
+        ensures footing { IfOk result (λ hearing. footing_of hearing ≡ beginning) }
     {
         Ok(Hearing {
             reader: Lines::new(alloc)?,
             lines: MOST_LINES,
             later: false,
+            known: None,
         })
     }
 }

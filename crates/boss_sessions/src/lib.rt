@@ -3,7 +3,7 @@
 //!
 //! What is heard on it are its lines, one after another, and the requests among them, each with the moment of the clock at which
 //! it was taken. Requests that have come are held together, up to [`boss_model::MOST_HELD`] of them, as long as nothing has to be read for
-//! the next one.
+//! the next one. With keys, whoever speaks has to show one.
 #![tactic(auto)]
 
 mod behind;
@@ -13,6 +13,7 @@ mod gathering;
 mod halt;
 mod heard;
 mod hearing;
+mod keyed;
 mod next_line;
 mod parting;
 mod replies;
@@ -27,4 +28,5 @@ pub use ended::a_served_connection_has_ended;
 pub use gathering::gather;
 pub use heard::Heard;
 pub use hearing::Hearing;
+pub use keyed::lines_are_guarded_by_keys;
 pub use serving::serve_connection;

@@ -1,7 +1,7 @@
 ghost use Rattle.std.specs.Prelude.{◌≡◌, true, ◌∷◌, []};
 ghost use Rattle.boss_outside.specs.Notes.{NotesEach};
 ghost use Rattle.boss_lines.specs.Lines.{is_at_hand};
-ghost use Rattle.boss_sessions.specs.Places.{place_of, Advances, IsOpen, IsReadAt, taken_by, StopsFor, SourceStops};
+ghost use Rattle.boss_sessions.specs.Places.{footing_of, place_of, Advances, IsOpen, IsReadAt, taken_by, StopsFor, SourceStops};
 
 use crate::{Heard, Hearing};
 use boss_lines::Next;
@@ -13,7 +13,7 @@ pub(crate) fn next_line<S: Source>(hearing: &mut Hearing, source: &mut S) -> Opt
     ensures advances { Advances S.tells (taken_by hearing.new.reader.line result) (place_of hearing.old (S.left source.old))
         (place_of hearing.new (S.left source.new)) }
     ensures stops { StopsFor S.tells (place_of hearing.new (S.left source.new)) result }
-    ensures later { hearing.new.later ≡ hearing.old.later }
+    ensures footing { footing_of hearing.new ≡ footing_of hearing.old }
     ensures held { S.tells → S.held source.new ≡ S.held source.old }
     ensures reads { S.tells → NotesEach (IsReadAt (place_of hearing.old (S.left source.old)) (S.told source.old)) (S.reads source.old) (S.reads source.new) }
     ensures shown { S.told source.new ≡ S.told source.old }

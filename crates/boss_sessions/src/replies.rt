@@ -1,9 +1,10 @@
-ghost use Rattle.std.specs.Prelude.{◌≡◌, ◌+◌, ◌≤◌, ◌++◌, List, [], length, OnOk};
+ghost use Rattle.std.specs.Prelude.{◌≡◌, ◌+◌, ◌≤◌, ◌++◌, List, [], length, Option, OnOk};
 ghost use Rattle.std.specs.List.{AllByRecursion, flat_map};
 ghost use Rattle.boss_model.specs.Tellable.{IsTellable};
 ghost use Rattle.def_wire.specs.Texts.{answer_text, line_of};
 ghost use Rattle.boss_outside.specs.Counts.{HasCause};
 ghost use Rattle.boss_outside.specs.Streams.{Writes};
+ghost use Rattle.boss_keys.specs.declared.entry.Entry.{Entry};
 ghost use Rattle.boss_sessions.specs.Speaking.{speech_of};
 ghost use Rattle.def_connection.specs.Batches.{texts_by};
 ghost use Rattle.def_connection.specs.Speech.{Gate};
@@ -39,8 +40,8 @@ pub(crate) fn tell_replies<K: Sink>(
     requires tellable { AllByRecursion (IsTellable catalogue.now) answers.now }
     requires rest { IsRest rest.now }
     ensures room { text.new.capacity ≡ text.old.capacity }
-    ensures bytes { (gates : List Gate) → K.tells → Writes (K.taken sink.old) (K.taken sink.new)
-        (texts_by (speech_of catalogue.now gates) (replies_of answers.now rest.now)) result }
+    ensures bytes { (gates : List Gate) (keys : Option (List Entry)) → K.tells → Writes (K.taken sink.old) (K.taken sink.new)
+        (texts_by (speech_of catalogue.now gates keys) (replies_of answers.now rest.now)) result }
     ensures cause { HasCause (K.faults sink.old) (K.faults sink.new) result }
 {
     text.clear();

@@ -1,12 +1,12 @@
-ghost use Rattle.std.specs.Prelude.{◌≡◌, ◌<◌, ◌≤◌, [], length, map, IfNone};
+ghost use Rattle.std.specs.Prelude.{◌≡◌, ◌<◌, ◌≤◌, [], length, map, option_copied, IfNone};
 ghost use Rattle.std.specs.List.{AllByRecursion};
 ghost use Rattle.boss_model.specs.Catalogue.{actuators};
 ghost use Rattle.def_history.specs.History.{is_broken, MayCall};
 ghost use Rattle.boss_outside.specs.Notes.{NotesEach};
 ghost use Rattle.boss_sessions.specs.Gathered.{Gathered, HeardEnd, GoesOn};
-ghost use Rattle.boss_sessions.specs.Places.{place_of, IsOpen, IsReadAt, SourceCause};
+ghost use Rattle.boss_sessions.specs.Places.{footing_of, place_of, IsOpen, IsReadAt, SourceCause};
 ghost use Rattle.boss_sessions.specs.Requests.{ClockCause as ClockFails};
-ghost use Rattle.boss_sessions.specs.Speaking.{reading_in, speech_of};
+ghost use Rattle.boss_sessions.specs.Speaking.{manner_of, speech_of};
 ghost use Rattle.boss_lock.specs.Places.{entries_at};
 ghost use Rattle.def_connection.specs.Speech.{last_or};
 ghost use Rattle.def_connection.specs.Talks.{standing};
@@ -19,6 +19,7 @@ use crate::gathering::gather;
 use crate::session::Session;
 use crate::turns::answer_all;
 use crate::{Heard, Hearing, SessionEnd};
+use boss_keys::Keys;
 use boss_model::{Command, SessionId};
 use boss_outside::{Hears, Sink};
 use boss_outside_server::Clock;
@@ -32,6 +33,7 @@ use std::alloc::Global;
 pub(crate) fn round<G: Desk, S: Hears<K>, K: Sink, C: Clock>(
     alloc: Global,
     catalogue: &Catalogue,
+    keys: Option<&Keys>,
     desk: &G,
     pass: &mut G::Pass,
     number: SessionId,
@@ -48,7 +50,8 @@ pub(crate) fn round<G: Desk, S: Hears<K>, K: Sink, C: Clock>(
     ensures parts { G.parts pass.new ≡ G.parts pass.old }
     ensures room { HasRoom session.new }
     ensures rounded { ByName (G.denies desk.now) number (G.held pass.old) (G.held pass.new) (λ name name'.
-        Rounded (speech_of catalogue.now (G.denies desk.now)) number S.tells K.tells C.tells session.old.hearing.later session.new.hearing.later
+        Rounded (speech_of catalogue.now (G.denies desk.now) (option_copied keys.entry)) number S.tells K.tells C.tells
+        (footing_of session.old.hearing) (footing_of session.new.hearing)
         (place_of session.old.hearing (S.left source.old)) (place_of session.new.hearing (S.left source.new))
         (named (standing (entries_at (G.seen pass.old) (G.mine pass.old)) (K.taken sink.old) (K.faults sink.old) (C.given clock.old) session.old.attached session.old.last) name)
         (named (standing (entries_at (G.seen pass.new) (G.mine pass.new)) (K.taken sink.new) (K.faults sink.new) (C.given clock.new) session.new.attached session.new.last) name')
@@ -66,6 +69,7 @@ pub(crate) fn round<G: Desk, S: Hears<K>, K: Sink, C: Clock>(
     let heard = hear(
         alloc,
         catalogue,
+        keys,
         &mut session.hearing,
         &mut session.requests,
         source,
@@ -99,6 +103,7 @@ pub(crate) fn round<G: Desk, S: Hears<K>, K: Sink, C: Clock>(
 fn hear<S: Hears<K>, K: Sink, C: Clock>(
     alloc: Global,
     catalogue: &Catalogue,
+    keys: Option<&Keys>,
     hearing: &mut Hearing,
     requests: &mut RequestReader,
     source: &mut S,
@@ -108,7 +113,7 @@ fn hear<S: Hears<K>, K: Sink, C: Clock>(
 ) -> Heard
     requires ready { IsOpen S.tells (place_of hearing.old (S.left source.old)) }
     requires none { commands.old.items ≡ [] }
-    ensures gathered { Gathered (reading_in catalogue.now) S.tells C.tells hearing.old.later hearing.new.later
+    ensures gathered { Gathered (manner_of catalogue.now (option_copied keys.entry)) S.tells C.tells (footing_of hearing.old) (footing_of hearing.new)
         commands.old.items commands.new.items (C.given clock.old) (C.given clock.new)
         (place_of hearing.old (S.left source.old)) (place_of hearing.new (S.left source.new)) result }
     ensures end { HeardEnd S.tells (place_of hearing.new (S.left source.new)) result }
@@ -121,7 +126,9 @@ fn hear<S: Hears<K>, K: Sink, C: Clock>(
     ensures clocked { ClockFails (C.faults clock.old) (C.faults clock.new) result }
 {
     source.show(sink);
-    gather(alloc, catalogue, hearing, requests, source, clock, commands)
+    gather(
+        alloc, catalogue, keys, hearing, requests, source, clock, commands,
+    )
 }
 
 /// The moment of the last command, or this one where there is none.

@@ -1,5 +1,7 @@
 ghost use Rattle.std.specs.Prelude.{◌≡◌, ◌≤◌, false, [], None, IfOk, vec_capacity};
 ghost use Rattle.boss_model.specs.Limits.{most_lines};
+ghost use Rattle.def_connection.specs.Speech.{beginning};
+ghost use Rattle.boss_sessions.specs.Places.{footing_of};
 ghost use Rattle.boss_sessions.specs.Replies.{reply_room};
 
 use crate::hearing::Hearing;
@@ -30,7 +32,7 @@ impl Session {
     pub(crate) fn new(alloc: Global) -> Result<Session, NoMemory>
         ensures reader { IfOk result (λ session. session.hearing.reader ≡ record { line = []; ahead = []; stopped = None }) }
         ensures lines { IfOk result (λ session. session.hearing.lines ≡ most_lines) }
-        ensures later { IfOk result (λ session. session.hearing.later ≡ false) }
+        ensures footing { IfOk result (λ session. footing_of session.hearing ≡ beginning) }
         ensures attached { IfOk result (λ session. session.attached ≡ false) }
         ensures last { IfOk result (λ session. session.last ≡ 0) }
         ensures answers { IfOk result (λ session. 16 ≤ vec_capacity session.answers) }

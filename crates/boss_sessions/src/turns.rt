@@ -1,7 +1,8 @@
-ghost use Rattle.std.specs.Prelude.{◌≡◌, ◌≤◌, length, map, drop, IfOk, vec_capacity};
+ghost use Rattle.std.specs.Prelude.{◌≡◌, ◌≤◌, List, length, map, drop, Option, IfOk, vec_capacity};
 ghost use Rattle.std.specs.List.{AllByRecursion};
 ghost use Rattle.boss_model.specs.Catalogue.{actuators};
 ghost use Rattle.def_history.specs.History.{is_broken, MayCall};
+ghost use Rattle.boss_keys.specs.declared.entry.Entry.{Entry};
 ghost use Rattle.boss_sessions.specs.Speaking.{speech_of};
 ghost use Rattle.boss_lock.specs.Places.{entries_at};
 ghost use Rattle.def_connection.specs.Speech.{attaches_by, of_answer};
@@ -39,7 +40,7 @@ pub(crate) fn answer_all<G: Desk, K: Sink>(
     ensures parts { G.parts pass.new ≡ G.parts pass.old }
     ensures room { vec_capacity answers.new ≡ vec_capacity answers.old }
     ensures text { text.new.capacity ≡ text.old.capacity }
-    ensures replied { Replied (speech_of catalogue.now (G.denies desk.now)) session K.tells commands.items
+    ensures replied { (keys : Option (List Entry)) → Replied (speech_of catalogue.now (G.denies desk.now) keys) session K.tells commands.items
         (voice (entries_at (G.seen pass.old) (G.mine pass.old)) (K.taken sink.old) (K.faults sink.old) attached.old (G.seen pass.old) (G.held pass.old))
         (voice (entries_at (G.seen pass.new) (G.mine pass.new)) (K.taken sink.new) (K.faults sink.new) attached.new (G.seen pass.new) (G.held pass.new))
         (counted (length commands.items) result) }
@@ -81,7 +82,7 @@ fn one_turn<G: Desk, K: Sink>(
     ensures room { vec_capacity answers.new ≡ vec_capacity answers.old }
     ensures text { text.new.capacity ≡ text.old.capacity }
     ensures some { IfOk result (λ count. (1 ≤ count) × (count ≤ length commands.now)) }
-    ensures replied { Replied (speech_of catalogue.now (G.denies desk.now)) session K.tells commands.now
+    ensures replied { (keys : Option (List Entry)) → Replied (speech_of catalogue.now (G.denies desk.now) keys) session K.tells commands.now
         (voice (entries_at (G.seen pass.old) (G.mine pass.old)) (K.taken sink.old) (K.faults sink.old) attached.old (G.seen pass.old) (G.held pass.old))
         (voice (entries_at (G.seen pass.new) (G.mine pass.new)) (K.taken sink.new) (K.faults sink.new) attached.new (G.seen pass.new) (G.held pass.new)) result }
 {
