@@ -3,7 +3,7 @@ use Rattle.std.proofs.Common.{◌≡◌, ℕ, Bool, true, false, List, Some, ref
 use Rattle.boss_outside_server.specs.Hosts.{Served}
 use Rattle.def_lanes.specs.Works.{not_cut, by_disk, by_clock, by_memory}
 use Rattle.def_connection.specs.Losing.{Lost}
-use Rattle.def_connection.specs.Stopping.{Stop, finish, watching, read_fault, write_fault, clock_fault, long_line, long_untold, limit, disk, nothing}
+use Rattle.def_connection.specs.Stopping.{Stop, finish, watching, read_fault, write_fault, clock_fault, long_line, long_untold, wrong_key, wrong_untold, limit, disk, nothing}
 use Rattle.def_connection.specs.Talks.{IsEnded, ReadsAt, WritesAt, cut_for, is_whole}
 use Rattle.boss_sessions.specs.declared.end.SessionEnd.{SessionEnd}
 use Rattle.boss_sessions.specs.declared.end.SessionEnd.TheVariants as end
@@ -17,7 +17,9 @@ cut-stop read_fault calm = refl
 cut-stop write_fault calm = refl
 cut-stop clock_fault calm = refl
 cut-stop long_line calm = refl
+cut-stop wrong_key calm = refl
 cut-stop long_untold calm = refl
+cut-stop wrong_untold calm = refl
 cut-stop limit calm = refl
 cut-stop disk calm = absurd (let no : true ≡ false = calm in cc)
 cut-stop nothing calm = refl
@@ -31,6 +33,7 @@ cut-broken end.ReadFault broken = absurd (let no : false ≡ true = broken in cc
 cut-broken end.WriteFault broken = absurd (let no : false ≡ true = broken in cc)
 cut-broken end.ClockFault broken = absurd (let no : false ≡ true = broken in cc)
 cut-broken end.TooLong broken = absurd (let no : false ≡ true = broken in cc)
+cut-broken end.WrongKey broken = absurd (let no : false ≡ true = broken in cc)
 cut-broken end.Limit broken = absurd (let no : false ≡ true = broken in cc)
 cut-broken end.NoMemory broken = absurd (let no : false ≡ true = broken in cc)
 
@@ -46,7 +49,9 @@ whole-for reads writes read_fault read write apart uncut calm quiet = absurd (om
 whole-for reads writes write_fault read write apart uncut calm quiet = absurd (omega (arith, write, quiet))
 whole-for reads writes clock_fault read write apart uncut calm quiet = absurd (let no : by_clock ≡ not_cut = uncut in cc)
 whole-for reads writes long_line read write apart uncut calm quiet = refl
+whole-for reads writes wrong_key read write apart uncut calm quiet = refl
 whole-for reads writes long_untold read write apart uncut calm quiet = absurd (omega (arith, write, quiet))
+whole-for reads writes wrong_untold read write apart uncut calm quiet = absurd (omega (arith, write, quiet))
 whole-for reads writes limit read write apart uncut calm quiet = refl
 whole-for reads writes disk read write apart uncut calm quiet = absurd (let no : by_disk ≡ not_cut = uncut in cc)
 whole-for reads writes nothing read write apart uncut calm quiet = absurd (let no : by_memory ≡ not_cut = uncut in cc)
@@ -58,7 +63,9 @@ reads-for reads read_fault cause = omega (arith, cause)
 reads-for reads write_fault cause = tt
 reads-for reads clock_fault cause = cause
 reads-for reads long_line cause = cause
+reads-for reads wrong_key cause = cause
 reads-for reads long_untold cause = tt
+reads-for reads wrong_untold cause = tt
 reads-for reads limit cause = cause
 reads-for reads disk cause = tt
 reads-for reads nothing cause = cause
@@ -70,7 +77,9 @@ writes-for writes read_fault cause = cause
 writes-for writes write_fault cause = omega (arith, cause)
 writes-for writes clock_fault cause = tt
 writes-for writes long_line cause = cause
+writes-for writes wrong_key cause = cause
 writes-for writes long_untold cause = omega (arith, cause)
+writes-for writes wrong_untold cause = omega (arith, cause)
 writes-for writes limit cause = cause
 writes-for writes disk cause = tt
 writes-for writes nothing cause = cause
@@ -106,7 +115,9 @@ watch-stop name from read_fault is = absurd cc
 watch-stop name from write_fault is = absurd cc
 watch-stop name from clock_fault is = absurd cc
 watch-stop name from long_line is = absurd cc
+watch-stop name from wrong_key is = absurd cc
 watch-stop name from long_untold is = absurd cc
+watch-stop name from wrong_untold is = absurd cc
 watch-stop name from limit is = absurd cc
 watch-stop name from disk is = absurd cc
 watch-stop name from nothing is = absurd cc

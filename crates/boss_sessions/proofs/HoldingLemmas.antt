@@ -10,7 +10,7 @@ use Rattle.def_history.specs.declared.outcome.Outcome.TheVariants.{Done, Stopped
 use Rattle.boss_shared.specs.Gates.{Holding, all_held_by, denied_at, denied_to, held_after, held_by, or_else, AllowedAll, NextJudged}
 use Rattle.def_connection.specs.Batches.{AreAsked, batch}
 use Rattle.def_connection.specs.Judging.{denial_in, denied_by, denied_for, name_by, name_after, name_in, AreJudged, or_denied}
-use Rattle.def_connection.specs.Speech.{Gate, Reading, Reply, of_answer, of_memory, of_stop, of_denial}
+use Rattle.def_connection.specs.Speech.{Gate, Footing, Manner, after, Reply, of_answer, of_memory, of_stop, of_denial}
 use Rattle.boss_sessions.specs.Holding.{held_behind, JudgedBy, HoldsAt, Holds, LeavesOthers}
 use Rattle.boss_sessions.specs.Turns.{IsRest, replies_of}
 
@@ -230,15 +230,15 @@ module _ (gates : List Gate) (session : ℕ) where
       others-judged calls replies (held_behind session call.0 reply held) held' judged.1 other apart (others-behind gates session held call.0 reply other apart holds)
 
 -- the exchanges of a batch are judged by the name that the session has, and it has a name behind them
-pub batch-judged : (reading : Bool → List ℕ → Reading) (gates : List Gate) (session : ℕ) (name : Option (List ℕ)) (later : Bool) (lines : List (List ℕ)) (calls : List (Command × ℕ)) (replies : List Reply)
-    (held held' : List Holding) → AreAsked reading later lines calls → JudgedBy gates session calls replies held held' → Holds gates session name held →
+pub batch-judged : (manner : Manner) (gates : List Gate) (session : ℕ) (name : Option (List ℕ)) (at : Footing) (lines : List (List ℕ)) (calls : List (Command × ℕ)) (replies : List Reply)
+    (held held' : List Holding) → AreAsked manner at lines calls → JudgedBy gates session calls replies held held' → Holds gates session name held →
     AreJudged gates name (batch lines calls replies) × Holds gates session (name_in name (batch lines calls replies)) held'
-batch-judged reading gates session name later [] [] [] held held' asked judged holds = (tt, subst (Holds gates session name) (sym judged) holds)
-batch-judged reading gates session name later [] [] (reply ∷ replies) held held' asked judged holds = (tt, subst (Holds gates session name) (sym judged) holds)
-batch-judged reading gates session name later [] (call ∷ calls) replies held held' asked judged holds = absurd asked
-batch-judged reading gates session name later (line ∷ lines) [] replies held held' asked judged holds = absurd asked
-batch-judged reading gates session name later (line ∷ lines) (call ∷ calls) [] held held' asked judged holds = (tt, subst (Holds gates session name) (sym judged) holds)
-batch-judged reading gates session name later (line ∷ lines) (call ∷ calls) (reply ∷ replies) held held' asked judged holds =
-    let more = batch-judged reading gates session (name_after name call.0 reply) true lines calls replies (held_behind session call.0 reply held) held' asked.1 judged.1
+batch-judged manner gates session name at [] [] [] held held' asked judged holds = (tt, subst (Holds gates session name) (sym judged) holds)
+batch-judged manner gates session name at [] [] (reply ∷ replies) held held' asked judged holds = (tt, subst (Holds gates session name) (sym judged) holds)
+batch-judged manner gates session name at [] (call ∷ calls) replies held held' asked judged holds = absurd asked
+batch-judged manner gates session name at (line ∷ lines) [] replies held held' asked judged holds = absurd asked
+batch-judged manner gates session name at (line ∷ lines) (call ∷ calls) [] held held' asked judged holds = (tt, subst (Holds gates session name) (sym judged) holds)
+batch-judged manner gates session name at (line ∷ lines) (call ∷ calls) (reply ∷ replies) held held' asked judged holds =
+    let more = batch-judged manner gates session (name_after name call.0 reply) (after manner at line) lines calls replies (held_behind session call.0 reply held) held' asked.1 judged.1
     (holds-behind gates session name held call.0 reply holds) in
     ((judged.0 ∙ denied-named gates session name held call.0 holds, more.0), more.1)

@@ -3,9 +3,9 @@ pub mod HoldingLemmas
 pub mod PlaceLemmas
 pub mod PutLemmas
 pub mod ReadLemmas
+pub mod KeyLemmas
 pub mod RequestLemmas
 pub mod AnsweredLemmas
-pub mod CauseLemmas
 pub mod EndedLemmas
 pub mod PartingLemmas
 pub mod ReplyLemmas

@@ -16,7 +16,7 @@ use Rattle.boss_outside.specs.declared.source.ReadAt.{ReadAt}
 use Rattle.boss_sessions.specs.Places.{Place}
 use Rattle.def_lanes.proofs.Choices.{deeds-append}
 use Rattle.boss_shared.specs.Calls.{is_stopped}
-use Rattle.def_connection.specs.Speech.{of_answer, of_memory, of_stop, of_denial, Speech, Exchange, unread, refused, called, attaches_by, attached_in, deeds_in, parting_of}
+use Rattle.def_connection.specs.Speech.{beginning, of_answer, of_memory, of_stop, of_denial, Speech, Exchange, unread, refused, called, attaches_by, attached_in, deeds_in, parting_of}
 use Rattle.def_connection.specs.Talks.{standing, is_unparted}
 use Rattle.boss_sessions.specs.declared.end.SessionEnd.{SessionEnd}
 use Rattle.boss_sessions.specs.declared.end.SessionEnd.TheVariants as end
@@ -59,6 +59,7 @@ whole-disk before now end.ReadFault is calm = λ stops. absurd (let other : true
 whole-disk before now end.WriteFault is calm = λ stops. absurd (let other : true ≡ false = sym stops ∙ is in cc)
 whole-disk before now end.ClockFault is calm = λ stops. absurd (let other : true ≡ false = sym stops ∙ is in cc)
 whole-disk before now end.TooLong is calm = λ stops. absurd (let other : true ≡ false = sym stops ∙ is in cc)
+whole-disk before now end.WrongKey is calm = λ stops. absurd (let other : true ≡ false = sym stops ∙ is in cc)
 whole-disk before now end.Limit is calm = λ stops. absurd (let other : true ≡ false = sym stops ∙ is in cc)
 whole-disk before now end.NoMemory is calm = λ stops. absurd (let other : true ≡ false = sym stops ∙ is in cc)
 
@@ -72,6 +73,7 @@ going-at before was end.ReadFault cause is = refl
 going-at before was end.WriteFault cause is = refl
 going-at before was end.ClockFault cause is = refl
 going-at before was end.TooLong cause is = refl
+going-at before was end.WrongKey cause is = refl
 going-at before was end.Limit cause is = refl
 going-at before was end.NoMemory cause is = refl
 
@@ -136,6 +138,7 @@ fails-where session own own' end.ReadFault says = tt
 fails-where session own own' end.WriteFault says = tt
 fails-where session own own' end.ClockFault says = tt
 fails-where session own own' end.TooLong says = tt
+fails-where session own own' end.WrongKey says = tt
 fails-where session own own' end.Limit says = tt
 fails-where session own own' end.NoMemory says = tt
 
@@ -157,10 +160,10 @@ parts-fails session moment first own own' before was broken (came.Denied index r
 module _ (speech : Speech) (number : ℕ) (heeds tells ticks : Type 0) (place place' : Place) (own : List Entry) (taken : List ℕ) (faults : ℕ) (given : List ℕ) (attached : Bool) (last : ℕ)
     (own' : List Entry) (taken' : List ℕ) (faults' : ℕ) (given' : List ℕ) (attached' : Bool) (last' : ℕ) (name' : Option (List ℕ)) (r r' : Option (List ReadAt)) (e : SessionEnd)
     (empty : place.ahead ≡ []) (count : place.lines ≡ most_lines) (fresh : attached ≡ false) (first : last ≡ 0)
-    (ended : EndedAnswered speech number heeds tells ticks false place place' (standing own taken faults given attached last) (named (standing own' taken' faults' given' attached' last') name') r r' e) where
-  anew : EndedAnswered speech number heeds tells ticks false place place' (standing own taken faults given false 0) (named (standing own' taken' faults' given' attached' last') name') r r' e
-  anew = subst (λ t. EndedAnswered speech number heeds tells ticks false place place' (standing own taken faults given false t) (named (standing own' taken' faults' given' attached' last') name') r r' e) first
-      (subst (λ t. EndedAnswered speech number heeds tells ticks false place place' (standing own taken faults given t last) (named (standing own' taken' faults' given' attached' last') name') r r' e) fresh ended)
+    (ended : EndedAnswered speech number heeds tells ticks beginning place place' (standing own taken faults given attached last) (named (standing own' taken' faults' given' attached' last') name') r r' e) where
+  anew : EndedAnswered speech number heeds tells ticks beginning place place' (standing own taken faults given false 0) (named (standing own' taken' faults' given' attached' last') name') r r' e
+  anew = subst (λ t. EndedAnswered speech number heeds tells ticks beginning place place' (standing own taken faults given false t) (named (standing own' taken' faults' given' attached' last') name') r r' e) first
+      (subst (λ t. EndedAnswered speech number heeds tells ticks beginning place place' (standing own taken faults given t last) (named (standing own' taken' faults' given' attached' last') name') r r' e) fresh ended)
 
   -- without a last call
   pub connected-whole : attached' ≡ false →

@@ -1,5 +1,5 @@
 -- The reads of a source, and which lines were answered when each was made.
-use Rattle.std.proofs.Common.{◌≡◌, inl, inr, ℕ, Bool, List, [], ◌∷◌, ◌++◌, length, Option, Some, None, refl, ap, sym, ◌∙◌, subst, append_assoc, append-nil, arith}
+use Rattle.std.proofs.Common.{◌≡◌, inl, inr, ℕ, List, [], ◌∷◌, ◌++◌, length, Option, Some, None, refl, ap, sym, ◌∙◌, subst, append_assoc, append-nil, arith}
 use Rattle.std.specs.Prelude.{IfSome}
 use Rattle.std.proofs.lemmas.List.{length-append}
 use Rattle.boss_model.specs.declared.command.Command.{Command}
@@ -13,7 +13,7 @@ use Rattle.boss_lines.specs.Lines.{IsReadFor}
 use Rattle.def_connection.specs.Answered.{IsAnswered}
 use Rattle.def_connection.specs.Batches.{AreAsked}
 use Rattle.def_connection.specs.Losing.{spoken_of}
-use Rattle.def_connection.specs.Speech.{Reading, Speech, Exchange, text_in}
+use Rattle.def_connection.specs.Speech.{Footing, Manner, Speech, Exchange, text_in}
 use Rattle.def_connection.specs.Talks.{Standing}
 use Rattle.boss_sessions.specs.declared.heard.Heard.TheVariants.{Requests}
 use Rattle.boss_sessions.specs.Gathered.{Gathered}
@@ -43,23 +43,23 @@ behind-front place place' all takes told at is =
       ap spoken_of (takes.going still is.come).1 ∙ spoken-append all (whole_lines is.come) ∙ ap (λ rest. spoken_of all ++ rest) is.silent ∙ append-nil (spoken_of all),
     )
 
-none-asked : (reading : Bool → List ℕ → Reading) (later : Bool) (lines : List (List ℕ)) (calls : List (Command × ℕ)) → calls ≡ [] → AreAsked reading later lines calls → lines ≡ []
-none-asked reading later [] calls none asked = refl
-none-asked reading later (line ∷ lines) [] none asked = absurd asked
-none-asked reading later (line ∷ lines) (call ∷ calls) none asked = absurd cc
+none-asked : (manner : Manner) (at : Footing) (lines : List (List ℕ)) (calls : List (Command × ℕ)) → calls ≡ [] → AreAsked manner at lines calls → lines ≡ []
+none-asked manner at [] calls none asked = refl
+none-asked manner at (line ∷ lines) [] none asked = absurd asked
+none-asked manner at (line ∷ lines) (call ∷ calls) none asked = absurd cc
 
 -- what a vector without items holds
 pub is-empty : {X : Type 0} (xs : List X) → length xs ≡ 0 → xs ≡ []
 is-empty [] is = refl
 is-empty (x ∷ xs) is = absurd (omega (arith, is))
 
-module _ (reading : Bool → List ℕ → Reading) (heeds ticks : Type 0) where
+module _ (manner : Manner) (heeds ticks : Type 0) where
   -- as long as no request is held only blank lines were taken
-  silent-read : (l l' : Bool) (calls : List (Command × ℕ)) (g g' : List ℕ) (a b : Place) → Gathered reading heeds ticks l l' [] calls g g' a b Requests → calls ≡ [] → IsOpen heeds a → heeds →
+  silent-read : (l l' : Footing) (calls : List (Command × ℕ)) (g g' : List ℕ) (a b : Place) → Gathered manner heeds ticks l l' [] calls g g' a b Requests → calls ≡ [] → IsOpen heeds a → heeds →
       (told told' : ℕ) → told' ≡ told → (at : ReadAt) → IsReadAt b told' at → IsReadAt a told at
   silent-read l l' calls g g' a b one none ready told-now told told' same at is =
-      let unasked : one.waiting ≡ [] = none-asked reading l one.waiting one.more (sym one.held ∙ none) one.asked in
-      let quiet : spoken_of one.all ≡ [] = sym one.spoken ∙ ap (λ front. front ++ one.behind) unasked ∙ one.behind_is in
+      let unasked : one.waiting ≡ [] = none-asked manner l one.waiting one.more (sym one.held ∙ none) one.asked in
+      let quiet : spoken_of one.all ≡ [] = sym one.spoken ∙ ap (λ front. front ++ one.behind) unasked ∙ one.behind_is.0 in
       let front = behind-front a b one.all (one.advances.takes told-now) told' at is in
       record {
         going = elim ready.going [ inl going ↦ going | inr over ↦ absurd (let no : None ≡ Some next.Finish = sym is.going ∙ one.advances.over over in cc) ];
@@ -72,14 +72,14 @@ module _ (reading : Bool → List ℕ → Reading) (heeds ticks : Type 0) where
       }
 
   -- the next line is read only where no request is held
-  pub reads-gathered : (l l' : Bool) (c calls : List (Command × ℕ)) (g g' : List ℕ) (a b : Place) → c ≡ [] → Gathered reading heeds ticks l l' c calls g g' a b Requests → IsOpen heeds a → heeds →
+  pub reads-gathered : (l l' : Footing) (c calls : List (Command × ℕ)) (g g' : List ℕ) (a b : Place) → c ≡ [] → Gathered manner heeds ticks l l' c calls g g' a b Requests → IsOpen heeds a → heeds →
       (told told' : ℕ) → told' ≡ told → (r r' r'' : Option (List ReadAt)) → (¬ (calls ≡ []) → r'' ≡ r') → NotesEach (IsReadAt a told) r r' → NotesEach (IsReadAt b told') r' r'' →
       NotesEach (IsReadAt a told) r r''
   reads-gathered l l' c calls g g' a b first one ready told-now told told' same r r' r'' unread before now =
       notes-then (IsReadAt a told) r r' r'' before
-      (by calls (subst (λ cs. Gathered reading heeds ticks l l' cs calls g g' a b Requests) first one) unread)
+      (by calls (subst (λ cs. Gathered manner heeds ticks l l' cs calls g g' a b Requests) first one) unread)
     where
-      by : (calls : List (Command × ℕ)) → Gathered reading heeds ticks l l' [] calls g g' a b Requests → (¬ (calls ≡ []) → r'' ≡ r') → NotesEach (IsReadAt a told) r' r''
+      by : (calls : List (Command × ℕ)) → Gathered manner heeds ticks l l' [] calls g g' a b Requests → (¬ (calls ≡ []) → r'' ≡ r') → NotesEach (IsReadAt a told) r' r''
       by [] one unread = notes-map (IsReadAt b told') (IsReadAt a told) (silent-read l l' [] g g' a b one refl ready told-now told told' same) r' r'' now
       by (call ∷ calls) one unread = notes-same (IsReadAt a told) r' r'' (unread (λ none. cc))
 
@@ -116,7 +116,7 @@ answered-more speech bytes begun talk more all is at one = record {
 
 module _ (speech : Speech) (number : ℕ) (heeds tells ticks : Type 0) where
   -- a read behind lines that were answered
-  answered-now : (l l' : Bool) (p p' : Place) (a b : Standing) → (one : GoesOn speech number heeds tells ticks l l' p p' a b) → heeds → tells → (at : ReadAt) →
+  answered-now : (l l' : Footing) (p p' : Place) (a b : Standing) → (one : GoesOn speech number heeds tells ticks l l' p p' a b) → heeds → tells → (at : ReadAt) →
       IsReadAt p' (length b.taken) at → IsAnswered speech (to_come p) (length a.taken) one.goes.talk at
   answered-now l l' p p' a b one heard told at is =
       let front = behind-front p p' one.taken (one.advances.takes heard) (length b.taken) at is in
@@ -132,7 +132,7 @@ module _ (speech : Speech) (number : ℕ) (heeds tells ticks : Type 0) where
         told = omega (arith, is.shown, ap length (one.goes.told told), length-append a.taken (text_in speech one.goes.talk));
       }
 
-  pub answered-then : (l l' : Bool) (p p' : Place) (a b : Standing) → (one : GoesOn speech number heeds tells ticks l l' p p' a b) → (more all : List Exchange) → all ≡ one.goes.talk ++ more →
+  pub answered-then : (l l' : Footing) (p p' : Place) (a b : Standing) → (one : GoesOn speech number heeds tells ticks l l' p p' a b) → (more all : List Exchange) → all ≡ one.goes.talk ++ more →
       (r r' r'' : Option (List ReadAt)) → AreAnswered speech number heeds tells ticks p a.taken one.goes.talk r r' →
       (heeds → tells → NotesEach (IsReadAt p' (length b.taken)) r' r'') → AreAnswered speech number heeds tells ticks p a.taken all r r''
   answered-then l l' p p' a b one more all is r r' r'' before reads heard told =

@@ -12,6 +12,7 @@ use Rattle.def_history.specs.declared.outcome.Outcome.{Outcome}
 use Rattle.def_history.specs.declared.outcome.Outcome.TheVariants.{Done, Stopped, DiskFault, NoMemory, Denied}
 use Rattle.def_history.specs.Made.{done_by}
 use Rattle.boss_outside.specs.Streams.{TakesFront}
+use Rattle.boss_keys.specs.declared.entry.Entry.{Entry}
 use Rattle.boss_sessions.specs.Replies.{Puts}
 use Rattle.boss_sessions.specs.Speaking.{speech_of}
 use Rattle.def_connection.specs.Batches.{deeds_by, texts_by}
@@ -25,23 +26,23 @@ pub texts-append : (speech : Speech) (xs ys : List Reply) → texts_by speech (x
 texts-append speech [] ys = refl
 texts-append speech (x ∷ xs) ys = ap (λ rest. speech.reply_text x ++ rest) (texts-append speech xs ys) ∙ sym (append_assoc (speech.reply_text x) (texts_by speech xs) (texts_by speech ys))
 
-pub texts-answers : (catalogue : Catalogue) (gates : List Gate) (answers : List Answer) →
-    texts_by (speech_of catalogue gates) (map of_answer answers) ≡ flat_map (λ answer. line_of (answer_text catalogue answer)) answers
-texts-answers catalogue gates [] = refl
-texts-answers catalogue gates (answer ∷ answers) = ap (λ rest. line_of (answer_text catalogue answer) ++ rest) (texts-answers catalogue gates answers)
+pub texts-answers : (catalogue : Catalogue) (gates : List Gate) (keys : Option (List Entry)) (answers : List Answer) →
+    texts_by (speech_of catalogue gates keys) (map of_answer answers) ≡ flat_map (λ answer. line_of (answer_text catalogue answer)) answers
+texts-answers catalogue gates keys [] = refl
+texts-answers catalogue gates keys (answer ∷ answers) = ap (λ rest. line_of (answer_text catalogue answer) ++ rest) (texts-answers catalogue gates keys answers)
 
-pub texts-rest : (catalogue : Catalogue) (gates : List Gate) (rest : Option Outcome) → texts_by (speech_of catalogue gates) (last_reply rest) ≡ rest_of rest
-texts-rest catalogue gates None = refl
-texts-rest catalogue gates (Some (Done answer)) = refl
-texts-rest catalogue gates (Some Stopped) = append-nil (line_of stopped_text)
-texts-rest catalogue gates (Some DiskFault) = append-nil (line_of stopped_text)
-texts-rest catalogue gates (Some NoMemory) = append-nil (line_of memory_text)
-texts-rest catalogue gates (Some (Denied index rule)) = append-nil (line_of (denied_text index rule))
+pub texts-rest : (catalogue : Catalogue) (gates : List Gate) (keys : Option (List Entry)) (rest : Option Outcome) → texts_by (speech_of catalogue gates keys) (last_reply rest) ≡ rest_of rest
+texts-rest catalogue gates keys None = refl
+texts-rest catalogue gates keys (Some (Done answer)) = refl
+texts-rest catalogue gates keys (Some Stopped) = append-nil (line_of stopped_text)
+texts-rest catalogue gates keys (Some DiskFault) = append-nil (line_of stopped_text)
+texts-rest catalogue gates keys (Some NoMemory) = append-nil (line_of memory_text)
+texts-rest catalogue gates keys (Some (Denied index rule)) = append-nil (line_of (denied_text index rule))
 
-pub texts-replies : (catalogue : Catalogue) (gates : List Gate) (answers : List Answer) (rest : Option Outcome) →
-    texts_by (speech_of catalogue gates) (replies_of answers rest) ≡ flat_map (λ answer. line_of (answer_text catalogue answer)) answers ++ rest_of rest
-texts-replies catalogue gates answers rest = texts-append (speech_of catalogue gates) (map of_answer answers) (last_reply rest)
-    ∙ (λ i. texts-answers catalogue gates answers i ++ texts-rest catalogue gates rest i)
+pub texts-replies : (catalogue : Catalogue) (gates : List Gate) (keys : Option (List Entry)) (answers : List Answer) (rest : Option Outcome) →
+    texts_by (speech_of catalogue gates keys) (replies_of answers rest) ≡ flat_map (λ answer. line_of (answer_text catalogue answer)) answers ++ rest_of rest
+texts-replies catalogue gates keys answers rest = texts-append (speech_of catalogue gates keys) (map of_answer answers) (last_reply rest)
+    ∙ (λ i. texts-answers catalogue gates keys answers i ++ texts-rest catalogue gates keys rest i)
 
 -- ---- entries
 

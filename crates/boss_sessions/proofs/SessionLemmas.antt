@@ -13,10 +13,9 @@ use Rattle.boss_sessions.proofs.PlaceLemmas.{advances-then, advances-nothing, be
 use Rattle.boss_sessions.proofs.ReadLemmas.{answered-then}
 use Rattle.def_connection.specs.Answered.{IsAnswered}
 use Rattle.def_connection.specs.Losing.{spoken_of, Lost, LostAt}
-use Rattle.def_connection.specs.Speech.{Speech, Exchange, is_later, parting_of}
-use Rattle.def_connection.specs.Stopping.{Stop, finish, watching, read_fault, write_fault, clock_fault, long_line, long_untold, limit, disk, nothing, is_disk}
+use Rattle.def_connection.specs.Speech.{Footing, beginning, Speech, Exchange, parting_of}
+use Rattle.def_connection.specs.Stopping.{Stop, finish, watching, read_fault, write_fault, clock_fault, long_line, long_untold, wrong_key, wrong_untold, limit, disk, nothing, is_disk}
 use Rattle.def_connection.specs.Talks.{Standing, Goes, Stops, Talked, is_unparted}
-use Rattle.def_connection.proofs.Lasting.{later-append}
 use Rattle.def_connection.proofs.TalkLemmas.{goes-nothing, goes-talk, goes-then, stops-talk, stops-then, stops-here, talked-of, talked-talk}
 use Rattle.def_connection.proofs.Telling.{told-whole}
 use Rattle.boss_sessions.specs.declared.end.SessionEnd.{SessionEnd}
@@ -41,6 +40,8 @@ module _ (heeds : Type 0) (place place' : Place) (taken : List (List ℕ)) (adva
   lost-at long_untold at = (begins-long place'.ahead at.1, omega (arith, count, advances.counted, at.0))
   lost-at limit at = omega (arith, count, advances.counted, at)
   lost-at nothing at = absurd at
+  lost-at wrong_key at = omega (arith, count, advances.counted)
+  lost-at wrong_untold at = omega (arith, count, advances.counted)
   lost-at (watching name from) at = omega (arith, count, advances.counted)
   lost-at write_fault at = omega (arith, count, advances.counted)
   lost-at clock_fault at = omega (arith, count, advances.counted)
@@ -66,67 +67,58 @@ or-true true = refl
 or-true false = refl
 
 module _ (speech : Speech) (number : ℕ) (heeds tells ticks : Type 0) where
-  pub goes-on-nothing : (later : Bool) (place : Place) (s : Standing) (reads : Option (List ReadAt)) → (heeds → place.stopped ≡ Some next.Finish → to_come place ≡ []) →
-      GoesOnAnswered speech number heeds tells ticks later later place place s s reads reads
-  goes-on-nothing later place s reads closed = record {
+  pub goes-on-nothing : (at : Footing) (place : Place) (s : Standing) (reads : Option (List ReadAt)) → (heeds → place.stopped ≡ Some next.Finish → to_come place ≡ []) →
+      GoesOnAnswered speech number heeds tells ticks at at place place s s reads reads
+  goes-on-nothing at place s reads closed = record {
     goes_on = record {
       taken = [];
       advances = advances-nothing heeds place place refl (λ told. refl) (λ is. is) closed;
-      later_is = refl;
-      goes = goes-nothing speech number tells ticks later s;
+      goes = goes-nothing speech number tells ticks at s;
     };
     answered = λ heard told. notes-nothing _ reads;
   }
 
   -- the same talk over the same lines
-  goes-over : (later later' : Bool) (xs ys : List (List ℕ)) (a b : Standing) (talk : List Exchange) → later ≡ later' → xs ≡ ys → (one : Goes speech number tells ticks later xs a b) → one.talk ≡ talk →
-      (goes : Goes speech number tells ticks later' ys a b) × (goes.talk ≡ talk)
-  goes-over later later' xs ys a b talk when same one is =
-      subst (λ heard. (goes : Goes speech number tells ticks later' heard a b) × (goes.talk ≡ talk)) same
-      (subst (λ t. (goes : Goes speech number tells ticks t xs a b) × (goes.talk ≡ talk)) when (one, is))
+  goes-over : (at at' : Footing) (xs ys : List (List ℕ)) (a b : Standing) (talk : List Exchange) → xs ≡ ys → (one : Goes speech number tells ticks at at' xs a b) → one.talk ≡ talk →
+      (goes : Goes speech number tells ticks at at' ys a b) × (goes.talk ≡ talk)
+  goes-over at at' xs ys a b talk same one is = subst (λ heard. (goes : Goes speech number tells ticks at at' heard a b) × (goes.talk ≡ talk)) same (one, is)
 
-  stops-over : (later later' : Bool) (xs ys : List (List ℕ)) (stop : Stop) (a b : Standing) (talk : List Exchange) → later ≡ later' → xs ≡ ys →
-      (one : Stops speech number tells ticks later xs stop a b) → one.talk ≡ talk → (stops : Stops speech number tells ticks later' ys stop a b) × (stops.talk ≡ talk)
-  stops-over later later' xs ys stop a b talk when same one is =
-      subst (λ heard. (stops : Stops speech number tells ticks later' heard stop a b) × (stops.talk ≡ talk)) same
-      (subst (λ t. (stops : Stops speech number tells ticks t xs stop a b) × (stops.talk ≡ talk)) when (one, is))
+  stops-over : (at : Footing) (xs ys : List (List ℕ)) (stop : Stop) (a b : Standing) (talk : List Exchange) → xs ≡ ys → (one : Stops speech number tells ticks at xs stop a b) → one.talk ≡ talk →
+      (stops : Stops speech number tells ticks at ys stop a b) × (stops.talk ≡ talk)
+  stops-over at xs ys stop a b talk same one is = subst (λ heard. (stops : Stops speech number tells ticks at heard stop a b) × (stops.talk ≡ talk)) same (one, is)
 
-  pub goes-on-then : (l l' l'' : Bool) (p p' p'' : Place) (a b c : Standing) (r r' r'' : Option (List ReadAt)) → GoesOnAnswered speech number heeds tells ticks l l' p p' a b r r' →
+  pub goes-on-then : (l l' l'' : Footing) (p p' p'' : Place) (a b c : Standing) (r r' r'' : Option (List ReadAt)) → GoesOnAnswered speech number heeds tells ticks l l' p p' a b r r' →
       GoesOn speech number heeds tells ticks l' l'' p' p'' b c → (heeds → tells → NotesEach (IsReadAt p' (length b.taken)) r' r'') →
       GoesOnAnswered speech number heeds tells ticks l l'' p p'' a c r r''
   goes-on-then l l' l'' p p' p'' a b c r r' r'' before other reads =
       let one = before.goes_on in
-      let second = goes-over l' (is_later l (spoken_of one.taken)) (spoken_of other.taken) (spoken_of other.taken) b c other.goes.talk one.later_is refl other.goes refl in
-      let both = goes-over l l (spoken_of one.taken ++ spoken_of other.taken) (spoken_of (one.taken ++ other.taken)) a c (one.goes.talk ++ other.goes.talk) refl
-      (sym (spoken-append one.taken other.taken)) (goes-then speech number tells ticks l (spoken_of one.taken) (spoken_of other.taken) a b c one.goes second.0)
-      (goes-talk speech number tells ticks l (spoken_of one.taken) (spoken_of other.taken) a b c one.goes second.0 ∙ ap (λ rest. one.goes.talk ++ rest) second.1) in
+      let both = goes-over l l'' (spoken_of one.taken ++ spoken_of other.taken) (spoken_of (one.taken ++ other.taken)) a c (one.goes.talk ++ other.goes.talk)
+      (sym (spoken-append one.taken other.taken)) (goes-then speech number tells ticks l l' l'' (spoken_of one.taken) (spoken_of other.taken) a b c one.goes other.goes)
+      (goes-talk speech number tells ticks l l' l'' (spoken_of one.taken) (spoken_of other.taken) a b c one.goes other.goes) in
       record {
         goes_on = record {
           taken = one.taken ++ other.taken;
           advances = advances-then heeds p p' p'' one.taken other.taken one.advances other.advances;
-          later_is = other.later_is ∙ ap (λ t. is_later t (spoken_of other.taken)) one.later_is ∙ sym (later-append l (spoken_of one.taken) (spoken_of other.taken))
-              ∙ ap (is_later l) (sym (spoken-append one.taken other.taken));
           goes = both.0;
         };
         answered = answered-then speech number heeds tells ticks l l' p p' a b one other.goes.talk both.0.talk both.1 r r' r'' before.answered reads;
       }
 
-  pub ended-then : (l l' : Bool) (p p' p'' : Place) (a b c : Standing) (r r' r'' : Option (List ReadAt)) (e : SessionEnd) → GoesOnAnswered speech number heeds tells ticks l l' p p' a b r r' →
+  pub ended-then : (l l' : Footing) (p p' p'' : Place) (a b c : Standing) (r r' r'' : Option (List ReadAt)) (e : SessionEnd) → GoesOnAnswered speech number heeds tells ticks l l' p p' a b r r' →
       Ended speech number heeds tells ticks l' p' p'' b c e → (heeds → tells → NotesEach (IsReadAt p' (length b.taken)) r' r'') →
       EndedAnswered speech number heeds tells ticks l p p'' a c r r'' e
   ended-then l l' p p' p'' a b c r r' r'' e before other reads =
       let one = before.goes_on in
-      let second = stops-over l' (is_later l (spoken_of one.taken)) (spoken_of other.taken) (spoken_of other.taken) other.stop b c other.stops.talk one.later_is refl other.stops refl in
-      let both = stops-over l l (spoken_of one.taken ++ spoken_of other.taken) (spoken_of (one.taken ++ other.taken)) other.stop a c (one.goes.talk ++ other.stops.talk) refl
-      (sym (spoken-append one.taken other.taken)) (stops-then speech number tells ticks l (spoken_of one.taken) (spoken_of other.taken) other.stop a b c one.goes second.0)
-      (stops-talk speech number tells ticks l (spoken_of one.taken) (spoken_of other.taken) other.stop a b c one.goes second.0 ∙ ap (λ rest. one.goes.talk ++ rest) second.1) in
+      let both = stops-over l (spoken_of one.taken ++ spoken_of other.taken) (spoken_of (one.taken ++ other.taken)) other.stop a c (one.goes.talk ++ other.stops.talk)
+      (sym (spoken-append one.taken other.taken)) (stops-then speech number tells ticks l l' (spoken_of one.taken) (spoken_of other.taken) other.stop a b c one.goes other.stops)
+      (stops-talk speech number tells ticks l l' (spoken_of one.taken) (spoken_of other.taken) other.stop a b c one.goes other.stops) in
       record {
         ended = record {
           taken = one.taken ++ other.taken;
           stop = other.stop;
           advances = advances-then heeds p p' p'' one.taken other.taken one.advances other.advances;
           stops = both.0;
-          at = other.at;
+          ends = other.ends;
           broken = other.broken;
           end_is = other.end_is;
         };
@@ -138,7 +130,7 @@ module _ (speech : Speech) (number : ℕ) (heeds tells ticks : Type 0) where
   -- A session that ended, and whose process was told to be lost, if it was. The end is then the same, and that call was answered or there
   -- was none; or the call was not answered, and the end is a disk that failed
   pub connected-of : (place place' : Place) (a b c : Standing) (r r' : Option (List ReadAt)) (parting : Option Answer) (e e' : SessionEnd) → place.ahead ≡ [] → place.lines ≡ most_lines →
-      a.attached ≡ false → a.last ≡ 0 → a.name ≡ None → EndedAnswered speech number heeds tells ticks false place place' a b r r' e → deeds c.own ≡ deeds b.own ++ parting_of number b.last parting →
+      a.attached ≡ false → a.last ≡ 0 → a.name ≡ None → EndedAnswered speech number heeds tells ticks beginning place place' a b r r' e → deeds c.own ≡ deeds b.own ++ parting_of number b.last parting →
       c.taken ≡ b.taken → c.faults ≡ b.faults → c.given ≡ b.given → (b.attached ≡ false → parting ≡ None) →
       ((e' ≡ e) × (is_unparted b.attached parting ≡ false)) ⊎ ((is_stop_end e' ≡ true) × (is_unparted b.attached parting ≡ true)) → Connected speech number heeds tells ticks place.left place'.left r r' a c e'
   connected-of place place' a b c r r' parting e e' empty count fresh first anonymous done parts taken faults given unattached parted =
@@ -175,7 +167,7 @@ module _ (speech : Speech) (number : ℕ) (heeds tells ticks : Type 0) where
           | inl same ↦ λ calm. same.0 ∙ ended.end_is (ap is_stop_end (sym same.0) ∙ calm)
           | inr fails ↦ λ calm. absurd (let no : true ≡ false = sym fails.0 ∙ calm in cc)
         ];
-        lost = λ told. lost-of heeds place place' ended.taken ended.advances empty count told ended.stop ended.at;
+        lost = λ told. lost-of heeds place place' ended.taken ended.advances empty count told ended.stop ended.ends;
         answered = λ heard told.
             subst (λ bytes. NotesEach (IsAnswered speech bytes (length a.taken) said.talk) r r') (ap (λ front. front ++ place.left) empty)
             (subst (λ talk. NotesEach (IsAnswered speech (to_come place) (length a.taken) talk) r r')
@@ -189,7 +181,7 @@ module _ (speech : Speech) (number : ℕ) (heeds tells ticks : Type 0) where
   connected-none left s reads fresh first anonymous =
       let talked : Talked speech number tells ticks [] nothing false s (record s { own = s.own }) =
       talked-of speech number tells ticks [] nothing false s s s.own None
-      (stops-here speech number tells ticks false [] nothing s s (refl, refl) refl refl (λ told. told-whole s.taken s.taken s.faults s.faults [] (sym (append-nil s.taken))) (λ told. refl) refl refl)
+      (stops-here speech number tells ticks beginning [] nothing s s (refl, refl) refl refl (λ told. told-whole s.taken s.taken s.faults s.faults [] (sym (append-nil s.taken))) (λ told. refl) refl refl)
       fresh first anonymous (sym (append-nil (deeds s.own))) (λ is. refl) (sym fresh) in
       record {
         taken = [];

@@ -1,6 +1,5 @@
 -- Whoever speaks has shown a key, where lines are read by keys.
-use Rattle.std.proofs.Common.{◌≡◌, ℕ, Bool, List, [], ◌∷◌, ◌++◌, map, Option, Some, None, refl, ap, sym, ◌∙◌, subst}
-use Rattle.std.specs.List.{AllByRecursion}
+use Rattle.std.proofs.Common.{◌≡◌, ℕ, Bool, List, [], ◌∷◌, map, Option, Some, None, refl, ap, sym, ◌∙◌, subst}
 use Rattle.boss_model.specs.declared.answer.Answer.{Answer}
 use Rattle.boss_model.specs.declared.answer.Refusal.{Refusal}
 use Rattle.boss_model.specs.declared.command.Command.{Command}
@@ -9,8 +8,8 @@ use Rattle.boss_outside_server.specs.Hosts.{Served}
 use Rattle.def_history.specs.declared.entry.Entry.{Entry}
 use Rattle.def_lanes.specs.Works.{Course}
 use Rattle.def_lanes.proofs.Lists.{each-append}
-use Rattle.def_connection.specs.Showing.{IsMalformed, IsBarred, IsOwn, AsksOwn, IsGuarded, IsShown, AreShown, IsOwnEntry, AreOwn, ShowsKey, IsKeyed}
-use Rattle.def_connection.specs.Speech.{Reading, asks, watches, refuses, Footing, beginning, Manner, Reply, of_answer, of_memory, of_stop, of_denial, Speech, Exchange, unread, refused, called, line_in, known_by, after, after_exchange, after_talk, AreRead, entry_of, deeds_in, parting_of, last_or}
+use Rattle.def_connection.specs.Showing.{IsBarred, IsOwn, AsksOwn, IsGuarded, IsShown, AreShown, IsOwnEntry, AreOwn, ShowsKey, IsKeyed}
+use Rattle.def_connection.specs.Speech.{Reading, asks, refuses, Footing, beginning, Manner, Reply, of_answer, of_memory, of_stop, of_denial, Speech, Exchange, unread, refused, called, line_in, known_by, after, after_exchange, after_talk, AreRead, entry_of, deeds_in, parting_of, last_or}
 use Rattle.def_connection.specs.Stopping.{Stop}
 use Rattle.def_connection.specs.Talks.{Exchanged}
 use Rattle.def_connection.specs.Watching.{IsWatchOf}
@@ -44,11 +43,12 @@ module _ (manner : Manner) where
 
   pub key-shown : (at : Footing) (talk : List Exchange) (name : List ℕ) → at.known ≡ None → (after_talk manner at talk).known ≡ Some name → ShowsKey manner name (map line_in talk)
   key-shown at [] name none is = absurd (let no : None ≡ Some name = sym none ∙ is in cc)
-  key-shown at (x ∷ talk) name none is = by (after_exchange manner at x).known refl
+  key-shown at (x ∷ talk) name none is = by (after_exchange manner at x).known refl (λ still. key-shown (after_exchange manner at x) talk name still is)
     where
-      by : (known : Option (List ℕ)) → (after_exchange manner at x).known ≡ known → ShowsKey manner name (map line_in (x ∷ talk))
-      by None still = shows-behind x talk name (key-shown (after_exchange manner at x) talk name still is)
-      by (Some other) now =
+      by : (known : Option (List ℕ)) → (after_exchange manner at x).known ≡ known → ((after_exchange manner at x).known ≡ None → ShowsKey manner name (map line_in talk)) →
+          ShowsKey manner name (map line_in (x ∷ talk))
+      by None still behind = shows-behind x talk name (behind still)
+      by (Some other) now behind =
           let same : Some other ≡ Some name = sym (talk-known manner (after_exchange manner at x) talk other now) ∙ is in
           shows-here at x talk name none (now ∙ same)
 

@@ -10,7 +10,7 @@ use Rattle.def_history.specs.declared.entry.Entry.TheVariants.{Did}
 use Rattle.def_connection.specs.Batches.{batch, deeds_by}
 use Rattle.def_connection.specs.Judging.{AreJudged, denied_for, name_in}
 use Rattle.def_connection.specs.Showing.{IsBarred, AsksOwn, IsGuarded, AreShown, AreOwn}
-use Rattle.def_connection.specs.Speech.{Reading, asks, watches, refuses, forbids, Footing, beginning, Manner, Reply, of_answer, of_memory, of_stop, of_denial, Gate, Speech, Exchange, unread, refused, called, known_by, after_talk, AreRead, text_in, deeds_in, moments_in, last_or, attached_in, parting_of, is_end, EndsOnce}
+use Rattle.def_connection.specs.Speech.{Reading, asks, watches, refuses, forbids, beginning, Manner, Reply, of_answer, of_memory, of_stop, of_denial, Gate, Speech, Exchange, unread, refused, called, known_by, after_talk, AreRead, text_in, deeds_in, moments_in, last_or, attached_in, parting_of, is_end, EndsOnce}
 use Rattle.def_connection.specs.Stopping.{disk, read_fault, finish, wrong_key, is_disk, end_text, last_is, is_passed, BehindAt}
 use Rattle.def_connection.specs.Losing.{LostAt, spoken_of}
 use Rattle.def_connection.specs.Watching.{watched_in}

@@ -1,4 +1,4 @@
-ghost use Rattle.std.specs.Prelude.{◌≡◌, ℕ, ◌<◌, Bool, List, [], ◌∷◌, ◌++◌};
+ghost use Rattle.std.specs.Prelude.{◌≡◌, ℕ, ◌<◌, Bool, false, List, [], ◌∷◌, ◌++◌};
 ghost use Rattle.def_history.specs.declared.entry.Entry.{Entry};
 ghost use Rattle.def_history.specs.History.{deeds};
 ghost use Rattle.def_lanes.specs.Lanes.{of_session};

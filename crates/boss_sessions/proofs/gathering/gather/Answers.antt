@@ -1,4 +1,4 @@
-use Rattle.std.proofs.Common.{◌≡◌, [], length, refl, ap, sym, ◌∙◌, subst, arith}
+use Rattle.std.proofs.Common.{◌≡◌, [], length, option_copied, refl, ap, sym, ◌∙◌, subst, arith}
 use Rattle.std.specs.List.{AllByRecursion}
 use Rattle.std.proofs.lemmas.Bool.{eqb-true}
 use Rattle.std.proofs.lemmas.Grind.{common_steps}
@@ -6,7 +6,7 @@ use Rattle.boss_model.specs.Catalogue.{actuators}
 use Rattle.def_history.specs.History.{MayCall}
 use Rattle.boss_sessions.specs.Places.{SourceCause}
 use Rattle.boss_sessions.specs.Requests.{ClockCause}
-use Rattle.boss_sessions.specs.Speaking.{reading_in}
+use Rattle.boss_sessions.specs.Speaking.{manner_of}
 use Rattle.boss_sessions.proofs.GatheredLemmas.{gathered-silent, gathered-then, on-then}
 use Rattle.boss_outside.proofs.Noting.{notes-nothing}
 use Rattle.boss_sessions.proofs.PlaceLemmas.{advances-nothing}
@@ -17,8 +17,8 @@ use Rattle.boss_sessions.proofs.gathering.gather.Goals as goal
 pub loop-commands-init : goal.loop-commands-init
 loop-commands-init g c = record {
   ready = c.requires.ready;
-  gathered = gathered-silent (reading_in c.args.catalogue.now) g.S.Source.tells g.C.Clock.tells _ _ _ _ _ _ _ _ [] _ refl refl (λ told. refl) refl
-      (advances-nothing g.S.Source.tells _ _ refl (λ told. refl) (λ is. is) c.requires.ready.over) refl;
+  gathered = gathered-silent (manner_of c.args.catalogue.now (option_copied c.args.keys)) g.S.Source.tells g.C.Clock.tells _ _ _ _ _ _ _ _ [] _ refl (λ told. refl) refl
+      (advances-nothing g.S.Source.tells _ _ refl (λ told. refl) (λ is. is) c.requires.ready.over) (refl, refl);
   may = subst (AllByRecursion (MayCall (actuators c.args.catalogue.now))) (sym c.requires.none) tt;
   few = grind (arith, common_steps, c.requires.none);
   fewer = omega arith;
@@ -42,14 +42,14 @@ loop-commands-preserved g c =
     ])) in
     record {
       ready = c.in-Requests.ensures.end;
-      gathered = gathered-then (reading_in c.args.catalogue.now) g.S.Source.tells g.C.Clock.tells _ _ _ _ _ _ _ _ _ _ _ _ _ inv.gathered c.in-Requests.ensures.gathered;
+      gathered = gathered-then (manner_of c.args.catalogue.now (option_copied c.args.keys)) g.S.Source.tells g.C.Clock.tells _ _ _ _ _ _ _ _ _ _ _ _ _ inv.gathered c.in-Requests.ensures.gathered;
       may = c.take_line.ensures.may;
       few = let one = c.take_line.ensures.one in let low = c.loop-commands-test.true in grind (arith, common_steps);
       fewer = omega (arith, c.in-Requests.ensures.goes_on, inv.fewer);
       some = λ some. omega (arith, c.in-Requests.ensures.goes_on, inv.fewer);
       held = λ told. c.in-Requests.ensures.held told ∙ inv.held told;
       reads = λ told.
-          reads-gathered (reading_in c.args.catalogue.now) g.S.Source.tells g.C.Clock.tells _ _ _ _ _ _ _ _ c.requires.none inv.gathered c.requires.ready told _ _ inv.shown
+          reads-gathered (manner_of c.args.catalogue.now (option_copied c.args.keys)) g.S.Source.tells g.C.Clock.tells _ _ _ _ _ _ _ _ c.requires.none inv.gathered c.requires.ready told _ _ inv.shown
           (g.S.Source.reads c.args.source.now) (g.S.Source.reads c.loop-commands.source) (g.S.Source.reads c.take_line.new.source)
           (λ some. unread some) (inv.reads told) (c.take_line.ensures.reads told);
       shown = c.take_line.ensures.shown ∙ inv.shown;
@@ -68,14 +68,14 @@ returns-in_default g c =
       | else-is_empty w ↦ sym w.whole.ensures ∙ sym w.value-is ∙ c.if-whole.true
     ])) in
     record {
-      gathered = gathered-then (reading_in c.args.catalogue.now) g.S.Source.tells g.C.Clock.tells _ _ _ _ _ _ _ _ _ _ _ _ c.take_line.result inv.gathered c.take_line.ensures.gathered;
+      gathered = gathered-then (manner_of c.args.catalogue.now (option_copied c.args.keys)) g.S.Source.tells g.C.Clock.tells _ _ _ _ _ _ _ _ _ _ _ _ c.take_line.result inv.gathered c.take_line.ensures.gathered;
       end = c.take_line.ensures.end;
       may = c.take_line.ensures.may;
       few = let one = c.take_line.ensures.one in let low = c.loop-commands-test.true in grind (arith, common_steps);
       goes_on = on-then c.args.hearing.now.lines c.loop-commands.hearing.lines c.take_line.new.hearing.lines c.take_line.result inv.fewer c.take_line.ensures.goes_on;
       held = λ told. c.take_line.ensures.held told ∙ inv.held told;
       reads = λ told.
-          reads-gathered (reading_in c.args.catalogue.now) g.S.Source.tells g.C.Clock.tells _ _ _ _ _ _ _ _ c.requires.none inv.gathered c.requires.ready told _ _ inv.shown
+          reads-gathered (manner_of c.args.catalogue.now (option_copied c.args.keys)) g.S.Source.tells g.C.Clock.tells _ _ _ _ _ _ _ _ c.requires.none inv.gathered c.requires.ready told _ _ inv.shown
           (g.S.Source.reads c.args.source.now) (g.S.Source.reads c.loop-commands.source) (g.S.Source.reads c.take_line.new.source)
           (λ some. unread some) (inv.reads told) (c.take_line.ensures.reads told);
       shown = c.take_line.ensures.shown ∙ inv.shown;

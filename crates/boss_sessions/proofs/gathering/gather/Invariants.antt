@@ -1,19 +1,19 @@
-use Rattle.std.proofs.Common.{◌≡◌, ◌<◌, ◌≤◌, length}
+use Rattle.std.proofs.Common.{◌≡◌, ◌<◌, ◌≤◌, length, option_copied}
 use Rattle.std.specs.List.{AllByRecursion}
 use Rattle.boss_model.specs.Catalogue.{actuators}
 use Rattle.def_history.specs.History.{MayCall}
 use Rattle.boss_sessions.specs.declared.heard.Heard.TheVariants.{Requests}
 use Rattle.boss_sessions.specs.Gathered.{Gathered}
 use Rattle.boss_outside.specs.Notes.{NotesEach}
-use Rattle.boss_sessions.specs.Places.{place_of, IsOpen, IsReadAt}
-use Rattle.boss_sessions.specs.Speaking.{reading_in}
+use Rattle.boss_sessions.specs.Places.{footing_of, place_of, IsOpen, IsReadAt}
+use Rattle.boss_sessions.specs.Speaking.{manner_of}
 use Rattle.boss_sessions.proofs.gathering.gather.Given as goal
 
 -- all that was taken so far are requests that are held
 abbrev pub invariant-loop-commands : goal.invariant-loop-commands
 invariant-loop-commands g l = record {
   ready : IsOpen g.S.Source.tells (place_of l.hearing (g.S.Source.left l.source));
-  gathered : Gathered (reading_in l.catalogue) g.S.Source.tells g.C.Clock.tells l.initial.hearing.later l.hearing.later
+  gathered : Gathered (manner_of l.catalogue (option_copied l.keys)) g.S.Source.tells g.C.Clock.tells (footing_of l.initial.hearing) (footing_of l.hearing)
       l.initial.commands.items l.commands.items (g.C.Clock.given l.initial.clock) (g.C.Clock.given l.clock)
       (place_of l.initial.hearing (g.S.Source.left l.initial.source)) (place_of l.hearing (g.S.Source.left l.source)) Requests;
   may : AllByRecursion (MayCall (actuators l.catalogue)) l.commands.items;

@@ -1,13 +1,13 @@
-use Rattle.std.proofs.Common.{ap, ◌∙◌, subst}
+use Rattle.std.proofs.Common.{option_copied, ap, ◌∙◌, subst}
 use Rattle.boss_sessions.specs.Gathered.{Gathered}
-use Rattle.boss_sessions.specs.Places.{place_of, SourceCause}
-use Rattle.boss_sessions.specs.Speaking.{reading_in}
+use Rattle.boss_sessions.specs.Places.{footing_of, place_of, SourceCause}
+use Rattle.boss_sessions.specs.Speaking.{manner_of}
 use Rattle.boss_sessions.proofs.ReadLemmas.{reads-shown}
 use Rattle.boss_sessions.proofs.rounds.hear.Goals as goal
 
 pub returns : goal.returns
 returns g c = record {
-  gathered = subst (λ left. Gathered (reading_in c.args.catalogue.now) g.S.Source.tells g.C.Clock.tells c.args.hearing.now.later c.gather.new.hearing.later c.args.commands.now.items
+  gathered = subst (λ left. Gathered (manner_of c.args.catalogue.now (option_copied c.args.keys)) g.S.Source.tells g.C.Clock.tells (footing_of c.args.hearing.now) (footing_of c.gather.new.hearing) c.args.commands.now.items
       c.gather.new.commands.items (g.C.Clock.given c.args.clock.now) (g.C.Clock.given c.gather.new.clock) (place_of c.args.hearing.now left)
       (place_of c.gather.new.hearing (g.S.Source.left c.gather.new.source)) c.gather.result) c.show.ensures.left c.gather.ensures.gathered;
   end = c.gather.ensures.end;

@@ -1,7 +1,7 @@
-use Rattle.std.proofs.Common.{◌≡◌, [], map, refl, ap, sym, ◌∙◌, subst, arith}
+use Rattle.std.proofs.Common.{◌≡◌, [], map, None, option_copied, refl, ap, sym, ◌∙◌, subst, arith}
 use Rattle.boss_model.specs.Catalogue.{actuators}
 use Rattle.boss_sessions.specs.Gathered.{Gathered}
-use Rattle.boss_sessions.specs.Places.{place_of}
+use Rattle.boss_sessions.specs.Places.{footing_of, place_of}
 use Rattle.boss_sessions.specs.Speaking.{speech_of}
 use Rattle.boss_lock.specs.Places.{entries_at}
 use Rattle.def_connection.specs.Batches.{AreAsked, batch}
@@ -39,45 +39,45 @@ returns-in-Ok-clause-room g c =
 pub returns-in-Err-clause-rounded : goal.returns-in-Err-clause-rounded
 returns-in-Err-clause-rounded g c name holds =
     let gates = g.G.Desk.denies c.args.desk.now in
-    let speech = speech_of c.args.catalogue.now gates in
+    let speech = speech_of c.args.catalogue.now gates (option_copied c.args.keys) in
     let calls = c.hear-heard.new.commands.items in
     let given = g.C.Clock.given c.args.clock.now in
     let given' = g.C.Clock.given c.hear-heard.new.clock in
     let place = place_of c.args.session.now.hearing (g.S.Source.left c.args.source.now) in
     let place' = place_of c.hear-heard.new.hearing (g.S.Source.left c.hear-heard.new.source) in
-    let later = c.args.session.now.hearing.later in
-    let later' = c.hear-heard.new.hearing.later in
+    let at = footing_of c.args.session.now.hearing in
+    let at' = footing_of c.hear-heard.new.hearing in
     let heard = c.hear-heard.result in
     let held = g.G.Desk.held c.args.pass.now in
     let held' = g.G.Desk.held c.answer_all-answered.new.pass in
     let last : c.last_moment-session.result ≡ last_or c.args.session.now.last (map (λ call. call.1) calls) =
     c.last_moment-session.ensures ∙ ap (λ list. last_or c.args.session.now.last (map (λ call. call.1) list)) c.as_slice.ensures.value in
-    let gathered : Gathered speech.reading g.S.Source.tells g.C.Clock.tells later later' [] calls given given' place place' heard =
-    subst (λ cs. Gathered speech.reading g.S.Source.tells g.C.Clock.tells later later' cs calls given given' place place' heard) c.new-commands.ensures.items c.hear-heard.ensures.gathered in
-    let r = c.in-Err.ensures.replied in
-    let judged = batch-judged speech.reading gates c.args.number name later gathered.waiting calls r.replies held held'
-    (subst (λ cs. AreAsked speech.reading later gathered.waiting cs) (sym gathered.held) gathered.asked) r.judged holds in
+    let gathered : Gathered speech.manner g.S.Source.tells g.C.Clock.tells at at' [] calls given given' place place' heard =
+    subst (λ cs. Gathered speech.manner g.S.Source.tells g.C.Clock.tells at at' cs calls given given' place place' heard) c.new-commands.ensures.items c.hear-heard.ensures.gathered in
+    let r = c.in-Err.ensures.replied (option_copied c.args.keys) in
+    let judged = batch-judged speech.manner gates c.args.number name at gathered.waiting calls r.replies held held'
+    (subst (λ cs. AreAsked speech.manner at gathered.waiting cs) (sym gathered.held) gathered.asked) r.judged holds in
     let a = named (standing (entries_at (g.G.Desk.seen c.args.pass.now) (g.G.Desk.mine c.args.pass.now)) (g.K.Sink.taken c.args.sink.now) (g.K.Sink.faults c.args.sink.now) given
     c.args.session.now.attached c.args.session.now.last) name in
     let b = named (standing (entries_at (g.G.Desk.seen c.answer_all-answered.new.pass) (g.G.Desk.mine c.answer_all-answered.new.pass)) (g.K.Sink.taken c.answer_all-answered.new.sink)
     (g.K.Sink.faults c.answer_all-answered.new.sink) given' c.answer_all-answered.new.attached c.last_moment-session.result) (name_in name (batch gathered.waiting calls r.replies)) in (
       name_in name (batch gathered.waiting calls r.replies),
       judged.1,
-      subst (λ e. Ended speech c.args.number g.S.Source.tells g.K.Sink.tells g.C.Clock.tells later place place' a b e) (sym c.end_at.ensures)
-          (round-halted speech c.args.number g.S.Source.tells g.K.Sink.tells g.C.Clock.tells later later' place place' heard c.in-Err.halt calls a b _ _ held held' gathered last c.hear-heard.ensures.few r judged.0),
+      subst (λ e. Ended speech c.args.number g.S.Source.tells g.K.Sink.tells g.C.Clock.tells at place place' a b e) (sym c.end_at.ensures)
+          (round-halted speech c.args.number g.S.Source.tells g.K.Sink.tells g.C.Clock.tells at at' place place' heard c.in-Err.halt calls a b _ _ held held' gathered last c.hear-heard.ensures.few r judged.0),
     )
 
 pub returns-in-Ok-clause-rounded : goal.returns-in-Ok-clause-rounded
 returns-in-Ok-clause-rounded g c name holds =
     let gates = g.G.Desk.denies c.args.desk.now in
-    let speech = speech_of c.args.catalogue.now gates in
+    let speech = speech_of c.args.catalogue.now gates (option_copied c.args.keys) in
     let calls = c.hear-heard.new.commands.items in
     let given = g.C.Clock.given c.args.clock.now in
     let given' = g.C.Clock.given c.hear-heard.new.clock in
     let place = place_of c.args.session.now.hearing (g.S.Source.left c.args.source.now) in
     let place' = place_of c.hear-heard.new.hearing (g.S.Source.left c.hear-heard.new.source) in
-    let later = c.args.session.now.hearing.later in
-    let later' = c.hear-heard.new.hearing.later in
+    let at = footing_of c.args.session.now.hearing in
+    let at' = footing_of c.hear-heard.new.hearing in
     let heard = c.hear-heard.result in
     let own' = entries_at (g.G.Desk.seen c.answer_all-answered.new.pass) (g.G.Desk.mine c.answer_all-answered.new.pass) in
     let taken = g.K.Sink.taken c.tell_behind-told.new.sink in
@@ -86,11 +86,11 @@ returns-in-Ok-clause-rounded g c name holds =
     let held' = g.G.Desk.held c.answer_all-answered.new.pass in
     let last : c.last_moment-session.result ≡ last_or c.args.session.now.last (map (λ call. call.1) calls) =
     c.last_moment-session.ensures ∙ ap (λ list. last_or c.args.session.now.last (map (λ call. call.1) list)) c.as_slice.ensures.value in
-    let gathered : Gathered speech.reading g.S.Source.tells g.C.Clock.tells later later' [] calls given given' place place' heard =
-    subst (λ cs. Gathered speech.reading g.S.Source.tells g.C.Clock.tells later later' cs calls given given' place place' heard) c.new-commands.ensures.items c.hear-heard.ensures.gathered in
-    let r = c.in-Ok.ensures.replied in
-    let judged = batch-judged speech.reading gates c.args.number name later gathered.waiting calls r.replies held held'
-    (subst (λ cs. AreAsked speech.reading later gathered.waiting cs) (sym gathered.held) gathered.asked) r.judged holds in
+    let gathered : Gathered speech.manner g.S.Source.tells g.C.Clock.tells at at' [] calls given given' place place' heard =
+    subst (λ cs. Gathered speech.manner g.S.Source.tells g.C.Clock.tells at at' cs calls given given' place place' heard) c.new-commands.ensures.items c.hear-heard.ensures.gathered in
+    let r = c.in-Ok.ensures.replied (option_copied c.args.keys) in
+    let judged = batch-judged speech.manner gates c.args.number name at gathered.waiting calls r.replies held held'
+    (subst (λ cs. AreAsked speech.manner at gathered.waiting cs) (sym gathered.held) gathered.asked) r.judged holds in
     let name' = name_in name (batch gathered.waiting calls r.replies) in
     let a = named (standing (entries_at (g.G.Desk.seen c.args.pass.now) (g.G.Desk.mine c.args.pass.now)) (g.K.Sink.taken c.args.sink.now) (g.K.Sink.faults c.args.sink.now) given
     c.args.session.now.attached c.args.session.now.last) name in
@@ -98,18 +98,18 @@ returns-in-Ok-clause-rounded g c name holds =
     let b = named (standing own' taken faults given' c.answer_all-answered.new.attached c.last_moment-session.result) name' in (
       name',
       judged.1,
-      subst (λ r. Rounded speech c.args.number g.S.Source.tells g.K.Sink.tells g.C.Clock.tells later later' place place' a b r) (sym c.end_behind.ensures)
-          (round-ends speech c.args.number g.S.Source.tells g.K.Sink.tells g.C.Clock.tells later later' place place' gathered.waiting gathered.behind gathered.all a m taken faults
-          gathered.spoken gathered.advances gathered.later_is
-          (batch-goes speech c.args.number g.S.Source.tells g.K.Sink.tells g.C.Clock.tells later later' place place' heard calls a m _ _ held held' gathered last r judged.0 refl)
+      subst (λ r. Rounded speech c.args.number g.S.Source.tells g.K.Sink.tells g.C.Clock.tells at at' place place' a b r) (sym c.end_behind.ensures)
+          (round-ends speech c.args.number g.S.Source.tells g.K.Sink.tells g.C.Clock.tells at at' place place' gathered.waiting gathered.behind gathered.all a m taken faults
+          gathered.spoken gathered.advances
+          (batch-goes speech c.args.number g.S.Source.tells g.K.Sink.tells g.C.Clock.tells at at' place place' heard calls a m _ _ held held' gathered last r judged.0 refl)
           heard c.tell_behind-told.result gathered.behind_is c.hear-heard.ensures.end
-          (λ told. c.tell_behind-told.ensures.bytes c.args.catalogue.now gates told) c.tell_behind-told.ensures.cause),
+          (λ told. c.tell_behind-told.ensures.bytes c.args.catalogue.now gates (option_copied c.args.keys) told) c.tell_behind-told.ensures.cause),
     )
 
 pub returns-in-Err-clause-others : goal.returns-in-Err-clause-others
-returns-in-Err-clause-others g c = others-judged (g.G.Desk.denies c.args.desk.now) c.args.number c.hear-heard.new.commands.items c.in-Err.ensures.replied.replies
-    (g.G.Desk.held c.args.pass.now) (g.G.Desk.held c.answer_all-answered.new.pass) c.in-Err.ensures.replied.judged
+returns-in-Err-clause-others g c = others-judged (g.G.Desk.denies c.args.desk.now) c.args.number c.hear-heard.new.commands.items (c.in-Err.ensures.replied None).replies
+    (g.G.Desk.held c.args.pass.now) (g.G.Desk.held c.answer_all-answered.new.pass) (c.in-Err.ensures.replied None).judged
 
 pub returns-in-Ok-clause-others : goal.returns-in-Ok-clause-others
-returns-in-Ok-clause-others g c = others-judged (g.G.Desk.denies c.args.desk.now) c.args.number c.hear-heard.new.commands.items c.in-Ok.ensures.replied.replies
-    (g.G.Desk.held c.args.pass.now) (g.G.Desk.held c.answer_all-answered.new.pass) c.in-Ok.ensures.replied.judged
+returns-in-Ok-clause-others g c = others-judged (g.G.Desk.denies c.args.desk.now) c.args.number c.hear-heard.new.commands.items (c.in-Ok.ensures.replied None).replies
+    (g.G.Desk.held c.args.pass.now) (g.G.Desk.held c.answer_all-answered.new.pass) (c.in-Ok.ensures.replied None).judged

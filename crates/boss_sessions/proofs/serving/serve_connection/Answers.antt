@@ -1,4 +1,4 @@
-use Rattle.std.proofs.Common.{refl, ap}
+use Rattle.std.proofs.Common.{option_copied, refl, ap}
 use Rattle.boss_sessions.specs.Places.{place_of}
 use Rattle.boss_sessions.specs.Speaking.{speech_of}
 use Rattle.def_history.specs.History.{is_broken}
@@ -9,25 +9,25 @@ use Rattle.boss_sessions.proofs.serving.serve_connection.Goals as goal
 
 pub returns-in_default-clause-connected : goal.returns-in_default-clause-connected
 returns-in_default-clause-connected g c =
-    connected-none (speech_of c.args.catalogue.now (g.G.Desk.denies c.args.desk.now)) c.args.session g.S.Source.tells g.K.Sink.tells g.C.Clock.tells (g.S.Source.left c.args.source.now) _ _ refl refl refl
+    connected-none (speech_of c.args.catalogue.now (g.G.Desk.denies c.args.desk.now) (option_copied c.args.keys)) c.args.session g.S.Source.tells g.K.Sink.tells g.C.Clock.tells (g.S.Source.left c.args.source.now) _ _ refl refl refl
 
 pub returns-then-not-state-clause-connected : goal.returns-then-not-state-clause-connected
 returns-then-not-state-clause-connected g c =
-    connected-whole (speech_of c.args.catalogue.now (g.G.Desk.denies c.args.desk.now)) c.args.session g.S.Source.tells g.K.Sink.tells g.C.Clock.tells
+    connected-whole (speech_of c.args.catalogue.now (g.G.Desk.denies c.args.desk.now) (option_copied c.args.keys)) c.args.session g.S.Source.tells g.K.Sink.tells g.C.Clock.tells
     (place_of c.in-Ok.state.hearing (g.S.Source.left c.args.source.now)) (place_of c.talk-end.new.session.hearing (g.S.Source.left c.talk-end.new.source))
     _ _ _ _ c.in-Ok.state.attached c.in-Ok.state.last _ _ _ _ c.talk-end.new.session.attached c.talk-end.new.session.last c.talk-end.ensures.ended.0 _ _ c.talk-end.result
     (ap (λ reader. reader.ahead) c.in-Ok.ensures.reader) c.in-Ok.ensures.lines c.in-Ok.ensures.attached c.in-Ok.ensures.last c.talk-end.ensures.ended.2 c.if-not-state.true
 
 pub returns-then-not-state-clause-last : goal.returns-then-not-state-clause-last
 returns-then-not-state-clause-last g c =
-    fails-whole (speech_of c.args.catalogue.now (g.G.Desk.denies c.args.desk.now)) c.args.session g.S.Source.tells g.K.Sink.tells g.C.Clock.tells
+    fails-whole (speech_of c.args.catalogue.now (g.G.Desk.denies c.args.desk.now) (option_copied c.args.keys)) c.args.session g.S.Source.tells g.K.Sink.tells g.C.Clock.tells
     (place_of c.in-Ok.state.hearing (g.S.Source.left c.args.source.now)) (place_of c.talk-end.new.session.hearing (g.S.Source.left c.talk-end.new.source))
     _ _ _ _ c.in-Ok.state.attached c.in-Ok.state.last _ _ _ _ c.talk-end.new.session.attached c.talk-end.new.session.last c.talk-end.ensures.ended.0 _ _ c.talk-end.result
     (ap (λ reader. reader.ahead) c.in-Ok.ensures.reader) c.in-Ok.ensures.lines c.in-Ok.ensures.attached c.in-Ok.ensures.last c.talk-end.ensures.ended.2 c.if-not-state.true
 
 pub returns-clause-connected : goal.returns-clause-connected
 returns-clause-connected g c =
-    connected-parted (speech_of c.args.catalogue.now (g.G.Desk.denies c.args.desk.now)) c.args.session g.S.Source.tells g.K.Sink.tells g.C.Clock.tells
+    connected-parted (speech_of c.args.catalogue.now (g.G.Desk.denies c.args.desk.now) (option_copied c.args.keys)) c.args.session g.S.Source.tells g.K.Sink.tells g.C.Clock.tells
     (place_of c.in-Ok.state.hearing (g.S.Source.left c.args.source.now)) (place_of c.talk-end.new.session.hearing (g.S.Source.left c.talk-end.new.source))
     _ _ _ _ c.in-Ok.state.attached c.in-Ok.state.last _ _ _ _ c.talk-end.new.session.attached c.talk-end.new.session.last c.talk-end.ensures.ended.0 _ _ c.talk-end.result
     (ap (λ reader. reader.ahead) c.in-Ok.ensures.reader) c.in-Ok.ensures.lines c.in-Ok.ensures.attached c.in-Ok.ensures.last c.talk-end.ensures.ended.2

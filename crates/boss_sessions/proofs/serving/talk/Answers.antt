@@ -1,4 +1,4 @@
-use Rattle.std.proofs.Common.{None, refl, ◌∙◌, subst}
+use Rattle.std.proofs.Common.{None, option_copied, refl, ◌∙◌, subst}
 use Rattle.boss_sessions.specs.Places.{place_of}
 use Rattle.boss_sessions.specs.Speaking.{speech_of}
 use Rattle.boss_lock.specs.Places.{entries_at}
@@ -16,7 +16,7 @@ loop-end-init g c = record {
   rounds = (
     None,
     c.requires.unheld,
-    goes-on-nothing (speech_of c.args.catalogue.now (g.G.Desk.denies c.args.desk.now)) c.args.number g.S.Source.tells g.K.Sink.tells g.C.Clock.tells _ _ _ _ c.requires.ready.over,
+    goes-on-nothing (speech_of c.args.catalogue.now (g.G.Desk.denies c.args.desk.now) (option_copied c.args.keys)) c.args.number g.S.Source.tells g.K.Sink.tells g.C.Clock.tells _ _ _ _ c.requires.ready.over,
   );
   others = λ other apart holds. holds;
   held = λ told. refl;
@@ -28,7 +28,7 @@ loop-end-init g c = record {
 
 pub returns-in-Some-clause-ended : goal.returns-in-Some-clause-ended
 returns-in-Some-clause-ended g c =
-    let speech = speech_of c.args.catalogue.now (g.G.Desk.denies c.args.desk.now) in
+    let speech = speech_of c.args.catalogue.now (g.G.Desk.denies c.args.desk.now) (option_copied c.args.keys) in
     let before = c.loop-end.invariant.rounds in
     let done = c.in-Some.ensures.rounded before.0 before.1 in
     let place = place_of c.args.session.now.hearing (g.S.Source.left c.args.source.now) in
@@ -59,7 +59,7 @@ loop-end-preserved g c =
       rounds = (
         done.0,
         done.1,
-        goes-on-then (speech_of c.args.catalogue.now (g.G.Desk.denies c.args.desk.now)) c.args.number g.S.Source.tells g.K.Sink.tells g.C.Clock.tells _ _ _ _ _ _ _ _ _ _ _ _ inv.rounds.2 done.2.0 c.round.ensures.reads,
+        goes-on-then (speech_of c.args.catalogue.now (g.G.Desk.denies c.args.desk.now) (option_copied c.args.keys)) c.args.number g.S.Source.tells g.K.Sink.tells g.C.Clock.tells _ _ _ _ _ _ _ _ _ _ _ _ inv.rounds.2 done.2.0 c.round.ensures.reads,
       );
       others = λ other apart holds. c.in_default.ensures.others other apart (inv.others other apart holds);
       held = λ told. c.in_default.ensures.held told ∙ inv.held told;

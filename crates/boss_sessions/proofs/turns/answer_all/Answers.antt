@@ -15,13 +15,13 @@ loop-session-init g c = record {
   text = refl;
   few = omega (arith, c.requires.few, ap length c.from_vec-held.ensures);
   may = subst (AllByRecursion (MayCall (actuators c.args.catalogue.now))) (sym c.from_vec-held.ensures) c.requires.may;
-  answered = answered-nothing (speech_of c.args.catalogue.now (g.G.Desk.denies c.args.desk.now)) c.args.session g.K.Sink.tells c.args.commands.items c.from_vec-held.result _ c.from_vec-held.ensures;
+  answered = λ keys. answered-nothing (speech_of c.args.catalogue.now (g.G.Desk.denies c.args.desk.now) keys) c.args.session g.K.Sink.tells c.args.commands.items c.from_vec-held.result _ c.from_vec-held.ensures;
 }
 
 pub returns-in-Err-clause-replied : goal.returns-in-Err-clause-replied
-returns-in-Err-clause-replied g c =
-    answered-halted (speech_of c.args.catalogue.now (g.G.Desk.denies c.args.desk.now)) c.args.session g.K.Sink.tells c.args.commands.items c.loop-session.held _ _ _ c.in-Err.halt
-    c.loop-session.invariant.answered c.in-Err.ensures.replied
+returns-in-Err-clause-replied g c keys =
+    answered-halted (speech_of c.args.catalogue.now (g.G.Desk.denies c.args.desk.now) keys) c.args.session g.K.Sink.tells c.args.commands.items c.loop-session.held _ _ _ c.in-Err.halt
+    (c.loop-session.invariant.answered keys) (c.in-Err.ensures.replied keys)
 
 pub loop-session-preserved : goal.loop-session-preserved
 loop-session-preserved g c =
@@ -34,6 +34,6 @@ loop-session-preserved g c =
       few = omega (arith, inv.few, ap length c.without_front-held.ensures, length-drop c.in-Ok.count c.loop-session.held);
       may = subst (AllByRecursion (MayCall (actuators c.args.catalogue.now))) (sym c.without_front-held.ensures)
           (all-drop (MayCall (actuators c.args.catalogue.now)) c.loop-session.held c.in-Ok.count inv.may);
-      answered = answered-more (speech_of c.args.catalogue.now (g.G.Desk.denies c.args.desk.now)) c.args.session g.K.Sink.tells c.args.commands.items c.loop-session.held c.without_front-held.result _ _ _ c.in-Ok.count
-          inv.answered c.in-Ok.ensures.replied c.in-Ok.ensures.some.1 c.without_front-held.ensures;
+      answered = λ keys. answered-more (speech_of c.args.catalogue.now (g.G.Desk.denies c.args.desk.now) keys) c.args.session g.K.Sink.tells c.args.commands.items c.loop-session.held c.without_front-held.result _ _ _ c.in-Ok.count
+          (inv.answered keys) (c.in-Ok.ensures.replied keys) c.in-Ok.ensures.some.1 c.without_front-held.ensures;
     }

@@ -14,9 +14,9 @@ use Rattle.boss_sessions.proofs.turns.one_turn.Goals as goal
 use Rattle.boss_sessions.proofs.turns.one_turn.Goals.{then-attached, else-attached}
 
 pub returns-clause-replied : goal.returns-clause-replied
-returns-clause-replied g c =
+returns-clause-replied g c keys =
     let gates = g.G.Desk.denies c.args.desk.now in
-    let speech = speech_of c.args.catalogue.now gates in
+    let speech = speech_of c.args.catalogue.now gates keys in
     let calls = c.args.commands.now in
     let answers = c.call_all-outcomes.new.answers.items in
     let rest = c.call_all-outcomes.result.rest in
@@ -30,7 +30,7 @@ returns-clause-replied g c =
     let fits : RestFits calls c.len.result rest = subst (λ n. RestFits calls n rest) (sym same) c.call_all-outcomes.ensures.rest in
     let many : length answers ≡ c.len.result = c.call_all-outcomes.ensures.done ∙ sym same in
     let writes : g.K.Sink.tells → Writes taken taken' (texts_by speech (replies_of answers rest)) told =
-    λ tells. subst (λ list. Writes taken taken' (texts_by speech (replies_of list rest)) told) c.as_slice.ensures.value (c.tell_replies-told.ensures.bytes gates tells) in
+    λ tells. subst (λ list. Writes taken taken' (texts_by speech (replies_of list rest)) told) c.as_slice.ensures.value (c.tell_replies-told.ensures.bytes gates keys tells) in
     let accepted : c.attaches-accepted.result ≡ attached_by calls (map of_answer answers) =
     c.attaches-accepted.ensures ∙ (λ i. attached_by (c.slice.ensures i) (map of_answer (c.as_slice-2.ensures.value i))) in
     let attached : c.if-attached.attached ≡ (c.args.attached.now || attached_by calls (map of_answer answers)) = elim c.if-attached.branch [
