@@ -2,7 +2,7 @@
 -- Whose key a line shows.
 use Rattle.std.specs.Prelude.{ℕ, Bool, true, false, if◌then◌else◌, List, codes, Option, Some, None}
 use Rattle.std.specs.Option.{option_map_or}
-use Rattle.serde_json.specs.Data.{Data, null, boolean, number, string, array, object}
+use Rattle.serde_json.specs.Data.{Data, object}
 use Rattle.serde_json.specs.Find.{as_str, get}
 use Rattle.def_wire.specs.Keys.{name, under}
 use Rattle.def_wire.specs.Requests.{value_in}
@@ -12,7 +12,7 @@ use Rattle.boss_callers.specs.declared.shown.Shown.{Shown}
 use Rattle.boss_callers.specs.declared.shown.Shown.TheVariants.{NoObject, Key, WrongKey}
 
 abbrev pub is_object : Data → Bool
-is_object (object members) = true
+is_object (object _) = true
 is_object other = false
 
 -- the name that it gives: the one under `as`, and where there is nothing under it that of its process
